@@ -1,0 +1,6 @@
+pub mod NameFacts
+pub mod MemberFacts
+pub mod EditLists
+pub mod TextFacts
+pub mod IdFacts
+pub mod Readings

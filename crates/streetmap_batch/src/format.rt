@@ -1,0 +1,20 @@
+//! The objects of the formats.
+#![tactic(auto)]
+
+/// The objects that a batch is made of, by the members that they may have.
+#[derive(Clone, Copy, Debug, PartialEq, Eq, Drop)]
+pub(crate) enum Format {
+    Batch,
+    Open,
+    Feature,
+    Delete,
+}
+
+/// What an edit does, by its member `op`.
+#[derive(Clone, Copy, Debug, PartialEq, Eq, Drop)]
+pub(crate) enum Operation {
+    Open,
+    Insert,
+    Replace,
+    Delete,
+}

@@ -1,0 +1,30 @@
+//! Batches of edits: a key, and edits that act together or not at all.
+//!
+//! What a batch is when it is written is said twice. `specs/BatchMeaning` says by cases which batch
+//! a value is, with no order of steps; `specs/BatchReading` says which refusal comes first, each
+//! line a sentence of the order of refusals. `read_batch` answers a batch only where the bytes are
+//! that batch, and a refusal, memory aside, only where it is the first. `Batch::text` is the text of
+//! `specs/BatchText`, by which a batch that comes again is known.
+//!
+//! Modules, in the order of reading: `names`, `edit`, `batch_fault`, `batch`, `batch_text`,
+//! `format`, `member`, `edit_reading`, `batch_reading`.
+#![tactic(auto)]
+
+mod batch;
+mod batch_fault;
+mod batch_reading;
+mod batch_text;
+mod edit;
+mod edit_reading;
+mod format;
+mod member;
+mod names;
+
+pub use batch::Batch;
+pub use batch_fault::BatchFault;
+pub use batch_reading::read_batch;
+pub use edit::{CollectionId, Edit, TimeProperty, Title};
+pub use names::{is_collection_id, is_key, is_time_property, is_title};
+
+#[cfg(test)]
+mod tests;

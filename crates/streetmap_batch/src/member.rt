@@ -1,0 +1,86 @@
+//! The members of an object.
+#![tactic(auto)]
+
+ghost use Rattle.std.specs.Prelude.{◌≡◌, option_map, string_bytes, map};
+ghost use Rattle.std.specs.BTreeMap.{keys};
+ghost use Rattle.std.specs.List.{list_all};
+ghost use Rattle.serde_json.specs.View.{view, items_view, members_view};
+ghost use Rattle.streetmap_batch.specs.BatchReading.{has_only, may_have, names_pass, operation_at, operation_of, text_at, array_at, list_of};
+
+use crate::format::{Format, Operation};
+use serde_json::{Map, Value};
+
+/// Whether an object may have a member of that name.
+fn may_have(format: Format, name: &str) -> bool
+    ensures { result ≡ may_have format name.now }
+{
+    match format {
+        Format::Batch => name == "edits" || name == "key",
+        Format::Open => {
+            name == "collection" || name == "op" || name == "time" || name == "title"
+        },
+        Format::Feature => name == "collection" || name == "feature" || name == "op",
+        Format::Delete => name == "collection" || name == "id" || name == "op",
+    }
+}
+
+fn names_pass(format: Format, members: &Map<String, Value>) -> bool
+    ensures { result ≡ list_all (λ name. may_have format (string_bytes name)) (keys members.now) }
+{
+    members.keys().all(|name| may_have(format, name.as_str()))
+}
+
+/// Whether a value is an object with no member but those of the format.
+pub(crate) fn has_only(value: &Value, format: Format) -> bool
+    ensures { result ≡ has_only format (view value.now) }
+{
+    match value.as_object() {
+        Some(members) => names_pass(format, members),
+        None => false,
+    }
+}
+
+/// The text of the member of that name.
+pub(crate) fn text_at<'v>(value: &'v Value, name: &str) -> Option<&'v str>
+    ensures { option_map (λ t. t.now) result ≡ text_at name.now (view value.now) }
+{
+    value.get(name).and_then(Value::as_str)
+}
+
+fn items_at<'v>(value: &'v Value, name: &str) -> Option<&'v Vec<Value>>
+    ensures { option_map (λ v. list_of (items_view v.now.items)) result ≡ array_at name.now (view value.now) }
+{
+    value.get(name).and_then(Value::as_array)
+}
+
+/// The elements of the array that is the member of that name.
+pub(crate) fn array_at<'v>(value: &'v Value, name: &str) -> Option<&'v [Value]>
+    ensures { option_map (λ s. map view s.now) result ≡ array_at name.now (view value.now) }
+{
+    match items_at(value, name) {
+        Some(items) => Some(items.as_slice()),
+        None => None,
+    }
+}
+
+fn operation_of(name: &str) -> Option<Operation>
+    ensures { result ≡ operation_of name.now }
+{
+    match name {
+        "open" => Some(Operation::Open),
+        "insert" => Some(Operation::Insert),
+        "replace" => Some(Operation::Replace),
+        "delete" => Some(Operation::Delete),
+        _ => None,
+    }
+}
+
+/// What an edit does.
+pub(crate) fn operation_at(value: &Value) -> Option<Operation>
+    ensures { result ≡ operation_at (view value.now) }
+{
+    match text_at(value, "op") {
+        Some(name) => operation_of(name),
+        None => None,
+    }
+}

@@ -1,0 +1,15 @@
+use Rattle.std.proofs.Common.{arith, map, length, ◌≡◌}
+use Rattle.std.proofs.lemmas.List.{length-map}
+use Rattle.serde_json.specs.View.{view}
+use Rattle.streetmap_grid.specs.Views.{lines_value}
+use Rattle.streetmap_geojson.specs.declared.fault.Fault.TheVariants.{BadGeometry}
+use Rattle.streetmap_geojson.specs.Reading.{inside, line}
+use Rattle.streetmap_geojson.proofs.Steps.{each_length}
+use Rattle.streetmap_geojson.proofs.coordinates.read_some_lines.Goals as goal
+
+pub new-requires : goal.new-requires
+new-requires c =
+    let read = c.in_ok-lines.lines.items in
+    let same : length (lines_value read) ≡ length (map view c.args.values.now) = each_length (inside BadGeometry line) _ _ _ _ c.in_ok-lines.ensures.reads in
+    let counts : length read ≡ length c.args.values.now = simp length-map at same in
+    omega (arith, counts, c.requires.some, c.in_ok-lines.lines.ok.0)

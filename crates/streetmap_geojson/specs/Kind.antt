@@ -1,0 +1,15 @@
+-- The names of the kinds. RFC 7946 1.4: the six geometry types that have coordinates, and GeometryCollection.
+use Rattle.std.specs.Prelude.{ℕ, List, codes, Option, None, Some, if◌then◌else◌, bytes_eq}
+use Rattle.streetmap_geojson.specs.declared.kind.Kind.{Kind}
+use Rattle.streetmap_geojson.specs.declared.kind.Kind.TheVariants.{Simple, Collection}
+use Rattle.streetmap_geojson.specs.declared.kind.SimpleKind.TheVariants as kinds
+
+abbrev pub kind : List ℕ → Option Kind
+kind s =
+    if bytes_eq s (codes "Point") then Some (Simple kinds.Point) else
+    (if bytes_eq s (codes "MultiPoint") then Some (Simple kinds.MultiPoint) else
+    (if bytes_eq s (codes "LineString") then Some (Simple kinds.LineString) else
+    (if bytes_eq s (codes "MultiLineString") then Some (Simple kinds.MultiLineString) else
+    (if bytes_eq s (codes "Polygon") then Some (Simple kinds.Polygon) else
+    (if bytes_eq s (codes "MultiPolygon") then Some (Simple kinds.MultiPolygon) else
+    (if bytes_eq s (codes "GeometryCollection") then Some Collection else None))))))

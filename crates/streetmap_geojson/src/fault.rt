@@ -1,0 +1,207 @@
+//! What is wrong with a value.
+#![tactic(auto)]
+
+ghost use Rattle.std.specs.Prelude.{◌≡◌};
+
+use std::alloc::{AllocError, AllocFailed};
+use streetmap_moment::TimeFault;
+
+/// What is wrong with a value that is to be a feature. Of several faults the first in the reading
+/// order of `read_feature` is answered.
+#[derive(Clone, Copy, Debug, PartialEq, Eq, Drop)]
+pub enum Fault {
+    /// A text is no JSON.
+    NotJson,
+    /// A value is no Feature or FeatureCollection (RFC 7946, sections 3.2 and 3.3).
+    WrongType,
+    /// An id is missing, neither text nor a number, or a text of 0 or more than 128 bytes or with
+    /// a control character.
+    BadId,
+    /// A geometry is neither an object nor null, its type is unknown, its array is missing, or an
+    /// array is missing in its coordinates.
+    BadGeometry,
+    /// A position is no array of two or three numbers (RFC 7946, section 3.1.1).
+    BadPosition,
+    /// A number is not whole.
+    Fraction,
+    /// A GeometryCollection stands within another (RFC 7946, section 3.1.8).
+    NestedCollection,
+    /// Properties are neither an object nor null (RFC 7946, section 3.2).
+    BadProperties,
+    /// A feature has more than 64 levels of nesting.
+    TooDeep,
+    /// A feature has more than 100,000 positions.
+    TooManyPositions,
+    /// A coordinate or height is below -1,000,000,000 or above 1,000,000,000 millimetres.
+    OutOfGrid,
+    /// A line has fewer than two positions (RFC 7946, section 3.1.4).
+    ShortLine,
+    /// A ring has fewer than four positions (RFC 7946, section 3.1.6).
+    ShortRing,
+    /// The first and last positions of a ring differ, in height too (RFC 7946, section 3.1.6).
+    OpenRing,
+    /// The time property is neither null nor a text that can be read.
+    BadTime,
+    /// The interval of the time property starts after its end.
+    EmptyInterval,
+}
+
+impl Fault {
+    ghost use Rattle.std.specs.Prelude.{[]};
+    ghost use Rattle.streetmap_geojson.specs.Times.{time_fault};
+    ghost use Rattle.streetmap_geojson.specs.FaultCodes.{fault_code, fault_description};
+
+    /// The fault of a feature whose time property has this one.
+    pub fn of_time(fault: TimeFault) -> Fault
+        ensures { result ≡ time_fault fault }
+    {
+        match fault {
+            TimeFault::BadTime => Fault::BadTime,
+            TimeFault::EmptyInterval => Fault::EmptyInterval,
+        }
+    }
+
+    /// The name of the fault in answers.
+    pub fn code(&self) -> &'static str
+        ensures { result.now ≡ fault_code self.now }
+    {
+        match self {
+            Fault::NotJson => "not_json",
+            Fault::WrongType => "wrong_type",
+            Fault::BadId => "bad_id",
+            Fault::BadGeometry => "bad_geometry",
+            Fault::BadPosition => "bad_position",
+            Fault::Fraction => "fraction",
+            Fault::NestedCollection => "nested_collection",
+            Fault::BadProperties => "bad_properties",
+            Fault::TooDeep => "too_deep",
+            Fault::TooManyPositions => "too_many_positions",
+            Fault::OutOfGrid => "out_of_grid",
+            Fault::ShortLine => "short_line",
+            Fault::ShortRing => "short_ring",
+            Fault::OpenRing => "open_ring",
+            Fault::BadTime => "bad_time",
+            Fault::EmptyInterval => "empty_interval",
+        }
+    }
+
+    /// The sentence on the fault in answers, empty where there is none.
+    pub fn description(&self) -> &'static str
+        ensures { result.now ≡ fault_description self.now }
+    {
+        match self {
+            Fault::BadTime => "The time property of the feature cannot be read.",
+            _ => "",
+        }
+    }
+}
+
+/// Why a value was not read as a feature.
+#[derive(Clone, Copy, Debug, PartialEq, Eq, Drop)]
+pub enum JsonFault {
+    /// Memory was refused; the call may be made again.
+    Memory,
+    /// The first fault of the value.
+    Fault(Fault),
+}
+
+impl JsonFault {
+    ghost use Rattle.streetmap_geojson.specs.FaultCodes.{json_fault_code, json_fault_description};
+
+    /// The name of the fault in answers.
+    pub fn code(&self) -> &'static str
+        ensures { result.now ≡ json_fault_code self.now }
+    {
+        match self {
+            JsonFault::Memory => "memory",
+            JsonFault::Fault(fault) => fault.code(),
+        }
+    }
+
+    /// The sentence on the fault in answers, empty where there is none.
+    pub fn description(&self) -> &'static str
+        ensures { result.now ≡ json_fault_description self.now }
+    {
+        match self {
+            JsonFault::Memory => "Memory was refused; the call may be made again.",
+            JsonFault::Fault(fault) => fault.description(),
+        }
+    }
+}
+
+impl From<AllocError> for JsonFault {
+    ghost use Rattle.streetmap_geojson.specs.declared.fault.JsonFault.TheVariants.{Memory};
+
+    ghost from_gives = { λ _ e. e ≡ Memory };
+
+    fn from(_: AllocError) -> JsonFault {
+        JsonFault::Memory
+    }
+}
+
+impl<T: Drop> From<AllocFailed<T>> for JsonFault {
+    ghost use Rattle.streetmap_geojson.specs.declared.fault.JsonFault.TheVariants.{Memory};
+
+    ghost from_gives = { λ _ e. e ≡ Memory };
+
+    fn from(_: AllocFailed<T>) -> JsonFault {
+        JsonFault::Memory
+    }
+}
+
+/// Why a value was not read as a collection of features.
+#[derive(Clone, Copy, Debug, PartialEq, Eq, Drop)]
+pub enum CollectionFault {
+    /// Memory was refused; the call may be made again.
+    Memory,
+    /// What is wrong with the collection as a whole.
+    Fault(Fault),
+    /// What is wrong with the feature at that place, counted from 1.
+    At(u64, Fault),
+}
+
+impl CollectionFault {
+    ghost use Rattle.streetmap_geojson.specs.FaultCodes.{collection_fault_code, collection_fault_description};
+
+    /// The name of the fault in answers.
+    pub fn code(&self) -> &'static str
+        ensures { result.now ≡ collection_fault_code self.now }
+    {
+        match self {
+            CollectionFault::Memory => "memory",
+            CollectionFault::Fault(fault) => fault.code(),
+            CollectionFault::At(_, fault) => fault.code(),
+        }
+    }
+
+    /// The sentence on the fault in answers, empty where there is none.
+    pub fn description(&self) -> &'static str
+        ensures { result.now ≡ collection_fault_description self.now }
+    {
+        match self {
+            CollectionFault::Memory => "Memory was refused; the call may be made again.",
+            CollectionFault::Fault(fault) => fault.description(),
+            CollectionFault::At(_, fault) => fault.description(),
+        }
+    }
+}
+
+impl From<AllocError> for CollectionFault {
+    ghost use Rattle.streetmap_geojson.specs.declared.fault.CollectionFault.TheVariants.{Memory};
+
+    ghost from_gives = { λ _ e. e ≡ Memory };
+
+    fn from(_: AllocError) -> CollectionFault {
+        CollectionFault::Memory
+    }
+}
+
+impl<T: Drop> From<AllocFailed<T>> for CollectionFault {
+    ghost use Rattle.streetmap_geojson.specs.declared.fault.CollectionFault.TheVariants.{Memory};
+
+    ghost from_gives = { λ _ e. e ≡ Memory };
+
+    fn from(_: AllocFailed<T>) -> CollectionFault {
+        CollectionFault::Memory
+    }
+}

@@ -1,0 +1,44 @@
+//! The kinds of geometry, by their names.
+#![tactic(auto)]
+
+ghost use Rattle.std.specs.Prelude.{◌≡◌};
+
+/// The geometry types that have coordinates (RFC 7946, sections 3.1.2 to 3.1.7).
+#[derive(Clone, Copy, Debug, PartialEq, Eq, Drop)]
+pub enum SimpleKind {
+    Point,
+    MultiPoint,
+    LineString,
+    MultiLineString,
+    Polygon,
+    MultiPolygon,
+}
+
+/// The geometry types (RFC 7946, section 1.4).
+#[derive(Clone, Copy, Debug, PartialEq, Eq, Drop)]
+pub enum Kind {
+    /// A type that has coordinates.
+    Simple(SimpleKind),
+    /// GeometryCollection.
+    Collection,
+}
+
+impl Kind {
+    ghost use Rattle.streetmap_geojson.specs.Kind.{kind};
+
+    /// The kind of that name.
+    pub(crate) fn of(name: &str) -> Option<Kind>
+        ensures { result ≡ kind name.now }
+    {
+        match name {
+            "Point" => Some(Kind::Simple(SimpleKind::Point)),
+            "MultiPoint" => Some(Kind::Simple(SimpleKind::MultiPoint)),
+            "LineString" => Some(Kind::Simple(SimpleKind::LineString)),
+            "MultiLineString" => Some(Kind::Simple(SimpleKind::MultiLineString)),
+            "Polygon" => Some(Kind::Simple(SimpleKind::Polygon)),
+            "MultiPolygon" => Some(Kind::Simple(SimpleKind::MultiPolygon)),
+            "GeometryCollection" => Some(Kind::Collection),
+            _ => None,
+        }
+    }
+}

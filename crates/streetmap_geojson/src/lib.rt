@@ -1,0 +1,42 @@
+//! Features read from JSON values and written to them: GeoJSON (RFC 7946) on the local grid.
+//!
+//! What a value means is said twice. `specs/FeatureMeaning` says by cases over RFC 7946 which
+//! feature a value reads as, with no order of steps; `specs/FeatureReading` says which fault of a
+//! value is the first, each line a sentence of the reading order. `read_feature` and
+//! `read_collection` answer a feature only where the value reads as it, and a refusal, memory
+//! aside, only where it is the first fault. What `write_feature` writes reads again as that
+//! feature, its time left out.
+//!
+//! Modules, in the order of reading: `fault`, `json_text`, `number_text`, `id`, `kind`, `feature`,
+//! `times`, `coordinates`, `geometry`, `scan`, `exact`, `read`, `collection`, `write`, `copy`,
+//! `laws`, `text_laws`.
+#![tactic(auto)]
+
+mod collection;
+mod coordinates;
+mod copy;
+mod exact;
+mod fault;
+mod feature;
+mod geometry;
+mod id;
+mod json_text;
+mod kind;
+pub mod laws;
+mod number_text;
+mod read;
+mod scan;
+pub mod text_laws;
+mod times;
+mod write;
+
+pub use collection::read_collection;
+pub use fault::{CollectionFault, Fault, JsonFault};
+pub use feature::Feature;
+pub use id::{Id, is_id, is_plain, read_id};
+pub use json_text::read_json;
+pub use read::read_feature;
+pub use write::{write_collection, write_feature};
+
+#[cfg(test)]
+mod tests;

@@ -1,0 +1,15 @@
+pub mod Booleans
+pub mod Closing
+pub mod Counting
+pub mod Deciding
+pub mod Elements
+pub mod Facts
+pub mod Fractions
+pub mod Growing
+pub mod LawProofs
+pub mod Overlapping
+pub mod Parity
+pub mod Signs
+pub mod Turning
+pub mod Walk
+pub mod Whole

@@ -1,0 +1,15 @@
+pub mod Bounds
+pub mod Crossing
+pub mod Edges
+pub mod Extent
+pub mod Faults
+pub mod Laws
+pub mod Meeting
+pub mod PositionViews
+pub mod Range
+pub mod Ring
+pub mod Some
+pub mod Span
+pub mod Values
+pub mod Views
+pub mod WellFormed

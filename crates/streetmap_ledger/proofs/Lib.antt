@@ -1,0 +1,11 @@
+pub mod Maps
+pub mod Finite
+pub mod Ordered
+pub mod SlotLemmas
+pub mod Live
+pub mod Candidates
+pub mod Steps
+pub mod PlainLemmas
+pub mod Repeat
+pub mod StatesStay
+pub mod Runs

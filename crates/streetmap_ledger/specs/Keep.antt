@@ -1,0 +1,96 @@
+-- What a call of a keeper does.
+use Rattle.std.specs.Prelude.{◌≡◌, ◌⊎◌, ℕ, ◌+◌, List, Option, None, Some, Result, Ok, Err, IsSome, take}
+use Rattle.std.specs.Option.{option_map}
+use Rattle.streetmap_geojson.specs.FeatureValue.{FeatureValue}
+use Rattle.streetmap_query.specs.Views.{query_value}
+use Rattle.streetmap_query.specs.declared.queries.Query.{Query}
+use Rattle.streetmap_batch.specs.Text.{Text}
+use Rattle.streetmap_batch.specs.BatchValue.{BatchValue}
+use Rattle.streetmap_ledger.specs.State.{State}
+use Rattle.streetmap_ledger.specs.Batches.{act, after_all}
+use Rattle.streetmap_ledger.specs.Pages.{page_in, feature_in}
+use Rattle.streetmap_ledger.specs.PageView.{page_value}
+use Rattle.streetmap_ledger.specs.declared.page.Page.{Page}
+use Rattle.streetmap_ledger.specs.declared.reply.Reply.{Reply}
+use Rattle.streetmap_ledger.specs.declared.reply.Cause.{Cause}
+use Rattle.streetmap_ledger.specs.declared.reply.Cause.TheVariants as causes
+use Rattle.streetmap_ledger.specs.declared.reply.Fault.{Fault}
+use Rattle.streetmap_ledger.specs.declared.reply.Fault.TheVariants.{Memory, Device, Damaged, Reopen}
+
+-- a shut keeper answers `Reopen` and no other does; `Device` and `Damaged` shut it
+abbrev pub ShutsBy : {T : Type 0} → Result T Fault → Option Cause → Option Cause → Type 0
+ShutsBy (Ok _) old new = (old ≡ None) × (new ≡ None)
+ShutsBy (Err Memory) old new = (old ≡ None) × (new ≡ None)
+ShutsBy (Err Device) old new = (old ≡ None) × (new ≡ Some causes.Device)
+ShutsBy (Err Damaged) old new = (old ≡ None) × (new ≡ Some causes.Damaged)
+ShutsBy (Err Reopen) old new = IsSome old × (new ≡ old)
+
+-- a batch on a keeper that stood for this state: the reply is the batch's, and it stands for the state after it; a want of memory changes nothing, and the store is not damaged
+abbrev pub Acts : State → BatchValue → Result Reply Fault → (State → Type 0) → Type 0
+Acts s b (Ok reply) stands = (reply ≡ (act s b).reply) × stands (act s b).state
+Acts s b (Err Memory) stands = stands s
+Acts s b (Err Device) stands = Unit {0}
+Acts s b (Err Damaged) stands = ⊥
+Acts s b (Err Reopen) stands = ⊥
+
+-- a look at a keeper that stood for this state: the answer is as it is in the state, and the state stays
+abbrev pub Looks : {T : Type 0} → State → (T → Type 0) → Result T Fault → (State → Type 0) → Type 0
+Looks s Is (Ok seen) stands = Is seen × stands s
+Looks s Is (Err Memory) stands = stands s
+Looks s Is (Err Device) stands = Unit {0}
+Looks s Is (Err Damaged) stands = ⊥
+Looks s Is (Err Reopen) stands = ⊥
+
+-- a page
+abbrev pub Shows : State → Text → Query → Result (Option Page) Fault → (State → Type 0) → Type 0
+Shows s name q result stands = Looks s (λ page. option_map page_value page ≡ page_in s name (query_value q)) result stands
+
+-- a feature
+abbrev pub Finds : State → Text → Text → Result (Option FeatureValue) Fault → (State → Type 0) → Type 0
+Finds s name id result stands = Looks s (λ found. found ≡ feature_in s name id) result stands
+
+-- a stop may leave this and nothing else
+abbrev pub LeavesOnly : (Option State → Type 0) → Option State → Type 0
+LeavesOnly left s = (o : Option State) → left o → o ≡ s
+
+-- a stop may leave one of these two and nothing else
+abbrev pub LeavesEither : (Option State → Type 0) → Option State → Option State → Type 0
+LeavesEither left s t = (o : Option State) → left o → (o ≡ s) ⊎ (o ≡ t)
+
+-- what a stop may leave when a batch has returned, on a keeper that stood for this state
+abbrev pub ApplyLeaves : State → BatchValue → Result Reply Fault → (Option State → Type 0) → Type 0
+ApplyLeaves s b (Ok reply) left = LeavesOnly left (Some (act s b).state)
+ApplyLeaves s b (Err Memory) left = LeavesOnly left (Some s)
+ApplyLeaves s b (Err Device) left = LeavesEither left (Some s) (Some (act s b).state)
+ApplyLeaves s b (Err Damaged) left = ⊥
+ApplyLeaves s b (Err Reopen) left = ⊥
+
+-- neither the states that it stands for have changed, nor what a stop may leave has grown
+pub record AsBefore (old new : State → Type 0) (left leaves : Option State → Type 0) : Type 0 where
+  pub still : (s : State) → old s → new s
+  pub no_other : (s : State) → new s → old s
+  pub nothing_else : (o : Option State) → leaves o → left o
+
+-- what it stands for after a run of which k batches were answered
+abbrev pub RunEnds : State → List BatchValue → ℕ → Option Fault → (State → Type 0) → Type 0
+RunEnds s bs k None stands = stands (after_all s (take k bs))
+RunEnds s bs k (Some Memory) stands = stands (after_all s (take k bs))
+RunEnds s bs k (Some Device) stands = Unit {0}
+RunEnds s bs k (Some Damaged) stands = ⊥
+RunEnds s bs k (Some Reopen) stands = ⊥
+
+-- and what a stop may leave then: the state of a beginning of the batches
+abbrev pub RunLeaves : State → List BatchValue → ℕ → Option Fault → (Option State → Type 0) → Type 0
+RunLeaves s bs k None left = LeavesOnly left (Some (after_all s (take k bs)))
+RunLeaves s bs k (Some Memory) left = LeavesOnly left (Some (after_all s (take k bs)))
+RunLeaves s bs k (Some Device) left = LeavesEither left (Some (after_all s (take k bs))) (Some (after_all s (take (k + 1) bs)))
+RunLeaves s bs k (Some Damaged) left = ⊥
+RunLeaves s bs k (Some Reopen) left = ⊥
+
+-- and what shut it
+abbrev pub RunShuts : Option Fault → Option Cause → Option Cause → Type 0
+RunShuts None old new = new ≡ old
+RunShuts (Some Memory) old new = new ≡ old
+RunShuts (Some Device) old new = (old ≡ None) × (new ≡ Some causes.Device)
+RunShuts (Some Damaged) old new = (old ≡ None) × (new ≡ Some causes.Damaged)
+RunShuts (Some Reopen) old new = IsSome old × (new ≡ old)

@@ -1,0 +1,13 @@
+pub mod State
+pub mod Batches
+pub mod WellFormed
+pub mod Pages
+pub mod PageView
+pub mod Folds
+pub mod Refusals
+pub mod Keep
+pub mod Laws
+pub mod Slots
+pub mod Undo
+pub mod Does
+pub mod Plain

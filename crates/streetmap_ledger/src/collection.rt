@@ -1,0 +1,152 @@
+//! A collection as the plain keeper keeps it, by its slots.
+ghost use Rattle.std.specs.Prelude.{◌≡◌, ◌+◌, IfOk, OnOk, OnErr, Option, Some, None, string_bytes, length};
+ghost use Rattle.std.specs.Option.{option_copied, option_flatten, option_map};
+ghost use Rattle.std.specs.Result.{result_ok};
+ghost use Rattle.std.specs.FinMap.{get, insert, empty};
+ghost use Rattle.std.specs.Map.{values_of};
+ghost use Rattle.std.specs.BTreeMap.{IsOrdered};
+ghost use Rattle.std.specs.String.{string_cmp};
+ghost use Rattle.streetmap_query.specs.Views.{query_value};
+ghost use Rattle.streetmap_ledger.specs.State.{timed as timed_by};
+ghost use Rattle.streetmap_ledger.specs.Slots.{live_values};
+ghost use Rattle.streetmap_ledger.specs.Pages.{page_over as page_over_of};
+ghost use Rattle.streetmap_ledger.specs.PageView.{page_value};
+
+use crate::Page;
+use crate::asked::is_candidate;
+use crate::fold::PageFold;
+use std::alloc::{AllocError, Global};
+use std::collections::BTreeMap;
+use std::marker::Model;
+use streetmap_geojson::Feature;
+use streetmap_query::Query;
+
+/// A collection whose deleted features leave their slots empty, until the batch is done.
+#[derive(Drop)]
+pub struct PlainCollection {
+    title: String,
+    time: Option<String>,
+    slots: BTreeMap<String, Option<Feature>>,
+}
+
+impl Model for PlainCollection {
+    ghost use Rattle.std.specs.Prelude.{string_bytes};
+    ghost use Rattle.std.specs.Option.{option_map};
+    ghost use Rattle.streetmap_ledger.specs.Slots.{SlotCollection, coded_slot_collection, map_of};
+
+    ghost Value = { SlotCollection };
+
+    ghost coded = { coded_slot_collection };
+
+    ghost view = { λ c. record { title = string_bytes c.title; time = option_map string_bytes c.time; slots = map_of c.slots.entries } };
+}
+
+impl PlainCollection {
+    ghost use Rattle.streetmap_ledger.specs.Slots.{put_slot, cut_slot, reset_slot, live};
+    ghost use Rattle.std.specs.FinMap.{values};
+
+    pub fn new(alloc: Global, title: String, time: Option<String>) -> Self
+        ensures { result ≡ record { title = string_bytes title; time = option_map string_bytes time; slots = empty } }
+    {
+        PlainCollection {
+            title,
+            time,
+            slots: BTreeMap::new(alloc),
+        }
+    }
+
+    pub fn get(&self, id: &str) -> Option<&Feature>
+        ensures { option_copied result ≡ option_flatten (get self.now.slots id.now) }
+    {
+        match self.slots.get(id) {
+            Some(slot) => slot.as_ref(),
+            None => None,
+        }
+    }
+
+    /// The property that the times of the features are read from.
+    pub fn time(&self) -> Option<&str>
+        ensures { option_copied result ≡ self.now.time }
+    {
+        match &self.time {
+            Some(property) => Some(property.as_str()),
+            None => None,
+        }
+    }
+
+    /// A copy of the feature with its time; none where the time cannot be read.
+    pub fn timed(&self, alloc: Global, feature: &Feature) -> Result<Option<Feature>, AllocError>
+        ensures { IfOk result (λ copy. copy ≡ result_ok (timed_by self.now.time feature.now)) }
+    {
+        let mut copy = feature.copy(alloc)?;
+        match copy.timed(self.time()) {
+            Ok(()) => Ok(Some(copy)),
+            Err(_) => Ok(None),
+        }
+    }
+
+    /// Puts a feature into the slot at the id, and answers what that was.
+    pub fn put(
+        &mut self,
+        id: String,
+        feature: Feature,
+    ) -> Result<Option<Option<Feature>>, AllocError>
+        ensures ok { OnOk result (self.new ≡ put_slot self.old (string_bytes id) (Some feature)) }
+        ensures was { IfOk result (λ was. was ≡ get self.old.slots (string_bytes id)) }
+        ensures err { OnErr result (self.new ≡ self.old) }
+    {
+        Ok(self.slots.insert(id, Some(feature))?)
+    }
+
+    /// Puts this into the slot at the id, where there is one, and answers what that was.
+    pub fn reset(&mut self, id: &str, slot: Option<Feature>) -> Option<Option<Feature>>
+        ensures after { self.new ≡ reset_slot self.old id.now slot }
+        ensures was { result ≡ get self.old.slots id.now }
+    {
+        match self.slots.get_mut(id) {
+            Some(place) => Some(std::mem::replace(place, slot)),
+            None => {
+                drop(slot);
+                None
+            }
+        }
+    }
+
+    /// Takes the slot out.
+    pub fn cut(&mut self, id: &str)
+        ensures { self.new ≡ cut_slot self.old id.now }
+    {
+        let _ = self.slots.remove(id);
+    }
+
+    /// The page of the features.
+    pub fn page(&self, alloc: Global, query: &Query) -> Result<Page, AllocError>
+        ensures { IfOk result (λ page. page_value page ≡ page_over_of (query_value query.now) (values (live self.now.slots))) }
+    {
+        page_over(alloc, &self.slots, query)
+    }
+}
+
+/// The page of the features in the slots, in the order of their ids.
+fn page_over(
+    alloc: Global,
+    slots: &BTreeMap<String, Option<Feature>>,
+    query: &Query,
+) -> Result<Page, AllocError>
+    ensures page { IfOk result (λ page. page_value page ≡ page_over_of (query_value query.now) (live_values (values_of slots.now.entries))) }
+    ensures ordered { IsOrdered string_cmp slots.now }
+{
+    let mut fold = PageFold::new(alloc, query);
+    let mut examined: u64 = 0;
+    for slot in slots.values() {
+        if let Some(feature) = slot {
+            if is_candidate(query, feature) {
+                examined = examined.saturating_add(1);
+            }
+            fold.take(alloc, feature)?;
+        }
+    }
+    let mut page = fold.end(alloc)?;
+    page.examined = examined;
+    Ok(page)
+}

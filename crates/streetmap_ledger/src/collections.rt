@@ -1,0 +1,137 @@
+//! Collections by id, and changes of them that can be taken back.
+ghost use Rattle.std.specs.Prelude.{◌≡◌, Option, Some, None, IsSome, IfOk, OnOk, OnErr, string_bytes};
+ghost use Rattle.std.specs.Option.{option_copied, option_map};
+ghost use Rattle.std.specs.FinMap.{get, insert, empty};
+ghost use Rattle.streetmap_geojson.specs.FeatureValue.{FeatureValue};
+ghost use Rattle.streetmap_ledger.specs.Slots.{SlotCollections, map_of, slot_in, put_in, cut_in, reset_in};
+ghost use Rattle.streetmap_ledger.specs.Undo.{undone, rewound, timed_in};
+
+use crate::collection::PlainCollection;
+use crate::undo::Undo;
+use std::alloc::{AllocError, Global};
+use std::collections::BTreeMap;
+use streetmap_geojson::Feature;
+
+/// Takes a slot out of a collection.
+fn cut(collections: &mut BTreeMap<String, PlainCollection>, name: &str, id: &str)
+    ensures { map_of collections.new.entries ≡ cut_in (map_of collections.old.entries) name.now id.now }
+{
+    if let Some(collection) = collections.get_mut(name) {
+        collection.cut(id);
+    }
+}
+
+/// Puts this into a slot that is there, and answers what that was.
+pub fn reset(
+    collections: &mut BTreeMap<String, PlainCollection>,
+    name: &str,
+    id: &str,
+    slot: Option<Feature>,
+) -> Option<Option<Feature>>
+    ensures after { map_of collections.new.entries ≡ reset_in (map_of collections.old.entries) name.now id.now slot }
+    ensures was { result ≡ slot_in (map_of collections.old.entries) name.now id.now }
+{
+    match collections.get_mut(name) {
+        Some(collection) => collection.reset(id, slot),
+        None => None,
+    }
+}
+
+/// A copy of the feature with its time by the collection's property; none where that cannot be read.
+pub fn timed(
+    alloc: Global,
+    collections: &BTreeMap<String, PlainCollection>,
+    name: &str,
+    feature: &Feature,
+) -> Result<Option<Feature>, AllocError>
+    ensures { IfOk result (λ copy. copy ≡ timed_in (map_of collections.now.entries) name.now feature.now) }
+{
+    match collections.get(name) {
+        Some(collection) => Ok(collection.timed(alloc, feature)?),
+        None => Ok(None),
+    }
+}
+
+/// Puts a feature into a collection that is there, and answers what its slot was.
+pub fn put(
+    alloc: Global,
+    collections: &mut BTreeMap<String, PlainCollection>,
+    name: &str,
+    feature: Feature,
+) -> Result<Option<Option<Feature>>, AllocError>
+    ensures ok { OnOk result (map_of collections.new.entries ≡ put_in (map_of collections.old.entries) name.now feature.id (Some feature)) }
+    ensures was { IfOk result (λ was. was ≡ slot_in (map_of collections.old.entries) name.now feature.id) }
+    ensures err { OnErr result (map_of collections.new.entries ≡ map_of collections.old.entries) }
+{
+    let id = String::from_str(alloc, feature.id())?;
+    match collections.get_mut(name) {
+        Some(collection) => Ok(collection.put(id, feature)?),
+        None => Ok(None),
+    }
+}
+
+/// What takes back that a slot was written which was this before.
+pub fn note<'a>(name: &'a str, id: &'a str, was: Option<Option<Feature>>) -> Undo<'a>
+    ensures { (t : SlotCollections) (slot : Option FeatureValue) → slot_in t name.now id.now ≡ was → undone result (put_in t name.now id.now slot) ≡ t }
+{
+    match was {
+        Some(slot) => Undo::Set(name, id, slot),
+        None => Undo::Add(name, id),
+    }
+}
+
+/// A text of its own, where there is one.
+fn owned(alloc: Global, text: Option<&str>) -> Result<Option<String>, AllocError>
+    ensures { IfOk result (λ own. option_map string_bytes own ≡ option_copied text.entry) }
+{
+    match text {
+        Some(text) => Ok(Some(String::from_str(alloc, text)?)),
+        None => Ok(None),
+    }
+}
+
+/// Opens a collection that is not there.
+pub fn open(
+    alloc: Global,
+    collections: &mut BTreeMap<String, PlainCollection>,
+    name: &str,
+    title: &str,
+    time: Option<&str>,
+) -> Result<(), AllocError>
+    requires { get (map_of collections.old.entries) name.now ≡ None }
+    ensures ok { OnOk result (map_of collections.new.entries ≡ insert (map_of collections.old.entries) name.now (record { title = title.now; time = option_copied time.entry; slots = empty })) }
+    ensures err { OnErr result (map_of collections.new.entries ≡ map_of collections.old.entries) }
+{
+    let key = String::from_str(alloc, name)?;
+    let collection = PlainCollection::new(
+        alloc,
+        String::from_str(alloc, title)?,
+        owned(alloc, time)?,
+    );
+    collections.insert(key, collection)?;
+    Ok(())
+}
+
+/// Takes an edit back.
+fn undo(collections: &mut BTreeMap<String, PlainCollection>, edit: Undo<'_>)
+    ensures { map_of collections.new.entries ≡ undone edit.entry (map_of collections.old.entries) }
+{
+    match edit {
+        Undo::Open(name) => {
+            let _ = collections.remove(name);
+        }
+        Undo::Add(name, id) => cut(collections, name, id),
+        Undo::Set(name, id, slot) => {
+            let _ = reset(collections, name, id, slot);
+        }
+    }
+}
+
+/// Takes edits back, the last first.
+pub fn rewind(collections: &mut BTreeMap<String, PlainCollection>, mut log: Vec<Undo<'_>>)
+    ensures { map_of collections.new.entries ≡ rewound log.entry.items (map_of collections.old.entries) }
+{
+    while let Some(edit) = log.pop() {
+        undo(collections, edit);
+    }
+}

@@ -1,0 +1,93 @@
+//! What keeps a state, and a run of batches over it.
+ghost use Rattle.std.specs.Prelude.{◌≡◌, ◌≤◌, ◌+◌, ℕ, Option, None, Some, IfOk, OnOk, IsErrOf, IsNone, IsSome, length, take, map};
+ghost use Rattle.streetmap_ledger.specs.State.{State};
+ghost use Rattle.streetmap_ledger.specs.WellFormed.{IsState};
+ghost use Rattle.streetmap_ledger.specs.Batches.{replies_of};
+ghost use Rattle.streetmap_batch.specs.BatchView.{batch_value};
+ghost use Rattle.streetmap_ledger.specs.Keep.{Acts, Shows, Finds, ShutsBy, ApplyLeaves, LeavesOnly, AsBefore, RunEnds, RunLeaves, RunShuts};
+ghost use Rattle.streetmap_ledger.specs.declared.reply.Cause.{Cause};
+
+use crate::{Fault, Page, Reply, Run};
+use std::alloc::Global;
+use streetmap_batch::Batch;
+use streetmap_geojson::Feature;
+use streetmap_query::Query;
+
+pub trait Keeper {
+    /// The states that it stands for: none where it is shut, or where its store is that of no state.
+    ghost stands: { Self → State → Type 0 };
+
+    /// What a stop may leave: a state, or (none) something that is no state's.
+    ghost may_leave: { Self → Option State → Type 0 };
+
+    /// What shut it.
+    ghost cause: { Self → Option Cause };
+
+    /// Nobody else wrote to the store, and it returned what was written.
+    ghost is_clean: { Self → Type 0 };
+
+    /// Acts on one batch.
+    fn apply(&mut self, batch: &Batch) -> Result<Reply, Fault>
+        ensures began_clean { is_clean self.new → is_clean self.old }
+        ensures faults { ShutsBy result (cause self.old) (cause self.new) }
+        ensures acts { is_clean self.new → (s : State) → stands self.old s → Acts s (batch_value batch.now) result (stands self.new) }
+        ensures leaves { is_clean self.new → (s : State) → stands self.old s → LeavesOnly (may_leave self.old) (Some s) → ApplyLeaves s (batch_value batch.now) result (may_leave self.new) }
+        ensures reopen { IsErrOf result Fault.Reopen → AsBefore (stands self.old) (stands self.new) (may_leave self.old) (may_leave self.new) };
+
+    /// A page of a collection; none where it is not there.
+    fn page(&mut self, collection: &str, query: &Query) -> Result<Option<Page>, Fault>
+        ensures began_clean { is_clean self.new → is_clean self.old }
+        ensures faults { ShutsBy result (cause self.old) (cause self.new) }
+        ensures shows { is_clean self.new → (s : State) → stands self.old s → Shows s collection.now query.now result (stands self.new) }
+        ensures leaves { is_clean self.new → (s : State) → stands self.old s → LeavesOnly (may_leave self.old) (Some s) → LeavesOnly (may_leave self.new) (Some s) }
+        ensures reopen { IsErrOf result Fault.Reopen → AsBefore (stands self.old) (stands self.new) (may_leave self.old) (may_leave self.new) };
+
+    /// A feature; none where its collection is not there, or it is not in it.
+    fn feature(&mut self, collection: &str, id: &str) -> Result<Option<Feature>, Fault>
+        ensures began_clean { is_clean self.new → is_clean self.old }
+        ensures faults { ShutsBy result (cause self.old) (cause self.new) }
+        ensures finds { is_clean self.new → (s : State) → stands self.old s → Finds s collection.now id.now result (stands self.new) }
+        ensures leaves { is_clean self.new → (s : State) → stands self.old s → LeavesOnly (may_leave self.old) (Some s) → LeavesOnly (may_leave self.new) (Some s) }
+        ensures reopen { IsErrOf result Fault.Reopen → AsBefore (stands self.old) (stands self.new) (may_leave self.old) (may_leave self.new) };
+
+    /// It stands for one state at most.
+    ghost one_state: { (keeper : Self) (s t : State) → stands keeper s → stands keeper t → s ≡ t };
+
+    /// A shut keeper stands for no state.
+    ghost shut_has_none: { (keeper : Self) (s : State) → IsSome (cause keeper) → stands keeper s → ⊥ };
+
+    /// The states that it stands for are well-formed.
+    ghost well_formed: { (keeper : Self) (s : State) → stands keeper s → IsState s };
+}
+
+/// Applies the batches in order, up to the first fault.
+pub fn run<K: Keeper>(alloc: Global, keeper: &mut K, batches: &[Batch]) -> Run
+    ensures count { length result.replies.items ≤ length batches.now }
+    ensures all { IsNone result.fault → length result.replies.items ≡ length batches.now }
+    ensures began_clean { K.is_clean keeper.new → K.is_clean keeper.old }
+    ensures faults { RunShuts result.fault (K.cause keeper.old) (K.cause keeper.new) }
+    ensures replies { K.is_clean keeper.new → (s : State) → K.stands keeper.old s →
+        result.replies.items ≡ replies_of s (take (length result.replies.items) (map batch_value batches.now)) }
+    ensures ends { K.is_clean keeper.new → (s : State) → K.stands keeper.old s →
+        RunEnds s (map batch_value batches.now) (length result.replies.items) result.fault (K.stands keeper.new) }
+    ensures leaves { K.is_clean keeper.new → (s : State) → K.stands keeper.old s → LeavesOnly (K.may_leave keeper.old) (Some s) →
+        RunLeaves s (map batch_value batches.now) (length result.replies.items) result.fault (K.may_leave keeper.new) }
+{
+    let Ok(mut replies) = Vec::with_capacity(alloc, batches.len()) else {
+        return Run {
+            replies: Vec::new(alloc),
+            fault: Some(Fault::Memory),
+        };
+    };
+    let mut fault = None;
+    for batch in batches {
+        match keeper.apply(batch) {
+            Ok(reply) => replies.push_reserved(reply),
+            Err(stopped) => {
+                fault = Some(stopped);
+                break;
+            }
+        }
+    }
+    Run { replies, fault }
+}

@@ -1,0 +1,9 @@
+pub mod Range
+pub mod IntervalValue
+pub mod DateTime
+pub mod IntervalText
+pub mod Reading
+pub mod Intervals
+pub mod Meeting
+pub mod Views
+pub mod Faults

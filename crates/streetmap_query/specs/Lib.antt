@@ -1,0 +1,11 @@
+pub mod QueryValue
+pub mod Faults
+pub mod Limit
+pub mod Number
+pub mod Box
+pub mod BoxText
+pub mod Parameters
+pub mod Query
+pub mod Text
+pub mod Views
+pub mod Laws

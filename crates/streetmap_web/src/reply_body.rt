@@ -1,0 +1,40 @@
+//! The body of the reply to an accepted or repeated batch.
+ghost use Rattle.std.specs.Prelude.{◌≡◌, ◌≤◌, ◌+◌, ◌++◌, length, decimal, string_bytes, string_len, string_capacity};
+ghost use Rattle.serde_json.specs.Written.{compact_text};
+ghost use Rattle.streetmap_web.specs.Replies.{reply_data};
+ghost use Rattle.streetmap_web.specs.Plain.{IsPlain, IsEscapeFree};
+
+use crate::room::{push, push_number};
+use streetmap_ledger::Counts;
+
+/// Appends a name with what stands around it, and a number.
+fn push_count(out: &mut String, name: &str, number: u64)
+    requires name { length name.now ≤ 16 }
+    requires room { string_len out.old + 36 ≤ string_capacity out.old }
+    ensures bytes { string_bytes out.new ≡ string_bytes out.old ++ (name.now ++ decimal number) }
+    ensures len { string_len out.new ≤ string_len out.old + 36 }
+    ensures capacity { string_capacity out.old ≤ string_capacity out.new }
+{
+    push(out, name);
+    push_number(out, number);
+}
+
+/// Appends the body of the reply to an accepted or repeated batch: how many edits of each kind it has,
+/// its key and its serial. There must be room for 320 bytes, so that no memory is taken.
+pub fn push_reply(out: &mut String, key: &str, counts: Counts, serial: u64)
+    requires room { string_len out.old + 320 ≤ string_capacity out.old }
+    requires key { IsEscapeFree key.now }
+    requires short { length key.now ≤ 64 }
+    ensures bytes { string_bytes out.new ≡ string_bytes out.old ++ compact_text (reply_data key.now counts serial) }
+    ensures len { string_len out.new ≤ string_len out.old + 320 }
+    ensures capacity { string_capacity out.old ≤ string_capacity out.new }
+{
+    push_count(out, "{\"deleted\":", counts.deleted);
+    push_count(out, ",\"inserted\":", counts.inserted);
+    push(out, ",\"key\":\"");
+    push(out, key);
+    push_count(out, "\",\"opened\":", counts.opened);
+    push_count(out, ",\"replaced\":", counts.replaced);
+    push_count(out, ",\"serial\":", serial);
+    push(out, "}");
+}
