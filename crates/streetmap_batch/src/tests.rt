@@ -21,215 +21,149 @@ fn text_of(alloc: Global, text: &str) -> Result<String, AllocError> {
     }
 }
 
+fn check_read(rt: &impl Abort, alloc: Global, text: &str, wanted: &str) -> Result<(), AllocError> {
+    let found = text_of(alloc, text)?;
+    assert_eq!(rt; found.as_str(), wanted, "of {text}");
+    Ok(())
+}
+
 #[test]
-fn batch_texts(rt: HostRuntime) -> Result<(), Fail> {
-    for (text, wanted) in [
-        (LAMPS, LAMPS_TEXT),
-        // The members in another order, and spaces.
-        (
-            " { \"edits\" : [ {\"collection\":\"lamps\", \"op\":\"open\"}, {\"feature\":{\"properties\":null,\"geometry\":{\"coordinates\":[1000, 2000],\"type\":\"Point\"},\"id\":\"L1\",\"type\":\"Feature\"},\"op\":\"insert\",\"collection\":\"lamps\"} ],\n\"key\":\"b1\"}\t",
-            LAMPS_TEXT,
-        ),
-        // Whole numbers as usual writers print doubles, foreign members, and the title that is the default.
-        (
-            "{\"key\":\"b1\",\"edits\":[{\"op\":\"open\",\"collection\":\"lamps\",\"title\":\"lamps\"},{\"op\":\"insert\",\"collection\":\"lamps\",\"feature\":{\"type\":\"Feature\",\"id\":\"L1\",\"geometry\":{\"type\":\"Point\",\"coordinates\":[1000.0,2000.00]},\"bbox\":[0,0,1,1],\"lit\":true}}]}",
-            LAMPS_TEXT,
-        ),
-        (
-            "{\"edits\":[],\"key\":\"a.b_c-d:9\"}",
-            "{\"edits\":[],\"key\":\"a.b_c-d:9\"}",
-        ),
-        (
-            "{\"key\":\"k\",\"edits\":[{\"op\":\"open\",\"collection\":\"works\",\"title\":\"Road \\\"works\\\"\",\"time\":\"when\"},{\"op\":\"delete\",\"collection\":\"works\",\"id\":-12},{\"op\":\"delete\",\"collection\":\"works\",\"id\":\"way/12\"}]}",
-            "{\"edits\":[{\"collection\":\"works\",\"op\":\"open\",\"time\":\"when\",\"title\":\"Road \\\"works\\\"\"},{\"collection\":\"works\",\"id\":\"-12\",\"op\":\"delete\"},{\"collection\":\"works\",\"id\":\"way/12\",\"op\":\"delete\"}],\"key\":\"k\"}",
-        ),
-        // A ring of the other sign is kept counterclockwise.
-        (
-            "{\"key\":\"k\",\"edits\":[{\"op\":\"replace\",\"collection\":\"0\",\"feature\":{\"type\":\"Feature\",\"id\":7,\"geometry\":{\"type\":\"Polygon\",\"coordinates\":[[[0,0],[0,100],[100,100],[100,0],[0,0]]]}}}]}",
-            "{\"edits\":[{\"collection\":\"0\",\"feature\":{\"geometry\":{\"coordinates\":[[[0,0],[100,0],[100,100],[0,100],[0,0]]],\"type\":\"Polygon\"},\"id\":\"7\",\"properties\":null,\"type\":\"Feature\"},\"op\":\"replace\"}],\"key\":\"k\"}",
-        ),
+fn one_text_of_many_writings(rt: HostRuntime) -> Result<(), Fail> {
+    let alloc = rt.alloc();
+    check_read(&rt, alloc, LAMPS, LAMPS_TEXT)?;
+    // The members in another order, and spaces.
+    let spaced =
+        " { \"edits\" : [ {\"collection\":\"lamps\", \"op\":\"open\"}, {\"feature\":{\"properties\":null,\"geometry\":{\"coordinates\":[1000, 2000],\"type\":\"Point\"},\"id\":\"L1\",\"type\":\"Feature\"},\"op\":\"insert\",\"collection\":\"lamps\"} ],\n\"key\":\"b1\"}\t";
+    check_read(&rt, alloc, spaced, LAMPS_TEXT)?;
+    // Whole numbers as usual writers print doubles, foreign members, and the title that is the default.
+    let doubles =
+        "{\"key\":\"b1\",\"edits\":[{\"op\":\"open\",\"collection\":\"lamps\",\"title\":\"lamps\"},{\"op\":\"insert\",\"collection\":\"lamps\",\"feature\":{\"type\":\"Feature\",\"id\":\"L1\",\"geometry\":{\"type\":\"Point\",\"coordinates\":[1000.0,2000.00]},\"bbox\":[0,0,1,1],\"lit\":true}}]}";
+    check_read(&rt, alloc, doubles, LAMPS_TEXT)?;
+    Ok(())
+}
+
+#[test]
+fn texts_of_edits(rt: HostRuntime) -> Result<(), Fail> {
+    let alloc = rt.alloc();
+    let none = "{\"edits\":[],\"key\":\"a.b_c-d:9\"}";
+    check_read(&rt, alloc, none, none)?;
+    let deletes =
+        "{\"key\":\"k\",\"edits\":[{\"op\":\"open\",\"collection\":\"works\",\"title\":\"Road \\\"works\\\"\",\"time\":\"when\"},{\"op\":\"delete\",\"collection\":\"works\",\"id\":-12}]}";
+    let deletes_text =
+        "{\"edits\":[{\"collection\":\"works\",\"op\":\"open\",\"time\":\"when\",\"title\":\"Road \\\"works\\\"\"},{\"collection\":\"works\",\"id\":\"-12\",\"op\":\"delete\"}],\"key\":\"k\"}";
+    check_read(&rt, alloc, deletes, deletes_text)?;
+    // A ring of the other sign is kept counterclockwise.
+    let ring =
+        "{\"key\":\"k\",\"edits\":[{\"op\":\"replace\",\"collection\":\"0\",\"feature\":{\"type\":\"Feature\",\"id\":7,\"geometry\":{\"type\":\"Polygon\",\"coordinates\":[[[0,0],[0,100],[100,100],[100,0],[0,0]]]}}}]}";
+    let ring_text =
+        "{\"edits\":[{\"collection\":\"0\",\"feature\":{\"geometry\":{\"coordinates\":[[[0,0],[100,0],[100,100],[0,100],[0,0]]],\"type\":\"Polygon\"},\"id\":\"7\",\"properties\":null,\"type\":\"Feature\"},\"op\":\"replace\"}],\"key\":\"k\"}";
+    check_read(&rt, alloc, ring, ring_text)?;
+    Ok(())
+}
+
+// The refusal of a JSON text: its name, its place or 0, and its cause.
+fn refusal_of(alloc: Global, text: &str) -> (&'static str, u64, &'static str) {
+    match read_batch(alloc, text.as_bytes()) {
+        Ok(_) => ("read", 0, ""),
+        Err(fault) => {
+            let cause = match fault.cause() {
+                Some(cause) => cause.code(),
+                None => "",
+            };
+            (fault.code(), fault.place().unwrap_or(0), cause)
+        },
+    }
+}
+
+fn check_whole(rt: &impl Abort, alloc: Global, text: &str, code: &str) {
+    let found = refusal_of(alloc, text);
+    assert_eq!(rt; found.0, code, "of {text}");
+    assert_eq!(rt; found.1, 0, "of {text}");
+}
+
+fn check_edits(
+    rt: &impl Abort,
+    alloc: Global,
+    edits: &str,
+    code: &str,
+    place: u64,
+    cause: &str,
+) -> Result<(), AllocError> {
+    let mut text = String::from_str(alloc, "{\"key\":\"b1\",\"edits\":[")?;
+    text.push_str(edits)?;
+    text.push_str("]}")?;
+    let found = refusal_of(alloc, text.as_str());
+    assert_eq!(rt; found.0, code, "of {edits}");
+    assert_eq!(rt; found.1, place, "of {edits}");
+    assert_eq!(rt; found.2, cause, "of {edits}");
+    Ok(())
+}
+
+#[test]
+fn faults_of_the_whole(rt: HostRuntime) {
+    for text in [
+        "",
+        "{\"key\":\"b1\",\"edits\":[]",
+        "[]",
+        "{\"edits\":[]}",
+        "{\"key\":\"b1\"}",
+        "{\"key\":\"b1\",\"edits\":{}}",
+        "{\"key\":\"\",\"edits\":[],\"note\":1}",
+        "{\"key\":\"\",\"edits\":7}",
     ] {
-        let found = text_of(rt.alloc(), text)?;
-        assert_eq!(rt; found.as_str(), wanted, "of {text}");
+        check_whole(&rt, rt.alloc(), text, "bad_batch");
+    }
+}
+
+#[test]
+fn faults_of_the_key(rt: HostRuntime) {
+    for text in [
+        "{\"key\":\"\",\"edits\":[7]}",
+        "{\"key\":7,\"edits\":[]}",
+        "{\"key\":null,\"edits\":[]}",
+        "{\"key\":\"b 1\",\"edits\":[]}",
+        "{\"key\":\"b/1\",\"edits\":[]}",
+    ] {
+        check_whole(&rt, rt.alloc(), text, "bad_key");
+    }
+}
+
+#[test]
+fn faults_of_shape(rt: HostRuntime) -> Result<(), Fail> {
+    for edit in [
+        "7",
+        "{\"op\":\"open\"}",
+        "{\"op\":\"close\",\"collection\":\"c\"}",
+        "{\"op\":\"open\",\"collection\":\".c\"}",
+        "{\"op\":\"open\",\"collection\":\"c\",\"note\":1}",
+        "{\"op\":\"open\",\"collection\":\"c\",\"title\":null}",
+        "{\"op\":\"open\",\"collection\":\"c\",\"title\":\"a\\u0007\"}",
+        "{\"op\":\"open\",\"collection\":\"c\",\"time\":\"\"}",
+        "{\"op\":\"delete\",\"collection\":\"c\",\"id\":1.5}",
+        "{\"op\":\"delete\",\"collection\":\"c\"}",
+        "{\"op\":\"insert\",\"collection\":\"c\"}",
+        "{\"op\":\"insert\",\"collection\":\"c\",\"feature\":7,\"note\":1}",
+        "{\"op\":\"insert\",\"collection\":\"\",\"feature\":7}",
+    ] {
+        check_edits(&rt, rt.alloc(), edit, "bad_batch", 1, "")?;
     }
     Ok(())
 }
 
 #[test]
-fn first_faults(rt: HostRuntime) {
-    for (text, code, place, cause) in [
-        // The whole.
-        ("", "bad_batch", None, ""),
-        ("{\"key\":\"b1\",\"edits\":[]", "bad_batch", None, ""),
-        ("[]", "bad_batch", None, ""),
-        ("{\"edits\":[]}", "bad_batch", None, ""),
-        ("{\"key\":\"b1\"}", "bad_batch", None, ""),
-        ("{\"key\":\"b1\",\"edits\":{}}", "bad_batch", None, ""),
-        ("{\"key\":\"b1\",\"edits\":null}", "bad_batch", None, ""),
-        (
-            "{\"key\":\"b1\",\"edits\":[],\"note\":1}",
-            "bad_batch",
-            None,
-            "",
-        ),
-        (
-            "{\"key\":\"\",\"edits\":[],\"note\":1}",
-            "bad_batch",
-            None,
-            "",
-        ),
-        ("{\"key\":\"\",\"edits\":7}", "bad_batch", None, ""),
-        // The key, before the edits.
-        ("{\"key\":\"\",\"edits\":[7]}", "bad_key", None, ""),
-        ("{\"key\":7,\"edits\":[]}", "bad_key", None, ""),
-        ("{\"key\":null,\"edits\":[]}", "bad_key", None, ""),
-        ("{\"key\":\"b 1\",\"edits\":[]}", "bad_key", None, ""),
-        ("{\"key\":\"b/1\",\"edits\":[]}", "bad_key", None, ""),
-        // The shape of an edit.
-        (
-            "{\"key\":\"b1\",\"edits\":[7]}",
-            "bad_batch",
-            Some(1u64),
-            "",
-        ),
-        ("{\"key\":\"b1\",\"edits\":[{}]}", "bad_batch", Some(1), ""),
-        (
-            "{\"key\":\"b1\",\"edits\":[{\"op\":\"open\"}]}",
-            "bad_batch",
-            Some(1),
-            "",
-        ),
-        (
-            "{\"key\":\"b1\",\"edits\":[{\"op\":\"close\",\"collection\":\"c\"}]}",
-            "bad_batch",
-            Some(1),
-            "",
-        ),
-        (
-            "{\"key\":\"b1\",\"edits\":[{\"op\":\"open\",\"collection\":\".c\"}]}",
-            "bad_batch",
-            Some(1),
-            "",
-        ),
-        (
-            "{\"key\":\"b1\",\"edits\":[{\"op\":\"open\",\"collection\":\"c:d\"}]}",
-            "bad_batch",
-            Some(1),
-            "",
-        ),
-        (
-            "{\"key\":\"b1\",\"edits\":[{\"op\":\"open\",\"collection\":\"c\",\"note\":1}]}",
-            "bad_batch",
-            Some(1),
-            "",
-        ),
-        (
-            "{\"key\":\"b1\",\"edits\":[{\"op\":\"open\",\"collection\":\"c\",\"title\":null}]}",
-            "bad_batch",
-            Some(1),
-            "",
-        ),
-        (
-            "{\"key\":\"b1\",\"edits\":[{\"op\":\"open\",\"collection\":\"c\",\"title\":\"a\\u0007\"}]}",
-            "bad_batch",
-            Some(1),
-            "",
-        ),
-        (
-            "{\"key\":\"b1\",\"edits\":[{\"op\":\"open\",\"collection\":\"c\",\"time\":\"\"}]}",
-            "bad_batch",
-            Some(1),
-            "",
-        ),
-        (
-            "{\"key\":\"b1\",\"edits\":[{\"op\":\"open\",\"collection\":\"c\",\"time\":null}]}",
-            "bad_batch",
-            Some(1),
-            "",
-        ),
-        (
-            "{\"key\":\"b1\",\"edits\":[{\"op\":\"delete\",\"collection\":\"c\",\"id\":1.5}]}",
-            "bad_batch",
-            Some(1),
-            "",
-        ),
-        (
-            "{\"key\":\"b1\",\"edits\":[{\"op\":\"delete\",\"collection\":\"c\",\"id\":\"\"}]}",
-            "bad_batch",
-            Some(1),
-            "",
-        ),
-        (
-            "{\"key\":\"b1\",\"edits\":[{\"op\":\"delete\",\"collection\":\"c\"}]}",
-            "bad_batch",
-            Some(1),
-            "",
-        ),
-        (
-            "{\"key\":\"b1\",\"edits\":[{\"op\":\"insert\",\"collection\":\"c\"}]}",
-            "bad_batch",
-            Some(1),
-            "",
-        ),
-        (
-            "{\"key\":\"b1\",\"edits\":[{\"op\":\"open\",\"collection\":\"c\"},{\"op\":\"open\",\"collection\":\"\"}]}",
-            "bad_batch",
-            Some(2),
-            "",
-        ),
-        // Its shape before its feature.
-        (
-            "{\"key\":\"b1\",\"edits\":[{\"op\":\"insert\",\"collection\":\"c\",\"feature\":7,\"note\":1}]}",
-            "bad_batch",
-            Some(1),
-            "",
-        ),
-        (
-            "{\"key\":\"b1\",\"edits\":[{\"op\":\"insert\",\"collection\":\"\",\"feature\":7}]}",
-            "bad_batch",
-            Some(1),
-            "",
-        ),
-        // Its feature, before the next edit.
-        (
-            "{\"key\":\"b1\",\"edits\":[{\"op\":\"insert\",\"collection\":\"c\",\"feature\":7},{}]}",
-            "bad_feature",
-            Some(1),
-            "wrong_type",
-        ),
-        (
-            "{\"key\":\"b1\",\"edits\":[{\"op\":\"replace\",\"collection\":\"c\",\"feature\":{\"type\":\"Feature\"}}]}",
-            "bad_feature",
-            Some(1),
-            "bad_id",
-        ),
-        (
-            "{\"key\":\"b1\",\"edits\":[{\"op\":\"insert\",\"collection\":\"c\",\"feature\":{\"type\":\"Feature\",\"id\":1,\"geometry\":{\"type\":\"Polygon\",\"coordinates\":[[[0,0,1],[9,0,1],[9,9,1],[0,0,2]]]}}}]}",
-            "bad_feature",
-            Some(1),
-            "open_ring",
-        ),
-        (
-            "{\"key\":\"b1\",\"edits\":[{\"op\":\"open\",\"collection\":\"c\"},{\"op\":\"insert\",\"collection\":\"c\",\"feature\":{\"type\":\"Feature\",\"id\":1,\"geometry\":{\"type\":\"Polygon\",\"coordinates\":[[[0,0],[9,0],[0,0]]]}}}]}",
-            "bad_feature",
-            Some(2),
-            "short_ring",
-        ),
-    ] {
-        match read_batch(rt.alloc(), text.as_bytes()) {
-            Ok(_) => assert!(rt; false, "{text} is read"),
-            Err(fault) => {
-                assert_eq!(rt; fault.code(), code, "of {text}");
-                assert_eq!(rt; fault.place(), place, "of {text}");
-                let found = match fault.cause() {
-                    Some(fault) => fault.code(),
-                    None => "",
-                };
-                assert_eq!(rt; found, cause, "of {text}");
-                assert!(rt; !fault.description().is_empty());
-            },
-        }
-    }
+fn faults_of_features(rt: HostRuntime) -> Result<(), Fail> {
+    let alloc = rt.alloc();
+    let open = "{\"op\":\"open\",\"collection\":\"c\"},{\"op\":\"open\"}";
+    check_edits(&rt, alloc, open, "bad_batch", 2, "")?;
+    let two = "{\"op\":\"insert\",\"collection\":\"c\",\"feature\":7},{}";
+    check_edits(&rt, alloc, two, "bad_feature", 1, "wrong_type")?;
+    let ends =
+        "{\"op\":\"insert\",\"collection\":\"c\",\"feature\":{\"type\":\"Feature\",\"id\":1,\"geometry\":{\"type\":\"Polygon\",\"coordinates\":[[[0,0,1],[9,0,1],[9,9,1],[0,0,2]]]}}}";
+    check_edits(&rt, alloc, ends, "bad_feature", 1, "open_ring")?;
+    let short =
+        "{\"op\":\"open\",\"collection\":\"c\"},{\"op\":\"replace\",\"collection\":\"c\",\"feature\":{\"type\":\"Feature\",\"id\":1,\"geometry\":{\"type\":\"Polygon\",\"coordinates\":[[[0,0],[9,0],[0,0]]]}}}";
+    check_edits(&rt, alloc, short, "bad_feature", 2, "short_ring")?;
+    Ok(())
 }
 
 // A batch of that many edits.

@@ -1,5 +1,5 @@
 -- What the tests of ranges and orders say.
-use Rattle.std.specs.Prelude.{ℕ, ◌≤◌, nat_lt, ℤ, ◌≤ℤ◌, Bool, true, false, ◌&&◌, int_le, ◌≡◌, refl, Option, Some, None, IfSome, if◌then◌else◌}
+use Rattle.std.specs.Prelude.{ℕ, ◌≤◌, nat_lt, ℤ, ◌≤ℤ◌, Bool, true, false, ◌&&◌, int_le, ◌≡◌, refl, Option, Some, None, IfSome}
 use Rattle.std.specs.Bool.{OnTrue}
 use Rattle.std.proofs.Common.{arith}
 use Rattle.std.proofs.lemmas.Int.{ints}

@@ -1,5 +1,5 @@
 -- The test of a ring's two ends, and what reversal leaves of it.
-use Rattle.std.specs.Prelude.{ℕ, suc, ◌-◌, ◌<◌, ◌≤◌, ℤ, Bool, true, false, ◌&&◌, ◌≡◌, List, [], ◌∷◌, ◌++◌, reverse, length, get_or, refl, Option, Some, None, IsTrue}
+use Rattle.std.specs.Prelude.{ℕ, ◌-◌, ◌<◌, ◌≤◌, ℤ, true, ◌&&◌, ◌≡◌, List, [], ◌∷◌, ◌++◌, reverse, length, get_or, refl, Option, Some, None}
 use Rattle.std.proofs.Common.{subst, sym, ◌∙◌, ap, arith}
 use Rattle.std.proofs.lemmas.List.{get_or-map, length-map, reverse-append}
 use Rattle.std.specs.Ordering.{int_eq}

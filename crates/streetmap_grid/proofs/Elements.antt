@@ -1,8 +1,8 @@
 -- Some element of a list, one at a time.
-use Rattle.std.specs.Prelude.{ℕ, suc, ◌+◌, ◌<◌, ◌≡◌, Bool, true, false, ◌||◌, List, [], ◌∷◌, length, drop, get_or, map, refl}
+use Rattle.std.specs.Prelude.{◌≡◌, Bool, List, [], ◌∷◌, map}
 use Rattle.std.specs.Bool.{Decides}
 use Rattle.std.specs.List.{list_any}
-use Rattle.std.proofs.Common.{sym, subst, inl, inr, arith, drop-cons, ap, ◌∙◌}
+use Rattle.std.proofs.Common.{sym, subst, inl, inr}
 use Rattle.std.proofs.lemmas.Bool.Decides.{Decides-or}
 use Rattle.streetmap_grid.specs.Some.{SomeOf}
 

@@ -1,5 +1,5 @@
 -- What the ghost fields say, of plain values.
-use Rattle.std.specs.Prelude.{◌≤◌, List, [], ◌∷◌, All, map, length, vec_len}
+use Rattle.std.specs.Prelude.{◌≤◌, List, [], ◌∷◌, All, map, length}
 use Rattle.std.proofs.Common.{arith}
 use Rattle.std.proofs.lemmas.List.{length-map}
 use Rattle.std.proofs.lemmas.List.Elements.{All-nil, All-cons}

@@ -1,15 +1,13 @@
 -- The laws of the definitions.
-use Rattle.std.specs.Prelude.{ℕ, ◌+◌, ◌*◌, ◌%◌, ◌≡◌, ◌↔◌, ℤ, ◌≤ℤ◌, Bool, true, false, ◌&&◌, List, [], ◌∷◌, map, All, IsTrue, refl}
+use Rattle.std.specs.Prelude.{ℕ, ◌%◌, ◌≡◌, true, false, List, [], ◌∷◌, map, IsTrue, refl}
 use Rattle.std.specs.List.{list_all}
-use Rattle.std.proofs.Common.{arith, ap, ◌∙◌, sym}
+use Rattle.std.proofs.Common.{arith, ap, ◌∙◌}
 use Rattle.std.proofs.lemmas.List.Elements.{recursion_from_All}
-use Rattle.streetmap_grid.specs.Values.{PositionValue, BoxValue, GeometryValue}
-use Rattle.streetmap_grid.specs.WellFormed.{IsBox, IsGeometry}
-use Rattle.streetmap_grid.specs.Ring.{is_closed, is_right, turned, oriented, is_oriented_polygon, last_from}
-use Rattle.streetmap_grid.specs.Meeting.{Holds}
-use Rattle.streetmap_grid.specs.Extent.{IsExtent, vertices, polygon_vertices, extent_of}
+use Rattle.streetmap_grid.specs.Values.{PositionValue}
+use Rattle.streetmap_grid.specs.Ring.{is_closed, is_right, turned}
+use Rattle.streetmap_grid.specs.Extent.{vertices, polygon_vertices, extent_of}
 use Rattle.streetmap_grid.specs.Laws.{MeetingTestIsRelation, OverlapTestIsRelation, WhatMeetsOverlaps, ExtentIsOneBox, ClosedRingsAreEven, NoneIsInsideOutside, OrientedIsRight, RightIsUnchanged}
-use Rattle.streetmap_grid.proofs.Growing.{extent_is, same_extent, vertices_some, ordered_extent}
+use Rattle.streetmap_grid.proofs.Growing.{extent_is, same_extent, ordered_extent}
 use Rattle.streetmap_grid.proofs.Deciding.{geometry_decides}
 use Rattle.streetmap_grid.proofs.Overlapping.{HoldsPosition, overlaps_decides, geometry_overlaps, closed_level, each_held, inside_held}
 use Rattle.streetmap_grid.proofs.Parity.{IsEven, straddling_even}

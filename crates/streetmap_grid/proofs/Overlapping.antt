@@ -1,12 +1,12 @@
 -- What meets a box has an extent that overlaps it.
-use Rattle.std.specs.Prelude.{ℕ, ◌++◌, ◌%◌, ℤ, pos, neg_ℤ, ◌+ℤ◌, ◌-ℤ◌, ◌*ℤ◌, ◌≤ℤ◌, ◌<ℤ◌, int_le, ◌≡◌, Bool, ◌&&◌, List, [], ◌∷◌, All, IsTrue, refl}
+use Rattle.std.specs.Prelude.{ℕ, ◌++◌, ◌%◌, ℤ, pos, neg_ℤ, ◌+ℤ◌, ◌-ℤ◌, ◌*ℤ◌, ◌≤ℤ◌, ◌<ℤ◌, int_le, ◌≡◌, List, [], ◌∷◌, All, IsTrue}
 use Rattle.std.specs.Bool.{Decides}
-use Rattle.std.specs.Int.{int_max, int_min}
+use Rattle.std.specs.Int.{int_max}
 use Rattle.std.specs.List.{AllByRecursion, sum_by, flat_map}
-use Rattle.std.proofs.Common.{subst, sym, ap, arith, inl, inr}
+use Rattle.std.proofs.Common.{sym, ap, arith, inl, inr}
 use Rattle.std.proofs.lemmas.Bool.Decides.{Decides-and, Decides-like}
 use Rattle.std.proofs.lemmas.Int.{ints, clamps, by_lt_z}
-use Rattle.std.proofs.lemmas.List.Elements.{recursion_from_All, All-from_recursion}
+use Rattle.std.proofs.lemmas.List.Elements.{recursion_from_All}
 use lib.IntN.{*ℤ_comm}
 use Rattle.streetmap_grid.specs.Values.{PositionValue, BoxValue, SimpleValue, GeometryValue, point, multi_point, line_string, multi_line_string, polygon, multi_polygon, simple, collection}
 use Rattle.streetmap_grid.specs.Edges.{edges_from}

@@ -1,5 +1,5 @@
 -- What it means for a ring to be turned.
-use Rattle.std.specs.Prelude.{ℕ, suc, ◌+◌, ◌<◌, ◌≤◌, ℤ, pos, neg_ℤ, ◌+ℤ◌, Bool, true, false, not, ◌&&◌, ◌||◌, cond, int_lt, ◌≡◌, List, [], ◌∷◌, ◌++◌, length, map, reverse, refl, slice_index_or, nat_lt}
+use Rattle.std.specs.Prelude.{ℕ, suc, ◌<◌, ℤ, neg_ℤ, ◌+ℤ◌, Bool, true, false, not, cond, ◌≡◌, List, [], ◌∷◌, ◌++◌, length, map, reverse, refl, slice_index_or, nat_lt}
 use Rattle.std.specs.List.{list_all}
 use Rattle.std.proofs.Common.{sym, ◌∙◌, ap, arith}
 use Rattle.std.proofs.lemmas.Int.{ints}

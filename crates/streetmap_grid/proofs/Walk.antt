@@ -1,5 +1,5 @@
 -- A walk along the edges of a list of positions.
-use Rattle.std.specs.Prelude.{ℕ, suc, ◌+◌, ◌-◌, ◌<◌, ◌≤◌, ◌≡◌, List, [], ◌∷◌, length, drop, get_or, map, refl, ℤ, pos, ◌+ℤ◌}
+use Rattle.std.specs.Prelude.{ℕ, suc, ◌+◌, ◌-◌, ◌<◌, ◌≤◌, ◌≡◌, List, [], ◌∷◌, length, drop, get_or, refl, pos, ◌+ℤ◌}
 use Rattle.std.proofs.Common.{sym, ◌∙◌, ap, arith, drop-cons, length-drop}
 use Rattle.std.proofs.lemmas.List.{get_or_read, get_or-map, length-map}
 use Rattle.streetmap_grid.specs.declared.position.Position.{Position}

@@ -1,5 +1,5 @@
 -- The extent of a geometry, and boxes that overlap.
-use Rattle.std.specs.Prelude.{ℤ, pos, ◌≤ℤ◌, int_le, ◌≡◌, Bool, ◌&&◌, List, [], ◌∷◌, map, All}
+use Rattle.std.specs.Prelude.{ℤ, pos, int_le, ◌≡◌, Bool, ◌&&◌, List, [], ◌∷◌, map, All}
 use Rattle.std.specs.List.{flat_map, fold}
 use Rattle.std.specs.Int.{int_max, int_min}
 use Rattle.streetmap_grid.specs.Values.{PositionValue, BoxValue, SimpleValue, GeometryValue, point, multi_point, line_string, multi_line_string, polygon, multi_polygon, simple, collection}

@@ -1,5 +1,5 @@
 -- What is known of every value that Rust's types hold.
-use Rattle.std.specs.Prelude.{◌≤◌, ◌≤ℤ◌, Bool, true, ◌&&◌, List, length, All, IfSome, IsTrue}
+use Rattle.std.specs.Prelude.{◌≤◌, ◌≤ℤ◌, Bool, true, List, length, All, IfSome, IsTrue}
 use Rattle.std.specs.List.{list_all}
 use Rattle.streetmap_grid.specs.Values.{PositionValue, BoxValue, SimpleValue, GeometryValue, point, multi_point, line_string, multi_line_string, polygon, multi_polygon, simple, collection}
 use Rattle.streetmap_grid.specs.Range.{IsCoordinate, IsBound}

@@ -1,6 +1,6 @@
 -- A box that the grid made of four bounds in range.
 use Rattle.std.proofs.Common.{◌≡◌, ℕ, List, length, Option, Some, None, Result, Ok, Err, refl, ap, ◌∙◌, sym, arith, true, false, Bool, inl, inr, ℤ}
-use Rattle.std.specs.Prelude.{◌==◌, ◌&&◌, int_le, ◌≤ℤ◌, option_map, IfOk, OnOk, IfErr, if◌then◌else◌}
+use Rattle.std.specs.Prelude.{◌==◌, ◌&&◌, int_le, option_map, IfOk, OnOk, IfErr}
 use Rattle.std.proofs.lemmas.Bool.{cases_Bool}
 use Rattle.std.proofs.lemmas.Bool.Decides.{nat_tests}
 use Rattle.std.proofs.lemmas.Option.{none-some}

@@ -1,5 +1,5 @@
 -- Boxes of the grid, and their texts.
-use Rattle.std.specs.Prelude.{ℕ, ◌&&◌, ◌==◌, List, ◌∷◌, ◌++◌, length, Option, Some, None, if◌then◌else◌, ℤ, int_le, ◌≤ℤ◌}
+use Rattle.std.specs.Prelude.{ℕ, ◌&&◌, ◌==◌, List, ◌∷◌, ◌++◌, length, Option, Some, None, if◌then◌else◌, int_le}
 use Rattle.streetmap_grid.specs.Values.{BoxValue}
 use Rattle.std.specs.Fmt.{signed_decimal}
 use Rattle.streetmap_query.specs.Number.{◌>>=◌, bound_at, comma_at}

@@ -1,5 +1,5 @@
 -- What holds of the definitions, whatever the code does.
-use Rattle.std.specs.Prelude.{◌≡◌, ◌↔◌, ℕ, List, Option, Some, Ok}
+use Rattle.std.specs.Prelude.{◌≡◌, ◌↔◌, ℕ, List, Some, Ok}
 use Rattle.std.specs.Option.{ForSome}
 use Rattle.streetmap_grid.specs.Values.{BoxValue}
 use Rattle.streetmap_query.specs.Box.{box_of}

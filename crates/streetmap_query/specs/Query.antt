@@ -1,5 +1,5 @@
 -- The query that a text is, or the first fault in it; and the text that is written for a query.
-use Rattle.std.specs.Prelude.{◌≡◌, ℕ, Bool, false, List, [], ◌∷◌, map, Option, Some, None, length, nat_lt, option_map, Result, Ok, Err, codes, decimal, IsTrue}
+use Rattle.std.specs.Prelude.{◌≡◌, ℕ, Bool, false, List, [], ◌∷◌, map, Option, Some, None, length, nat_lt, option_map, Result, Ok, codes, decimal, IsTrue}
 use Rattle.std.specs.Option.{ForSome}
 use Rattle.std.specs.Str.Lossy.{utf8_lossy}
 use Rattle.form_urlencoded.specs.Form.{raw_pairs, decode, extend_pairs}
@@ -9,7 +9,7 @@ use Rattle.streetmap_query.specs.declared.fault.QueryFault.{QueryFault}
 use Rattle.streetmap_query.specs.Limit.{IsLimit}
 use Rattle.streetmap_grid.specs.WellFormed.{IsBox}
 use Rattle.streetmap_query.specs.Box.{box_text}
-use Rattle.streetmap_query.specs.QueryValue.{DatetimeValue, QueryValue}
+use Rattle.streetmap_query.specs.QueryValue.{QueryValue}
 use Rattle.streetmap_query.specs.Parameters.{ParametersValue, no_parameters, query_by, with_pairs, ◌>>=◌}
 
 -- the text that an encoded name or value stands for; bytes that are no UTF-8 are read as U+FFFD

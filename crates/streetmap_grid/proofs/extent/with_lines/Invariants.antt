@@ -1,4 +1,4 @@
-use Rattle.std.proofs.Common.{List, [], ◌∷◌, ◌++◌, take}
+use Rattle.std.proofs.Common.{List, ◌++◌, take}
 use Rattle.std.specs.List.{flat_map}
 use Rattle.streetmap_grid.specs.Values.{PositionValue}
 use Rattle.streetmap_grid.specs.Views.{line_value}

@@ -1,5 +1,4 @@
-use Rattle.std.proofs.Common.{arith, ◌≡◌, List, [], ◌∷◌, ◌++◌, subst, ap}
-use Rattle.streetmap_grid.specs.Values.{PositionValue}
+use Rattle.std.proofs.Common.{arith}
 use Rattle.streetmap_grid.specs.Views.{simple_value}
 use Rattle.streetmap_grid.specs.Extent.{simple_vertices}
 use Rattle.streetmap_grid.proofs.Growing.{bounds_more, bounds_all}

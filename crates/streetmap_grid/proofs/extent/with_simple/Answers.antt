@@ -1,7 +1,5 @@
-use Rattle.std.proofs.Common.{sym, ◌∙◌, ap, map, List}
+use Rattle.std.proofs.Common.{sym, ◌∙◌, ap}
 use Rattle.std.specs.List.{flat_map}
-use Rattle.streetmap_grid.specs.Values.{PositionValue}
-use Rattle.streetmap_grid.specs.declared.geometry.SimpleGeometry.{SimpleGeometry}
 use Rattle.streetmap_grid.specs.Views.{positions_value, lines_value, polygons_value, simple_value}
 use Rattle.streetmap_grid.specs.Extent.{polygon_vertices, simple_vertices}
 use Rattle.streetmap_grid.proofs.Growing.{bounds_same}

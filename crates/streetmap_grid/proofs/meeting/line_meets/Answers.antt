@@ -1,4 +1,4 @@
-use Rattle.std.proofs.Common.{arith, ◌-◌, refl}
+use Rattle.std.proofs.Common.{arith, refl}
 use Rattle.streetmap_grid.specs.Values.{PositionValue}
 use Rattle.streetmap_grid.specs.Views.{position_value, box_value}
 use Rattle.streetmap_grid.specs.Meeting.{SegmentMeets}

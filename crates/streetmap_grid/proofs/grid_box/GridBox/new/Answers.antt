@@ -1,10 +1,8 @@
-use Rattle.std.proofs.Common.{arith, sym, ◌∙◌, ◌≡◌, ◌&&◌, ap, false, Option, None, Some, cond, Bool, FitsSigned, w64}
+use Rattle.std.proofs.Common.{sym, ◌∙◌, ◌≡◌, ◌&&◌, ap, false, None, Some, cond, Bool, FitsSigned, w64}
 use Rattle.std.specs.Prelude.{int_le}
 use Rattle.std.proofs.lemmas.Int.{to_z-of_z}
-use Rattle.streetmap_grid.specs.declared.fault.GridFault.{GridFault}
 use Rattle.streetmap_grid.specs.declared.fault.GridFault.TheVariants.{BadBox}
 use Rattle.streetmap_grid.specs.Range.{is_bound}
-use Rattle.streetmap_grid.specs.Faults.{is_box}
 use Rattle.streetmap_grid.proofs.Booleans.{bound_in, le_true, and_false}
 use Rattle.streetmap_grid.proofs.grid_box.GridBox.new.Goals as goal
 use Rattle.streetmap_grid.proofs.grid_box.GridBox.new.Goals.{else-x0-x1-via-then-x0-x1+else-y0-y1, else-x0-x1-via-else-x0-x1}

@@ -1,4 +1,4 @@
-use Rattle.std.proofs.Common.{FitsSigned, arith, w64, ◌≡◌}
+use Rattle.std.proofs.Common.{FitsSigned, arith, w64}
 use Rattle.std.specs.Prelude.{int_le}
 use Rattle.std.proofs.lemmas.Bool.Decides.{Decides-at}
 use Rattle.std.proofs.lemmas.Int.{ints, to_z-of_z}

@@ -1,5 +1,5 @@
-use Rattle.std.proofs.Common.{arith, ap, ◌∙◌, ◌≡◌, true}
-use Rattle.streetmap_grid.specs.Views.{rings_value, polygon_value}
+use Rattle.std.proofs.Common.{arith, ap, ◌∙◌, ◌≡◌}
+use Rattle.streetmap_grid.specs.Views.{rings_value}
 use Rattle.streetmap_grid.specs.Ring.{oriented, is_oriented_polygon}
 use Rattle.streetmap_grid.proofs.Turning.{turned_each, oriented_right}
 use Rattle.streetmap_grid.proofs.polygon.Polygon.oriented.Goals as goal

@@ -1,7 +1,6 @@
-use Rattle.std.proofs.Common.{arith, sym, ◌∙◌, ◌≡◌, refl, ap, false, cond, Option, None, Some, Bool, length}
+use Rattle.std.proofs.Common.{arith, sym, ◌∙◌, ◌≡◌, refl, false, length}
 use Rattle.std.specs.Prelude.{nat_lt}
 use Rattle.std.proofs.lemmas.List.{length-map}
-use Rattle.streetmap_grid.specs.declared.fault.GridFault.TheVariants.{ShortRing, OpenRing}
 use Rattle.streetmap_grid.specs.PositionViews.{position_value, positions_value}
 use Rattle.streetmap_grid.specs.Ring.{is_closed}
 use Rattle.streetmap_grid.proofs.Closing.{closed_at}

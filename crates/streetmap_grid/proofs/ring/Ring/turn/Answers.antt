@@ -1,8 +1,7 @@
-use Rattle.std.proofs.Common.{arith, sym, ◌∙◌, ◌≡◌, ap, true, Bool, cond, List, reverse, map, ℤ, pos, FitsSigned, rules}
+use Rattle.std.proofs.Common.{arith, sym, ◌∙◌, ◌≡◌, ap, true, Bool, cond, reverse, ℤ, pos, FitsSigned, rules}
 use Rattle.std.specs.Prelude.{int_lt}
 use Rattle.std.proofs.lemmas.Int.{to_z-of_z}
 use mir.Syntax.{w128}
-use Rattle.streetmap_grid.specs.Values.{PositionValue}
 use Rattle.streetmap_grid.specs.PositionViews.{position_value, positions_value}
 use Rattle.streetmap_grid.specs.Views.{ring_value}
 use Rattle.streetmap_grid.specs.Ring.{is_closed, is_wrong, double_area}
