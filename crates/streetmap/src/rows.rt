@@ -506,3 +506,44 @@ fn answers_over_an_empty_ledger(rt: HostRuntime) -> Result<(), Fail> {
     }
     Ok(())
 }
+
+/// A batch that inserts and deletes one feature in turn, with so many edits.
+fn turns(alloc: Global, count: usize) -> Result<String, Fail> {
+    let mut text = String::from_str(alloc, "batch {\"key\":\"m\",\"edits\":[")?;
+    for i in 0..count {
+        if i > 0 {
+            text.push_str(",")?;
+        }
+        if i % 2 == 0 {
+            text.push_str(
+                "{\"op\":\"insert\",\"collection\":\"lamps\",\"feature\":{\"type\":\"Feature\",\"id\":\"T\"}}",
+            )?;
+        } else {
+            text.push_str("{\"op\":\"delete\",\"collection\":\"lamps\",\"id\":\"T\"}")?;
+        }
+    }
+    text.push_str("]}")?;
+    Ok(text)
+}
+
+#[test]
+fn takes_ten_thousand_edits_and_no_more(rt: HostRuntime) -> Result<(), Fail> {
+    for (count, wanted) in [
+        (
+            10_000,
+            "{\"deleted\":5000,\"inserted\":5000,\"key\":\"m\",\"opened\":0,\"replaced\":0,\"serial\":2}",
+        ),
+        (
+            10_001,
+            "{\"code\":\"too_many_edits\",\"description\":\"The batch has more than 10000 edits.\"}",
+        ),
+    ] {
+        let alloc = rt.alloc();
+        let batch = turns(alloc, count)?;
+        let text = format!(in alloc; "{FIRST}\n{batch}\n")?;
+        let answered = answers(alloc, text.as_str())?;
+        let last = answered.as_str().lines().last().unwrap_or("");
+        assert_eq!(rt; last, wanted, "at {count}");
+    }
+    Ok(())
+}

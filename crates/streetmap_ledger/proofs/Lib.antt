@@ -4,8 +4,13 @@ pub mod Ordered
 pub mod SlotLemmas
 pub mod Live
 pub mod Candidates
+pub mod ExtentLemmas
+pub mod Sweeping
+pub mod CollectionsInOrder
 pub mod Steps
 pub mod PlainLemmas
 pub mod Repeat
 pub mod StatesStay
+pub mod Acceptance
+pub mod Walking
 pub mod Runs

@@ -19,11 +19,11 @@ use Rattle.streetmap_ledger.proofs.Maps.{one_text}
 use Rattle.streetmap_ledger.proofs.Ordered.{entries_of, ascending, both}
 use Rattle.streetmap_ledger.proofs.SlotLemmas.{live_gets}
 
-first : (a b : Bool) → T (a && b) → T a
+pub first : (a b : Bool) → T (a && b) → T a
 first true b p = tt
 first false b p = p
 
-second : (a b : Bool) → T (a && b) → T b
+pub second : (a b : Bool) → T (a && b) → T b
 second true b p = p
 second false b p = absurd p
 
@@ -58,7 +58,7 @@ not_equal Equal h = absurd h
 not_equal Greater h = absurd h
 
 -- a key below all the others is not found among them
-none_below : (k : Text) (es : List (Text × FeatureValue)) → T (below_all text_cmp k es) → find text_cmp k es ≡ None
+pub none_below : (k : Text) (es : List (Text × FeatureValue)) → T (below_all text_cmp k es) → find text_cmp k es ≡ None
 none_below k [] h = refl
 none_below k (e ∷ es) h = ap (λ b. cond b (Some e.1) (find text_cmp k es)) (not_equal _ (first _ _ h)) ∙ none_below k es (second _ _ h)
 

@@ -59,7 +59,7 @@ map_choice : (b : Bool) (s : SlotCollection) (o : Option SlotCollection) → con
 map_choice true s o = refl
 map_choice false s o = refl
 
-collected_gets : (es : List (Text × SlotCollection)) (q : Text) → get (collected_of es) q ≡ option_map collected (find text_cmp q es)
+pub collected_gets : (es : List (Text × SlotCollection)) (q : Text) → get (collected_of es) q ≡ option_map collected (find text_cmp q es)
 collected_gets [] q = get-empty text_cmp q
 collected_gets (e ∷ es) q = get-insert nat_list_cmp_total (collected_of es) e.0 (collected e.1) q ∙ (ap (cond (eq_by_cmp text_cmp q e.0) (Some (collected e.1))) (collected_gets es q) ∙ map_choice (eq_by_cmp text_cmp q e.0) e.1 (find text_cmp q es))
 

@@ -1,6 +1,7 @@
 -- What a call of a keeper does.
-use Rattle.std.specs.Prelude.{◌≡◌, ◌⊎◌, ℕ, ◌+◌, List, Option, None, Some, Result, Ok, Err, IsSome, take}
+use Rattle.std.specs.Prelude.{◌≡◌, ◌⊎◌, ℕ, ◌+◌, List, Vec, Option, None, Some, Result, Ok, Err, IsSome, take}
 use Rattle.std.specs.Option.{option_map}
+use Rattle.std.specs.declared.alloc.Global.{Global}
 use Rattle.streetmap_geojson.specs.FeatureValue.{FeatureValue}
 use Rattle.streetmap_query.specs.Views.{query_value}
 use Rattle.streetmap_query.specs.declared.queries.Query.{Query}
@@ -10,6 +11,9 @@ use Rattle.streetmap_ledger.specs.State.{State}
 use Rattle.streetmap_ledger.specs.Batches.{act, after_all}
 use Rattle.streetmap_ledger.specs.Pages.{page_in, feature_in}
 use Rattle.streetmap_ledger.specs.PageView.{page_value}
+use Rattle.streetmap_ledger.specs.Summaries.{summary_in, summaries_in}
+use Rattle.streetmap_ledger.specs.SummaryView.{summary_value, summary_values}
+use Rattle.streetmap_ledger.specs.declared.summary.Summary.{Summary}
 use Rattle.streetmap_ledger.specs.declared.page.Page.{Page}
 use Rattle.streetmap_ledger.specs.declared.reply.Reply.{Reply}
 use Rattle.streetmap_ledger.specs.declared.reply.Cause.{Cause}
@@ -48,6 +52,14 @@ Shows s name q result stands = Looks s (λ page. option_map page_value page ≡ 
 -- a feature
 abbrev pub Finds : State → Text → Text → Result (Option FeatureValue) Fault → (State → Type 0) → Type 0
 Finds s name id result stands = Looks s (λ found. found ≡ feature_in s name id) result stands
+
+-- what is told of a collection
+abbrev pub Tells : State → Text → Result (Option Summary) Fault → (State → Type 0) → Type 0
+Tells s id result stands = Looks s (λ summary. option_map summary_value summary ≡ summary_in s id) result stands
+
+-- what is told of all collections
+abbrev pub Lists : State → Result (Vec Summary Global) Fault → (State → Type 0) → Type 0
+Lists s result stands = Looks s (λ (summaries : Vec Summary Global). summary_values summaries.items ≡ summaries_in s) result stands
 
 -- a stop may leave this and nothing else
 abbrev pub LeavesOnly : (Option State → Type 0) → Option State → Type 0

@@ -1,8 +1,10 @@
 -- Laws of batches.
-use Rattle.std.specs.Prelude.{◌≡◌, List, ◌∷◌, ◌++◌}
+use Rattle.std.specs.Prelude.{◌≡◌, ℕ, Bool, true, false, List, [], ◌∷◌, ◌++◌, Option, None, Some, if◌then◌else◌}
+use Rattle.std.specs.FinMap.{get}
 use Rattle.streetmap_batch.specs.BatchValue.{BatchValue}
 use Rattle.streetmap_ledger.specs.State.{State}
 use Rattle.streetmap_ledger.specs.Batches.{act, after_all}
+use Rattle.streetmap_ledger.specs.declared.reply.Refusal.{Refusal}
 use Rattle.streetmap_ledger.specs.declared.reply.Reply.{Reply}
 use Rattle.streetmap_ledger.specs.declared.reply.Reply.TheVariants.{Accepted, Repeated, Refused}
 
@@ -18,3 +20,28 @@ RepeatActsOnce =
     (s : State) (before between later : List BatchValue) (b : BatchValue) →
     IsAcknowledged (act (after_all s before) b).reply →
     after_all s (before ++ b ∷ (between ++ b ∷ later)) ≡ after_all s (before ++ b ∷ (between ++ later))
+
+abbrev pub is_accepted : Reply → Bool
+is_accepted (Accepted counts serial) = true
+is_accepted (Repeated counts serial) = false
+is_accepted (Refused why place) = false
+
+-- the batches of a list that are accepted, without those that are refused or repeated
+abbrev pub accepted_of : State → List BatchValue → List BatchValue
+accepted_of s [] = []
+accepted_of s (b ∷ bs) =
+    let later = accepted_of (act s b).state bs in
+    if is_accepted (act s b).reply then b ∷ later else later
+
+-- the state after a list of batches is that after its accepted ones alone, and told again these are all accepted
+abbrev pub AcceptedAreEnough : Type 0
+AcceptedAreEnough =
+    ((s : State) (bs : List BatchValue) → after_all s bs ≡ after_all s (accepted_of s bs))
+    × ((s : State) (bs : List BatchValue) → accepted_of s (accepted_of s bs) ≡ accepted_of s bs)
+
+-- a refused batch changes nothing; and where one of its edits was at fault its key is not there, so that it may be used again
+abbrev pub RefusedChangesNothing : Type 0
+RefusedChangesNothing =
+    (s : State) (b : BatchValue) (why : Refusal) (place : Option ℕ) →
+    (act s b).reply ≡ Refused why place →
+    ((act s b).state ≡ s) × ((n : ℕ) → place ≡ Some n → get (act s b).state.keys b.key ≡ None)

@@ -3,10 +3,13 @@ pub mod Batches
 pub mod WellFormed
 pub mod Pages
 pub mod PageView
+pub mod Summaries
+pub mod SummaryView
 pub mod Folds
 pub mod Refusals
 pub mod Keep
 pub mod Laws
+pub mod Walks
 pub mod Slots
 pub mod Undo
 pub mod Does

@@ -1,5 +1,5 @@
 -- How the plain keeper keeps a collection: a feature that a batch deletes leaves its slot empty, until the batch is done.
-use Rattle.std.specs.Prelude.{ℕ, List, [], ◌∷◌, Option, None, Some, String, string_bytes, map, is_some, if◌then◌else◌, refl}
+use Rattle.std.specs.Prelude.{ℕ, Bool, true, false, List, [], ◌∷◌, Option, None, Some, String, string_bytes, map, is_some, if◌then◌else◌, refl}
 use Rattle.std.specs.Option.{option_and_then}
 use Rattle.std.specs.Coded.{Coded, code_by, coded×, coded_ℕ, coded_list, coded_option}
 use Rattle.std.specs.FinMap as finmap
@@ -9,6 +9,7 @@ use Rattle.streetmap_geojson.specs.FeatureValue.{FeatureValue}
 use Rattle.streetmap_geojson.specs.Stored.{coded_feature}
 use Rattle.streetmap_batch.specs.Text.{Text, text_cmp}
 use Rattle.streetmap_ledger.specs.State.{Features, Collection}
+use Rattle.streetmap_ledger.specs.Summaries.{SummaryValue, summary_of}
 
 abbrev pub Slots : Type 0
 Slots = FinMap text_cmp (Option FeatureValue)
@@ -98,3 +99,18 @@ abbrev pub live_values : List (Option FeatureValue) → List FeatureValue
 live_values [] = []
 live_values (None ∷ os) = live_values os
 live_values (Some f ∷ os) = f ∷ live_values os
+
+abbrev pub is_emptied : Option (Option FeatureValue) → Bool
+is_emptied (Some None) = true
+is_emptied _ = false
+
+-- the slot is taken out where it is empty
+abbrev pub swept_slot : SlotCollection → Text → SlotCollection
+swept_slot c id = if is_emptied (get c.slots id) then cut_slot c id else c
+
+abbrev pub swept_in : SlotCollections → Text → Text → SlotCollections
+swept_in t name id = with_collection t name (λ c. swept_slot c id)
+
+-- what is told of an entry of the map of collections
+abbrev pub summary_at : String Global × SlotCollection → SummaryValue
+summary_at e = summary_of (string_bytes e.0) (collected e.1)

@@ -8,17 +8,22 @@ ghost use Rattle.std.specs.BTreeMap.{IsOrdered};
 ghost use Rattle.std.specs.String.{string_cmp};
 ghost use Rattle.streetmap_query.specs.Views.{query_value};
 ghost use Rattle.streetmap_ledger.specs.State.{timed as timed_by};
-ghost use Rattle.streetmap_ledger.specs.Slots.{live_values};
+ghost use Rattle.streetmap_ledger.specs.Slots.{live_values, is_emptied as is_emptied_of};
+ghost use Rattle.streetmap_grid.specs.Bounds.{AreBounds};
+ghost use Rattle.streetmap_ledger.specs.Summaries.{all_vertices, summary_of};
+ghost use Rattle.streetmap_ledger.specs.SummaryView.{summary_value};
 ghost use Rattle.streetmap_ledger.specs.Pages.{page_over as page_over_of};
 ghost use Rattle.streetmap_ledger.specs.PageView.{page_value};
 
-use crate::Page;
 use crate::asked::is_candidate;
+use crate::extents::grown;
 use crate::fold::PageFold;
+use crate::{Page, Summary};
 use std::alloc::{AllocError, Global};
 use std::collections::BTreeMap;
 use std::marker::Model;
 use streetmap_geojson::Feature;
+use streetmap_grid::GridBox;
 use streetmap_query::Query;
 
 /// A collection whose deleted features leave their slots empty, until the batch is done.
@@ -42,7 +47,7 @@ impl Model for PlainCollection {
 }
 
 impl PlainCollection {
-    ghost use Rattle.streetmap_ledger.specs.Slots.{put_slot, cut_slot, reset_slot, live};
+    ghost use Rattle.streetmap_ledger.specs.Slots.{put_slot, cut_slot, reset_slot, swept_slot, live, collected};
     ghost use Rattle.std.specs.FinMap.{values};
 
     pub fn new(alloc: Global, title: String, time: Option<String>) -> Self
@@ -119,12 +124,67 @@ impl PlainCollection {
         let _ = self.slots.remove(id);
     }
 
+    /// Whether the slot at the id is there and empty.
+    fn is_emptied(&self, id: &str) -> bool
+        ensures { result ≡ is_emptied_of (get self.now.slots id.now) }
+    {
+        match self.slots.get(id) {
+            Some(slot) => slot.is_none(),
+            None => false,
+        }
+    }
+
+    /// Takes the slot out, where it is empty.
+    pub fn sweep(&mut self, id: &str)
+        ensures { self.new ≡ swept_slot self.old id.now }
+    {
+        if self.is_emptied(id) {
+            self.cut(id);
+        }
+    }
+
+    /// What is told of the collection under its id.
+    pub fn summary(&self, alloc: Global, id: &str) -> Result<Summary, AllocError>
+        ensures { IfOk result (λ summary. summary_value summary ≡ summary_of id.now (collected self.now)) }
+    {
+        Ok(Summary {
+            id: String::from_str(alloc, id)?,
+            title: String::from_str(alloc, self.title.as_str())?,
+            time: owned(alloc, self.time())?,
+            extent: bounds_of(&self.slots),
+        })
+    }
+
     /// The page of the features.
     pub fn page(&self, alloc: Global, query: &Query) -> Result<Page, AllocError>
         ensures { IfOk result (λ page. page_value page ≡ page_over_of (query_value query.now) (values (live self.now.slots))) }
     {
         page_over(alloc, &self.slots, query)
     }
+}
+
+/// A text of its own, where there is one.
+pub fn owned(alloc: Global, text: Option<&str>) -> Result<Option<String>, AllocError>
+    ensures { IfOk result (λ own. option_map string_bytes own ≡ option_copied text.entry) }
+{
+    match text {
+        Some(text) => Ok(Some(String::from_str(alloc, text)?)),
+        None => Ok(None),
+    }
+}
+
+/// The bounds of the features in the slots.
+fn bounds_of(slots: &BTreeMap<String, Option<Feature>>) -> Option<GridBox>
+    ensures bounds { AreBounds (all_vertices (live_values (values_of slots.now.entries))) result }
+    ensures ordered { IsOrdered string_cmp slots.now }
+{
+    let mut bounds = None;
+    for slot in slots.values() {
+        if let Some(feature) = slot {
+            bounds = grown(bounds, feature);
+        }
+    }
+    bounds
 }
 
 /// The page of the features in the slots, in the order of their ids.

@@ -1,12 +1,17 @@
 //! Collections by id, and changes of them that can be taken back.
-ghost use Rattle.std.specs.Prelude.{◌≡◌, Option, Some, None, IsSome, IfOk, OnOk, OnErr, string_bytes};
-ghost use Rattle.std.specs.Option.{option_copied, option_map};
+ghost use Rattle.std.specs.Prelude.{◌≡◌, Option, Some, None, IsSome, IfOk, OnOk, OnErr, map};
+ghost use Rattle.std.specs.Option.{option_copied};
 ghost use Rattle.std.specs.FinMap.{get, insert, empty};
 ghost use Rattle.streetmap_geojson.specs.FeatureValue.{FeatureValue};
-ghost use Rattle.streetmap_ledger.specs.Slots.{SlotCollections, map_of, slot_in, put_in, cut_in, reset_in};
-ghost use Rattle.streetmap_ledger.specs.Undo.{undone, rewound, timed_in};
+ghost use Rattle.streetmap_ledger.specs.Slots.{SlotCollections, map_of, slot_in, put_in, cut_in, reset_in, swept_in};
+ghost use Rattle.std.specs.BTreeMap.{IsOrdered};
+ghost use Rattle.std.specs.String.{string_cmp};
+ghost use Rattle.streetmap_ledger.specs.Slots.{summary_at};
+ghost use Rattle.streetmap_ledger.specs.Undo.{undone, rewound, timed_in, swept_by, all_swept};
+ghost use Rattle.streetmap_ledger.specs.SummaryView.{summary_values};
 
-use crate::collection::PlainCollection;
+use crate::Summary;
+use crate::collection::{PlainCollection, owned};
 use crate::undo::Undo;
 use std::alloc::{AllocError, Global};
 use std::collections::BTreeMap;
@@ -80,16 +85,6 @@ pub fn note<'a>(name: &'a str, id: &'a str, was: Option<Option<Feature>>) -> Und
     }
 }
 
-/// A text of its own, where there is one.
-fn owned(alloc: Global, text: Option<&str>) -> Result<Option<String>, AllocError>
-    ensures { IfOk result (λ own. option_map string_bytes own ≡ option_copied text.entry) }
-{
-    match text {
-        Some(text) => Ok(Some(String::from_str(alloc, text)?)),
-        None => Ok(None),
-    }
-}
-
 /// Opens a collection that is not there.
 pub fn open(
     alloc: Global,
@@ -134,4 +129,51 @@ pub fn rewind(collections: &mut BTreeMap<String, PlainCollection>, mut log: Vec<
     while let Some(edit) = log.pop() {
         undo(collections, edit);
     }
+}
+
+/// Takes a slot out of a collection, where it is empty.
+fn sweep_slot(collections: &mut BTreeMap<String, PlainCollection>, name: &str, id: &str)
+    ensures { map_of collections.new.entries ≡ swept_in (map_of collections.old.entries) name.now id.now }
+{
+    if let Some(collection) = collections.get_mut(name) {
+        collection.sweep(id);
+    }
+}
+
+/// Takes out the slot that an edit wrote, where it left that empty.
+fn sweep_edit(collections: &mut BTreeMap<String, PlainCollection>, edit: Undo<'_>)
+    ensures { map_of collections.new.entries ≡ swept_by edit.entry (map_of collections.old.entries) }
+{
+    match edit {
+        Undo::Open(_) => {}
+        Undo::Add(name, id) => sweep_slot(collections, name, id),
+        Undo::Set(name, id, slot) => {
+            drop(slot);
+            sweep_slot(collections, name, id);
+        }
+    }
+}
+
+/// Takes out the slots that edits wrote and left empty.
+pub fn sweep(collections: &mut BTreeMap<String, PlainCollection>, mut log: Vec<Undo<'_>>)
+    ensures { map_of collections.new.entries ≡ all_swept log.entry.items (map_of collections.old.entries) }
+{
+    while let Some(edit) = log.pop() {
+        sweep_edit(collections, edit);
+    }
+}
+
+/// What is told of all collections, in the order of their ids.
+pub fn summaries(
+    alloc: Global,
+    collections: &BTreeMap<String, PlainCollection>,
+) -> Result<Vec<Summary>, AllocError>
+    ensures told { IfOk result (λ told. summary_values told.items ≡ map summary_at collections.now.entries) }
+    ensures ordered { IsOrdered string_cmp collections.now }
+{
+    let mut told = Vec::new(alloc);
+    for (id, collection) in collections.iter() {
+        told.push(collection.summary(alloc, id.as_str())?)?;
+    }
+    Ok(told)
 }

@@ -10,7 +10,7 @@ ghost use Rattle.streetmap_ledger.specs.Does.{DoesOne, DoesAll};
 use crate::Refusal;
 use crate::acted::Acted;
 use crate::collection::PlainCollection;
-use crate::collections::{note, open, put, reset, rewind, timed};
+use crate::collections::{note, open, put, reset, rewind, sweep, timed};
 use crate::undo::Undo;
 use std::alloc::{AllocError, Global};
 use std::collections::BTreeMap;
@@ -190,5 +190,6 @@ pub fn act_all(
         }
         place += 1;
     }
+    sweep(collections, log);
     Ok(None)
 }

@@ -4,10 +4,10 @@ ghost use Rattle.streetmap_ledger.specs.State.{State};
 ghost use Rattle.streetmap_ledger.specs.WellFormed.{IsState};
 ghost use Rattle.streetmap_ledger.specs.Batches.{replies_of};
 ghost use Rattle.streetmap_batch.specs.BatchView.{batch_value};
-ghost use Rattle.streetmap_ledger.specs.Keep.{Acts, Shows, Finds, ShutsBy, ApplyLeaves, LeavesOnly, AsBefore, RunEnds, RunLeaves, RunShuts};
+ghost use Rattle.streetmap_ledger.specs.Keep.{Acts, Shows, Finds, Tells, Lists, ShutsBy, ApplyLeaves, LeavesOnly, AsBefore, RunEnds, RunLeaves, RunShuts};
 ghost use Rattle.streetmap_ledger.specs.declared.reply.Cause.{Cause};
 
-use crate::{Fault, Page, Reply, Run};
+use crate::{Fault, Page, Reply, Run, Summary};
 use std::alloc::Global;
 use streetmap_batch::Batch;
 use streetmap_geojson::Feature;
@@ -47,6 +47,22 @@ pub trait Keeper {
         ensures began_clean { is_clean self.new → is_clean self.old }
         ensures faults { ShutsBy result (cause self.old) (cause self.new) }
         ensures finds { is_clean self.new → (s : State) → stands self.old s → Finds s collection.now id.now result (stands self.new) }
+        ensures leaves { is_clean self.new → (s : State) → stands self.old s → LeavesOnly (may_leave self.old) (Some s) → LeavesOnly (may_leave self.new) (Some s) }
+        ensures reopen { IsErrOf result Fault.Reopen → AsBefore (stands self.old) (stands self.new) (may_leave self.old) (may_leave self.new) };
+
+    /// What is told of a collection; none where it is not there.
+    fn collection(&mut self, id: &str) -> Result<Option<Summary>, Fault>
+        ensures began_clean { is_clean self.new → is_clean self.old }
+        ensures faults { ShutsBy result (cause self.old) (cause self.new) }
+        ensures tells { is_clean self.new → (s : State) → stands self.old s → Tells s id.now result (stands self.new) }
+        ensures leaves { is_clean self.new → (s : State) → stands self.old s → LeavesOnly (may_leave self.old) (Some s) → LeavesOnly (may_leave self.new) (Some s) }
+        ensures reopen { IsErrOf result Fault.Reopen → AsBefore (stands self.old) (stands self.new) (may_leave self.old) (may_leave self.new) };
+
+    /// What is told of all collections, in byte order of ids.
+    fn collections(&mut self) -> Result<Vec<Summary>, Fault>
+        ensures began_clean { is_clean self.new → is_clean self.old }
+        ensures faults { ShutsBy result (cause self.old) (cause self.new) }
+        ensures lists { is_clean self.new → (s : State) → stands self.old s → Lists s result (stands self.new) }
         ensures leaves { is_clean self.new → (s : State) → stands self.old s → LeavesOnly (may_leave self.old) (Some s) → LeavesOnly (may_leave self.new) (Some s) }
         ensures reopen { IsErrOf result Fault.Reopen → AsBefore (stands self.old) (stands self.new) (may_leave self.old) (may_leave self.new) };
 

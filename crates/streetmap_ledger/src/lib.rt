@@ -1,4 +1,14 @@
-//! Batches of edits, what keeps them, and pages.
+//! What the product means: the state, batches of edits on it, and pages of it.
+//!
+//! The state is a value: collections with their features, and what is kept for each accepted key
+//! (`specs/State`). A batch acts on it whole or not at all (`specs/Batches`), and a page shows what
+//! a query selects of it (`specs/Pages`). A `Keeper` stands for a state: its methods answer as these
+//! definitions do, and each says what a stop may leave. `PlainKeeper` keeps the state in memory;
+//! `run` is proved once over any keeper.
+//!
+//! In the order of reading: `reply`, `page`, `summary`, `keeper` (the trait and `run`), `laws`; for
+//! pages `asked` and `fold`; for the plain keeper `extents`, `kept`, `collection`, `undo`, `acted`,
+//! `collections`, `edits`, `plain`. Batches are those of `streetmap_batch`.
 #![tactic(auto)]
 
 mod acted;
@@ -6,6 +16,7 @@ mod asked;
 mod collection;
 mod collections;
 mod edits;
+mod extents;
 mod fold;
 mod keeper;
 mod kept;
@@ -13,6 +24,7 @@ pub mod laws;
 mod page;
 mod plain;
 mod reply;
+mod summary;
 mod undo;
 
 pub use fold::PageFold;
@@ -24,3 +36,4 @@ pub use streetmap_batch::{
     Batch, BatchFault, CollectionId, Edit, TimeProperty, Title, is_collection_id, is_key,
     is_time_property, is_title, read_batch,
 };
+pub use summary::Summary;

@@ -10,13 +10,16 @@ ghost use Rattle.streetmap_batch.specs.BatchView.{batch_value, edit_value};
 ghost use Rattle.streetmap_ledger.specs.Slots.{map_of};
 ghost use Rattle.streetmap_ledger.specs.Pages.{page_in, feature_in};
 ghost use Rattle.streetmap_ledger.specs.PageView.{page_value};
+ghost use Rattle.streetmap_ledger.specs.Summaries.{summary_in, summaries_in};
+ghost use Rattle.streetmap_ledger.specs.SummaryView.{summary_value, summary_values};
 ghost use Rattle.streetmap_ledger.specs.Plain.{plain_state, outcome_of, IsOutcome, IsPlain};
 ghost use Rattle.streetmap_ledger.specs.declared.reply.Fault.TheVariants.{Memory};
 
 use crate::collection::PlainCollection;
+use crate::collections::summaries;
 use crate::edits::act_all;
 use crate::kept::KeptBatch;
-use crate::{Counts, Fault, Keeper, Page, Refusal, Reply};
+use crate::{Counts, Fault, Keeper, Page, Refusal, Reply, Summary};
 use std::alloc::{AllocError, Global};
 use std::collections::BTreeMap;
 use streetmap_batch::{Batch, Edit};
@@ -137,6 +140,21 @@ impl PlainKeeper {
         }
     }
 
+    fn summary_of(&self, id: &str) -> Result<Option<Summary>, AllocError>
+        ensures { IfOk result (λ told. option_map summary_value told ≡ summary_in (plain_state self.now) id.now) }
+    {
+        match self.collections.get(id) {
+            Some(collection) => Ok(Some(collection.summary(self.alloc, id)?)),
+            None => Ok(None),
+        }
+    }
+
+    fn summaries_of(&self) -> Result<Vec<Summary>, AllocError>
+        ensures { IfOk result (λ told. summary_values told.items ≡ summaries_in (plain_state self.now)) }
+    {
+        summaries(self.alloc, &self.collections)
+    }
+
     fn apply_batch(&mut self, batch: &Batch) -> Result<Reply, AllocError>
         ensures reply { IfOk result (λ reply. reply ≡ (act (plain_state self.old) (batch_value batch.now)).reply) }
         ensures state { OnOk result (plain_state self.new ≡ (act (plain_state self.old) (batch_value batch.now)).state) }
@@ -198,6 +216,20 @@ impl Keeper for PlainKeeper {
     fn feature(&mut self, collection: &str, id: &str) -> Result<Option<Feature>, Fault> {
         match self.feature_of(collection, id) {
             Ok(feature) => Ok(feature),
+            Err(_) => Err(Fault::Memory),
+        }
+    }
+
+    fn collection(&mut self, id: &str) -> Result<Option<Summary>, Fault> {
+        match self.summary_of(id) {
+            Ok(summary) => Ok(summary),
+            Err(_) => Err(Fault::Memory),
+        }
+    }
+
+    fn collections(&mut self) -> Result<Vec<Summary>, Fault> {
+        match self.summaries_of() {
+            Ok(summaries) => Ok(summaries),
             Err(_) => Err(Fault::Memory),
         }
     }
