@@ -29,6 +29,7 @@ counted n (edit.insert name f) = record n { inserted = n.inserted + 1 }
 counted n (edit.replace name f) = record n { replaced = n.replaced + 1 }
 counted n (edit.delete name id) = record n { deleted = n.deleted + 1 }
 
+-- with these edits more
 abbrev pub counted_all : Counts → List EditValue → Counts
 counted_all n [] = n
 counted_all n (e ∷ es) = counted_all (counted n e) es

@@ -11,9 +11,11 @@ use Rattle.streetmap_ledger.specs.declared.acted.Acted.{Acted}
 use Rattle.streetmap_ledger.specs.declared.acted.Acted.TheVariants.{Done, Refused}
 use Rattle.streetmap_ledger.specs.declared.reply.Refusal.{Refusal}
 
+-- what is kept for each accepted key
 abbrev pub Keys : Type 0
 Keys = FinMap text_cmp Kept
 
+-- the state of these collections and keys
 abbrev pub state_of : SlotCollections → Keys → State
 state_of t keys = record { collections = collections_of t; keys = keys }
 

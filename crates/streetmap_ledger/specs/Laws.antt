@@ -21,6 +21,7 @@ RepeatActsOnce =
     IsAcknowledged (act (after_all s before) b).reply →
     after_all s (before ++ b ∷ (between ++ b ∷ later)) ≡ after_all s (before ++ b ∷ (between ++ later))
 
+-- accepted now
 abbrev pub is_accepted : Reply → Bool
 is_accepted (Accepted counts serial) = true
 is_accepted (Repeated counts serial) = false

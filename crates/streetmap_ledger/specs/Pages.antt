@@ -38,6 +38,7 @@ selects q f = passes geometry_meets f.geometry q.bbox && passes meets f.time (in
 abbrev pub selected : QueryValue → List FeatureValue → List FeatureValue
 selected q fs = filter (selects q) fs
 
+-- whether a geometry's extent overlaps the box
 abbrev pub extent_overlaps : GeometryValue → BoxValue → Bool
 extent_overlaps g b = overlaps (extent_of g) b
 

@@ -14,6 +14,7 @@ use Rattle.streetmap_ledger.specs.declared.plain.PlainKeeper.{PlainKeeper}
 use Rattle.streetmap_ledger.specs.declared.reply.Reply.{Reply}
 use Rattle.streetmap_ledger.specs.declared.reply.Cause.{Cause}
 
+-- the state of the keeper's maps
 abbrev pub plain_state : PlainKeeper → State
 plain_state k = state_of (map_of k.collections.entries) (map_of k.keys.entries)
 
@@ -23,9 +24,11 @@ outcome_of collections keys b serial =
     let s = state_of (map_of collections.entries) (map_of keys.entries) in
     fresh s b serial (edited 1 s b.edits)
 
+-- the reply is the outcome's, and the maps are those of its state
 abbrev pub IsOutcome : Outcome → Reply → BTreeMap (String Global) SlotCollection → BTreeMap (String Global) Kept → Type 0
 IsOutcome o reply collections keys = (reply ≡ o.reply) × (state_of (map_of collections.entries) (map_of keys.entries) ≡ o.state)
 
+-- nothing shut a keeper that has no cause
 pub never_shut : {B : Type 0} → IsSome {T = Cause} None → B
 never_shut shut = absurd (subst (λ b. T (not b)) shut tt)
 
@@ -34,6 +37,7 @@ pub record IsPlain (k : PlainKeeper) (s : State) : Type 0 where
   pub is : plain_state k ≡ s
   pub sound : IsState s
 
+-- it stands for one state
 pub one_plain : (k : PlainKeeper) (s t : State) → IsPlain k s → IsPlain k t → s ≡ t
 one_plain k s t p q = sym p.is ∙ q.is
 

@@ -11,6 +11,7 @@ use Rattle.streetmap_batch.specs.Text.{Text, text_cmp}
 use Rattle.streetmap_ledger.specs.State.{Features, Collection}
 use Rattle.streetmap_ledger.specs.Summaries.{SummaryValue, summary_of}
 
+-- slots by id, of which each holds a feature or is empty
 abbrev pub Slots : Type 0
 Slots = FinMap text_cmp (Option FeatureValue)
 
@@ -20,9 +21,11 @@ pub record SlotCollection : Type 0 where
   pub time : Option Text
   pub slots : Slots
 
+-- a text is stored as its bytes
 abbrev pub coded_text : Coded Text
 coded_text = coded_list coded_ℕ
 
+-- a collection is stored as its title, time property and slots
 abbrev pub coded_slot_collection : Coded SlotCollection
 coded_slot_collection =
     code_by (Text × (Option Text × Slots)) (coded× coded_text (coded× (coded_option coded_text) (finmap.code coded_text (coded_option coded_feature))))
@@ -32,6 +35,7 @@ coded_slot_collection =
 abbrev pub by_text : {X : Type 0} → List (String Global × X) → List (Text × X)
 by_text es = map (λ e. (string_bytes e.0, e.1)) es
 
+-- a map whose keys are `String`s, by the keys' bytes
 abbrev pub map_of : {X : Type 0} → List (String Global × X) → FinMap text_cmp X
 map_of es = from_entries (by_text es)
 
@@ -44,6 +48,7 @@ abbrev pub filled : Features → Text → Option FeatureValue → Features
 filled features id None = remove features id
 filled features id (Some f) = insert features id f
 
+-- the features of a list of slots, by id
 abbrev pub live_of : List (Text × Option FeatureValue) → Features
 live_of [] = empty
 live_of (e ∷ es) = filled (live_of es) e.0 e.1
@@ -52,9 +57,11 @@ live_of (e ∷ es) = filled (live_of es) e.0 e.1
 abbrev pub live : Slots → Features
 live slots = live_of (entries slots)
 
+-- the collection that the slots stand for
 abbrev pub collected : SlotCollection → Collection
 collected c = record { title = c.title; time = c.time; features = live c.slots }
 
+-- the collections of a list, by id
 abbrev pub collected_of : List (Text × SlotCollection) → FinMap text_cmp Collection
 collected_of [] = empty
 collected_of (e ∷ es) = insert (collected_of es) e.0 (collected e.1)
@@ -67,12 +74,15 @@ collections_of t = collected_of (entries t)
 abbrev pub slot_in : SlotCollections → Text → Text → Option (Option FeatureValue)
 slot_in t name id = option_and_then (λ (c : SlotCollection). get c.slots id) (get t name)
 
+-- with this in the slot at the id
 abbrev pub put_slot : SlotCollection → Text → Option FeatureValue → SlotCollection
 put_slot c id slot = record c { slots = insert c.slots id slot }
 
+-- without the slot at the id
 abbrev pub cut_slot : SlotCollection → Text → SlotCollection
 cut_slot c id = record c { slots = remove c.slots id }
 
+-- with this collection changed, where it is there
 abbrev pub changed_collection : SlotCollections → Text → (SlotCollection → SlotCollection) → Option SlotCollection → SlotCollections
 changed_collection t name f None = t
 changed_collection t name f (Some c) = insert t name (f c)
@@ -81,9 +91,11 @@ changed_collection t name f (Some c) = insert t name (f c)
 abbrev pub with_collection : SlotCollections → Text → (SlotCollection → SlotCollection) → SlotCollections
 with_collection t name f = changed_collection t name f (get t name)
 
+-- with this in a slot of a collection
 abbrev pub put_in : SlotCollections → Text → Text → Option FeatureValue → SlotCollections
 put_in t name id slot = with_collection t name (λ c. put_slot c id slot)
 
+-- without a slot of a collection
 abbrev pub cut_in : SlotCollections → Text → Text → SlotCollections
 cut_in t name id = with_collection t name (λ c. cut_slot c id)
 
@@ -91,6 +103,7 @@ cut_in t name id = with_collection t name (λ c. cut_slot c id)
 abbrev pub reset_slot : SlotCollection → Text → Option FeatureValue → SlotCollection
 reset_slot c id slot = if is_some (get c.slots id) then put_slot c id slot else c
 
+-- with this in a slot of a collection that is there
 abbrev pub reset_in : SlotCollections → Text → Text → Option FeatureValue → SlotCollections
 reset_in t name id slot = with_collection t name (λ c. reset_slot c id slot)
 
@@ -100,6 +113,7 @@ live_values [] = []
 live_values (None ∷ os) = live_values os
 live_values (Some f ∷ os) = f ∷ live_values os
 
+-- the slot is there and empty
 abbrev pub is_emptied : Option (Option FeatureValue) → Bool
 is_emptied (Some None) = true
 is_emptied _ = false
@@ -108,6 +122,7 @@ is_emptied _ = false
 abbrev pub swept_slot : SlotCollection → Text → SlotCollection
 swept_slot c id = if is_emptied (get c.slots id) then cut_slot c id else c
 
+-- without a slot of a collection, where it is empty
 abbrev pub swept_in : SlotCollections → Text → Text → SlotCollections
 swept_in t name id = with_collection t name (λ c. swept_slot c id)
 

@@ -23,10 +23,12 @@ abbrev pub rewound : List Undo → SlotCollections → SlotCollections
 rewound [] t = t
 rewound (u ∷ us) t = undone u (rewound us t)
 
+-- by what the slot at the id holds
 abbrev pub found_slot : Option FeatureValue → Found
 found_slot None = NoFeature
 found_slot (Some f) = There
 
+-- by what stands under the name
 abbrev pub found_on : Option SlotCollection → Text → Found
 found_on None id = NoCollection
 found_on (Some c) id = found_slot (option_flatten (get c.slots id))
@@ -45,6 +47,7 @@ swept_by (Open name) t = t
 swept_by (Add name id) t = swept_in t name.now id.now
 swept_by (Set name id slot) t = swept_in t name.now id.now
 
+-- the slots that edits wrote, the last first
 abbrev pub all_swept : List Undo → SlotCollections → SlotCollections
 all_swept [] t = t
 all_swept (u ∷ us) t = swept_by u (all_swept us t)
