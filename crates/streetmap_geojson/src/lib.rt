@@ -37,6 +37,3 @@ pub use id::{Id, is_id, is_plain, read_id};
 pub use json_text::read_json;
 pub use read::read_feature;
 pub use write::{write_collection, write_feature};
-
-#[cfg(test)]
-mod tests;
