@@ -4,8 +4,8 @@ ghost use Rattle.serde_json.specs.Written.{compact_text};
 ghost use Rattle.streetmap_web.specs.Replies.{reply_data};
 ghost use Rattle.streetmap_web.specs.Plain.{IsPlain, IsEscapeFree};
 
-use streetmap_ledger::Counts;
 use crate::room::{push, push_number};
+use streetmap_ledger::Counts;
 
 /// Appends a name with what stands around it, and a number.
 fn push_count(out: &mut String, name: &str, number: u64)
