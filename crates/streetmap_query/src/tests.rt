@@ -94,7 +94,7 @@ fn bad_limits_and_ids_are_refused(rt: HostRuntime) -> Result<(), Fail> {
         "limit=5=6",
         "limit=5%00",
         "limit=%",
-        "limit=%D9%A3",
+        "limit=%d9%a3",
     ] {
         assert_eq!(rt; fault(alloc, text), Some(QueryFault::BadLimit), "at {text}");
     }
