@@ -1,28 +1,28 @@
 -- What is written reads as what it was written for.
-use Rattle.std.proofs.Common.{◌≡◌, ℕ, ◌+◌, ◌<◌, ◌≤◌, ℤ, pos, negsuc, Bool, true, false, cond, not, ◌&&◌, ◌||◌, IsTrue, IfSome, All, max, List, [], ◌∷◌, length, map, Option, None, Some, is_some, option_map, option_and_then, codes, refl, sym, ap, subst, ◌∙◌, arith, ◌⊎◌, inl, inr}
+use Rattle.std.proofs.Common.{◌≡◌, ℕ, ◌≤◌, ℤ, pos, negsuc, Bool, true, false, ◌&&◌, IsTrue, All, List, [], ◌∷◌, length, map, Option, None, Some, option_map, refl, sym, ap, ◌∙◌, arith, inl, inr}
 use Rattle.std.specs.List.{list_all}
 use Rattle.std.proofs.lemmas.List.{length-map}
 use Rattle.std.proofs.lemmas.List.Elements.{All-head, All-tail}
 use Rattle.std.proofs.lemmas.Int.{ints}
-use Rattle.serde_json.specs.Data.{Data, null, number, string, array, object, Items, depth, items_depth}
-use Rattle.serde_json.specs.Find.{of_integer, as_integer, as_array, get}
+use Rattle.serde_json.specs.Data.{Data, array, depth, items_depth}
+use Rattle.serde_json.specs.Find.{of_integer, as_integer}
 use Rattle.serde_json.specs.View.{items_of}
 use Rattle.serde_json.specs.Written.{has_float, items_have_float}
 use Rattle.streetmap_grid.specs.Range.{IsCoordinate, is_coordinate}
 use Rattle.streetmap_grid.specs.Ring.{turned, oriented, is_right, is_oriented_polygon}
 use Rattle.streetmap_grid.specs.Values as values
 use Rattle.streetmap_grid.specs.Values.{PositionValue, SimpleValue, GeometryValue}
-use Rattle.streetmap_grid.specs.WellFormed.{IsInGrid, IsLine, IsRing, IsPolygon, IsSimple, IsGeometry, is_oriented_simple, is_oriented}
+use Rattle.streetmap_grid.specs.WellFormed.{IsInGrid, IsLine, IsRing, IsPolygon, IsSimple, is_oriented_simple}
 use Rattle.streetmap_grid.proofs.Turning.{turned_kept}
-use Rattle.streetmap_geojson.specs.declared.kind.Kind.TheVariants.{Simple, Collection}
+use Rattle.streetmap_geojson.specs.declared.kind.Kind.TheVariants.{Simple}
 use Rattle.streetmap_geojson.specs.declared.kind.SimpleKind.{SimpleKind}
 use Rattle.streetmap_geojson.specs.declared.kind.SimpleKind.TheVariants as kinds
 use Rattle.streetmap_geojson.specs.FeatureValue.{FeatureValue, untimed}
 use Rattle.streetmap_geojson.specs.Kept.{IsGeometryIf, is_oriented_if, IsFeature}
-use Rattle.streetmap_geojson.specs.Reading.{list_of, kind_at, somes, collection_of, single_of}
+use Rattle.streetmap_geojson.specs.Reading.{list_of, kind_at, somes, collection_of}
 use Rattle.streetmap_geojson.specs.Meaning.{ReadsAsCoordinate, ArePosition, IsArray, AreEach, AreLine, AreRing, ArePolygon, AreSimple, AreCoordinates, ReadsAsSimple, ReadsAsMember, ReadsAsGeometry}
 use Rattle.streetmap_geojson.specs.FeatureMeaning.{ReadsAs, ReadsAt}
-use Rattle.streetmap_geojson.specs.Written.{number_data, height_data, position_elements, position_data, line_data, polygon_data, array_of, coordinates_of, name_of, typed_data, simple_data, geometry_data, geometry_member, feature_data}
+use Rattle.streetmap_geojson.specs.Written.{number_data, position_elements, position_data, line_data, polygon_data, coordinates_of, simple_data, geometry_member, feature_data}
 use Rattle.streetmap_geojson.proofs.Lists.{list_of-items_of}
 
 both : (a b : Bool) → IsTrue (a && b) → IsTrue a × IsTrue b

@@ -1,5 +1,5 @@
 -- Features read from left to right.
-use Rattle.std.proofs.Common.{◌≡◌, ℕ, suc, ◌+◌, ◌<◌, ◌≤◌, List, [], ◌∷◌, ◌++◌, length, map, drop, get_or, Option, None, Some, Result, Ok, Err, option_map, option_and_then, IsTrue, Bool, true, false, cond, codes, refl, sym, ap, subst, ◌∙◌, append_assoc, add-one, drop-cons, arith}
+use Rattle.std.proofs.Common.{◌≡◌, ℕ, suc, ◌+◌, ◌<◌, ◌≤◌, List, [], ◌∷◌, ◌++◌, length, map, drop, get_or, Option, None, Some, Result, Ok, Err, option_map, option_and_then, IsTrue, Bool, true, false, cond, codes, refl, sym, ap, subst, ◌∙◌, append_assoc, add-one, drop-cons}
 use Rattle.std.specs.Prelude.{IfOk}
 use Rattle.std.proofs.lemmas.List.{append-nil}
 use Rattle.std.proofs.Math.ListN.{drop_of_length-le}
@@ -12,7 +12,6 @@ use Rattle.streetmap_geojson.specs.declared.fault.CollectionFault.TheVariants as
 use Rattle.streetmap_geojson.specs.FeatureValue.{FeatureValue}
 use Rattle.streetmap_geojson.specs.Reading.{list_of}
 use Rattle.streetmap_geojson.specs.FeatureReading.{feature_at}
-use Rattle.streetmap_geojson.specs.FeatureMeaning.{ReadsAt}
 use Rattle.streetmap_geojson.specs.Collection.{at_place, and_more, features_after, is_collection, features_in, features, AreAfter, AreFeatures, FailsAt, GivesAt}
 use Rattle.streetmap_geojson.proofs.Wholes.{feature_found, feature_again}
 

@@ -1,5 +1,5 @@
 -- What is read runs in its direction.
-use Rattle.std.proofs.Common.{◌≡◌, Bool, true, false, ◌&&◌, IsTrue, List, [], ◌∷◌, Option, None, Some, refl, sym, subst, ◌⊎◌, inl, inr}
+use Rattle.std.proofs.Common.{Bool, true, IsTrue, List, [], ◌∷◌, Option, None, Some, refl, sym, subst, inl, inr}
 use Rattle.std.specs.List.{list_all}
 use Rattle.serde_json.specs.Data.{Data, null, boolean, number, string, array, object}
 use Rattle.streetmap_grid.specs.Values as values
@@ -10,7 +10,7 @@ use Rattle.streetmap_grid.proofs.Turning.{oriented_right}
 use Rattle.streetmap_geojson.specs.declared.kind.SimpleKind.{SimpleKind}
 use Rattle.streetmap_geojson.specs.declared.kind.SimpleKind.TheVariants as kinds
 use Rattle.streetmap_geojson.specs.Reading.{list_of, somes, collection_of, single_of}
-use Rattle.streetmap_geojson.specs.Meaning.{IsArray, AreEach, ArePolygon, AreSimple, AreCoordinates, ReadsAsSimple, ReadsAsMember, ReadsAsGeometry}
+use Rattle.streetmap_geojson.specs.Meaning.{IsArray, AreEach, ArePolygon, AreSimple, AreCoordinates, ReadsAsMember, ReadsAsGeometry}
 use Rattle.streetmap_geojson.specs.Kept.{is_oriented_if}
 
 polygon_right : (ds : List Data) (rs : List (List PositionValue)) → ArePolygon ds rs → IsTrue (is_oriented_polygon rs)

@@ -1,5 +1,5 @@
 -- What is written for a feature is kept exactly by its text.
-use Rattle.std.proofs.Common.{◌≡◌, ℕ, ◌+◌, ◌^◌, ◌<◌, ◌≤◌, ℤ, pos, negsuc, ◌≤ℤ◌, Bool, true, false, ◌&&◌, IsTrue, IfSome, All, List, [], ◌∷◌, length, map, Option, None, Some, Ok, refl, arith, codes}
+use Rattle.std.proofs.Common.{◌≡◌, ℕ, ◌^◌, ◌<◌, ℤ, pos, negsuc, Bool, true, false, ◌&&◌, IsTrue, All, List, [], ◌∷◌, map, Option, None, Some, refl, arith, codes}
 use Rattle.std.specs.List.{list_all}
 use Rattle.std.specs.Str.{is_utf8}
 use Rattle.std.specs.Prelude.{nat_lt}
@@ -8,21 +8,16 @@ use Rattle.std.proofs.lemmas.List.Elements.{All-nil, All-cons, All-head, All-tai
 use Rattle.std.proofs.lemmas.Int.{ints}
 use Rattle.std.proofs.lemmas.Str.{is_utf8-from_IsUtf8, IsUtf8-from_ascii}
 use Rattle.std.proofs.lemmas.Str.Ascii.{IsAscii-from_all}
-use Rattle.serde_json.specs.Data.{Data, null, number, string, array, object, member, no_members}
-use Rattle.serde_json.specs.Find.{of_integer}
-use Rattle.serde_json.specs.Read.{read}
+use Rattle.serde_json.specs.Data.{Data, string, object, member, no_members}
 use Rattle.serde_json.specs.View.{items_of}
-use Rattle.serde_json.specs.Written.{compact_text}
 use Rattle.streetmap_grid.specs.Range.{IsCoordinate}
 use Rattle.streetmap_grid.specs.Values as values
 use Rattle.streetmap_grid.specs.Values.{PositionValue, SimpleValue, GeometryValue}
-use Rattle.streetmap_grid.specs.WellFormed.{IsInGrid, IsLine, IsRing, IsPolygon, IsSimple, IsGeometry}
+use Rattle.streetmap_grid.specs.WellFormed.{IsInGrid, IsLine, IsRing, IsPolygon, IsSimple}
 use Rattle.streetmap_geojson.specs.FeatureValue.{FeatureValue}
 use Rattle.streetmap_geojson.specs.Kept.{IsGeometryIf, IsFeature}
-use Rattle.streetmap_geojson.specs.ExactData.{is_whole, is_exact, are_exact}
-use Rattle.streetmap_geojson.specs.JsonText.{json_of}
-use Rattle.streetmap_geojson.specs.Written.{number_data, height_data, position_elements, position_data, line_data, polygon_data, array_of, coordinates_of, name_of, typed_data, simple_data, geometry_data, geometry_member, feature_data, collection_data}
-use Rattle.streetmap_geojson.proofs.Again.{depth_feature}
+use Rattle.streetmap_geojson.specs.ExactData.{is_exact, are_exact}
+use Rattle.streetmap_geojson.specs.Written.{number_data, position_elements, position_data, line_data, polygon_data, coordinates_of, name_of, typed_data, simple_data, geometry_member, feature_data, collection_data}
 
 exact_number : (z : ℤ) → IsCoordinate z → IsTrue (is_exact (number_data z))
 exact_number (pos n) h = let low : n < 2 ^ 64 = omega (arith, ints, h.1) in lt-ltb n (2 ^ 64) low

@@ -1,8 +1,8 @@
 -- What is read for a geometry is what its value reads as, and what it reads as is read.
-use Rattle.std.proofs.Common.{◌≡◌, ℕ, zero, suc, ◌+◌, ◌<◌, ◌≤◌, Bool, true, false, cond, IsTrue, List, [], ◌∷◌, length, Option, None, Some, Result, Ok, Err, refl, sym, ap, subst, ◌∙◌, add-zero, arith, ◌⊎◌, inl, inr, codes, is_some, option_map, option_and_then, ok_or}
+use Rattle.std.proofs.Common.{◌≡◌, ℕ, ◌+◌, ◌≤◌, Bool, true, false, cond, IsTrue, List, [], ◌∷◌, Option, None, Some, Result, Ok, Err, refl, sym, ap, subst, ◌∙◌, add-zero, arith, inl, inr, codes, is_some, option_map, option_and_then, ok_or}
 use Rattle.std.specs.Prelude.{IfOk}
-use Rattle.serde_json.specs.Data.{Num, Data, null, boolean, number, string, array, object, Items, no_items, item}
-use Rattle.serde_json.specs.Find.{as_null, as_array, as_str, get}
+use Rattle.serde_json.specs.Data.{Data, null, boolean, number, string, array, object}
+use Rattle.serde_json.specs.Find.{as_null, as_array, get}
 use Rattle.streetmap_grid.specs.Values as values
 use Rattle.streetmap_grid.specs.Values.{SimpleValue, GeometryValue}
 use Rattle.streetmap_geojson.specs.declared.fault.Fault.{Fault}
@@ -12,7 +12,7 @@ use Rattle.streetmap_geojson.specs.declared.kind.Kind.{Kind}
 use Rattle.streetmap_geojson.specs.declared.kind.Kind.TheVariants.{Simple, Collection}
 use Rattle.streetmap_geojson.specs.declared.kind.SimpleKind.{SimpleKind}
 use Rattle.streetmap_geojson.specs.declared.kind.SimpleKind.TheVariants as kinds
-use Rattle.streetmap_geojson.specs.Fault.{◌>>=◌, Gives}
+use Rattle.streetmap_geojson.specs.Fault.{Gives}
 use Rattle.streetmap_geojson.specs.Reading.{Read, list_of, under, each, coordinates_as, unless_empty, array_at, kind_at, simple_as, member_as, member_of_collection, somes, collection_of, members, collection, single_of, geometry_as, geometry, max_positions}
 use Rattle.streetmap_geojson.specs.Meaning.{AreEach, AreSimple, AreCoordinates, IsArrayAt, ReadsAsSimple, ReadsAsMember, ReadsAsCollection, ReadsAsGeometry, counts, simple_count, position_count, count_if}
 use Rattle.streetmap_geojson.specs.Kept.{is_oriented_if}

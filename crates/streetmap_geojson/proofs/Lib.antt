@@ -24,3 +24,5 @@ pub mod WrittenFeatures
 pub mod WrittenCollections
 pub mod NumberTextForm
 pub mod NumberTextGrammar
+pub mod WrittenParts
+pub mod PackedFacts

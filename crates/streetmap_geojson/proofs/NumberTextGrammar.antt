@@ -1,8 +1,8 @@
 -- The change of a text by the grammar of its tokens.
-use Rattle.std.proofs.Common.{◌≡◌, ℕ, ◌<◌, Bool, true, false, eqb, List, [], ◌∷◌, ◌++◌, length, refl, sym, ap, ◌∙◌, arith, append_assoc, append-nil}
+use Rattle.std.proofs.Common.{◌≡◌, ℕ, ◌<◌, true, false, eqb, List, [], ◌∷◌, ◌++◌, length, refl, sym, ap, ◌∙◌, arith, append_assoc, append-nil}
 use Rattle.std.proofs.lemmas.Bool.{ne_eqb}
 use Rattle.std.specs.List.{list_all, onto_first}
-use Rattle.streetmap_geojson.specs.NumberText.{is_in_number, starts_number, Side, outside, within, escaped, tokens_from, whole_text, plain_text, IsStringBody, empty, unescaped, escape}
+use Rattle.streetmap_geojson.specs.NumberText.{is_in_number, starts_number, outside, within, tokens_from, whole_text, plain_text, IsStringBody, empty, unescaped, escape}
 use Rattle.streetmap_geojson.proofs.NumberTextTokens.{onto_all, onto_all-cons, onto_all-nil}
 use Rattle.streetmap_geojson.proofs.NumberTextKept.{passes, run_token, quote_stays, other_kept}
 

@@ -1,7 +1,7 @@
 -- A reading step by step.
 use Rattle.serde_json.specs.Data.{Data}
 use Rattle.streetmap_geojson.specs.Reading.{Read, each}
-use Rattle.std.proofs.Common.{List, [], ◌∷◌, length, suc, sym, ap, ◌∙◌, ◌≡◌, ℕ, ◌<◌, ◌≤◌, Bool, true, false, cond, ltb, Result, Ok, Err, refl, arith}
+use Rattle.std.proofs.Common.{List, [], ◌∷◌, length, suc, sym, ap, ◌∙◌, ◌≡◌, ℕ, Bool, true, false, cond, Result, Ok, Err, refl}
 use Rattle.streetmap_geojson.specs.declared.fault.Fault.{Fault}
 use Rattle.streetmap_geojson.specs.Fault.{◌>>=◌}
 

@@ -1,15 +1,14 @@
 -- What is read is what the value reads as, and what a value reads as is read.
-use Rattle.std.proofs.Common.{◌≡◌, ℕ, zero, suc, ◌+◌, ◌<◌, ◌≤◌, ℤ, Bool, true, false, cond, ltb, IsTrue, List, [], ◌∷◌, ◌++◌, length, map, reverse, Option, None, Some, Result, Ok, Err, refl, sym, ap, subst, ◌∙◌, add-zero, arith}
-use Rattle.std.proofs.lemmas.Bool.{ltb-true, ltb-false, le-ltb, lt-ltb}
+use Rattle.std.proofs.Common.{◌≡◌, ℕ, ◌+◌, ◌≤◌, ℤ, Bool, true, false, cond, ltb, IsTrue, List, [], ◌∷◌, length, map, reverse, Option, None, Some, Ok, refl, sym, ap, subst, ◌∙◌, add-zero, arith}
+use Rattle.std.proofs.lemmas.Bool.{ltb-false, le-ltb, lt-ltb}
 use Rattle.std.proofs.lemmas.List.{length-reverse}
-use Rattle.serde_json.specs.Data.{Num, Data, null, boolean, number, string, array, object, Items, no_items, item}
+use Rattle.serde_json.specs.Data.{Data, null, boolean, number, string, array, object}
 use Rattle.serde_json.specs.Find.{as_integer}
 use Rattle.streetmap_grid.specs.Range.{is_coordinate}
 use Rattle.streetmap_grid.specs.Ring.{is_closed, is_wrong, double_area, turned, oriented}
 use Rattle.streetmap_grid.specs.Values.{PositionValue}
 use Rattle.streetmap_geojson.specs.declared.fault.Fault.{Fault}
 use Rattle.streetmap_geojson.specs.declared.fault.Fault.TheVariants.{BadPosition, OutOfGrid, TooManyPositions, ShortLine, ShortRing, OpenRing, BadGeometry}
-use Rattle.streetmap_geojson.specs.Fault.{◌>>=◌}
 use Rattle.streetmap_geojson.specs.Reading.{Read, list_of, whole, coordinate, position_of, position, inside, each, positions, line, lines, ends_of, ring, rings, some_rings, polygon, polygons, max_positions}
 use Rattle.streetmap_geojson.specs.Meaning.{ReadsAsCoordinate, ArePosition, IsArray, AreEach, ArePositions, AreLine, AreLines, AreRing, AreRings, ArePolygon, ArePolygons, counts, line_count, polygon_count}
 use Rattle.streetmap_geojson.proofs.Steps.{bind_ok, guard_ok, passed_ok, ok_is}

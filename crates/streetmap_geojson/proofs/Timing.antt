@@ -1,12 +1,11 @@
 -- A time that is read is what the property says, and what it says is read.
-use Rattle.std.proofs.Common.{◌≡◌, ℕ, List, Option, None, Some, Result, Ok, Err, refl, sym, ap, ◌∙◌}
-use Rattle.serde_json.specs.Data.{Num, Data, null, boolean, number, string, array, object}
+use Rattle.std.proofs.Common.{◌≡◌, ℕ, List, Option, None, Some, Result, Ok, Err, refl, sym, ap}
+use Rattle.serde_json.specs.Data.{Data, null, boolean, number, string, array, object}
 use Rattle.serde_json.specs.Find.{get}
 use Rattle.streetmap_moment.specs.declared.faults.TimeFault.{TimeFault}
 use Rattle.streetmap_moment.specs.IntervalValue.{IntervalValue}
 use Rattle.streetmap_moment.specs.Intervals.{property_of}
-use Rattle.streetmap_geojson.specs.declared.fault.Fault.{Fault}
-use Rattle.streetmap_geojson.specs.Times.{there, time_from, time_of, time_fault, as_fault, IsTimeFrom, IsTimeOf}
+use Rattle.streetmap_geojson.specs.Times.{there, time_from, time_of, as_fault, IsTimeFrom, IsTimeOf}
 
 fault_ok : {A : Type 0} (r : Result A TimeFault) (a : A) → as_fault r ≡ Ok a → r ≡ Ok a
 fault_ok (Ok x) a e = let same : x ≡ a = cc in ap (λ w. Ok w) same

@@ -1,11 +1,11 @@
 -- A feature that is read is what its value reads as, and what it reads as is read.
-use Rattle.std.proofs.Common.{◌≡◌, ℕ, ◌+◌, ◌≤◌, ℤ, Bool, true, false, cond, not, ◌&&◌, ◌||◌, IsTrue, List, [], ◌∷◌, length, Option, None, Some, Result, Ok, Err, refl, sym, ap, subst, ◌∙◌, arith, codes, is_some, option_map, option_and_then, Ordering, Less, Equal, Greater, nat_cmp, max, unwrap_or}
+use Rattle.std.proofs.Common.{◌≡◌, ℕ, ◌+◌, ◌≤◌, ℤ, Bool, true, false, IsTrue, List, Option, None, Some, Result, Ok, Err, refl, sym, ap, subst, ◌∙◌, arith, codes, Ordering, Less, Equal, Greater, nat_cmp, max, unwrap_or}
 use Rattle.std.specs.Prelude.{IfOk, nat_le, decimal}
 use Rattle.std.specs.Fmt.{signed_decimal}
 use Rattle.std.specs.Ordering.{match_ordering}
 use Rattle.std.specs.Cmp.Lexicographic.{slice_cmp}
 use Rattle.std.proofs.lemmas.Bool.{leb-true, le-leb}
-use Rattle.serde_json.specs.Data.{Num, Data, null, boolean, number, string, array, object, Items, Members, no_members, member, depth, members_depth}
+use Rattle.serde_json.specs.Data.{Data, null, boolean, number, string, array, object, Members, no_members, member, depth, members_depth}
 use Rattle.serde_json.specs.Find.{as_integer, get, get_member}
 use Rattle.serde_json.specs.Written.{has_float}
 use Rattle.streetmap_grid.specs.Values.{GeometryValue}
@@ -14,15 +14,14 @@ use Rattle.streetmap_geojson.specs.declared.fault.Fault.{Fault}
 use Rattle.streetmap_geojson.specs.declared.fault.Fault.TheVariants.{WrongType, TooDeep, BadId, BadProperties, Fraction}
 use Rattle.streetmap_geojson.specs.declared.fault.JsonFault.{JsonFault}
 use Rattle.streetmap_geojson.specs.FeatureValue.{FeatureValue}
-use Rattle.streetmap_geojson.specs.Fault.{◌>>=◌, Gives}
-use Rattle.streetmap_geojson.specs.Id.{is_id, text_id, number_id, id_from, id_of, place_id}
+use Rattle.streetmap_geojson.specs.Fault.{Gives}
+use Rattle.streetmap_geojson.specs.Id.{is_id, number_id, id_from, id_of, place_id}
 use Rattle.streetmap_geojson.specs.Reading.{geometry, value_of, max_positions}
 use Rattle.streetmap_geojson.specs.Meaning.{ReadsAsGeometry, count_if, position_count}
-use Rattle.streetmap_geojson.specs.Times.{time_of, as_fault, IsTimeOf}
+use Rattle.streetmap_geojson.specs.Times.{time_of, as_fault}
 use Rattle.streetmap_geojson.specs.FeatureReading.{unless, max_levels, is_feature, is_properties, properties_of, member_of, feature, feature_at}
 use Rattle.streetmap_geojson.specs.FeatureMeaning.{IsId, IsIdOf, ReadsAs, ReadsAt}
 use Rattle.streetmap_geojson.proofs.Steps.{bind_ok, guard_ok, passed_ok, ok_is}
-use Rattle.streetmap_geojson.proofs.Takes.{Takes}
 use Rattle.streetmap_geojson.proofs.Geometries.{geometry_takes}
 use Rattle.streetmap_geojson.proofs.Bounds.{geometry_bounded}
 use Rattle.streetmap_geojson.proofs.Timing.{time_found, time_again}

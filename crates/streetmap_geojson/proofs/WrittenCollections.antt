@@ -1,5 +1,5 @@
 -- What is written for a list of features reads as them, and its compact text as its value.
-use Rattle.std.proofs.Common.{◌≡◌, ℕ, ◌+◌, ◌≤◌, Bool, true, false, ◌&&◌, IsTrue, All, List, [], ◌∷◌, map, Option, None, Some, Ok, option_map, codes, refl, ap, arith}
+use Rattle.std.proofs.Common.{◌≡◌, ℕ, ◌+◌, ◌≤◌, All, List, [], ◌∷◌, map, None, Some, Ok, option_map, refl, ap, arith}
 use Rattle.std.proofs.lemmas.List.Elements.{All-head, All-tail}
 use Rattle.serde_json.specs.Data.{Data, depth, items_depth}
 use Rattle.serde_json.specs.Read.{max_depth}
@@ -8,7 +8,6 @@ use Rattle.serde_json.specs.Written.{compact_text}
 use Rattle.streetmap_geojson.specs.FeatureValue.{FeatureValue, untimed}
 use Rattle.streetmap_geojson.specs.Kept.{IsFeature}
 use Rattle.streetmap_geojson.specs.Collection.{AreAfter, AreFeatures}
-use Rattle.streetmap_geojson.specs.ExactData.{is_exact, are_exact}
 use Rattle.streetmap_geojson.specs.JsonText.{json_of}
 use Rattle.streetmap_geojson.specs.Reading.{list_of}
 use Rattle.streetmap_geojson.specs.Written.{feature_data, collection_data}

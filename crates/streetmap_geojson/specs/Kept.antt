@@ -1,5 +1,5 @@
 -- What is true of every feature.
-use Rattle.std.specs.Prelude.{◌≡◌, ◌≤◌, ℕ, Option, None, Some, Bool, true, false, IsTrue}
+use Rattle.std.specs.Prelude.{◌≡◌, ◌≤◌, Option, None, Some, Bool, true, false, IsTrue}
 use Rattle.std.specs.Str.{is_utf8}
 use Rattle.serde_json.specs.Data.{depth}
 use Rattle.serde_json.specs.Written.{has_float}

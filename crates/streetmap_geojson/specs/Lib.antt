@@ -17,3 +17,4 @@ pub mod Stored
 pub mod NumberText
 pub mod JsonText
 pub mod ExactData
+pub mod Packed

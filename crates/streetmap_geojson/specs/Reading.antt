@@ -1,6 +1,6 @@
 -- What a geometry reads as, or its first fault, in the reading order. RFC 7946 3.1.
 -- A number beside a value counts the feature's positions: n before it is read, and with it those of the value.
-use Rattle.std.specs.Prelude.{ℕ, ◌+◌, ℤ, List, [], ◌∷◌, length, codes, Option, None, Some, is_some, option_map, option_and_then, ok_or, false, Result, Ok, Err, nat_lt, if◌then◌else◌}
+use Rattle.std.specs.Prelude.{ℕ, ◌+◌, ℤ, List, [], ◌∷◌, length, codes, Option, None, Some, is_some, option_map, option_and_then, ok_or, Result, Ok, Err, nat_lt, if◌then◌else◌}
 use Rattle.serde_json.specs.Data.{Data, number, Items, no_items, item}
 use Rattle.serde_json.specs.Find.{as_integer, as_null, as_str, as_array, get}
 use Rattle.streetmap_grid.specs.Values as values

@@ -2,7 +2,7 @@
 -- A value is stored as the list of its constructors from the left; a list is read back from its end, with a stack.
 use Rattle.std.specs.Prelude.{◌≡◌, ℕ, ℤ, pos, List, [], ◌∷◌, Bool, true, false, cond, ◌==◌, Option, None, refl}
 use Rattle.std.specs.Float.{Float, nan}
-use Rattle.std.specs.Coded.{Coded, code_by, coded×, coded⊎, coded_ℕ, coded_ℤ, coded_list, coded_option}
+use Rattle.std.specs.Coded.{Coded, code_by, coded×, coded_ℕ, coded_ℤ, coded_list, coded_option}
 use base.Stored.{coded_float}
 use mathlib.Core.Path.{ap, ◌∙◌}
 use Rattle.serde_json.specs.Data.{Num, unsigned, negative, float, Data, null, boolean, number, string, array, object, Items, no_items, item, Members, no_members, member}

@@ -1,8 +1,9 @@
 -- What is written for a feature. RFC 7946 3; the members of each object stand in byte order of their names.
 use Rattle.std.specs.Prelude.{ℤ, ℕ, List, [], ◌∷◌, Option, None, Some, map, codes}
-use Rattle.serde_json.specs.Data.{Data, null, number, string, array, object, Members, no_members, member}
+use Rattle.serde_json.specs.Data.{Data, null, number, string, array, object, no_members, member}
 use Rattle.serde_json.specs.Find.{of_integer}
 use Rattle.serde_json.specs.View.{items_of}
+use Rattle.serde_json.specs.Written.{compact_text}
 use Rattle.streetmap_grid.specs.Values as values
 use Rattle.streetmap_grid.specs.Values.{PositionValue, SimpleValue, GeometryValue}
 use Rattle.streetmap_geojson.specs.FeatureValue.{FeatureValue}
@@ -64,6 +65,15 @@ geometry_member (Some g) = geometry_data g
 
 abbrev pub feature_data : FeatureValue → Data
 feature_data f = object (member (codes "geometry") (geometry_member f.geometry) (member (codes "id") (string f.id) (member (codes "properties") f.properties (member (codes "type") (string (codes "Feature")) no_members))))
+
+-- the array `coordinates`
+abbrev pub coordinates_data : SimpleValue → Data
+coordinates_data s = array (items_of (coordinates_of s))
+
+-- a height as text, with the comma before it
+abbrev pub height_text : Option ℤ → List ℕ
+height_text None = []
+height_text (Some z) = 44 ∷ compact_text (number_data z)
 
 -- RFC 7946 3.3
 abbrev pub collection_data : List FeatureValue → Data

@@ -50,7 +50,7 @@ impl Model for Feature {
 
 impl Feature {
     ghost use Rattle.streetmap_geojson.specs.Kept.{IsFeature};
-    ghost use Rattle.streetmap_geojson.specs.Times.{timed};
+    ghost use Rattle.streetmap_geojson.specs.Times.{time_of, timed};
     ghost use Rattle.std.specs.Prelude.{Ok, Err, IfOk, IfErr, OnErr};
 
     /// An equal feature.
@@ -112,6 +112,15 @@ impl Feature {
             Some(geometry) => Some(geometry.extent()),
             None => None,
         }
+    }
+
+    /// What the property of that name says of the time; none without a name. Refused where the
+    /// property is neither absent nor null nor a readable text.
+    pub fn time_under(&self, time_property: Option<&str>) -> Result<Option<Interval>, TimeFault>
+        ensures told { IfOk result (λ t. time_of (option_map (λ s. s.now) time_property.entry) self.now.properties ≡ Ok (option_map interval_value t)) }
+        ensures refused { IfErr result (λ e. time_of (option_map (λ s. s.now) time_property.entry) self.now.properties ≡ Err e) }
+    {
+        read_time(&self.properties, time_property)
     }
 
     /// Sets the time to what the property of that name says, or to none without a name. Refused

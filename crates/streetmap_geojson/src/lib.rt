@@ -8,7 +8,7 @@
 //! feature, its time left out.
 //!
 //! Modules, in the order of reading: `fault`, `json_text`, `number_text`, `id`, `kind`, `feature`,
-//! `times`, `coordinates`, `geometry`, `scan`, `exact`, `read`, `collection`, `write`, `copy`,
+//! `times`, `coordinates`, `geometry`, `scan`, `exact`, `read`, `collection`, `write`, `text`, `packed`, `copy`,
 //! `laws`, `text_laws`.
 #![tactic(auto)]
 
@@ -24,8 +24,12 @@ mod json_text;
 mod kind;
 pub mod laws;
 mod number_text;
+mod packed;
 mod read;
 mod scan;
+#[cfg(test)]
+mod tests;
+mod text;
 pub mod text_laws;
 mod times;
 mod write;
@@ -35,5 +39,7 @@ pub use fault::{CollectionFault, Fault, JsonFault};
 pub use feature::Feature;
 pub use id::{Id, is_id, is_plain, read_id};
 pub use json_text::read_json;
+pub use packed::PackedFeature;
 pub use read::read_feature;
+pub use text::{collection_text, push_comma, push_feature, push_features, push_quoted};
 pub use write::{write_collection, write_feature};

@@ -1,9 +1,8 @@
-use Rattle.std.proofs.Common.{◌≡◌, IsTrue, string_bytes, FitsSigned}
+use Rattle.std.proofs.Common.{◌≡◌, string_bytes, FitsSigned}
 use Rattle.std.specs.Fmt.{signed_decimal}
 use Rattle.std.specs.Int.{w128}
 use Rattle.std.proofs.lemmas.Int.{to_z-of_z}
 use Rattle.std.proofs.lemmas.Result.{IfOk-weaker}
-use Rattle.streetmap_geojson.specs.Id.{is_id}
 use Rattle.streetmap_geojson.proofs.Ids.{decimal_id, magnitude_fits}
 use Rattle.streetmap_geojson.proofs.id.checked_text.Goals as goal
 

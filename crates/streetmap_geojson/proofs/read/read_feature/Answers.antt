@@ -1,4 +1,3 @@
-use Rattle.std.proofs.Common.{option_map}
 use Rattle.serde_json.specs.View.{view}
 use Rattle.streetmap_geojson.specs.FeatureView.{feature_value}
 use Rattle.streetmap_geojson.proofs.Wholes.{is_found, is_read}

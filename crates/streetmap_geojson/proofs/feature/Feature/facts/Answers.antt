@@ -1,4 +1,4 @@
-use Rattle.std.proofs.Common.{subst, sym}
+use Rattle.std.proofs.Common.{subst}
 use Rattle.streetmap_geojson.specs.Kept.{IsFeature}
 use Rattle.streetmap_geojson.proofs.Facts.{feature_made, geometry_made, interval_made}
 use Rattle.streetmap_geojson.proofs.feature.Feature.facts.Goals as goal

@@ -1,4 +1,4 @@
-use Rattle.std.proofs.Common.{◌≡◌, subst, IsTrue, List, ℕ}
+use Rattle.std.proofs.Common.{subst, IsTrue, List, ℕ}
 use Rattle.std.specs.Str.{is_utf8}
 use Rattle.std.proofs.lemmas.Str.{is_utf8-from_IsUtf8, IsUtf8-string_bytes}
 use Rattle.streetmap_geojson.proofs.id.Id.as_str.Goals as goal

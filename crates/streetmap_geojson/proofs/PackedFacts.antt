@@ -1,0 +1,34 @@
+-- A feature's text reads as that feature.
+use Rattle.std.proofs.Common.{◌≡◌, ℕ, List, None, Ok, Option, ap, ◌∙◌}
+use Rattle.serde_json.specs.Written.{compact_text}
+use Rattle.streetmap_grid.specs.Values.{BoxValue}
+use Rattle.streetmap_moment.specs.IntervalValue.{IntervalValue}
+use Rattle.streetmap_geojson.specs.Fault.{◌>>=◌}
+use Rattle.streetmap_geojson.specs.FeatureValue.{FeatureValue, untimed}
+use Rattle.streetmap_geojson.specs.FeatureReading.{feature}
+use Rattle.streetmap_geojson.specs.Kept.{IsFeature, IsIntervalIf}
+use Rattle.streetmap_geojson.specs.Packed.{feature_in_text, retimed, or_nothing, unpacked, IsPacked}
+use Rattle.streetmap_geojson.specs.Written.{feature_data}
+use Rattle.streetmap_geojson.proofs.Again as again
+use Rattle.streetmap_geojson.proofs.Wholes as wholes
+use Rattle.streetmap_geojson.proofs.WrittenFeatures.{text_is_json}
+
+pub text_again : (f : FeatureValue) → IsFeature f → feature_in_text (compact_text (feature_data f)) ≡ Ok (untimed f)
+text_again f h = ap (λ r. r >>= λ d. feature None d) (text_is_json f h) ∙ wholes.feature_again None None (feature_data f) (untimed f) (again.feature_again f h)
+
+pub unpacked_again : (f : FeatureValue) (time : Option IntervalValue) → IsFeature f → unpacked (compact_text (feature_data f)) time ≡ retimed f time
+unfolding unpacked
+unpacked_again f time h = ap (λ r. retimed (or_nothing r) time) (text_again f h)
+
+pub packed_text : (text : List ℕ) (extent : Option BoxValue) (h : IsPacked text extent) → feature_in_text text ≡ Ok (untimed h.packed)
+packed_text text extent h = ap feature_in_text h.written ∙ text_again h.packed h.is
+
+pub unpacked_of : (text : List ℕ) (time : Option IntervalValue) (f : FeatureValue) → feature_in_text text ≡ Ok f → unpacked text time ≡ retimed f time
+unfolding unpacked
+unpacked_of text time f is = ap (λ r. retimed (or_nothing r) time) is
+
+pub packed_view : (text : List ℕ) (extent : Option BoxValue) (time : Option IntervalValue) (h : IsPacked text extent) → unpacked text time ≡ retimed h.packed time
+packed_view text extent time h = unpacked_of text time (untimed h.packed) (packed_text text extent h)
+
+pub retimed_is : (f : FeatureValue) (time : Option IntervalValue) → IsFeature f → IsIntervalIf time → IsFeature (retimed f time)
+retimed_is f time h timed = record { named = h.named; text = h.text; made = h.made; few = h.few; oriented = h.oriented; kept = h.kept; flat = h.flat; whole = h.whole; exact = h.exact; timed = timed }

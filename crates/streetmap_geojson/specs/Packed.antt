@@ -1,0 +1,38 @@
+-- A feature that is kept as its text, with its extent and its time beside it.
+use Rattle.std.specs.Prelude.{◌≡◌, ℕ, List, [], Option, None, option_map, Result, Ok, Err}
+use Rattle.serde_json.specs.Data.{null}
+use Rattle.serde_json.specs.Written.{compact_text}
+use Rattle.streetmap_grid.specs.Values.{BoxValue}
+use Rattle.streetmap_grid.specs.Extent.{extent_of}
+use Rattle.streetmap_moment.specs.IntervalValue.{IntervalValue}
+use Rattle.streetmap_geojson.specs.declared.fault.Fault.{Fault}
+use Rattle.streetmap_geojson.specs.Fault.{◌>>=◌}
+use Rattle.streetmap_geojson.specs.FeatureValue.{FeatureValue}
+use Rattle.streetmap_geojson.specs.FeatureReading.{feature}
+use Rattle.streetmap_geojson.specs.JsonText.{json_of}
+use Rattle.streetmap_geojson.specs.Kept.{IsFeature}
+use Rattle.streetmap_geojson.specs.Written.{feature_data}
+
+-- the feature that a JSON text reads as, without a time
+abbrev pub feature_in_text : List ℕ → Result FeatureValue Fault
+feature_in_text text = json_of text >>= λ d. feature None d
+
+-- with this time
+abbrev pub retimed : FeatureValue → Option IntervalValue → FeatureValue
+retimed f time = record { id = f.id; geometry = f.geometry; properties = f.properties; time = time }
+
+-- what was read, or a feature of nothing
+abbrev pub or_nothing : Result FeatureValue Fault → FeatureValue
+or_nothing (Ok f) = f
+or_nothing (Err fault) = record { id = []; geometry = None; properties = null; time = None }
+
+-- the feature of a text, with this time
+unfoldable pub unpacked : List ℕ → Option IntervalValue → FeatureValue
+unpacked text time = retimed (or_nothing (feature_in_text text)) time
+
+-- the text is that of a feature, and the extent that of its geometry
+pub record IsPacked (text : List ℕ) (extent : Option BoxValue) : Type 0 where
+  pub packed : FeatureValue
+  pub is : IsFeature packed
+  pub written : text ≡ compact_text (feature_data packed)
+  pub reaches : extent ≡ option_map extent_of packed.geometry
