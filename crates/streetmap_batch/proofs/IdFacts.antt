@@ -1,5 +1,5 @@
 -- The id that a value gives is the one that it stands for.
-use Rattle.std.proofs.Common.{◌≡◌, ℤ, Bool, true, false, cond, List, ℕ, Option, None, Some, Result, Ok, Err, refl, sym}
+use Rattle.std.proofs.Common.{◌≡◌, ℤ, Bool, true, false, cond, Option, None, Some, Result, Ok, Err, refl, sym}
 use Rattle.std.specs.Fmt.{signed_decimal}
 use Rattle.serde_json.specs.Data.{Data, null, boolean, number, string, array, object}
 use Rattle.serde_json.specs.Find.{as_integer}

@@ -1,10 +1,8 @@
 -- The members of an object and the elements of an array, as the code goes over them.
-use Rattle.std.proofs.Common.{◌≡◌, ℕ, Bool, true, false, ◌&&◌, List, [], ◌∷◌, map, Option, None, Some, refl, sym, ap, ◌∙◌, string_bytes}
-use Rattle.std.specs.Prelude.{String}
-use Rattle.std.specs.declared.alloc.Global.{Global}
+use Rattle.std.proofs.Common.{◌≡◌, Bool, false, ◌&&◌, List, [], ◌∷◌, Option, None, Some, refl, sym, ap, string_bytes}
 use Rattle.std.specs.List.{list_all}
 use Rattle.std.specs.Map.{keys_of}
-use Rattle.serde_json.specs.Data.{Data, null, boolean, number, string, array, object, Items, Members}
+use Rattle.serde_json.specs.Data.{Data, null, boolean, number, string, array, object, Members}
 use Rattle.serde_json.specs.Find.{as_object}
 use Rattle.serde_json.specs.View.{items_of, members_view}
 use Rattle.serde_json.proofs.Views.{Entry}

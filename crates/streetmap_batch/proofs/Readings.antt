@@ -3,8 +3,8 @@ use Rattle.std.proofs.Common.{◌≡◌, ℕ, ◌+◌, ◌≤◌, Bool, true, fa
 use Rattle.std.specs.Prelude.{IfOk, nat_le, bytes_eq}
 use Rattle.std.proofs.lemmas.Bool.{leb-true, le-leb}
 use Rattle.std.proofs.lemmas.Slice.Eq.{bytes_eq-Decides}
-use Rattle.serde_json.specs.Data.{Data, null, boolean, number, string, array, object, Items}
-use Rattle.serde_json.specs.Find.{as_array, as_str, get}
+use Rattle.serde_json.specs.Data.{Data, null, boolean, number, string, array, object}
+use Rattle.serde_json.specs.Find.{as_str, get}
 use Rattle.streetmap_geojson.specs.declared.fault.Fault.{Fault}
 use Rattle.streetmap_geojson.specs.FeatureValue.{FeatureValue}
 use Rattle.streetmap_geojson.specs.FeatureReading.{feature}
@@ -21,7 +21,7 @@ use Rattle.streetmap_batch.specs.BatchFaults.{Gives}
 use Rattle.streetmap_batch.specs.BatchReading.{◌>>=◌, unless, text_at, array_at, has_only, shaped, operation_of, operation_at, collection_at, title_of, time_of, as_shape, as_cause, told_feature, told_id, open_at, feature_at, delete_at, edit_as, edit_at, and_more, edits_after, keyed, batch, as_whole, batch_of, most_edits}
 use Rattle.streetmap_batch.specs.BatchMeaning.{HasText, IsEditOf, IsTitleOf, IsTimeOf, HasMember, IsEdit, AreEdits, IsBatch, IsBatchText}
 use Rattle.streetmap_batch.specs.declared.batch_fault.BatchFault.{BatchFault}
-use Rattle.streetmap_batch.specs.declared.batch_fault.BatchFault.TheVariants.{BadBatch, BadKey, TooManyEdits, BadFeature}
+use Rattle.streetmap_batch.specs.declared.batch_fault.BatchFault.TheVariants.{BadBatch, BadKey, TooManyEdits}
 use Rattle.streetmap_batch.specs.declared.format.Format.{Format}
 use Rattle.streetmap_batch.specs.declared.format.Format.TheVariants as formats
 use Rattle.streetmap_batch.specs.declared.format.Operation.{Operation}

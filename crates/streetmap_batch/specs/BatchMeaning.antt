@@ -2,7 +2,6 @@
 use Rattle.std.specs.Prelude.{◌≡◌, ◌≤◌, ℕ, List, [], ◌∷◌, length, codes, Option, None, Some, Ok, IsTrue}
 use Rattle.serde_json.specs.Data.{Data, string}
 use Rattle.serde_json.specs.Find.{get}
-use Rattle.streetmap_geojson.specs.FeatureValue.{FeatureValue}
 use Rattle.streetmap_geojson.specs.FeatureMeaning.{IsId, ReadsAs}
 use Rattle.streetmap_geojson.specs.JsonText.{json_of}
 use Rattle.streetmap_batch.specs.Text.{Text}

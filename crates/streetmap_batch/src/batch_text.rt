@@ -2,9 +2,8 @@
 #![tactic(auto)]
 
 ghost use Rattle.std.specs.Prelude.{◌≡◌, ◌++◌, IfOk, OnOk, false, option_map, string_bytes};
-ghost use Rattle.serde_json.specs.Data.{string};
 ghost use Rattle.serde_json.specs.View.{view};
-ghost use Rattle.serde_json.specs.Written.{comma_if, compact_text, has_float, items_text};
+ghost use Rattle.serde_json.specs.Written.{compact_text, has_float, items_text};
 ghost use Rattle.streetmap_batch.specs.BatchText.{edit_data, edits_data, feature_edit_data, batch_text};
 ghost use Rattle.streetmap_batch.specs.BatchValue as value;
 ghost use Rattle.streetmap_batch.specs.BatchView.{edit_value, edit_values};
@@ -12,9 +11,9 @@ ghost use Rattle.streetmap_batch.specs.BatchView.{edit_value, edit_values};
 use crate::edit::{CollectionId, Edit, TimeProperty, Title};
 use serde_json::{Value, json};
 use std::alloc::{AllocError, Global};
-use streetmap_geojson::{Feature, write_feature};
+use streetmap_geojson::{Feature, Id, push_comma, push_feature, push_quoted};
 
-/// An open edit.
+/// The value of an open edit.
 #[tactic(auto, unfolding(crate::specs::BatchText::edit_data))]
 fn write_open(
     alloc: Global,
@@ -35,79 +34,70 @@ fn write_open(
     }
 }
 
-fn write_members(
-    alloc: Global,
-    op: &str,
-    collection: &CollectionId,
-    feature: &Feature,
-) -> Result<Value, AllocError>
-    ensures { IfOk result (λ v. view v ≡ feature_edit_data op.now collection.now feature.now) }
-{
-    let feature = write_feature(alloc, feature)?;
-    json!(in alloc; {"collection": collection.as_str(), "feature": feature, "op": op})
-}
-
-/// An edit of a feature.
-fn write_feature_edit(
-    alloc: Global,
-    op: &str,
-    collection: &CollectionId,
-    feature: &Feature,
-) -> Result<Value, AllocError>
-    ensures value { IfOk result (λ v. view v ≡ feature_edit_data op.now collection.now feature.now) }
-    ensures whole { IfOk result (λ v. has_float (view v) ≡ false) }
-{
-    feature.facts();
-    write_members(alloc, op, collection, feature)
-}
-
-/// An edit.
+/// The value of a delete edit.
 #[tactic(auto, unfolding(crate::specs::BatchText::edit_data))]
-fn write_edit(alloc: Global, edit: &Edit) -> Result<Value, AllocError>
-    ensures value { IfOk result (λ v. view v ≡ edit_data (edit_value edit.now)) }
+fn write_delete(alloc: Global, collection: &CollectionId, id: &Id) -> Result<Value, AllocError>
+    ensures value { IfOk result (λ v. view v ≡ edit_data (value.delete collection.now id.now)) }
     ensures whole { IfOk result (λ v. has_float (view v) ≡ false) }
+{
+    json!(in alloc; {"collection": collection.as_str(), "id": id.as_str(), "op": "delete"})
+}
+
+/// Appends the text of a value.
+fn push_value(alloc: Global, out: &mut String, value: &Value) -> Result<(), AllocError>
+    requires { has_float (view value.now) ≡ false }
+    ensures { OnOk result (string_bytes out.new ≡ string_bytes out.old ++ compact_text (view value.now)) }
+{
+    let text = value.to_string(alloc)?;
+    out.push_str(text.as_str())
+}
+
+/// Appends an edit of a feature.
+fn push_feature_edit(
+    alloc: Global,
+    out: &mut String,
+    op: &str,
+    collection: &CollectionId,
+    feature: &Feature,
+) -> Result<(), AllocError>
+    ensures { OnOk result (string_bytes out.new ≡ string_bytes out.old ++ compact_text (feature_edit_data op.now collection.now feature.now)) }
+{
+    out.push_str("{\"collection\":")?;
+    push_quoted(alloc, out, collection.as_str())?;
+    out.push_str(",\"feature\":")?;
+    push_feature(alloc, out, feature)?;
+    out.push_str(",\"op\":")?;
+    push_quoted(alloc, out, op)?;
+    out.push_str("}")
+}
+
+/// Appends an edit.
+#[tactic(auto, unfolding(crate::specs::BatchText::edit_data))]
+fn push_edit(alloc: Global, out: &mut String, edit: &Edit) -> Result<(), AllocError>
+    ensures { OnOk result (string_bytes out.new ≡ string_bytes out.old ++ compact_text (edit_data (edit_value edit.now))) }
 {
     match edit {
         Edit::Open {
             collection,
             title,
             time,
-        } => write_open(alloc, collection, title, time.as_ref()),
+        } => {
+            let value = write_open(alloc, collection, title, time.as_ref())?;
+            push_value(alloc, out, &value)
+        }
         Edit::Insert {
             collection,
             feature,
-        } => write_feature_edit(alloc, "insert", collection, feature),
+        } => push_feature_edit(alloc, out, "insert", collection, feature),
         Edit::Replace {
             collection,
             feature,
-        } => write_feature_edit(alloc, "replace", collection, feature),
-        Edit::Delete { collection, id } => json!(in alloc; {
-            "collection": collection.as_str(), "id": id.as_str(), "op": "delete"
-        }),
+        } => push_feature_edit(alloc, out, "replace", collection, feature),
+        Edit::Delete { collection, id } => {
+            let value = write_delete(alloc, collection, id)?;
+            push_value(alloc, out, &value)
+        }
     }
-}
-
-/// Appends a text.
-fn push(out: &mut String, text: &str) -> Result<(), AllocError>
-    ensures { OnOk result (string_bytes out.new ≡ string_bytes out.old ++ text.now) }
-{
-    out.push_str(text)
-}
-
-/// Appends a comma, where something stands before.
-fn push_comma(out: &mut String, later: bool) -> Result<(), AllocError>
-    ensures { OnOk result (string_bytes out.new ≡ string_bytes out.old ++ comma_if later) }
-{
-    if later { push(out, ",") } else { Ok(()) }
-}
-
-/// Appends an edit.
-fn push_edit(alloc: Global, out: &mut String, edit: &Edit) -> Result<(), AllocError>
-    ensures { OnOk result (string_bytes out.new ≡ string_bytes out.old ++ compact_text (edit_data (edit_value edit.now))) }
-{
-    let value = write_edit(alloc, edit)?;
-    let text = value.to_string(alloc)?;
-    push(out, text.as_str())
 }
 
 /// Appends the edits and the bracket behind them.
@@ -120,16 +110,7 @@ fn push_edits(alloc: Global, out: &mut String, edits: &[Edit]) -> Result<(), All
         push_edit(alloc, out, edit)?;
         later = true;
     }
-    push(out, "]")
-}
-
-/// Appends a text as JSON.
-fn push_quoted(alloc: Global, out: &mut String, text: &str) -> Result<(), AllocError>
-    ensures { OnOk result (string_bytes out.new ≡ string_bytes out.old ++ compact_text (string text.now)) }
-{
-    let value = Value::String(String::from_str(alloc, text)?);
-    let quoted = value.to_string(alloc)?;
-    push(out, quoted.as_str())
+    out.push_str("]")
 }
 
 /// The text of the batch of a key and edits.
@@ -138,10 +119,10 @@ pub(crate) fn write_batch(alloc: Global, key: &str, edits: &[Edit]) -> Result<St
     ensures { IfOk result (λ text. string_bytes text ≡ batch_text (record { key = key.now; edits = edit_values edits.now })) }
 {
     let mut text = String::new(alloc);
-    push(&mut text, "{\"edits\":[")?;
+    text.push_str("{\"edits\":[")?;
     push_edits(alloc, &mut text, edits)?;
-    push(&mut text, ",\"key\":")?;
+    text.push_str(",\"key\":")?;
     push_quoted(alloc, &mut text, key)?;
-    push(&mut text, "}")?;
+    text.push_str("}")?;
     Ok(text)
 }

@@ -80,6 +80,7 @@ impl Title {
     }
 
     /// The title of a collection that was given none: its id.
+    #[tactic(auto, using(crate::proofs::NameFacts::id_is_title))]
     pub fn from_id(alloc: Global, id: &CollectionId) -> Result<Title, AllocError>
         ensures { IfOk result (λ title. title ≡ id.now) }
     {

@@ -2,7 +2,7 @@
 use Rattle.std.proofs.Common.{◌≡◌, ℕ, List, [], ◌∷◌, ◌++◌, true, ap, sym, refl, ◌∙◌, append_assoc, codes, Some, None}
 use Rattle.std.specs.Prelude.{Option, decimal}
 use Rattle.std.specs.Option.{ForSome}
-use Rattle.json.specs.Print.{escape, escape_byte, quoted}
+use Rattle.json.specs.Print.{escape_byte, quoted}
 use Rattle.serde_json.specs.Data.{number, unsigned, string, member, no_members}
 use Rattle.serde_json.specs.Written.{compact_text, members_text}
 use Rattle.streetmap_ledger.specs.declared.reply.Counts.{Counts}

@@ -13,3 +13,6 @@ mod room;
 pub use error_body::push_error;
 pub use reply_body::push_reply;
 pub use room::{push, push_number};
+
+#[cfg(test)]
+mod tests;

@@ -1,4 +1,4 @@
-use Rattle.std.proofs.Common.{◌≡◌, ap, sym, ◌∙◌, map, List, Some}
+use Rattle.std.proofs.Common.{ap, sym, ◌∙◌, map, List, Some}
 use Rattle.serde_json.specs.Data.{Data}
 use Rattle.serde_json.specs.View.{view}
 use Rattle.streetmap_batch.proofs.MemberFacts.{list_of-items_of}
