@@ -1,5 +1,5 @@
 -- What accepted, repeated and refused batches do to the state.
-use Rattle.std.proofs.Common.{◌≡◌, ℕ, ◌+◌, List, [], ◌∷◌, ◌++◌, Bool, true, false, cond, Option, None, Some, Result, Ok, Err, refl, sym, ap, subst, ◌∙◌, nat_eq, nat_lt}
+use Rattle.std.proofs.Common.{◌≡◌, ℕ, ◌+◌, List, [], ◌∷◌, Bool, true, false, cond, Option, None, Some, Result, Ok, Err, refl, ap, subst, ◌∙◌, nat_eq, nat_lt}
 use Rattle.std.specs.Cmp.Lexicographic.{pointwise}
 use Rattle.std.specs.FinMap.{get, len}
 use Rattle.streetmap_batch.specs.BatchValue.{BatchValue}
@@ -8,7 +8,7 @@ use Rattle.streetmap_ledger.specs.State.{State, Kept}
 use Rattle.streetmap_ledger.specs.Batches.{Outcome, edited, fresh, by_key, act, after_all, most_batches}
 use Rattle.streetmap_ledger.specs.Laws.{is_accepted, accepted_of, AcceptedAreEnough, RefusedChangesNothing}
 use Rattle.streetmap_ledger.specs.declared.reply.Refusal.{Refusal}
-use Rattle.streetmap_ledger.specs.declared.reply.Reply.TheVariants.{Accepted, Repeated, Refused}
+use Rattle.streetmap_ledger.specs.declared.reply.Reply.TheVariants.{Repeated, Refused}
 use Rattle.streetmap_ledger.proofs.Repeat.{either}
 
 -- what is not accepted changes nothing

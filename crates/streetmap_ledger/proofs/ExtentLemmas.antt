@@ -1,6 +1,6 @@
 -- The extent of the positions of two lists, and of features one after the other.
-use Rattle.std.proofs.Common.{◌≡◌, ◌⊎◌, ℤ, ◌≤ℤ◌, List, [], ◌∷◌, ◌++◌, Option, None, Some, refl, sym, ap, subst, ◌∙◌, inl, inr, arith, append-nil}
-use Rattle.std.specs.Prelude.{All}
+use Rattle.std.proofs.Common.{◌≡◌, ◌⊎◌, ℤ, List, [], ◌∷◌, ◌++◌, Option, None, Some, sym, ap, subst, ◌∙◌, inl, inr, arith, append-nil}
+use Rattle.std.specs.Prelude.{unwrap_or}
 use Rattle.std.specs.Option.{option_map, option_map_or}
 use Rattle.std.proofs.lemmas.Int.{ints}
 use Rattle.std.proofs.lemmas.List.Elements.{All-append, All-weaker}
@@ -10,9 +10,10 @@ use Rattle.streetmap_grid.specs.Views.{box_value}
 use Rattle.streetmap_grid.specs.Some.{SomeOf}
 use Rattle.streetmap_grid.specs.Range.{IsBound}
 use Rattle.streetmap_grid.specs.Meeting.{Holds}
-use Rattle.streetmap_grid.specs.Extent.{IsExtent, vertices, positions_extent}
+use Rattle.streetmap_grid.specs.Extent.{IsExtent, vertices, extent_of, positions_extent}
 use Rattle.streetmap_grid.specs.Bounds.{AreBounds, IsLeast, IsGreatest}
-use Rattle.streetmap_grid.proofs.Growing.{same_extent, positions_extent_is}
+use Rattle.streetmap_grid.proofs.Growing.{same_extent, positions_extent_is, extent_is}
+use Rattle.streetmap_geojson.specs.Kept.{IsGeometryIf}
 use Rattle.streetmap_ledger.specs.Summaries.{SummaryValue, extent_if}
 
 some_left : (P Q : PositionValue → Type 0) → ((p : PositionValue) → P p → Q p) → (ps qs : List PositionValue) → SomeOf P ps → SomeOf Q (ps ++ qs)
@@ -55,20 +56,21 @@ greatest_in r a b ha hb (l, k, inl e) = omega (arith, ints, ha, e)
 greatest_in r a b ha hb (l, k, inr e) = omega (arith, ints, hb, e)
 
 -- ---- the bounds of features
-pub no_geometry : (ps : List PositionValue) (o : Option GridBox) (g : Option GeometryValue) → None ≡ g → AreBounds ps o → AreBounds (ps ++ option_map_or vertices g []) o
-no_geometry ps o g e b =
-    let P : List PositionValue → Type 0 = λ vs. AreBounds vs o in
-    subst P (sym (append-nil ps) ∙ ap (λ (x : Option GeometryValue). ps ++ option_map_or vertices x []) e) b
+no_more : (ps : List PositionValue) (o : Option GridBox) → AreBounds ps o → AreBounds (ps ++ []) o
+no_more ps o b = subst (λ vs. AreBounds vs o) (sym (append-nil ps)) b
 
-pub first_geometry : (ps : List PositionValue) (b : GridBox) (v : GeometryValue) (g : Option GeometryValue) → Some v ≡ g → ps ≡ [] → IsExtent (vertices v) (box_value b) → IsExtent (ps ++ option_map_or vertices g []) (box_value b)
-first_geometry ps b v g e none h =
-    let P : List PositionValue → Type 0 = λ vs. IsExtent vs (box_value b) in
-    subst P (ap (λ (x : List PositionValue). x ++ vertices v) (sym none) ∙ ap (λ (x : Option GeometryValue). ps ++ option_map_or vertices x []) e) h
+-- the bounds of the first feature that has some, or of none
+pub grown_first : (ps : List PositionValue) (o : Option GridBox) (g : Option GeometryValue) → IsGeometryIf g → option_map box_value o ≡ option_map extent_of g → ps ≡ [] → AreBounds (ps ++ option_map_or vertices g []) o
+grown_first ps None None h e none = ap (λ vs. vs ++ []) none
+grown_first ps None (Some v) h e none = absurd cc
+grown_first ps (Some b) None h e none = absurd cc
+grown_first ps (Some b) (Some v) h e none = subst (λ vs. IsExtent (vs ++ vertices v) (box_value b)) (sym none) (subst (IsExtent (vertices v)) (sym (ap (λ o. unwrap_or o (box_value b)) e)) (extent_is v h))
 
-pub next_geometry : (ps : List PositionValue) (b : GridBox) (v : GeometryValue) (g : Option GeometryValue) → Some v ≡ g → IsExtent (ps ++ vertices v) (box_value b) → IsExtent (ps ++ option_map_or vertices g []) (box_value b)
-next_geometry ps b v g e h =
-    let P : List PositionValue → Type 0 = λ vs. IsExtent vs (box_value b) in
-    subst P (ap (λ (x : Option GeometryValue). ps ++ option_map_or vertices x []) e) h
+-- the bounds with those of one feature more
+pub grown_next : (ps : List PositionValue) (b k : GridBox) (g : Option GeometryValue) → IsGeometryIf g → Some (box_value b) ≡ option_map extent_of g
+    → ((qs : List PositionValue) → IsExtent qs (box_value b) → IsExtent (ps ++ qs) (box_value k)) → IsExtent (ps ++ option_map_or vertices g []) (box_value k)
+grown_next ps b k None h e wide = absurd cc
+grown_next ps b k (Some v) h e wide = wide (vertices v) (subst (IsExtent (vertices v)) (sym (ap (λ o. unwrap_or o (box_value b)) e)) (extent_is v h))
 
 -- bounds are the extent
 pub bounds_extent : (ps : List PositionValue) (o : Option GridBox) → AreBounds ps o → option_map box_value o ≡ extent_if ps

@@ -3,7 +3,7 @@ pub mod Finite
 pub mod Ordered
 pub mod SlotLemmas
 pub mod Live
-pub mod Candidates
+pub mod Examining
 pub mod ExtentLemmas
 pub mod Sweeping
 pub mod CollectionsInOrder

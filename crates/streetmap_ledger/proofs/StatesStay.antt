@@ -1,12 +1,12 @@
 -- The opening state is well-formed, and each batch keeps a state so.
-use Rattle.std.proofs.Common.{◌≡◌, ◌⊎◌, ℕ, ◌+◌, ◌-◌, ◌^◌, ◌≤◌, ◌<◌, List, [], ◌∷◌, length, Bool, true, false, cond, Option, None, Some, Result, Ok, Err, IfOk, ok_or, refl, sym, ap, subst, ◌∙◌, inl, inr, arith, nat_eq, nat_lt}
+use Rattle.std.proofs.Common.{◌≡◌, ◌⊎◌, ℕ, ◌+◌, ◌≤◌, ◌<◌, List, [], ◌∷◌, length, Bool, true, false, cond, Option, None, Some, Result, Ok, Err, IfOk, ok_or, refl, sym, ap, subst, ◌∙◌, inl, inr, arith, nat_eq, nat_lt}
 use Rattle.std.proofs.lemmas.Bool.Decides.{nat_tests}
 use Rattle.std.specs.Option.{is_some}
 use Rattle.std.specs.Ordering.{is_eq}
 use Rattle.std.specs.declared.cmp.Ordering.{Ordering}
 use Rattle.std.specs.declared.cmp.Ordering.TheVariants.{Less, Equal, Greater}
 use Rattle.std.specs.Cmp.Lexicographic.{pointwise, nat_list_cmp_total}
-use Rattle.std.specs.FinMap.{FinMap, get, insert, remove, empty, len, get-insert, get-remove, get-empty, len-empty, len-insert, contains_key}
+use Rattle.std.specs.FinMap.{FinMap, get, insert, remove, empty, len, get-insert, get-remove, get-empty, len-empty, len-insert}
 use Rattle.streetmap_moment.specs.IntervalValue.{IntervalValue}
 use Rattle.streetmap_moment.specs.declared.faults.TimeFault.{TimeFault}
 use Rattle.streetmap_geojson.specs.FeatureValue.{FeatureValue}
@@ -15,7 +15,7 @@ use Rattle.streetmap_batch.specs.Text.{Text, text_cmp}
 use Rattle.streetmap_batch.specs.BatchValue as edit
 use Rattle.streetmap_batch.specs.BatchValue.{EditValue, BatchValue}
 use Rattle.streetmap_batch.specs.BatchText.{batch_text}
-use Rattle.streetmap_ledger.specs.State.{State, Collection, Kept, opening_state, step, ◌>>=◌, absent, or_bad_time, timed, with_features, with_feature, inserted, replaced, deleted, opened}
+use Rattle.streetmap_ledger.specs.State.{State, Collection, Kept, opening_state, step, ◌>>=◌, absent, or_bad_time, timed}
 use Rattle.streetmap_ledger.specs.Batches.{Outcome, placed, edited, counted, counted_all, counts_of, fresh, by_key, kept_for, act, most_batches}
 use Rattle.streetmap_ledger.specs.WellFormed.{IsPlaced, HoldsFeatures, most_edits, AreCounts, IsState, StaysWellFormed}
 use Rattle.streetmap_ledger.specs.declared.reply.Counts.{Counts}

@@ -1,13 +1,12 @@
 -- A walk over the pages of a collection misses nothing and repeats nothing.
-use Rattle.std.proofs.Common.{◌≡◌, ℕ, zero, suc, ◌+◌, ◌-◌, ◌<◌, ◌≤◌, List, [], ◌∷◌, ◌++◌, Bool, true, false, cond, T, Option, None, Some, length, take, drop, get_or, map, nat_lt, refl, sym, ap, subst, ◌∙◌, arith, append-nil, length-drop}
-use Rattle.std.specs.Prelude.{◌&&◌, filter, slice_get, All}
-use Rattle.std.specs.List.{flat_map}
+use Rattle.std.proofs.Common.{◌≡◌, ℕ, zero, suc, ◌-◌, ◌<◌, ◌≤◌, List, [], ◌∷◌, ◌++◌, Bool, true, false, cond, T, Option, None, Some, length, take, drop, get_or, map, nat_lt, refl, sym, ap, subst, ◌∙◌, arith, append-nil, length-drop}
+use Rattle.std.specs.Prelude.{filter, slice_get, All}
 use Rattle.std.specs.Option.{option_map}
 use Rattle.std.specs.Ordering.{is_gt, is_lt, is_eq, ordering_reverse}
 use Rattle.std.specs.declared.cmp.Ordering.{Ordering}
 use Rattle.std.specs.declared.cmp.Ordering.TheVariants.{Less, Equal, Greater}
 use Rattle.std.specs.Cmp.Lexicographic.{nat_list_cmp_total}
-use Rattle.std.specs.FinMap.{FinMap, get, entries, entries_sorted, values, find, is_sorted, get-entries}
+use Rattle.std.specs.FinMap.{get, entries, entries_sorted, values, find, is_sorted, get-entries}
 use Rattle.std.specs.FinMap.Entries.{below_all}
 use Rattle.std.proofs.lemmas.Cmp.{tied_itself}
 use Rattle.std.proofs.lemmas.List.{take_all, take-append-drop}
@@ -18,9 +17,8 @@ use Rattle.streetmap_geojson.specs.FeatureValue.{FeatureValue}
 use Rattle.streetmap_query.specs.QueryValue.{QueryValue}
 use Rattle.streetmap_batch.specs.Text.{Text, text_cmp}
 use Rattle.streetmap_ledger.specs.State.{Features}
-use Rattle.streetmap_ledger.specs.WellFormed.{IsPlaced, IsState}
 use Rattle.streetmap_ledger.specs.Pages.{PageValue, selects, selected, comes_after, behind, last_id, told}
-use Rattle.streetmap_ledger.specs.Walks.{from_behind, page_behind, IsWalk, ends, goes_on, shown, ShowsAll, WalksShowAll}
+use Rattle.streetmap_ledger.specs.Walks.{page_behind, IsWalk, ends, goes_on, shown, WalksShowAll}
 use Rattle.streetmap_ledger.proofs.Maps.{one_text}
 use Rattle.streetmap_ledger.proofs.Live.{first, second, none_below}
 

@@ -1,7 +1,7 @@
 -- The state that the plain keeper stands for.
 use Rattle.std.specs.Prelude.{Some, Option, ◌≡◌, ℕ, String, None, IsSome, T, not}
 use mathlib.Core.Path.{subst}
-use Rattle.std.proofs.Common.{sym, ap, ◌∙◌}
+use Rattle.std.proofs.Common.{sym, ◌∙◌}
 use Rattle.std.specs.BTreeMap.{BTreeMap}
 use Rattle.std.specs.declared.alloc.Global.{Global}
 use Rattle.streetmap_batch.specs.BatchValue.{BatchValue}

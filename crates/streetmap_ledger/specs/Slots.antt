@@ -1,5 +1,5 @@
 -- How the plain keeper keeps a collection: a feature that a batch deletes leaves its slot empty, until the batch is done.
-use Rattle.std.specs.Prelude.{ℕ, Bool, true, false, List, [], ◌∷◌, Option, None, Some, String, string_bytes, map, is_some, if◌then◌else◌, refl}
+use Rattle.std.specs.Prelude.{Bool, true, false, List, [], ◌∷◌, Option, None, Some, String, string_bytes, map, is_some, if◌then◌else◌, refl}
 use Rattle.std.specs.Option.{option_and_then}
 use Rattle.std.specs.Coded.{Coded, code_by, coded×, coded_ℕ, coded_list, coded_option}
 use Rattle.std.specs.FinMap as finmap

@@ -1,5 +1,5 @@
 -- A walk over the pages of a collection, from each to the one behind its last id.
-use Rattle.std.specs.Prelude.{◌≡◌, ◌≤◌, ℕ, List, [], ◌∷◌, Option, None, Some, length, All}
+use Rattle.std.specs.Prelude.{◌≡◌, ◌≤◌, List, [], ◌∷◌, Option, None, Some, length, All}
 use Rattle.std.specs.List.{flat_map}
 use Rattle.std.specs.FinMap.{get, values}
 use Rattle.streetmap_geojson.specs.FeatureValue.{FeatureValue}

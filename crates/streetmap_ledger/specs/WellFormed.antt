@@ -1,5 +1,5 @@
 -- What is true of every state that comes from the opening state by batches.
-use Rattle.std.specs.Prelude.{◌≡◌, ◌≤◌, ℕ, List, length, Option, Some, Ok}
+use Rattle.std.specs.Prelude.{◌≡◌, ◌≤◌, ℕ, length, Option, Some, Ok}
 use Rattle.std.specs.FinMap.{get, len}
 use Rattle.streetmap_geojson.specs.FeatureValue.{FeatureValue}
 use Rattle.streetmap_geojson.specs.Times.{time_of}

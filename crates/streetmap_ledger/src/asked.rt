@@ -6,7 +6,7 @@ ghost use Rattle.streetmap_moment.specs.Meeting.{meets, seconds_overlap};
 ghost use Rattle.streetmap_query.specs.Views.{query_value};
 ghost use Rattle.streetmap_ledger.specs.Pages.{passes, interval_asked, selects as selects_of, comes_after as comes_after_of, extent_overlaps, is_candidate as is_candidate_of};
 
-use streetmap_geojson::Feature;
+use streetmap_geojson::{Feature, PackedFeature};
 use streetmap_moment::Interval;
 use streetmap_query::Query;
 
@@ -54,14 +54,14 @@ pub fn comes_after(query: &Query, feature: &Feature) -> bool
 }
 
 /// Whether the feature's extent overlaps the box, where one is asked.
-fn overlaps_box(query: &Query, feature: &Feature) -> bool
+fn overlaps_box(query: &Query, feature: &PackedFeature) -> bool
     ensures { result ≡ passes extent_overlaps feature.now.geometry (query_value query.now).bbox }
 {
     match &query.bbox {
         None => true,
-        Some(area) => match feature.geometry() {
+        Some(area) => match feature.extent() {
             None => false,
-            Some(geometry) => geometry.extent().overlaps(area),
+            Some(extent) => extent.overlaps(area),
         },
     }
 }
@@ -76,7 +76,7 @@ fn overlap_seconds(one: &Interval, other: &Interval) -> bool
 }
 
 /// Whether the feature's seconds overlap those of the interval, where one is asked.
-fn overlaps_interval(query: &Query, feature: &Feature) -> bool
+fn overlaps_interval(query: &Query, feature: &PackedFeature) -> bool
     ensures { result ≡ passes seconds_overlap feature.now.time (interval_asked (query_value query.now)) }
 {
     match &query.datetime {
@@ -89,7 +89,7 @@ fn overlaps_interval(query: &Query, feature: &Feature) -> bool
 }
 
 /// Whether a page examines the feature.
-pub fn is_candidate(query: &Query, feature: &Feature) -> bool
+pub fn is_candidate(query: &Query, feature: &PackedFeature) -> bool
     ensures { result ≡ is_candidate_of (query_value query.now) feature.now }
 {
     overlaps_box(query, feature) && overlaps_interval(query, feature)

@@ -1,5 +1,5 @@
 //! A collection as the plain keeper keeps it, by its slots.
-ghost use Rattle.std.specs.Prelude.{◌≡◌, ◌+◌, IfOk, OnOk, OnErr, Option, Some, None, string_bytes, length};
+ghost use Rattle.std.specs.Prelude.{◌≡◌, ◌+◌, ◌++◌, ◌∷◌, [], List, IfOk, OnOk, OnErr, Option, Some, None, string_bytes, length};
 ghost use Rattle.std.specs.Option.{option_copied, option_flatten, option_map};
 ghost use Rattle.std.specs.Result.{result_ok};
 ghost use Rattle.std.specs.FinMap.{get, insert, empty};
@@ -12,6 +12,10 @@ ghost use Rattle.streetmap_ledger.specs.Slots.{live_values, is_emptied as is_emp
 ghost use Rattle.streetmap_grid.specs.Bounds.{AreBounds};
 ghost use Rattle.streetmap_ledger.specs.Summaries.{all_vertices, summary_of};
 ghost use Rattle.streetmap_ledger.specs.SummaryView.{summary_value};
+ghost use Rattle.serde_json.specs.Written.{compact_text};
+ghost use Rattle.streetmap_geojson.specs.FeatureValue.{FeatureValue};
+ghost use Rattle.streetmap_geojson.specs.Written.{feature_data};
+ghost use Rattle.streetmap_ledger.specs.Folds.{HoldsCandidates};
 ghost use Rattle.streetmap_ledger.specs.Pages.{page_over as page_over_of};
 ghost use Rattle.streetmap_ledger.specs.PageView.{page_value};
 
@@ -19,10 +23,11 @@ use crate::asked::is_candidate;
 use crate::extents::grown;
 use crate::fold::PageFold;
 use crate::{Page, Summary};
+use bytes::Bytes;
 use std::alloc::{AllocError, Global};
 use std::collections::BTreeMap;
 use std::marker::Model;
-use streetmap_geojson::Feature;
+use streetmap_geojson::{Feature, PackedFeature};
 use streetmap_grid::GridBox;
 use streetmap_query::Query;
 
@@ -31,7 +36,7 @@ use streetmap_query::Query;
 pub struct PlainCollection {
     title: String,
     time: Option<String>,
-    slots: BTreeMap<String, Option<Feature>>,
+    slots: BTreeMap<String, Option<PackedFeature>>,
 }
 
 impl Model for PlainCollection {
@@ -60,7 +65,7 @@ impl PlainCollection {
         }
     }
 
-    pub fn get(&self, id: &str) -> Option<&Feature>
+    pub fn get(&self, id: &str) -> Option<&PackedFeature>
         ensures { option_copied result ≡ option_flatten (get self.now.slots id.now) }
     {
         match self.slots.get(id) {
@@ -79,13 +84,18 @@ impl PlainCollection {
         }
     }
 
-    /// A copy of the feature with its time; none where the time cannot be read.
-    pub fn timed(&self, alloc: Global, feature: &Feature) -> Result<Option<Feature>, AllocError>
-        ensures { IfOk result (λ copy. copy ≡ result_ok (timed_by self.now.time feature.now)) }
+    /// The feature packed with its text and its time; none where the time cannot be read.
+    pub fn packed(
+        &self,
+        alloc: Global,
+        text: Bytes,
+        feature: &Feature,
+    ) -> Result<Option<PackedFeature>, AllocError>
+        requires { text ≡ compact_text (feature_data feature.now) }
+        ensures { IfOk result (λ packed. packed ≡ result_ok (timed_by self.now.time feature.now)) }
     {
-        let mut copy = feature.copy(alloc)?;
-        match copy.timed(self.time()) {
-            Ok(()) => Ok(Some(copy)),
+        match feature.time_under(self.time()) {
+            Ok(time) => Ok(Some(PackedFeature::new(alloc, text, feature, time)?)),
             Err(_) => Ok(None),
         }
     }
@@ -94,8 +104,8 @@ impl PlainCollection {
     pub fn put(
         &mut self,
         id: String,
-        feature: Feature,
-    ) -> Result<Option<Option<Feature>>, AllocError>
+        feature: PackedFeature,
+    ) -> Result<Option<Option<PackedFeature>>, AllocError>
         ensures ok { OnOk result (self.new ≡ put_slot self.old (string_bytes id) (Some feature)) }
         ensures was { IfOk result (λ was. was ≡ get self.old.slots (string_bytes id)) }
         ensures err { OnErr result (self.new ≡ self.old) }
@@ -104,7 +114,7 @@ impl PlainCollection {
     }
 
     /// Puts this into the slot at the id, where there is one, and answers what that was.
-    pub fn reset(&mut self, id: &str, slot: Option<Feature>) -> Option<Option<Feature>>
+    pub fn reset(&mut self, id: &str, slot: Option<PackedFeature>) -> Option<Option<PackedFeature>>
         ensures after { self.new ≡ reset_slot self.old id.now slot }
         ensures was { result ≡ get self.old.slots id.now }
     {
@@ -174,7 +184,7 @@ pub fn owned(alloc: Global, text: Option<&str>) -> Result<Option<String>, AllocE
 }
 
 /// The bounds of the features in the slots.
-fn bounds_of(slots: &BTreeMap<String, Option<Feature>>) -> Option<GridBox>
+fn bounds_of(slots: &BTreeMap<String, Option<PackedFeature>>) -> Option<GridBox>
     ensures bounds { AreBounds (all_vertices (live_values (values_of slots.now.entries))) result }
     ensures ordered { IsOrdered string_cmp slots.now }
 {
@@ -187,26 +197,37 @@ fn bounds_of(slots: &BTreeMap<String, Option<Feature>>) -> Option<GridBox>
     bounds
 }
 
+/// Takes the feature that comes next, where it is a candidate of the query.
+fn examine(
+    alloc: Global,
+    query: &Query,
+    fold: &mut PageFold<'_>,
+    feature: &PackedFeature,
+) -> Result<(), AllocError>
+    ensures { (fs : List FeatureValue) → HoldsCandidates (query_value query.now) fold.old fs → OnOk result (HoldsCandidates (query_value query.now) fold.new (fs ++ feature.now ∷ [])) }
+{
+    feature.facts();
+    if is_candidate(query, feature) {
+        let taken = feature.unpack(alloc)?;
+        fold.take(alloc, &taken)?;
+    }
+    Ok(())
+}
+
 /// The page of the features in the slots, in the order of their ids.
 fn page_over(
     alloc: Global,
-    slots: &BTreeMap<String, Option<Feature>>,
+    slots: &BTreeMap<String, Option<PackedFeature>>,
     query: &Query,
 ) -> Result<Page, AllocError>
     ensures page { IfOk result (λ page. page_value page ≡ page_over_of (query_value query.now) (live_values (values_of slots.now.entries))) }
     ensures ordered { IsOrdered string_cmp slots.now }
 {
     let mut fold = PageFold::new(alloc, query);
-    let mut examined: u64 = 0;
     for slot in slots.values() {
         if let Some(feature) = slot {
-            if is_candidate(query, feature) {
-                examined = examined.saturating_add(1);
-            }
-            fold.take(alloc, feature)?;
+            examine(alloc, query, &mut fold, feature)?;
         }
     }
-    let mut page = fold.end(alloc)?;
-    page.examined = examined;
-    Ok(page)
+    fold.end(alloc)
 }

@@ -2,7 +2,9 @@
 ghost use Rattle.std.specs.Prelude.{◌≡◌, Option, Some, None, IsSome, IfOk, OnOk, OnErr, map};
 ghost use Rattle.std.specs.Option.{option_copied};
 ghost use Rattle.std.specs.FinMap.{get, insert, empty};
+ghost use Rattle.serde_json.specs.Written.{compact_text};
 ghost use Rattle.streetmap_geojson.specs.FeatureValue.{FeatureValue};
+ghost use Rattle.streetmap_geojson.specs.Written.{feature_data};
 ghost use Rattle.streetmap_ledger.specs.Slots.{SlotCollections, map_of, slot_in, put_in, cut_in, reset_in, swept_in};
 ghost use Rattle.std.specs.BTreeMap.{IsOrdered};
 ghost use Rattle.std.specs.String.{string_cmp};
@@ -13,9 +15,10 @@ ghost use Rattle.streetmap_ledger.specs.SummaryView.{summary_values};
 use crate::Summary;
 use crate::collection::{PlainCollection, owned};
 use crate::undo::Undo;
+use bytes::Bytes;
 use std::alloc::{AllocError, Global};
 use std::collections::BTreeMap;
-use streetmap_geojson::Feature;
+use streetmap_geojson::{Feature, PackedFeature};
 
 /// Takes a slot out of a collection.
 fn cut(collections: &mut BTreeMap<String, PlainCollection>, name: &str, id: &str)
@@ -31,8 +34,8 @@ pub fn reset(
     collections: &mut BTreeMap<String, PlainCollection>,
     name: &str,
     id: &str,
-    slot: Option<Feature>,
-) -> Option<Option<Feature>>
+    slot: Option<PackedFeature>,
+) -> Option<Option<PackedFeature>>
     ensures after { map_of collections.new.entries ≡ reset_in (map_of collections.old.entries) name.now id.now slot }
     ensures was { result ≡ slot_in (map_of collections.old.entries) name.now id.now }
 {
@@ -42,17 +45,20 @@ pub fn reset(
     }
 }
 
-/// A copy of the feature with its time by the collection's property; none where that cannot be read.
-pub fn timed(
+/// The feature packed with its text, and with its time by the collection's property; none where that
+/// cannot be read.
+pub fn packed(
     alloc: Global,
     collections: &BTreeMap<String, PlainCollection>,
     name: &str,
+    text: Bytes,
     feature: &Feature,
-) -> Result<Option<Feature>, AllocError>
-    ensures { IfOk result (λ copy. copy ≡ timed_in (map_of collections.now.entries) name.now feature.now) }
+) -> Result<Option<PackedFeature>, AllocError>
+    requires { text ≡ compact_text (feature_data feature.now) }
+    ensures { IfOk result (λ packed. packed ≡ timed_in (map_of collections.now.entries) name.now feature.now) }
 {
     match collections.get(name) {
-        Some(collection) => Ok(collection.timed(alloc, feature)?),
+        Some(collection) => Ok(collection.packed(alloc, text, feature)?),
         None => Ok(None),
     }
 }
@@ -62,21 +68,22 @@ pub fn put(
     alloc: Global,
     collections: &mut BTreeMap<String, PlainCollection>,
     name: &str,
-    feature: Feature,
-) -> Result<Option<Option<Feature>>, AllocError>
-    ensures ok { OnOk result (map_of collections.new.entries ≡ put_in (map_of collections.old.entries) name.now feature.id (Some feature)) }
-    ensures was { IfOk result (λ was. was ≡ slot_in (map_of collections.old.entries) name.now feature.id) }
+    id: &str,
+    feature: PackedFeature,
+) -> Result<Option<Option<PackedFeature>>, AllocError>
+    ensures ok { OnOk result (map_of collections.new.entries ≡ put_in (map_of collections.old.entries) name.now id.now (Some feature)) }
+    ensures was { IfOk result (λ was. was ≡ slot_in (map_of collections.old.entries) name.now id.now) }
     ensures err { OnErr result (map_of collections.new.entries ≡ map_of collections.old.entries) }
 {
-    let id = String::from_str(alloc, feature.id())?;
+    let key = String::from_str(alloc, id)?;
     match collections.get_mut(name) {
-        Some(collection) => Ok(collection.put(id, feature)?),
+        Some(collection) => Ok(collection.put(key, feature)?),
         None => Ok(None),
     }
 }
 
 /// What takes back that a slot was written which was this before.
-pub fn note<'a>(name: &'a str, id: &'a str, was: Option<Option<Feature>>) -> Undo<'a>
+pub fn note<'a>(name: &'a str, id: &'a str, was: Option<Option<PackedFeature>>) -> Undo<'a>
     ensures { (t : SlotCollections) (slot : Option FeatureValue) → slot_in t name.now id.now ≡ was → undone result (put_in t name.now id.now slot) ≡ t }
 {
     match was {

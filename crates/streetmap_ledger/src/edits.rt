@@ -10,8 +10,10 @@ ghost use Rattle.streetmap_ledger.specs.Does.{DoesOne, DoesAll};
 use crate::Refusal;
 use crate::acted::Acted;
 use crate::collection::PlainCollection;
-use crate::collections::{note, open, put, reset, rewind, sweep, timed};
+use crate::collections::{note, open, packed, put, reset, rewind, sweep};
+use crate::cutter::Cutter;
 use crate::undo::Undo;
+use bytes::Bytes;
 use std::alloc::{AllocError, Global};
 use std::collections::BTreeMap;
 use streetmap_batch::{Edit, TimeProperty};
@@ -61,6 +63,7 @@ fn act_insert<'a>(
     collections: &mut BTreeMap<String, PlainCollection>,
     name: &'a str,
     feature: &'a Feature,
+    cutter: &mut Cutter<'_>,
 ) -> Result<Acted<'a>, AllocError>
     ensures done { IfOk result (λ acted. DoesOne (map_of collections.old.entries) (edit.insert name.now feature.now) acted (map_of collections.new.entries)) }
     ensures err { OnErr result (map_of collections.new.entries ≡ map_of collections.old.entries) }
@@ -69,13 +72,16 @@ fn act_insert<'a>(
     match find(collections, name, id) {
         Found::NoCollection => Ok(Acted::Refused(Refusal::NoCollection)),
         Found::There => Ok(Acted::Refused(Refusal::FeatureExists)),
-        Found::NoFeature => match timed(alloc, collections, name, feature)? {
-            Some(copy) => {
-                let was = put(alloc, collections, name, copy)?;
-                Ok(Acted::Done(note(name, id, was)))
+        Found::NoFeature => {
+            let text = cutter.cut(alloc, feature)?;
+            match packed(alloc, collections, name, text, feature)? {
+                Some(packed) => {
+                    let was = put(alloc, collections, name, id, packed)?;
+                    Ok(Acted::Done(note(name, id, was)))
+                }
+                None => Ok(Acted::Refused(Refusal::BadTime)),
             }
-            None => Ok(Acted::Refused(Refusal::BadTime)),
-        },
+        }
     }
 }
 
@@ -84,6 +90,7 @@ fn act_replace<'a>(
     collections: &mut BTreeMap<String, PlainCollection>,
     name: &'a str,
     feature: &'a Feature,
+    cutter: &mut Cutter<'_>,
 ) -> Result<Acted<'a>, AllocError>
     ensures done { IfOk result (λ acted. DoesOne (map_of collections.old.entries) (edit.replace name.now feature.now) acted (map_of collections.new.entries)) }
     ensures err { OnErr result (map_of collections.new.entries ≡ map_of collections.old.entries) }
@@ -92,13 +99,16 @@ fn act_replace<'a>(
     match find(collections, name, id) {
         Found::NoCollection => Ok(Acted::Refused(Refusal::NoCollection)),
         Found::NoFeature => Ok(Acted::Refused(Refusal::NoFeature)),
-        Found::There => match timed(alloc, collections, name, feature)? {
-            Some(copy) => {
-                let was = put(alloc, collections, name, copy)?;
-                Ok(Acted::Done(note(name, id, was)))
+        Found::There => {
+            let text = cutter.cut(alloc, feature)?;
+            match packed(alloc, collections, name, text, feature)? {
+                Some(packed) => {
+                    let was = put(alloc, collections, name, id, packed)?;
+                    Ok(Acted::Done(note(name, id, was)))
+                }
+                None => Ok(Acted::Refused(Refusal::BadTime)),
             }
-            None => Ok(Acted::Refused(Refusal::BadTime)),
-        },
+        }
     }
 }
 
@@ -133,6 +143,7 @@ fn act<'a>(
     alloc: Global,
     collections: &mut BTreeMap<String, PlainCollection>,
     edit: &'a Edit,
+    cutter: &mut Cutter<'_>,
 ) -> Result<Acted<'a>, AllocError>
     ensures done { IfOk result (λ acted. DoesOne (map_of collections.old.entries) (edit_value edit.now) acted (map_of collections.new.entries)) }
     ensures err { OnErr result (map_of collections.new.entries ≡ map_of collections.old.entries) }
@@ -152,11 +163,11 @@ fn act<'a>(
         Edit::Insert {
             collection,
             feature,
-        } => act_insert(alloc, collections, collection.as_str(), feature),
+        } => act_insert(alloc, collections, collection.as_str(), feature, cutter),
         Edit::Replace {
             collection,
             feature,
-        } => act_replace(alloc, collections, collection.as_str(), feature),
+        } => act_replace(alloc, collections, collection.as_str(), feature, cutter),
         Edit::Delete { collection, id } => Ok(act_delete(
             collections,
             collection.as_str(),
@@ -165,19 +176,22 @@ fn act<'a>(
     }
 }
 
-/// Acts on edits in order. Where one is refused, or memory is, what was done is taken back.
+/// Acts on edits in order; the texts of their features are cut from that of the batch. Where an edit is
+/// refused, or memory is, what was done is taken back.
 pub fn act_all(
     alloc: Global,
     collections: &mut BTreeMap<String, PlainCollection>,
     edits: &[Edit],
+    text: &Bytes,
 ) -> Result<Option<(u64, Refusal)>, AllocError>
     ensures done { IfOk result (λ stopped. DoesAll (map_of collections.old.entries) (map edit_value edits.now) stopped (map_of collections.new.entries)) }
     ensures err { OnErr result (map_of collections.new.entries ≡ map_of collections.old.entries) }
 {
     let mut log = Vec::with_capacity(alloc, edits.len())?;
+    let mut cutter = Cutter::new(text);
     let mut place: u64 = 1;
     for edit in edits {
-        match act(alloc, collections, edit) {
+        match act(alloc, collections, edit, &mut cutter) {
             Ok(Acted::Done(undo)) => log.push_reserved(undo),
             Ok(Acted::Refused(why)) => {
                 rewind(collections, log);

@@ -6,7 +6,7 @@ ghost use Rattle.streetmap_grid.specs.Bounds.{AreBounds, IsLeast, IsGreatest};
 ghost use Rattle.streetmap_grid.specs.Extent.{IsExtent};
 ghost use Rattle.streetmap_ledger.specs.Summaries.{feature_vertices};
 
-use streetmap_geojson::Feature;
+use streetmap_geojson::PackedFeature;
 use streetmap_grid::GridBox;
 
 fn least(a: i64, b: i64) -> i64
@@ -34,17 +34,13 @@ fn wider(one: &GridBox, other: &GridBox) -> GridBox
 }
 
 /// The bounds so far, with those of one feature more.
-pub fn grown(bounds: Option<GridBox>, feature: &Feature) -> Option<GridBox>
+pub fn grown(bounds: Option<GridBox>, feature: &PackedFeature) -> Option<GridBox>
     ensures { (ps : List PositionValue) → AreBounds ps bounds → AreBounds (ps ++ feature_vertices feature.now) result }
 {
-    match feature.geometry() {
-        None => bounds,
-        Some(geometry) => {
-            let extent = geometry.extent();
-            match bounds {
-                None => Some(extent),
-                Some(bounds) => Some(wider(&bounds, &extent)),
-            }
-        }
+    feature.facts();
+    match (bounds, feature.extent()) {
+        (bounds, None) => bounds,
+        (None, extent) => extent,
+        (Some(bounds), Some(extent)) => Some(wider(&bounds, &extent)),
     }
 }

@@ -2,30 +2,28 @@
 ghost use Rattle.std.specs.Prelude.{◌≡◌};
 
 use crate::Counts;
+use bytes::Bytes;
 use std::marker::Model;
 
 /// The batch text, the counts and the serial of an accepted batch.
 #[derive(Drop)]
 pub struct KeptBatch {
-    text: String,
+    text: Bytes,
     counts: Counts,
     serial: u64,
 }
 
 impl Model for KeptBatch {
-    ghost use Rattle.std.specs.Prelude.{string_bytes};
     ghost use Rattle.streetmap_ledger.specs.State.{Kept};
 
     ghost Value = { Kept };
 
-    ghost view = { λ k. record { text = string_bytes k.text; counts = k.counts; serial = k.serial } };
+    ghost view = { λ k. record { text = k.text; counts = k.counts; serial = k.serial } };
 }
 
 impl KeptBatch {
-    ghost use Rattle.std.specs.Prelude.{string_bytes};
-
-    pub fn new(text: String, counts: Counts, serial: u64) -> Self
-        ensures { result ≡ record { text = string_bytes text; counts = counts; serial = serial } }
+    pub fn new(text: Bytes, counts: Counts, serial: u64) -> Self
+        ensures { result ≡ record { text = text; counts = counts; serial = serial } }
     {
         KeptBatch {
             text,
@@ -34,10 +32,10 @@ impl KeptBatch {
         }
     }
 
-    pub fn text(&self) -> &str
+    pub fn text(&self) -> &[u8]
         ensures { result.now ≡ self.now.text }
     {
-        self.text.as_str()
+        self.text.as_slice()
     }
 
     pub fn counts(&self) -> Counts

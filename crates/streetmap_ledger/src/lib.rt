@@ -7,7 +7,7 @@
 //! `run` is proved once over any keeper.
 //!
 //! In the order of reading: `reply`, `page`, `summary`, `keeper` (the trait and `run`), `laws`; for
-//! pages `asked` and `fold`; for the plain keeper `extents`, `kept`, `collection`, `undo`, `acted`,
+//! pages `asked` and `fold`; for the plain keeper `extents`, `kept`, `cutter`, `collection`, `undo`, `acted`,
 //! `collections`, `edits`, `plain`. Batches are those of `streetmap_batch`.
 #![tactic(auto)]
 
@@ -15,6 +15,7 @@ mod acted;
 mod asked;
 mod collection;
 mod collections;
+mod cutter;
 mod edits;
 mod extents;
 mod fold;
@@ -37,3 +38,6 @@ pub use streetmap_batch::{
     is_time_property, is_title, read_batch,
 };
 pub use summary::Summary;
+
+#[cfg(test)]
+mod tests;

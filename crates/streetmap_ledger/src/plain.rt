@@ -20,6 +20,7 @@ use crate::collections::summaries;
 use crate::edits::act_all;
 use crate::kept::KeptBatch;
 use crate::{Counts, Fault, Keeper, Page, Refusal, Reply, Summary};
+use bytes::Bytes;
 use std::alloc::{AllocError, Global};
 use std::collections::BTreeMap;
 use streetmap_batch::{Batch, Edit};
@@ -59,20 +60,29 @@ fn count(edits: &[Edit]) -> Counts
     counts
 }
 
+/// The text of a batch, in no more memory than it needs.
+fn text_of(alloc: Global, batch: &Batch) -> Result<Bytes, AllocError>
+    ensures { IfOk result (λ text. text ≡ batch_text (batch_value batch.now)) }
+{
+    let text = batch.text(alloc)?;
+    Bytes::copy_from_slice(alloc, text.as_bytes())
+}
+
 /// Keeps a batch under a key that is not there.
 fn keep(
     alloc: Global,
     keys: &mut BTreeMap<String, KeptBatch>,
     key: &str,
-    text: String,
+    text: &Bytes,
     counts: Counts,
     serial: u64,
 ) -> Result<(), AllocError>
-    ensures ok { OnOk result (map_of keys.new.entries ≡ insert (map_of keys.old.entries) key.now (record { text = string_bytes text; counts = counts; serial = serial })) }
+    ensures ok { OnOk result (map_of keys.new.entries ≡ insert (map_of keys.old.entries) key.now (record { text = text.now; counts = counts; serial = serial })) }
     ensures err { OnErr result (map_of keys.new.entries ≡ map_of keys.old.entries) }
 {
     let own_key = String::from_str(alloc, key)?;
-    let kept = KeptBatch::new(text, counts, serial);
+    let own_text = text.clone()?;
+    let kept = KeptBatch::new(own_text, counts, serial);
     keys.insert(own_key, kept)?;
     Ok(())
 }
@@ -83,18 +93,18 @@ fn accept(
     collections: &mut BTreeMap<String, PlainCollection>,
     keys: &mut BTreeMap<String, KeptBatch>,
     batch: &Batch,
-    text: String,
+    text: &Bytes,
     serial: u64,
 ) -> Result<Reply, AllocError>
     requires new { get (map_of keys.old.entries) (batch_value batch.now).key ≡ None }
-    requires its_text { string_bytes text ≡ batch_text (batch_value batch.now) }
+    requires its_text { text.now ≡ batch_text (batch_value batch.now) }
     ensures ok { IfOk result (λ reply. IsOutcome (outcome_of collections.old keys.old (batch_value batch.now) serial) reply collections.new keys.new) }
     ensures err_collections { OnErr result (map_of collections.new.entries ≡ map_of collections.old.entries) }
     ensures err_keys { OnErr result (map_of keys.new.entries ≡ map_of keys.old.entries) }
 {
     let counts = count(batch.edits());
     keep(alloc, keys, batch.key(), text, counts, serial)?;
-    match act_all(alloc, collections, batch.edits()) {
+    match act_all(alloc, collections, batch.edits(), text) {
         Ok(None) => Ok(Reply::Accepted(counts, serial)),
         Ok(Some((place, why))) => {
             let _ = keys.remove(batch.key());
@@ -133,7 +143,7 @@ impl PlainKeeper {
     {
         match self.collections.get(collection) {
             Some(collection) => match collection.get(id) {
-                Some(feature) => Ok(Some(feature.copy(self.alloc)?)),
+                Some(feature) => Ok(Some(feature.unpack(self.alloc)?)),
                 None => Ok(None),
             },
             None => Ok(None),
@@ -160,9 +170,9 @@ impl PlainKeeper {
         ensures state { OnOk result (plain_state self.new ≡ (act (plain_state self.old) (batch_value batch.now)).state) }
         ensures err { OnErr result (plain_state self.new ≡ plain_state self.old) }
     {
-        let text = batch.text(self.alloc)?;
+        let text = text_of(self.alloc, batch)?;
         if let Some(kept) = self.keys.get(batch.key()) {
-            if kept.text() == text.as_str() {
+            if kept.text() == text.as_slice() {
                 return Ok(Reply::Repeated(kept.counts(), kept.serial()));
             }
             return Ok(Reply::Refused(Refusal::KeyUsed, None));
@@ -176,7 +186,7 @@ impl PlainKeeper {
             &mut self.collections,
             &mut self.keys,
             batch,
-            text,
+            &text,
             count as u64 + 1,
         )?)
     }

@@ -1,5 +1,5 @@
 //! What takes an edit back. None of it asks for memory.
-use streetmap_geojson::Feature;
+use streetmap_geojson::PackedFeature;
 
 #[derive(Drop)]
 pub enum Undo<'a> {
@@ -8,5 +8,5 @@ pub enum Undo<'a> {
     /// A slot was made.
     Add(&'a str, &'a str),
     /// A slot was changed that had this.
-    Set(&'a str, &'a str, Option<Feature>),
+    Set(&'a str, &'a str, Option<PackedFeature>),
 }

@@ -1,6 +1,6 @@
-use Rattle.std.proofs.Common.{◌≡◌, Some, None, ap, sym, subst, refl, ◌∙◌}
+use Rattle.std.proofs.Common.{◌≡◌, Some, ap, sym, subst, refl, ◌∙◌}
 use Rattle.streetmap_batch.specs.BatchValue as edit
-use Rattle.streetmap_ledger.specs.Slots.{map_of, slot_in, put_in}
+use Rattle.streetmap_ledger.specs.Slots.{map_of, put_in}
 use Rattle.streetmap_ledger.specs.Undo.{undone, found_in, timed_in}
 use Rattle.streetmap_ledger.specs.declared.edits.Found.TheVariants as found
 use Rattle.streetmap_ledger.proofs.Steps.{insert_step, insert_gives, does, same_id}
@@ -24,7 +24,7 @@ returns-in-None-clause-done c =
     let f = c.args.feature.now in (
       λ keys. insert_step t keys c.args.name.now f
           ∙ (ap (λ w. insert_gives t keys c.args.name.now w (timed_in t c.args.name.now f)) (ap (found_in t c.args.name.now) (sym c.id-id.ensures) ∙ sym c.in-NoFeature.ensures)
-          ∙ ap (insert_gives t keys c.args.name.now found.NoFeature) (sym c.in_ok-copy-in-NoFeature.ensures ∙ c.in-None.is)),
+          ∙ ap (insert_gives t keys c.args.name.now found.NoFeature) (sym c.in_ok-packed-in-NoFeature.ensures ∙ c.in-None.is)),
       refl,
     )
 
@@ -33,13 +33,13 @@ returns-in_ok-was-in-Some-clause-done c =
     let t = map_of c.args.collections.now.entries in
     let name = c.args.name.now in
     let f = c.args.feature.now in
-    let g = c.in-Some.copy in
+    let g = c.in-Some.packed in
     let says = c.in_ok-was-in-Some.ensures in
-    let is : timed_in t name f ≡ Some g = sym c.in_ok-copy-in-NoFeature.ensures ∙ c.in-Some.is in
+    let is : timed_in t name f ≡ Some g = sym c.in_ok-packed-in-NoFeature.ensures ∙ c.in-Some.is in
     let id : c.id-id.result.now ≡ g.id = c.id-id.ensures ∙ sym (same_id t name f g is) in
     does t (map_of c.put.new.collections.entries) (put_in t name g.id (Some g)) (edit.insert name f) c.note.result
     (λ keys. insert_step t keys name f
     ∙ (ap (λ w. insert_gives t keys name w (timed_in t name f)) (ap (found_in t name) (sym c.id-id.ensures) ∙ sym c.in-NoFeature.ensures)
     ∙ ap (insert_gives t keys name found.NoFeature) is))
-    says.ok
-    (subst (λ i. undone c.note.result (put_in t name i (Some g)) ≡ t) id (c.note.ensures t (Some g) (ap (slot_in t name) id ∙ sym says.was)))
+    (says.ok ∙ ap (λ i. put_in t name i (Some g)) id)
+    (subst (λ i. undone c.note.result (put_in t name i (Some g)) ≡ t) id (c.note.ensures t (Some g) (sym says.was)))

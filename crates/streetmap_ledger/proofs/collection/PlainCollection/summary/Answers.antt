@@ -1,4 +1,4 @@
-use Rattle.std.proofs.Common.{string_bytes, ap, sym, ◌∙◌}
+use Rattle.std.proofs.Common.{ap, sym, ◌∙◌}
 use Rattle.std.specs.FinMap.{values}
 use Rattle.std.specs.Map.{values_of}
 use Rattle.streetmap_ledger.specs.Slots.{SlotCollection, live, live_values}

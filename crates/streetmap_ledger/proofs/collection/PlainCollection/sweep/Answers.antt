@@ -1,4 +1,4 @@
-use Rattle.std.proofs.Common.{cond, true, false, ap, sym, ◌∙◌}
+use Rattle.std.proofs.Common.{cond, ap, ◌∙◌}
 use Rattle.streetmap_ledger.specs.Slots.{SlotCollection, cut_slot}
 use Rattle.streetmap_ledger.proofs.collection.PlainCollection.sweep.Goals as goal
 

@@ -16,7 +16,7 @@ returns-then-eq-clause-reply c =
     let s = plain_state c.args.self.now in
     let b = batch_value c.args.batch.now in
     let there = ap (get s.keys) (sym c.key.ensures.value) ∙ (get_of c.args.self.now.keys.entries c.key.result.now ∙ sym c.in-Some.ensures.value) in
-    let same : pointwise nat_eq c.in-Some.kept.now.text (batch_text b) ≡ true = sym (c.if-eq.ensures ∙ (ap (λ x. pointwise nat_eq x c.as_str.result.now) c.text-in-Some.ensures ∙ ap (pointwise nat_eq c.in-Some.kept.now.text) (c.as_str.ensures.value ∙ c.in_ok-text.ensures))) in
+    let same : pointwise nat_eq c.in-Some.kept.now.text (batch_text b) ≡ true = sym (c.if-eq.ensures ∙ (ap (λ x. pointwise nat_eq x c.as_slice.result.now) c.text-in-Some.ensures ∙ ap (pointwise nat_eq c.in-Some.kept.now.text) (c.as_slice.ensures ∙ c.in_ok-text.ensures))) in
     ap (λ n. Repeated n c.serial.result) c.counts.ensures ∙ (ap (Repeated c.in-Some.kept.now.counts) c.serial.ensures ∙ sym (ap (λ (o : Outcome). o.reply) (repeats s b c.in-Some.kept.now there same)))
 
 pub returns-then-eq-clause-state : goal.returns-then-eq-clause-state
@@ -24,7 +24,7 @@ returns-then-eq-clause-state c =
     let s = plain_state c.args.self.now in
     let b = batch_value c.args.batch.now in
     let there = ap (get s.keys) (sym c.key.ensures.value) ∙ (get_of c.args.self.now.keys.entries c.key.result.now ∙ sym c.in-Some.ensures.value) in
-    let same : pointwise nat_eq c.in-Some.kept.now.text (batch_text b) ≡ true = sym (c.if-eq.ensures ∙ (ap (λ x. pointwise nat_eq x c.as_str.result.now) c.text-in-Some.ensures ∙ ap (pointwise nat_eq c.in-Some.kept.now.text) (c.as_str.ensures.value ∙ c.in_ok-text.ensures))) in
+    let same : pointwise nat_eq c.in-Some.kept.now.text (batch_text b) ≡ true = sym (c.if-eq.ensures ∙ (ap (λ x. pointwise nat_eq x c.as_slice.result.now) c.text-in-Some.ensures ∙ ap (pointwise nat_eq c.in-Some.kept.now.text) (c.as_slice.ensures ∙ c.in_ok-text.ensures))) in
     sym (ap (λ (o : Outcome). o.state) (repeats s b c.in-Some.kept.now there same))
 
 pub returns-in-Some-clause-reply : goal.returns-in-Some-clause-reply
@@ -32,7 +32,7 @@ returns-in-Some-clause-reply c =
     let s = plain_state c.args.self.now in
     let b = batch_value c.args.batch.now in
     let there = ap (get s.keys) (sym c.key.ensures.value) ∙ (get_of c.args.self.now.keys.entries c.key.result.now ∙ sym c.in-Some.ensures.value) in
-    let other : pointwise nat_eq c.in-Some.kept.now.text (batch_text b) ≡ false = sym (c.if-eq.ensures ∙ (ap (λ x. pointwise nat_eq x c.as_str.result.now) c.text-in-Some.ensures ∙ ap (pointwise nat_eq c.in-Some.kept.now.text) (c.as_str.ensures.value ∙ c.in_ok-text.ensures))) in
+    let other : pointwise nat_eq c.in-Some.kept.now.text (batch_text b) ≡ false = sym (c.if-eq.ensures ∙ (ap (λ x. pointwise nat_eq x c.as_slice.result.now) c.text-in-Some.ensures ∙ ap (pointwise nat_eq c.in-Some.kept.now.text) (c.as_slice.ensures ∙ c.in_ok-text.ensures))) in
     sym (ap (λ (o : Outcome). o.reply) (key_used s b c.in-Some.kept.now there other))
 
 pub returns-in-Some-clause-state : goal.returns-in-Some-clause-state
@@ -40,7 +40,7 @@ returns-in-Some-clause-state c =
     let s = plain_state c.args.self.now in
     let b = batch_value c.args.batch.now in
     let there = ap (get s.keys) (sym c.key.ensures.value) ∙ (get_of c.args.self.now.keys.entries c.key.result.now ∙ sym c.in-Some.ensures.value) in
-    let other : pointwise nat_eq c.in-Some.kept.now.text (batch_text b) ≡ false = sym (c.if-eq.ensures ∙ (ap (λ x. pointwise nat_eq x c.as_str.result.now) c.text-in-Some.ensures ∙ ap (pointwise nat_eq c.in-Some.kept.now.text) (c.as_str.ensures.value ∙ c.in_ok-text.ensures))) in
+    let other : pointwise nat_eq c.in-Some.kept.now.text (batch_text b) ≡ false = sym (c.if-eq.ensures ∙ (ap (λ x. pointwise nat_eq x c.as_slice.result.now) c.text-in-Some.ensures ∙ ap (pointwise nat_eq c.in-Some.kept.now.text) (c.as_slice.ensures ∙ c.in_ok-text.ensures))) in
     sym (ap (λ (o : Outcome). o.state) (key_used s b c.in-Some.kept.now there other))
 
 pub returns-then-count-ge-MOST_BATCHES-clause-reply : goal.returns-then-count-ge-MOST_BATCHES-clause-reply

@@ -1,6 +1,5 @@
-use Rattle.std.proofs.Common.{map, ap, sym, ◌∙◌}
+use Rattle.std.proofs.Common.{sym, ◌∙◌}
 use Rattle.std.proofs.lemmas.Result.{IfOk-weaker}
-use Rattle.streetmap_ledger.specs.Summaries.{summary_of}
 use Rattle.streetmap_ledger.proofs.CollectionsInOrder.{told_in_order}
 use Rattle.streetmap_ledger.proofs.plain.PlainKeeper.summaries_of.Goals as goal
 

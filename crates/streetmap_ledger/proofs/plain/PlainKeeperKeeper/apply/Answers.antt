@@ -1,5 +1,5 @@
 use Rattle.std.proofs.lemmas.List.{length-map}
-use Rattle.std.proofs.Common.{◌≤◌, length, map, ap, ◌∙◌, arith}
+use Rattle.std.proofs.Common.{◌≤◌, length, ap, ◌∙◌, arith}
 use Rattle.streetmap_ledger.specs.Batches.{act}
 use Rattle.streetmap_batch.specs.BatchView.{edit_value, batch_value}
 use Rattle.streetmap_ledger.specs.WellFormed.{most_edits}

@@ -1,0 +1,85 @@
+-- A feature that is selected is a candidate, and a page of candidates is that of all.
+use Rattle.std.proofs.Common.{◌≡◌, ℕ, List, [], ◌∷◌, ◌++◌, Bool, true, false, cond, ◌&&◌, Option, None, Some, option_map, length, take, refl, sym, ap, subst, ◌∙◌, append-nil}
+use Rattle.std.specs.Prelude.{filter, nat_lt, if◌then◌else◌, T}
+use Rattle.std.proofs.lemmas.List.Elements.{filter-append}
+use Rattle.streetmap_grid.specs.Values.{GeometryValue}
+use Rattle.streetmap_grid.specs.Views.{box_value}
+use Rattle.streetmap_grid.specs.Meeting.{geometry_meets}
+use Rattle.streetmap_grid.specs.declared.grid_box.GridBox.{GridBox}
+use Rattle.streetmap_grid.proofs.Facts.{box_facts}
+use Rattle.streetmap_grid.proofs.LawProofs.{what_meets_overlaps}
+use Rattle.streetmap_moment.specs.IntervalValue.{IntervalValue}
+use Rattle.streetmap_moment.specs.Meeting.{meets, seconds_overlap}
+use Rattle.streetmap_moment.proofs.IntervalFacts.{interval_facts, meets-seconds_overlap}
+use Rattle.streetmap_geojson.specs.FeatureValue.{FeatureValue}
+use Rattle.streetmap_geojson.specs.Kept.{IsGeometryIf, IsIntervalIf, IsFeature}
+use Rattle.streetmap_query.specs.QueryValue.{QueryValue, DatetimeValue}
+use Rattle.streetmap_query.specs.Views.{query_value, datetime_value}
+use Rattle.streetmap_query.specs.declared.datetimes.Datetime.{Datetime}
+use Rattle.streetmap_query.specs.declared.queries.Query.{Query}
+use Rattle.streetmap_ledger.specs.Pages.{PageValue, passes, selects, selected, extent_overlaps, is_candidate, candidates, behind, last_id, told, page_of}
+use Rattle.streetmap_ledger.specs.Folds.{Holds, HoldsCandidates}
+use Rattle.streetmap_ledger.specs.declared.fold.PageFold.{PageFold}
+
+both : (a b : Bool) → (a && b) ≡ true → (a ≡ true) × (b ≡ true)
+both true true h = (refl, refl)
+both true false h = absurd cc
+both false b h = absurd cc
+
+box_overlaps : (g : Option GeometryValue) (b : Option GridBox) → IsGeometryIf g → passes geometry_meets g (option_map box_value b) ≡ true → passes extent_overlaps g (option_map box_value b) ≡ true
+box_overlaps g None h e = refl
+box_overlaps None (Some b) h e = e
+box_overlaps (Some v) (Some b) h e = what_meets_overlaps v (box_value b) h (box_facts b) e
+
+seconds_meet : (t : Option IntervalValue) (d : Option Datetime) → IsIntervalIf t
+    → passes meets t (option_map (λ (w : DatetimeValue). w.interval) (option_map datetime_value d)) ≡ true
+    → passes seconds_overlap t (option_map (λ (w : DatetimeValue). w.interval) (option_map datetime_value d)) ≡ true
+seconds_meet t None h e = refl
+seconds_meet None (Some d) h e = e
+seconds_meet (Some i) (Some d) h e = meets-seconds_overlap i (datetime_value d).interval h (interval_facts d.interval) e
+
+pub selected_are_candidates : (q : Query) (f : FeatureValue) → IsFeature f → selects (query_value q) f ≡ true → is_candidate (query_value q) f ≡ true
+selected_are_candidates q f h e =
+    let p = both _ _ e in
+    rw (box_overlaps f.geometry q.bbox h.made p.0, seconds_meet f.time q.datetime h.timed p.1) refl
+
+last_is : (p : FeatureValue → Bool) (fs : List FeatureValue) (f : FeatureValue) (b : Bool) → p f ≡ b → filter p (fs ++ f ∷ []) ≡ filter p fs ++ cond b (f ∷ []) []
+last_is p fs f b e = filter-append p fs (f ∷ []) ∙ ap (λ t. filter p fs ++ cond t (f ∷ []) []) e
+
+refuted : (b : Bool) → (b ≡ true → ⊥) → b ≡ false
+refuted true h = absurd (h refl)
+refuted false h = refl
+
+-- a feature that is no candidate is left out
+pub left_out : (q : Query) (fold : PageFold) (fs : List FeatureValue) (f : FeatureValue) → IsFeature f → is_candidate (query_value q) f ≡ false → HoldsCandidates (query_value q) fold fs → HoldsCandidates (query_value q) fold (fs ++ f ∷ [])
+left_out q fold fs f h e held =
+    let v = query_value q in
+    let no : selects v f ≡ false = refuted (selects v f) (λ s. subst T (sym (selected_are_candidates q f h s) ∙ e) tt) in
+    let same : candidates v (fs ++ f ∷ []) ≡ candidates v fs = last_is (is_candidate v) fs f false e ∙ append-nil (candidates v fs) in
+    let shown : selected v (fs ++ f ∷ []) ≡ selected v fs = last_is (selects v) fs f false no ∙ append-nil (selected v fs) in
+    record {
+      holds = subst (Holds v fold) (sym same) held.holds;
+      whole = ap (selected v) same ∙ (held.whole ∙ sym shown);
+    }
+
+-- a candidate is taken
+pub taken : (v : QueryValue) (fold : PageFold) (fs : List FeatureValue) (f : FeatureValue) → is_candidate v f ≡ true → selected v (candidates v fs) ≡ selected v fs → Holds v fold (candidates v fs ++ f ∷ []) → HoldsCandidates v fold (fs ++ f ∷ [])
+taken v fold fs f e whole held =
+    let same : candidates v (fs ++ f ∷ []) ≡ candidates v fs ++ f ∷ [] = last_is (is_candidate v) fs f true e in
+    record {
+      holds = subst (Holds v fold) (sym same) held;
+      whole = ap (selected v) same ∙ (filter-append (selects v) (candidates v fs) (f ∷ []) ∙ (ap (λ l. l ++ selected v (f ∷ [])) whole ∙ sym (filter-append (selects v) fs (f ∷ []))));
+    }
+
+-- a page of the selected features
+unfoldable paged : QueryValue → ℕ → List FeatureValue → PageValue
+paged q n shown = record {
+  features = take q.limit (behind q.after shown);
+  matched = told (length shown);
+  next = if nat_lt q.limit (length (behind q.after shown)) then last_id (take q.limit (behind q.after shown)) else None;
+  examined = told n;
+}
+
+pub same_page : (q : QueryValue) (n : ℕ) (cs fs : List FeatureValue) → selected q cs ≡ selected q fs → page_of q n cs ≡ page_of q n fs
+unfolding paged
+same_page q n cs fs e = ap (paged q n) e
