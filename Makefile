@@ -2,7 +2,7 @@
 SHELL := /bin/bash
 PROGRAM := crates/streetmap/out/streetmap
 
-.PHONY: demo build test rows bench
+.PHONY: demo build test rows refusals bench
 
 # Proves and builds the program, and runs it on the sample input.
 demo: build
@@ -28,11 +28,33 @@ test: toolchain
 rows: build
 	python3 tests/rows.py $(PROGRAM)
 
+# Each allocation refused in turn: of the program on three lines, and of tests that make each refused call again. It needs
+# a C compiler.
+REFUSED := python3 tests/refusals.py
+refusals: build
+	@mkdir -p tests/out && cc -shared -fPIC -O1 -o tests/out/refuse.so tests/refuse.c
+	@echo "The program on examples/three.lines:"
+	@$(REFUSED) PART examples/three.lines $(PROGRAM) lines
+	@echo "Proving and building the tests: some minutes the first time."
+	@for crate in streetmap_geojson streetmap_batch streetmap_ledger streetmap; do \
+	    (cd crates/$$crate && rt test > out.log 2>&1 || { cat out.log; rm -f out.log; exit 1; }; rm -f out.log) || exit 1; done
+	@echo "A collection of ten features:"
+	@$(REFUSED) WHOLE /dev/null crates/streetmap_geojson/out/streetmap_geojson_tests tests::refused_memory::memory_or_the_same_is_told
+	@echo "A batch read and written:"
+	@$(REFUSED) WHOLE /dev/null crates/streetmap_batch/out/streetmap_batch_tests tests::refused_memory_changes_no_answer
+	@echo "Batches, pages and look-ups of a ledger:"
+	@for test in changes_nothing ends_a_run changes_no_look_up; do \
+	    $(REFUSED) WHOLE /dev/null crates/streetmap_ledger/out/streetmap_ledger_tests tests::memory::refused_memory_$$test || exit 1; done
+	@echo "Lines, each answered again:"
+	@$(REFUSED) WHOLE /dev/null $(PROGRAM)_tests answer::tests::a_line_refused_for_memory_is_answered_again
+
 # Speed and memory beside plain Python and Rust programs, on this machine.
 bench: build
 	python3 bench/lines.py $(PROGRAM)
+	@cd crates/streetmap_bench && rt run < stdin > /dev/null 2>&1
+	python3 bench/collections.py crates/streetmap_bench/out/streetmap_bench
 	@echo "Geometry::meets, the proved program and then plain Rust with the same signs, in nanoseconds an edge or point:"
-	@cd crates/streetmap_bench && rt run -- time 2> /dev/null | grep -E "^(jagged|long|points).*ns"
+	@crates/streetmap_bench/out/streetmap_bench time | grep -E "^(jagged|long|points).*ns"
 	@mkdir -p bench/out && rustc -O -o bench/out/meets bench/meets.rs && bench/out/meets
 
 .PHONY: toolchain

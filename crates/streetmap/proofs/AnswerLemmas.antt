@@ -1,5 +1,5 @@
 -- What is written for lines.
-use Rattle.std.proofs.Common.{◌≡◌, ℕ, ◌+◌, ◌≤◌, List, [], ◌∷◌, ◌++◌, length, take, drop, refl, sym, ap, subst, ◌∙◌, arith, append_assoc, append-nil, length-append, length-drop, take_all, ◌-◌, take-append-drop, Option, Some, None, option_map, IfSome, OnSome, IsSomeAnd, Result, Ok, Err, OnErr, OnOk, IsNone, ◌≢◌, String, string_bytes, Global}
+use Rattle.std.proofs.Common.{◌≡◌, ℕ, ◌+◌, ◌≤◌, List, [], ◌∷◌, ◌++◌, length, take, drop, refl, sym, ap, subst, ◌∙◌, arith, append_assoc, append-nil, length-append, length-drop, take_all, ◌-◌, take-append-drop, Option, Some, None, option_map, IfSome, OnSome, IsSomeAnd, Result, Ok, Err, OnErr, OnOk, ◌≢◌, String, string_bytes, Global}
 use Rattle.std.proofs.Math.Seq.{take-append_seam, take-append-add, take-length}
 use Rattle.std.proofs.lemmas.List.{take-append-le}
 use Rattle.std.proofs.KnownBytes.{Appends-nil, Appends-trans, Appends-kept}

@@ -1,9 +1,9 @@
 -- A line asks for the request that is read from it, and for no other.
-use Rattle.std.proofs.Common.{◌≡◌, ℕ, ◌+◌, ◌<◌, ◌≤◌, Bool, true, false, cond, not, List, [], ◌∷◌, ◌++◌, length, take, drop, ap, sym, refl, ◌∙◌, codes, Option, Some, None, arith, ◌==◌, ◌||◌, subst}
+use Rattle.std.proofs.Common.{◌≡◌, ℕ, ◌+◌, Bool, true, false, cond, not, [], ◌∷◌, ◌++◌, length, take, drop, ap, sym, refl, ◌∙◌, codes, Option, Some, None, arith, ◌==◌, ◌||◌, subst}
 use Rattle.std.proofs.lemmas.Grind.{common_steps}
 use Rattle.std.proofs.lemmas.Bool.Decides.{nat_tests}
 use Rattle.std.specs.Prelude.{option_map, option_and_then, nat_lt}
-use Rattle.std.specs.List.{position_or_len, before_first, after_first, list_any}
+use Rattle.std.specs.List.{position_or_len, list_any}
 use Rattle.std.specs.Cmp.Lexicographic.{same_text}
 use Rattle.std.specs.Str.{bytes_eq}
 use Rattle.streetmap.specs.Request.{Text, RequestValue, batch, page, feature, split_space, HasNoSpace, Asks, queried, page_asked, page_request_of, request_by, request_of}

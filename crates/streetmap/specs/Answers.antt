@@ -1,5 +1,5 @@
 -- What a line is answered in a state, and the state after it.
-use Rattle.std.specs.Prelude.{ℕ, List, map, length, Option, None, Some, option_map, Result, Ok, Err, codes}
+use Rattle.std.specs.Prelude.{List, map, length, Option, None, Some, option_map, Result, Ok, Err, codes}
 use Rattle.serde_json.specs.Data.{Data, number, unsigned, string, array, object, Items, Members, member, no_members}
 use Rattle.serde_json.specs.View.{items_of}
 use Rattle.streetmap_geojson.specs.FeatureValue.{FeatureValue}

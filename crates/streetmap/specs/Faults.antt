@@ -1,5 +1,7 @@
 -- What the program prints and answers when it is not done.
 use Rattle.std.specs.Prelude.{ℕ, List, codes, ⊤}
+use Rattle.streetmap.specs.declared.command.CommandFault.{CommandFault}
+use Rattle.streetmap.specs.declared.command.CommandFault.TheVariants as command
 use Rattle.streetmap.specs.declared.fault.ProgramFault.{ProgramFault}
 use Rattle.streetmap.specs.declared.fault.ProgramFault.TheVariants.{Usage, LineTooLong, ReadFailed, WriteFailed, Memory}
 
@@ -18,6 +20,11 @@ status_of LineTooLong = 1
 status_of ReadFailed = 3
 status_of WriteFailed = 3
 status_of Memory = 4
+
+-- what the program ends with where there is no command
+abbrev pub fault_of_command : CommandFault → ProgramFault
+fault_of_command command.Usage = Usage
+fault_of_command command.Memory = Memory
 
 -- what may come of a write: memory is refused, or the write fails
 abbrev pub IsWriteFault : ProgramFault → Type 0

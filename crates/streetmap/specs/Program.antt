@@ -1,5 +1,5 @@
 -- The command line, as `clap` reads it.
-use Rattle.std.specs.Prelude.{codes, ℕ, List, Option, Some, None, option_and_then, if◌then◌else◌}
+use Rattle.std.specs.Prelude.{codes, List, Option, Some, None, option_and_then, if◌then◌else◌}
 use Rattle.std.specs.Str.{bytes_eq}
 use Rattle.clap.specs.Words.{App, Row, Text, new_app, with_subcommand}
 

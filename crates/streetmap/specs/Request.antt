@@ -1,5 +1,5 @@
 -- What a line of input asks for.
-use Rattle.std.specs.Prelude.{◌≡◌, ℕ, Bool, true, false, List, ◌∷◌, ◌++◌, Option, Some, None, option_map, option_and_then, codes, length, nat_lt, IsUtf8, ◌==◌, if◌then◌else◌}
+use Rattle.std.specs.Prelude.{◌≡◌, ℕ, false, List, ◌∷◌, ◌++◌, Option, Some, None, option_map, option_and_then, codes, length, nat_lt, IsUtf8, ◌==◌, if◌then◌else◌}
 use Rattle.std.specs.List.{position_or_len, before_first, after_first, list_any}
 use Rattle.std.specs.Str.{bytes_eq, is_utf8}
 

@@ -1,5 +1,5 @@
 -- A request as a value.
-use Rattle.std.specs.Prelude.{Option, None, Some, option_map}
+use Rattle.std.specs.Prelude.{option_map}
 use Rattle.streetmap.specs.Request.{RequestValue, batch, page, feature}
 use Rattle.streetmap.specs.declared.request.Request.{Request}
 use Rattle.streetmap.specs.declared.request.Request.TheVariants.{Batch, Page, Feature}

@@ -189,3 +189,6 @@ pub fn answer_line(
     let request = read_request(line);
     Ok(Some(answer_request(alloc, keeper, request)?))
 }
+
+#[cfg(test)]
+mod tests;

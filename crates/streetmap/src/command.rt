@@ -1,5 +1,5 @@
 //! The command line.
-ghost use Rattle.std.specs.Prelude.{◌≡◌, true, map, IfOk, IfErr, Some, string_bytes, IsSome, option_map};
+ghost use Rattle.std.specs.Prelude.{◌≡◌, ◌≢◌, true, map, IfOk, IfErr, Some, string_bytes, IsSome, option_map};
 ghost use Rattle.clap.specs.Words.{app_of, takes, subcommand_of, subcommand_rows_of, kind_of};
 ghost use Rattle.streetmap.specs.Program.{program, command_by};
 ghost use Rattle.streetmap.specs.CommandView.{command_value};
@@ -43,7 +43,8 @@ fn command_of(matches: &ArgMatches<'_>) -> Option<Command>
 }
 
 fn fault_of(error: &Error) -> CommandFault
-    ensures { kind_of error.now ≡ ErrorKind.OutOfMemory → result ≡ CommandFault.Memory }
+    ensures memory { kind_of error.now ≡ ErrorKind.OutOfMemory → result ≡ CommandFault.Memory }
+    ensures usage { kind_of error.now ≢ ErrorKind.OutOfMemory → result ≡ CommandFault.Usage }
 {
     if error.kind() == ErrorKind::OutOfMemory {
         CommandFault::Memory

@@ -1,6 +1,7 @@
 //! What the program ends with when it is not done.
-ghost use Rattle.std.specs.Prelude.{◌≡◌};
-ghost use Rattle.streetmap.specs.Faults.{code_of, status_of, IsReadFault, IsWriteFault};
+ghost use Rattle.std.specs.Prelude.{◌≡◌, ◌≢◌};
+ghost use Rattle.std.specs.IoError.{error_kind};
+ghost use Rattle.streetmap.specs.Faults.{code_of, status_of, fault_of_command, IsReadFault, IsWriteFault};
 
 use crate::command::CommandFault;
 use std::alloc::AllocError;
@@ -49,7 +50,9 @@ impl ProgramFault {
 
     /// The fault of a read that failed. A buffer that finds no memory fails so too.
     pub(crate) fn of_read(error: &Error) -> ProgramFault
-        ensures { IsReadFault result }
+        ensures memory { error_kind error.now ≡ ErrorKind.OutOfMemory → result ≡ ProgramFault.Memory }
+        ensures other { error_kind error.now ≢ ErrorKind.OutOfMemory → result ≡ ProgramFault.ReadFailed }
+        ensures fault { IsReadFault result }
     {
         if error.kind() == ErrorKind::OutOfMemory {
             ProgramFault::Memory
@@ -60,7 +63,9 @@ impl ProgramFault {
 
     /// The fault of a write that failed.
     pub(crate) fn of_write(error: &Error) -> ProgramFault
-        ensures { IsWriteFault result }
+        ensures memory { error_kind error.now ≡ ErrorKind.OutOfMemory → result ≡ ProgramFault.Memory }
+        ensures other { error_kind error.now ≢ ErrorKind.OutOfMemory → result ≡ ProgramFault.WriteFailed }
+        ensures fault { IsWriteFault result }
     {
         if error.kind() == ErrorKind::OutOfMemory {
             ProgramFault::Memory
@@ -81,6 +86,8 @@ impl From<AllocError> for ProgramFault {
 }
 
 impl From<CommandFault> for ProgramFault {
+    ghost from_gives = { λ given fault. fault ≡ fault_of_command given };
+
     fn from(fault: CommandFault) -> ProgramFault {
         match fault {
             CommandFault::Usage => ProgramFault::Usage,

@@ -1,5 +1,3 @@
-use Rattle.std.proofs.Common.{◌≡◌, ℕ, List, sym, ap, ◌∙◌, subst}
-use Rattle.streetmap_web.specs.Plain.{IsPlain}
 use Rattle.streetmap.proofs.PlainTexts.{plain_along, some_plain, batch_code, batch_description, feature_code}
 use Rattle.streetmap.proofs.answer.push_batch_fault.Goals as goal
 

@@ -3,7 +3,6 @@ use Rattle.streetmap_ledger.specs.Plain.{IsPlain, plain_state}
 use Rattle.streetmap.specs.Lines.{line_answer, state_after, answer_text, AppendsFirst}
 use Rattle.streetmap.specs.Reading.{TakesLine}
 use Rattle.std.specs.Io.KnownBytes.{Appends}
-use Rattle.std.proofs.Common.{◌≡◌}
 use Rattle.streetmap.proofs.AnswerLemmas.{answered_none, answered_more, answered_first, answered_begun, answered_partly, on_err, stands_for_own}
 use Rattle.streetmap.proofs.lines.lines.Goals as goal
 
