@@ -1,16 +1,21 @@
 //! Times `Geometry::meets`: a polygon of 100,001 positions against 100 boxes, and a million points
 //! against one. Without arguments it prints how many meet; with the argument `time` also the least
 //! time of five rounds, in nanoseconds an edge or a point. `bench/meets.rs` does the same in Rust.
+//!
+//! With the name of a task (`collections`) it times that on the collection of standard input, and
+//! without arguments it prints how many features that has.
 #![tactic(auto)]
 
 ghost use Rattle.std.specs.Prelude.{◌≤◌};
 
+use collections::{Task, read_features, read_input, time_task};
 use shapes::{beside, boxes, diagonals, jagged, middle, points};
 use std::rt::Clock;
 use std::time::Instant;
 use std::{env, io};
 use streetmap_grid::{Geometry, GridBox};
 
+mod collections;
 mod shapes;
 
 /// How many boxes the geometry meets.
@@ -75,12 +80,40 @@ fn time_points<R: Clock + Print>(
     tell(rt, "points", met, best, 1_000_000, timed)
 }
 
-fn main(rt: HostRuntime) -> anyhow::Result<()> {
-    let timed = env::args(&rt)?.count() > 1;
+/// Times meeting, or only counts what meets.
+fn meet(rt: &HostRuntime, timed: bool) -> anyhow::Result<()> {
     let square = jagged(rt.alloc())?;
-    time_polygon(&rt, "jagged square", &square, &boxes(rt.alloc())?, timed)?;
+    time_polygon(rt, "jagged square", &square, &boxes(rt.alloc())?, timed)?;
     let lines = diagonals(rt.alloc())?;
-    time_polygon(&rt, "long diagonals", &lines, &beside(rt.alloc())?, timed)?;
-    time_points(&rt, &points(rt.alloc())?, &middle()?, timed)?;
+    time_polygon(rt, "long diagonals", &lines, &beside(rt.alloc())?, timed)?;
+    time_points(rt, &points(rt.alloc())?, &middle()?, timed)?;
+    Ok(())
+}
+
+/// The word behind the program's name.
+fn first_word(rt: &HostRuntime) -> io::Result<Option<String>> {
+    let mut words = env::args(rt)?;
+    let _ = words.next();
+    Ok(words.next())
+}
+
+fn main(rt: HostRuntime) -> anyhow::Result<()> {
+    let word = first_word(&rt)?;
+    let name = word.as_ref().map(String::as_str).unwrap_or("");
+    if name == "time" {
+        return meet(&rt, true);
+    }
+    let text = read_input(&rt, rt.alloc())?;
+    match Task::of(name) {
+        Some(task) => {
+            let best = time_task(&rt, rt.alloc(), task, text.as_slice())?;
+            println!(rt; "{best} microseconds")?;
+        }
+        None => {
+            meet(&rt, false)?;
+            let features = read_features(rt.alloc(), text.as_slice())?;
+            println!(rt; "features: {}", features.len())?;
+        }
+    }
     Ok(())
 }
