@@ -1,0 +1,30 @@
+-- Values at the front of a list of tokens. RFC 8259, sections 3 to 5.
+use Rattle.std.specs.Prelude.{◌≡◌, ℕ, List, length, Option, None, Some, Result, Ok, Err}
+use Rattle.json.specs.Token.{Token}
+use Rattle.json.specs.Json.{value, items, members}
+use Rattle.serde_json.specs.Data.{Data, Items, Members, no_members}
+use Rattle.serde_json.specs.Read.{of_json, of_items, of_members, converted}
+use Rattle.streetmap_json.specs.declared.fault.JsonFault.{JsonFault}
+use Rattle.streetmap_json.specs.declared.fault.JsonFault.TheVariants.{Memory, NotJson}
+
+-- the first value, nested no deeper than this, and the tokens behind it
+abbrev pub value_at : ℕ → List Token → Option (Data × List Token)
+value_at depth ts = converted of_json (value depth ts)
+
+-- behind an opening bracket: the elements up to the closing one, and the tokens behind it
+abbrev pub items_at : ℕ → List Token → Option (Items × List Token)
+items_at depth ts = converted of_items (items (value depth) (length ts) ts)
+
+-- behind an opening brace: the members up to the closing one, of which those with one name are the last, and the tokens behind it
+abbrev pub members_at : ℕ → List Token → Option (Members × List Token)
+members_at depth ts = converted (λ ms. of_members ms no_members) (members (value depth) (length ts) ts)
+
+-- a fault beside memory: nothing is at the front
+abbrev pub Fails : {Y : Type 0} → JsonFault → Option (Y × List Token) → Type 0
+Fails Memory front = Unit {0}
+Fails NotJson front = front ≡ None
+
+-- what was answered, seen by view, is at the front, and these tokens are left, unless memory ran out
+abbrev pub Takes : {X Y : Type 0} → (X → Y) → Result X JsonFault → List Token → Option (Y × List Token) → Type 0
+Takes view (Ok x) left front = front ≡ Some (view x, left)
+Takes view (Err fault) left front = Fails fault front

@@ -1,0 +1,46 @@
+//! Why a text has no value.
+#![tactic(auto)]
+
+ghost use Rattle.std.specs.Prelude.{◌≡◌};
+
+use json::Invalid;
+use std::alloc::{AllocError, AllocFailed};
+
+/// Why no value was read.
+#[derive(Clone, Copy, Debug, PartialEq, Eq, Drop)]
+pub enum JsonFault {
+    /// Memory was refused. The call may be made again.
+    Memory,
+    /// The text is no JSON.
+    NotJson,
+}
+
+impl From<AllocError> for JsonFault {
+    ghost use Rattle.streetmap_json.specs.declared.fault.JsonFault.TheVariants.{Memory};
+
+    ghost from_gives = { λ _ e. e ≡ Memory };
+
+    fn from(_: AllocError) -> JsonFault {
+        JsonFault::Memory
+    }
+}
+
+impl<T: Drop> From<AllocFailed<T>> for JsonFault {
+    ghost use Rattle.streetmap_json.specs.declared.fault.JsonFault.TheVariants.{Memory};
+
+    ghost from_gives = { λ _ e. e ≡ Memory };
+
+    fn from(_: AllocFailed<T>) -> JsonFault {
+        JsonFault::Memory
+    }
+}
+
+impl From<Invalid> for JsonFault {
+    ghost use Rattle.streetmap_json.specs.declared.fault.JsonFault.TheVariants.{NotJson};
+
+    ghost from_gives = { λ _ e. e ≡ NotJson };
+
+    fn from(_: Invalid) -> JsonFault {
+        JsonFault::NotJson
+    }
+}
