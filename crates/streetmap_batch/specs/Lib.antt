@@ -5,4 +5,5 @@ pub mod BatchView
 pub mod BatchText
 pub mod BatchFaults
 pub mod BatchReading
+pub mod BatchTokens
 pub mod BatchMeaning

@@ -1,42 +1,118 @@
 //! Batches from JSON.
 #![tactic(auto)]
 
-ghost use Rattle.std.specs.Prelude.{◌≡◌, Ok, IfOk, length, map, option_map};
+ghost use Rattle.std.specs.Prelude.{◌≡◌, ◌<◌, Ok, IfOk, OnOk, IsTrue, false, List, length, option_map};
+ghost use Rattle.json.specs.Json.{value};
+ghost use Rattle.json.specs.Reads.{token_of};
+ghost use Rattle.json.specs.Token.{begin_object};
+ghost use Rattle.serde_json.specs.Data.{Data, Members, no_members, object, put};
+ghost use Rattle.serde_json.specs.Read.{read};
 ghost use Rattle.serde_json.specs.View.{view};
-ghost use Rattle.streetmap_geojson.specs.JsonText.{json_of};
+ghost use Rattle.streetmap_json.specs.Values.{value_at, members_at, whole};
+ghost use Rattle.streetmap_geojson.specs.JsonText.{utf8_value};
 ghost use Rattle.streetmap_batch.specs.BatchFaults.{Gives};
 ghost use Rattle.streetmap_batch.specs.BatchMeaning.{IsBatchText};
-ghost use Rattle.streetmap_batch.specs.BatchReading.{as_whole, batch, batch_of, keyed, edits_after};
+ghost use Rattle.streetmap_batch.specs.BatchReading.{batch, batch_of, keyed};
+ghost use Rattle.streetmap_batch.specs.BatchTokens.{Takes, edits_view, AreRead, IsWholeRead, batch_in, few_edits};
 ghost use Rattle.streetmap_batch.specs.BatchValue.{BatchValue};
-ghost use Rattle.streetmap_batch.specs.BatchView.{batch_value, edit_values};
+ghost use Rattle.streetmap_batch.specs.BatchView.{batch_value};
 
 use crate::batch::Batch;
 use crate::batch_fault::BatchFault;
-use crate::edit::Edit;
-use crate::edit_reading::read_edit;
-use crate::format::Format;
-use crate::member::{array_at, has_only};
+use crate::edit_gathering::{Edits, read_array};
 use crate::names::is_key;
+use json::{Reader, Scratch, Token};
 use serde_json::Value;
 use std::alloc::Global;
-use streetmap_geojson::{JsonFault, read_json};
+use streetmap_geojson::plain_text;
+use streetmap_json::{JsonFault, read_value};
 
-/// The edits of an array.
-fn read_edits(alloc: Global, values: &[Value]) -> Result<Vec<Edit>, BatchFault>
-    ensures exact { Gives (λ edits. edit_values edits.items) result (edits_after 0 (map view values.now)) }
-    ensures few { IfOk result (λ edits. length edits.items ≡ length values.now) }
-{
-    let mut edits = Vec::new(alloc);
-    for i in 0..values.len() {
-        edits.push(read_edit(alloc, &values[i], i as u64 + 1)?)?;
-    }
-    Ok(edits)
+/// How deep the members of a whole text may nest.
+const MEMBER_DEPTH: usize = 126;
+
+/// What was read of the members of a batch.
+#[derive(Drop)]
+struct Parts {
+    /// Whether there was no other member.
+    only: bool,
+    key: Option<Value>,
+    /// The edits, where they are an array.
+    edits: Option<Edits>,
 }
 
-/// The batch of a key and an array of edits: the key is judged first, then the number of edits, then the edits.
+impl Parts {
+    fn new() -> Parts
+        ensures { AreRead no_members result }
+    {
+        Parts {
+            only: true,
+            key: None,
+            edits: None,
+        }
+    }
+
+    /// Reads the value of the member of that name.
+    fn read_member(
+        &mut self,
+        alloc: Global,
+        name: &str,
+        reader: &mut Reader<'_>,
+    ) -> Result<(), JsonFault>
+        ensures takes { (ms : Members) → AreRead ms self.old
+            → Takes (λ d u. AreRead (put name.now d ms) self.new) result reader.new (value_at 126 reader.old) }
+        ensures shorter { OnOk result (length reader.new < length reader.old) }
+    {
+        if name == "edits" {
+            self.edits = read_array(alloc, reader, MEMBER_DEPTH)?;
+        } else if name == "key" {
+            self.key = Some(read_value(alloc, reader, MEMBER_DEPTH)?);
+        } else {
+            drop(read_value(alloc, reader, MEMBER_DEPTH)?);
+            self.only = false;
+        }
+        Ok(())
+    }
+}
+
+/// The members of an object whose opening brace was read.
+fn read_members(alloc: Global, reader: &mut Reader<'_>) -> Result<Parts, JsonFault>
+    ensures { Takes AreRead result reader.new (members_at 126 reader.old) }
+{
+    let mut parts = Parts::new();
+    'members: while let Some(name) = reader.next_key()? {
+        parts.read_member(alloc, name, reader)?;
+    }
+    Ok(parts)
+}
+
+fn opens_object(token: &Token<'_>) -> bool
+    ensures yes { IsTrue result → token_of token.now ≡ begin_object }
+    ensures no { result ≡ false → token_of token.now ≡ begin_object → ⊥ }
+{
+    matches!(token, Token::BeginObject)
+}
+
+/// The members of the object that the tokens are.
+fn read_whole(alloc: Global, reader: &mut Reader<'_>) -> Result<Parts, JsonFault>
+    ensures { IsWholeRead (whole (value 127 reader.old)) result }
+{
+    let Some(token) = reader.next() else {
+        return Err(JsonFault::NotJson);
+    };
+    if !opens_object(&token) {
+        return Err(JsonFault::NotJson);
+    }
+    let parts = read_members(alloc, reader)?;
+    match reader.next() {
+        Some(_) => Err(JsonFault::NotJson),
+        None => Ok(parts),
+    }
+}
+
+/// The batch of a key and edits: the key is judged first, then the edits.
 #[tactic(auto, unfolding(crate::specs::BatchReading::keyed))]
-fn read_keyed(alloc: Global, told: Option<&str>, values: &[Value]) -> Result<Batch, BatchFault>
-    ensures { Gives batch_value result (keyed (option_map (λ t. t.now) told.entry) (map view values.now)) }
+fn keyed(alloc: Global, told: Option<&str>, edits: Edits) -> Result<Batch, BatchFault>
+    ensures { (ds : List Data) → Gives edits_view edits (few_edits ds) → Gives batch_value result (keyed (option_map (λ t. t.now) told.entry) ds) }
 {
     let Some(key) = told else {
         return Err(BatchFault::BadKey);
@@ -44,44 +120,51 @@ fn read_keyed(alloc: Global, told: Option<&str>, values: &[Value]) -> Result<Bat
     if !is_key(key) {
         return Err(BatchFault::BadKey);
     }
-    if values.len() > 10000 {
-        return Err(BatchFault::TooManyEdits);
-    }
     let key = String::from_str(alloc, key)?;
-    let edits = read_edits(alloc, values)?;
-    Ok(Batch { key, edits })
+    Batch::new(key, edits?)
 }
 
-/// The batch that a value is.
-#[tactic(auto, unfolding(crate::specs::BatchReading::batch))]
-fn read_value(alloc: Global, value: &Value) -> Result<Batch, BatchFault>
-    ensures { Gives batch_value result (batch (view value.now)) }
+/// The batch of the members read.
+#[tactic(auto, unfolding(crate::specs::BatchReading::batch, crate::specs::BatchReading::has_only))]
+fn batch_of_parts(alloc: Global, parts: Parts) -> Result<Batch, BatchFault>
+    ensures { (ms : Members) → AreRead ms parts → Gives batch_value result (batch (object ms)) }
 {
-    if !has_only(value, Format::Batch) {
-        return Err(BatchFault::BadBatch { place: None });
-    }
-    match (value.get("key"), array_at(value, "edits")) {
-        (Some(key), Some(edits)) => read_keyed(alloc, key.as_str(), edits),
+    let Parts { only, key, edits } = parts;
+    match (key, edits) {
+        (Some(key), Some(edits)) if only => keyed(alloc, key.as_str(), edits),
         _ => Err(BatchFault::BadBatch { place: None }),
     }
 }
 
-/// The value of JSON bytes.
-fn read_whole(alloc: Global, bytes: &[u8]) -> Result<Value, BatchFault>
-    ensures { Gives view result (as_whole (json_of bytes.now)) }
+fn read_text(alloc: Global, text: &str) -> Result<Batch, BatchFault>
+    ensures { Gives batch_value result (batch_in (read text.now)) }
 {
-    match read_json(alloc, bytes) {
-        Ok(value) => Ok(value),
+    let mut scratch = Scratch::new(alloc);
+    let mut reader = Reader::new(text, &mut scratch)?;
+    match read_whole(alloc, &mut reader) {
+        Ok(parts) => batch_of_parts(alloc, parts),
         Err(JsonFault::Memory) => Err(BatchFault::Memory),
-        Err(JsonFault::Fault(_)) => Err(BatchFault::BadBatch { place: None }),
+        Err(JsonFault::NotJson) => Err(BatchFault::BadBatch { place: None }),
+    }
+}
+
+/// The batch of bytes whose numbers are as they are read.
+fn read_plain(alloc: Global, bytes: &[u8]) -> Result<Batch, BatchFault>
+    ensures { Gives batch_value result (batch_in (utf8_value bytes.now)) }
+{
+    match std::str::from_utf8(bytes) {
+        Ok(text) => read_text(alloc, text),
+        Err(_) => Err(BatchFault::BadBatch { place: None }),
     }
 }
 
 fn read_bytes(alloc: Global, bytes: &[u8]) -> Result<Batch, BatchFault>
     ensures { Gives batch_value result (batch_of bytes.now) }
 {
-    let value = read_whole(alloc, bytes)?;
-    read_value(alloc, &value)
+    match plain_text(alloc, bytes)? {
+        Some(plain) => read_plain(alloc, &plain),
+        None => read_plain(alloc, bytes),
+    }
 }
 
 /// The batch that JSON bytes are. The first refusal in this order is answered:
@@ -93,6 +176,8 @@ fn read_bytes(alloc: Global, bytes: &[u8]) -> Result<Batch, BatchFault>
 /// 4. of the edits from left to right, `BadBatch` with the edit's place where it is not as an edit is
 ///    written, all but what stands within `feature`, and then `BadFeature` with the place and the cause
 ///    where its feature cannot be read. Features are read without a time: it is set when the edit acts.
+///
+/// Only one edit at a time is in memory as a JSON value.
 pub fn read_batch(alloc: Global, bytes: &[u8]) -> Result<Batch, BatchFault>
     // What is read is the batch that the bytes are.
     ensures found { IfOk result (λ b. IsBatchText bytes.now (batch_value b)) }

@@ -7,7 +7,7 @@
 //! `specs/BatchText`, by which a batch that comes again is known.
 //!
 //! Modules, in the order of reading: `names`, `edit`, `batch_fault`, `batch`, `batch_text`,
-//! `format`, `member`, `edit_reading`, `batch_reading`.
+//! `format`, `member`, `edit_reading`, `edit_gathering`, `batch_reading`.
 #![tactic(auto)]
 
 mod batch;
@@ -15,6 +15,7 @@ mod batch_fault;
 mod batch_reading;
 mod batch_text;
 mod edit;
+mod edit_gathering;
 mod edit_reading;
 mod format;
 mod member;

@@ -1,17 +1,17 @@
 //! The members of an object.
 #![tactic(auto)]
 
-ghost use Rattle.std.specs.Prelude.{◌≡◌, option_map, string_bytes, map};
+ghost use Rattle.std.specs.Prelude.{◌≡◌, option_map, string_bytes};
 ghost use Rattle.std.specs.BTreeMap.{keys};
 ghost use Rattle.std.specs.List.{list_all};
-ghost use Rattle.serde_json.specs.View.{view, items_view, members_view};
-ghost use Rattle.streetmap_batch.specs.BatchReading.{has_only, may_have, names_pass, operation_at, operation_of, text_at, array_at, list_of};
+ghost use Rattle.serde_json.specs.View.{view, members_view};
+ghost use Rattle.streetmap_batch.specs.BatchReading.{has_only, may_have, names_pass, operation_at, operation_of, text_at};
 
 use crate::format::{Format, Operation};
 use serde_json::{Map, Value};
 
 /// Whether an object may have a member of that name.
-fn may_have(format: Format, name: &str) -> bool
+pub(crate) fn may_have(format: Format, name: &str) -> bool
     ensures { result ≡ may_have format name.now }
 {
     match format {
@@ -45,22 +45,6 @@ pub(crate) fn text_at<'v>(value: &'v Value, name: &str) -> Option<&'v str>
     ensures { option_map (λ t. t.now) result ≡ text_at name.now (view value.now) }
 {
     value.get(name).and_then(Value::as_str)
-}
-
-fn items_at<'v>(value: &'v Value, name: &str) -> Option<&'v Vec<Value>>
-    ensures { option_map (λ v. list_of (items_view v.now.items)) result ≡ array_at name.now (view value.now) }
-{
-    value.get(name).and_then(Value::as_array)
-}
-
-/// The elements of the array that is the member of that name.
-pub(crate) fn array_at<'v>(value: &'v Value, name: &str) -> Option<&'v [Value]>
-    ensures { option_map (λ s. map view s.now) result ≡ array_at name.now (view value.now) }
-{
-    match items_at(value, name) {
-        Some(items) => Some(items.as_slice()),
-        None => None,
-    }
 }
 
 fn operation_of(name: &str) -> Option<Operation>

@@ -39,6 +39,7 @@ pub use fault::{CollectionFault, Fault, JsonFault};
 pub use feature::Feature;
 pub use id::{Id, is_id, is_plain, read_id};
 pub use json_text::read_json;
+pub use number_text::plain_text;
 pub use packed::PackedFeature;
 pub use read::read_feature;
 pub use text::{collection_text, push_comma, push_feature, push_features, push_quoted};

@@ -133,7 +133,7 @@ fn token_len(text: &[u8]) -> usize
 }
 
 /// The text with its number texts as they are read, or `None` where that is the text itself.
-pub(crate) fn plain_text(alloc: Global, text: &[u8]) -> Result<Option<Vec<u8>>, AllocError>
+pub fn plain_text(alloc: Global, text: &[u8]) -> Result<Option<Vec<u8>>, AllocError>
     ensures { IfOk result (λ o. MatchOption o (plain_text text.now ≡ text.now)
         (λ v. v.items ≡ plain_text text.now)) }
 {

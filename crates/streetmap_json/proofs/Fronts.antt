@@ -1,14 +1,15 @@
 -- The front of a list of tokens, a step at a time.
-use Rattle.std.proofs.Common.{◌≡◌, ℕ, zero, suc, ◌-◌, ◌<◌, ◌≤◌, List, [], ◌∷◌, ◌++◌, length, map, Option, Some, None, option_map, option_and_then, refl, ap, ◌∙◌}
+use Rattle.std.proofs.Common.{◌≡◌, ℕ, zero, suc, ◌-◌, ◌<◌, ◌≤◌, List, [], ◌∷◌, ◌++◌, length, map, Option, Some, None, option_map, option_and_then, refl, sym, ap, ◌∙◌, arith}
 use Rattle.json.specs.Token.{Token}
 use Rattle.json.specs.Json as json
-use Rattle.json.specs.Json.{Parse, parse_map, after_end_array, read_key, items_step, items, members, if_last}
+use Rattle.json.specs.Json.{Parse, parse_map, after_end_array, read_key, items_step, items, members, value_with}
 use Rattle.json.proofs.Grammar.{value-begin_array, value-begin_object, items_end, items_more, members_end, members_no_key, members_more}
-use Rattle.serde_json.specs.Data.{Data, array, object, Items, no_items, item, Members, no_members, put}
-use Rattle.serde_json.specs.Read.{of_json, of_items, of_members, converted}
+use Rattle.serde_json.specs.Data.{Num, Data, null, boolean, number, string, array, object, Items, no_items, item, Members, no_members, put}
+use Rattle.serde_json.specs.Find.{as_array, as_object}
+use Rattle.serde_json.specs.Read.{number_of, of_json, of_items, of_members, converted}
 use Rattle.serde_json.specs.View.{view, items_view}
 use Rattle.serde_json.specs.declared.value.Value.{Value}
-use Rattle.streetmap_json.specs.Values.{value_at, items_at, members_at, Fails}
+use Rattle.streetmap_json.specs.Values.{value_at, items_at, members_at, whole, Fails}
 use Rattle.streetmap_json.specs.declared.fault.JsonFault.{JsonFault}
 use Rattle.streetmap_json.specs.declared.fault.JsonFault.TheVariants.{Memory, NotJson}
 
@@ -152,9 +153,6 @@ handed_on NotJson front of none h = none h
 
 -- ---- the whole text
 
-abbrev pub whole : Option (json.Json × List Token) → Option Data
-whole o = option_and_then of_json (option_and_then (λ p. if_last p.0 p.1) o)
-
 pub whole_value : (o : Option (json.Json × List Token)) (d : Data) → converted of_json o ≡ Some (d, []) → whole o ≡ Some d
 whole_value o d e = let j = of_something of_json o d [] e in ap whole j.1 ∙ j.2
 
@@ -166,3 +164,74 @@ pub no_value : (o : Option (json.Json × List Token)) → converted of_json o �
 no_value None e = refl
 no_value (Some (j, [])) e = of_nothing of_json j [] e
 no_value (Some (j, t ∷ rest)) e = refl
+
+-- ---- what begins with a bracket, and what with a brace
+
+front_is : {A : Type 0} (a : A) (ts left : List Token) (b : A) → (let o : Option (A × List Token) = Some (a, ts) in o) ≡ Some (b, left) → a ≡ b
+front_is a ts left b e = ap (λ q. q.0) (ap (pick (a, ts)) e)
+
+made_by : {A : Type 0} (g : A → Data) (o : Option (A × List Token)) (d : Data) (left : List Token) → parse_map g o ≡ Some (d, left) → (a : A) × (d ≡ g a)
+made_by g None d left e = absurd cc
+made_by g (Some p) d left e = (p.0, sym (front_is (g p.0) p.1 left d e))
+
+number_made : (x : Option Num) (ts left : List Token) (d : Data) → option_map {U = Data × List Token} (λ y. (y, ts)) (option_map number x) ≡ Some (d, left) → (n : Num) × (d ≡ number n)
+number_made None ts left d e = absurd cc
+number_made (Some n) ts left d e = (n, sym (front_is (number n) ts left d e))
+
+nothing : {B : Type 0} {b : B} → None ≡ Some b → ⊥
+nothing h = absurd cc
+
+too_deep_object : (ts : List Token) → value_at 0 (Token.begin_object ∷ ts) ≡ None
+unfolding json.value
+too_deep_object ts = refl
+
+too_deep_array : (ts : List Token) → value_at 0 (Token.begin_array ∷ ts) ≡ None
+unfolding json.value
+too_deep_array ts = refl
+
+abbrev nested_items : ℕ → Parse json.Items
+nested_items zero ts = None
+nested_items (suc depth) ts = items (json.value depth) (length ts) ts
+
+abbrev nested_members : ℕ → Parse json.Members
+nested_members zero ts = None
+nested_members (suc depth) ts = members (json.value depth) (length ts) ts
+
+pub empty_front : (depth : ℕ) → value_at depth [] ≡ None
+unfolding json.value
+empty_front zero = refl
+empty_front (suc depth) = refl
+
+-- at a token that opens nothing the depth plays no part
+plain_front : (depth : ℕ) (t : Token) (ts : List Token) → value_at depth (t ∷ ts) ≡ converted of_json (value_with (nested_items depth) (nested_members depth) (t ∷ ts))
+unfolding json.value
+plain_front zero t ts = refl
+plain_front (suc depth) t ts = refl
+
+-- what does not begin with a bracket is no array
+pub no_array : (depth : ℕ) (t : Token) (ts left : List Token) (d : Data) → value_at depth (t ∷ ts) ≡ Some (d, left) → (t ≡ Token.begin_array → ⊥) → as_array d ≡ None
+no_array zero Token.begin_object ts left d e other = absurd (nothing (sym (too_deep_object ts) ∙ e))
+no_array (suc n) Token.begin_object ts left d e other = rw (made_by object (members_at (suc n - 1) ts) d left (sym (object_opens (suc n) ts (omega arith)) ∙ e)).1
+no_array depth Token.begin_array ts left d e other = absurd (other refl)
+no_array depth Token.end_object ts left d e other = absurd (nothing (sym (plain_front depth Token.end_object ts) ∙ e))
+no_array depth Token.end_array ts left d e other = absurd (nothing (sym (plain_front depth Token.end_array ts) ∙ e))
+no_array depth (Token.key s) ts left d e other = absurd (nothing (sym (plain_front depth (Token.key s) ts) ∙ e))
+no_array depth Token.bad ts left d e other = absurd (nothing (sym (plain_front depth Token.bad ts) ∙ e))
+no_array depth (Token.string s) ts left d e other = rw (← front_is (string s) ts left d (sym (plain_front depth (Token.string s) ts) ∙ e))
+no_array depth (Token.boolean b) ts left d e other = rw (← front_is (boolean b) ts left d (sym (plain_front depth (Token.boolean b) ts) ∙ e))
+no_array depth Token.null ts left d e other = rw (← front_is (null) ts left d (sym (plain_front depth Token.null ts) ∙ e))
+no_array depth (Token.number s) ts left d e other = rw (number_made (number_of s) ts left d (sym (plain_front depth (Token.number s) ts) ∙ e)).1
+
+-- what does not begin with a brace is no object
+pub no_object : (depth : ℕ) (t : Token) (ts left : List Token) (d : Data) → value_at depth (t ∷ ts) ≡ Some (d, left) → (t ≡ Token.begin_object → ⊥) → as_object d ≡ None
+no_object zero Token.begin_array ts left d e other = absurd (nothing (sym (too_deep_array ts) ∙ e))
+no_object (suc n) Token.begin_array ts left d e other = rw (made_by array (items_at (suc n - 1) ts) d left (sym (array_opens (suc n) ts (omega arith)) ∙ e)).1
+no_object depth Token.begin_object ts left d e other = absurd (other refl)
+no_object depth Token.end_object ts left d e other = absurd (nothing (sym (plain_front depth Token.end_object ts) ∙ e))
+no_object depth Token.end_array ts left d e other = absurd (nothing (sym (plain_front depth Token.end_array ts) ∙ e))
+no_object depth (Token.key s) ts left d e other = absurd (nothing (sym (plain_front depth (Token.key s) ts) ∙ e))
+no_object depth Token.bad ts left d e other = absurd (nothing (sym (plain_front depth Token.bad ts) ∙ e))
+no_object depth (Token.string s) ts left d e other = rw (← front_is (string s) ts left d (sym (plain_front depth (Token.string s) ts) ∙ e))
+no_object depth (Token.boolean b) ts left d e other = rw (← front_is (boolean b) ts left d (sym (plain_front depth (Token.boolean b) ts) ∙ e))
+no_object depth Token.null ts left d e other = rw (← front_is (null) ts left d (sym (plain_front depth Token.null ts) ∙ e))
+no_object depth (Token.number s) ts left d e other = rw (number_made (number_of s) ts left d (sym (plain_front depth (Token.number s) ts) ∙ e)).1

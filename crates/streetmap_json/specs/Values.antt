@@ -1,7 +1,8 @@
 -- Values at the front of a list of tokens. RFC 8259, sections 3 to 5.
-use Rattle.std.specs.Prelude.{◌≡◌, ℕ, List, length, Option, None, Some, Result, Ok, Err}
+use Rattle.std.specs.Prelude.{◌≡◌, ℕ, List, length, Option, None, Some, option_and_then, Result, Ok, Err}
 use Rattle.json.specs.Token.{Token}
-use Rattle.json.specs.Json.{value, items, members}
+use Rattle.json.specs.Json as json
+use Rattle.json.specs.Json.{value, items, members, if_last}
 use Rattle.serde_json.specs.Data.{Data, Items, Members, no_members}
 use Rattle.serde_json.specs.Read.{of_json, of_items, of_members, converted}
 use Rattle.streetmap_json.specs.declared.fault.JsonFault.{JsonFault}
@@ -18,6 +19,10 @@ items_at depth ts = converted of_items (items (value depth) (length ts) ts)
 -- behind an opening brace: the members up to the closing one, of which those with one name are the last, and the tokens behind it
 abbrev pub members_at : ℕ → List Token → Option (Members × List Token)
 members_at depth ts = converted (λ ms. of_members ms no_members) (members (value depth) (length ts) ts)
+
+-- the value that is all of it
+abbrev pub whole : Option (json.Json × List Token) → Option Data
+whole front = option_and_then of_json (option_and_then (λ p. if_last p.0 p.1) front)
 
 -- a fault beside memory: nothing is at the front
 abbrev pub Fails : {Y : Type 0} → JsonFault → Option (Y × List Token) → Type 0
