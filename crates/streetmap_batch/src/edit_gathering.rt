@@ -23,6 +23,9 @@ use streetmap_json::{JsonFault, read_token, read_value};
 /// The edits of an array, or why a batch with them is refused.
 pub(crate) type Edits = Result<Vec<Edit>, BatchFault>;
 
+/// How many edits a batch may have.
+const MOST_EDITS: u64 = 10000;
+
 /// The edits, with that of the next place behind them.
 fn with_next(alloc: Global, edits: Edits, value: &Value, place: u64) -> Edits
     ensures { (ds : List Data) → place ≡ length ds + 1 → Gives edits_view edits (edits_after 0 ds)
@@ -47,7 +50,7 @@ fn read_items(
     let mut count = 0;
     'items: while !reader.take_end_array() {
         let value = read_value(alloc, reader, depth)?;
-        if count < 10000 {
+        if count < MOST_EDITS {
             count += 1;
             edits = with_next(alloc, edits, &value, count);
         } else {

@@ -64,8 +64,9 @@ fn count(edits: &[Edit]) -> Counts
 fn text_of(alloc: Global, batch: &Batch) -> Result<Bytes, AllocError>
     ensures { IfOk result (λ text. text ≡ batch_text (batch_value batch.now)) }
 {
-    let text = batch.text(alloc)?;
-    Bytes::copy_from_slice(alloc, text.as_bytes())
+    let mut text = batch.text(alloc)?;
+    text.shrink_to_fit();
+    Bytes::from_string(text)
 }
 
 /// Keeps a batch under a key that is not there.

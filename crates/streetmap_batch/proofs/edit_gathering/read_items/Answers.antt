@@ -10,7 +10,7 @@ use Rattle.streetmap_batch.specs.BatchReading.{edits_after, most_edits}
 use Rattle.streetmap_batch.specs.BatchTokens.{Takes, edits_view, AreItemsRead, few_edits}
 use Rattle.streetmap_batch.proofs.EditLists.{few_are, too_many, list_of-before}
 use Rattle.streetmap_batch.proofs.edit_gathering.read_items.Goals as goal
-use Rattle.streetmap_batch.proofs.edit_gathering.read_items.Goals.{then-count-lt10000, else-count-lt10000}
+use Rattle.streetmap_batch.proofs.edit_gathering.read_items.Goals.{then-count-lt-MOST_EDITS, else-count-lt-MOST_EDITS}
 
 pub items-init : goal.items-init
 unfolding edits_after
@@ -46,19 +46,19 @@ items-preserved c =
     let less : length r < length l.reader = rw (← going.1) done.shorter in
     let turn = next_item p n l.reader r d (omega (arith, l.invariant.2)) going.0 (rw (← going.1) done.takes) in
     let longer : length (ds ++ d ∷ []) ≡ length ds + 1 = length-append ds (d ∷ []) in
-    let count = c.if-count-lt10000.count in
-    let edits = c.if-count-lt10000.edits in
-    let kept : (count < most_edits → count ≡ length (ds ++ d ∷ [])) × (most_edits ≤ count → most_edits ≤ length (ds ++ d ∷ [])) × (count ≤ most_edits) × Gives edits_view edits (few_edits (ds ++ d ∷ [])) = elim c.if-count-lt10000.branch [
-      | then-count-lt10000 w ↦
-          (let is : l.count ≡ length ds = l.invariant.5 w.if-count-lt10000.true in
-          let more : length (ds ++ d ∷ []) ≤ most_edits = omega (arith, is, longer, w.if-count-lt10000.true) in
-          let before : Gives edits_view l.edits (edits_after 0 ds) = subst (λ read. Gives edits_view l.edits read) (few_are ds (omega (arith, is, w.if-count-lt10000.true))) l.invariant.8 in
+    let count = c.if-count-lt-MOST_EDITS.count in
+    let edits = c.if-count-lt-MOST_EDITS.edits in
+    let kept : (count < most_edits → count ≡ length (ds ++ d ∷ [])) × (most_edits ≤ count → most_edits ≤ length (ds ++ d ∷ [])) × (count ≤ most_edits) × Gives edits_view edits (few_edits (ds ++ d ∷ [])) = elim c.if-count-lt-MOST_EDITS.branch [
+      | then-count-lt-MOST_EDITS w ↦
+          (let is : l.count ≡ length ds = l.invariant.5 w.if-count-lt-MOST_EDITS.true in
+          let more : length (ds ++ d ∷ []) ≤ most_edits = omega (arith, is, longer, w.if-count-lt-MOST_EDITS.true) in
+          let before : Gives edits_view l.edits (edits_after 0 ds) = subst (λ read. Gives edits_view l.edits read) (few_are ds (omega (arith, is, w.if-count-lt-MOST_EDITS.true))) l.invariant.8 in
           let after = w.with_next-edits.ensures ds (omega (arith, is)) before in
-          ((λ h. omega (arith, is, w.count-is, longer)), (λ h. omega (arith, is, w.count-is, longer)), omega (arith, w.count-is, w.if-count-lt10000.true),
+          ((λ h. omega (arith, is, w.count-is, longer)), (λ h. omega (arith, is, w.count-is, longer)), omega (arith, w.count-is, w.if-count-lt-MOST_EDITS.true),
           subst (λ r. Gives edits_view r (few_edits (ds ++ d ∷ []))) (sym w.edits-is) (subst (λ read. Gives edits_view w.with_next-edits.result read) (sym (few_are (ds ++ d ∷ []) more)) after)))
-      | else-count-lt10000 w ↦
-          (let many : most_edits ≤ length ds = l.invariant.6 (omega (arith, w.if-count-lt10000.false)) in
-          ((λ h. absurd (never (omega (arith, h, w.count-is, w.if-count-lt10000.false)))), (λ h. omega (arith, many, longer)), omega (arith, w.count-is, l.invariant.7),
+      | else-count-lt-MOST_EDITS w ↦
+          (let many : most_edits ≤ length ds = l.invariant.6 (omega (arith, w.if-count-lt-MOST_EDITS.false)) in
+          ((λ h. absurd (never (omega (arith, h, w.count-is, w.if-count-lt-MOST_EDITS.false)))), (λ h. omega (arith, many, longer)), omega (arith, w.count-is, l.invariant.7),
           subst (λ r. Gives edits_view r (few_edits (ds ++ d ∷ []))) (sym w.edits-is) (too_many (ds ++ d ∷ []) (omega (arith, many, longer)))))
     ] in (
       ds ++ d ∷ [],
