@@ -1,0 +1,4 @@
+pub mod NumberText
+pub mod JsonText
+pub mod Reads
+pub mod ExactData
