@@ -3,8 +3,8 @@
 //! Usual exporters write the whole number 1200 as `1200.0`, and 0 as `-0`. `read_json` reads the value
 //! of the bytes after each such number text was changed to the whole number; the change alone is
 //! `plain_text`. `specs/NumberText` says what becomes of a number text and where the tokens of a text
-//! end, `specs/JsonText` what the value of bytes is. The laws tell that a text written for a value of
-//! whole numbers (`specs/ExactData`) reads as that value.
+//! end, `specs/JsonText` what the value of bytes is. The laws tell that the compact text of exact
+//! data (`specs/ExactData`: whole numbers, UTF-8 texts, members in order) reads as that data.
 //!
 //! Modules, in the order of reading: `fault`, `number_text`, `json_text`, `laws`.
 #![tactic(auto)]
