@@ -1,4 +1,4 @@
-//! JSON texts read as values: RFC 8259, with whole numbers however they are written.
+//! JSON texts (RFC 8259) read as values, whole numbers also where they have a fraction of zeros.
 //!
 //! Usual exporters write the whole number 1200 as `1200.0`, and 0 as `-0`. `read_json` reads the value
 //! of the bytes after each such number text was changed to the whole number; the change alone is
