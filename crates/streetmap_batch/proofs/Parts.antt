@@ -14,10 +14,11 @@ use Rattle.serde_json.specs.Read.{of_json, converted}
 use Rattle.serde_json.specs.View.{view}
 use Rattle.serde_json.specs.declared.value.Value.{Value}
 use Rattle.serde_json.proofs.Views.{get_member-put, get_member-put_other}
-use Rattle.streetmap_json.specs.Values.{value_at, members_at, whole, Fails}
+use Rattle.streetmap_json.specs.Values.{value_at, members_at, whole}
+use Rattle.streetmap_json.specs.Reads.{Fails}
 use Rattle.streetmap_json.specs.declared.fault.JsonFault.{JsonFault}
 use Rattle.streetmap_json.specs.declared.fault.JsonFault.TheVariants.{Memory, NotJson}
-use Rattle.streetmap_geojson.specs.JsonText.{utf8_value}
+use Rattle.streetmap_json.specs.JsonText.{utf8_value}
 use Rattle.streetmap_json.proofs.Fronts.{whole_value, more_than_a_value, no_value, no_object, empty_front}
 use Rattle.streetmap_batch.specs.Text.{Text}
 use Rattle.streetmap_batch.specs.BatchFaults.{Gives}

@@ -5,7 +5,7 @@ use Rattle.json.specs.Token.{Token}
 use Rattle.serde_json.specs.Data.{Data, object, Items, Members}
 use Rattle.serde_json.specs.Find.{as_array, get_member}
 use Rattle.serde_json.specs.View.{view}
-use Rattle.streetmap_json.specs.Values.{Fails}
+use Rattle.streetmap_json.specs.Reads.{Fails}
 use Rattle.streetmap_json.specs.declared.fault.JsonFault.{JsonFault}
 use Rattle.streetmap_json.specs.declared.fault.JsonFault.TheVariants.{Memory, NotJson}
 use Rattle.streetmap_geojson.specs.declared.fault.Fault.{Fault}

@@ -9,7 +9,7 @@ ghost use Rattle.serde_json.specs.Data.{Data, Members, no_members, object, put};
 ghost use Rattle.serde_json.specs.Read.{read};
 ghost use Rattle.serde_json.specs.View.{view};
 ghost use Rattle.streetmap_json.specs.Values.{value_at, members_at, whole};
-ghost use Rattle.streetmap_geojson.specs.JsonText.{utf8_value};
+ghost use Rattle.streetmap_json.specs.JsonText.{utf8_value};
 ghost use Rattle.streetmap_batch.specs.BatchFaults.{Gives};
 ghost use Rattle.streetmap_batch.specs.BatchMeaning.{IsBatchText};
 ghost use Rattle.streetmap_batch.specs.BatchReading.{batch, batch_of, keyed};
@@ -24,8 +24,7 @@ use crate::names::is_key;
 use json::{Reader, Scratch, Token};
 use serde_json::Value;
 use std::alloc::Global;
-use streetmap_geojson::plain_text;
-use streetmap_json::{JsonFault, read_value};
+use streetmap_json::{JsonFault, plain_text, read_value};
 
 /// How deep the members of a whole text may nest.
 const MEMBER_DEPTH: usize = 126;

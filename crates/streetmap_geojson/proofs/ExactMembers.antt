@@ -7,7 +7,7 @@ use Rattle.std.specs.Map.{keys_of}
 use Rattle.serde_json.specs.View.{view, members_view}
 use Rattle.serde_json.specs.Written.{has_float, members_have_float}
 use Rattle.serde_json.specs.declared.value.Value.{Value}
-use Rattle.streetmap_geojson.specs.ExactData.{is_before, is_exact, are_exact_members}
+use Rattle.streetmap_json.specs.ExactData.{is_before, is_exact, are_exact_members}
 
 abbrev pub Entry : Type 0
 Entry = String Global × Value

@@ -14,7 +14,7 @@ use Rattle.streetmap_geojson.specs.Written.{feature_data, collection_data}
 use Rattle.streetmap_geojson.proofs.Lists.{list_of-items_of}
 use Rattle.streetmap_geojson.proofs.Again.{feature_again_at, depth_feature}
 use Rattle.streetmap_geojson.proofs.ExactFeatures.{exact_feature, exact_each, exact_collection}
-use Rattle.streetmap_geojson.proofs.WrittenTextAgain.{text_again}
+use Rattle.streetmap_geojson.proofs.JsonTexts.{text_again}
 
 after_again : (n : ℕ) (fs : List FeatureValue) → All IsFeature fs → AreAfter n None (map feature_data fs) (map untimed fs)
 after_again n [] h = tt

@@ -9,8 +9,8 @@ use Rattle.streetmap_geojson.specs.JsonText.{json_of}
 use Rattle.streetmap_geojson.specs.Written.{feature_data}
 use Rattle.streetmap_geojson.proofs.Again.{depth_feature}
 use Rattle.streetmap_geojson.proofs.ExactFeatures.{exact_feature}
-use Rattle.streetmap_geojson.proofs.WrittenTextReads.{text_reads}
-use Rattle.streetmap_geojson.proofs.WrittenTextAgain.{text_again}
+use Rattle.streetmap_json.proofs.WrittenTextReads.{text_reads}
+use Rattle.streetmap_geojson.proofs.JsonTexts.{text_again}
 
 shallow : (f : FeatureValue) → IsFeature f → depth (feature_data f) ≤ max_depth
 shallow f h = let k = depth_feature f h in omega (arith, k)

@@ -1,19 +1,9 @@
--- The value of JSON bytes.
-use Rattle.std.specs.Prelude.{ℕ, List, Option, None, Result, ok_or, if◌then◌else◌}
-use Rattle.std.specs.Str.{is_utf8}
+-- The value of JSON bytes, or the fault of bytes that have none.
+use Rattle.std.specs.Prelude.{ℕ, List, Result, ok_or}
 use Rattle.serde_json.specs.Data.{Data}
-use Rattle.serde_json.specs.Read.{read}
+use Rattle.streetmap_json.specs.JsonText.{json_value}
 use Rattle.streetmap_geojson.specs.declared.fault.Fault.{Fault}
 use Rattle.streetmap_geojson.specs.declared.fault.Fault.TheVariants.{NotJson}
-use Rattle.streetmap_geojson.specs.NumberText.{plain_text}
-
--- the value of a text in UTF-8, if it is JSON (RFC 8259)
-abbrev pub utf8_value : List ℕ → Option Data
-utf8_value bytes = if is_utf8 bytes then read bytes else None
-
--- the value of JSON bytes, whose numbers with a fraction of zeros alone are whole
-abbrev pub json_value : List ℕ → Option Data
-json_value bytes = utf8_value (plain_text bytes)
 
 -- bytes without a value are no JSON
 abbrev pub json_of : List ℕ → Result Data Fault

@@ -10,7 +10,7 @@ use Rattle.streetmap_geojson.specs.FeatureValue.{FeatureValue}
 use Rattle.streetmap_geojson.specs.Id.{is_id}
 use Rattle.streetmap_geojson.specs.Reading.{max_positions}
 use Rattle.streetmap_geojson.specs.Meaning.{count_if, position_count}
-use Rattle.streetmap_geojson.specs.ExactData.{is_exact}
+use Rattle.streetmap_json.specs.ExactData.{is_exact}
 use Rattle.streetmap_geojson.specs.FeatureReading.{is_properties}
 
 abbrev pub IsGeometryIf : Option GeometryValue → Type 0

@@ -14,7 +14,5 @@ pub mod FeatureView
 pub mod Collection
 pub mod Written
 pub mod Stored
-pub mod NumberText
 pub mod JsonText
-pub mod ExactData
 pub mod Packed

@@ -6,7 +6,7 @@ ghost use Rattle.std.specs.Str.{is_utf8};
 ghost use Rattle.serde_json.specs.Find.{is_float};
 ghost use Rattle.serde_json.specs.View.{view, items_view, members_view, number_view};
 ghost use Rattle.serde_json.specs.Written.{has_float, items_have_float, members_have_float};
-ghost use Rattle.streetmap_geojson.specs.ExactData.{is_whole, is_exact, are_exact, are_exact_members};
+ghost use Rattle.streetmap_json.specs.ExactData.{is_whole, is_exact, are_exact, are_exact_members};
 
 use serde_json::{Map, Number, Value};
 

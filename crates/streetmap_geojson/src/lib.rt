@@ -7,9 +7,12 @@
 //! aside, only where it is the first fault. What `write_feature` writes reads again as that
 //! feature, its time left out.
 //!
-//! Modules, in the order of reading: `fault`, `json_text`, `number_text`, `id`, `kind`, `feature`,
-//! `times`, `coordinates`, `geometry`, `scan`, `exact`, `read`, `collection`, `write`, `text`, `packed`, `copy`,
-//! `laws`, `text_laws`.
+//! The value of JSON bytes is the matter of `streetmap_json`; `read_json` here reads it with the faults of
+//! this crate.
+//!
+//! Modules, in the order of reading: `fault`, `json_text`, `id`, `kind`, `feature`, `times`,
+//! `coordinates`, `geometry`, `scan`, `exact`, `read`, `collection`, `write`, `text`, `packed`, `copy`,
+//! `laws`.
 #![tactic(auto)]
 
 mod collection;
@@ -23,14 +26,12 @@ mod id;
 mod json_text;
 mod kind;
 pub mod laws;
-mod number_text;
 mod packed;
 mod read;
 mod scan;
 #[cfg(test)]
 mod tests;
 mod text;
-pub mod text_laws;
 mod times;
 mod write;
 
@@ -39,7 +40,6 @@ pub use fault::{CollectionFault, Fault, JsonFault};
 pub use feature::Feature;
 pub use id::{Id, is_id, is_plain, read_id};
 pub use json_text::read_json;
-pub use number_text::plain_text;
 pub use packed::PackedFeature;
 pub use read::read_feature;
 pub use text::{collection_text, push_comma, push_feature, push_features, push_quoted};

@@ -18,7 +18,7 @@ ghost use Rattle.streetmap_geojson.specs.Times.{time_of, as_fault};
 ghost use Rattle.streetmap_geojson.specs.FeatureValue.{FeatureValue};
 ghost use Rattle.streetmap_geojson.specs.FeatureView.{feature_value};
 ghost use Rattle.streetmap_geojson.specs.FeatureReading.{feature, feature_at, is_feature, is_properties, properties_of, member_of};
-ghost use Rattle.streetmap_geojson.specs.ExactData.{is_exact};
+ghost use Rattle.streetmap_json.specs.ExactData.{is_exact};
 ghost use Rattle.streetmap_geojson.specs.FeatureMeaning.{ReadsAs};
 
 use crate::exact::is_exact;

@@ -9,7 +9,8 @@ use Rattle.serde_json.specs.Find.{as_array, as_object}
 use Rattle.serde_json.specs.Read.{number_of, of_json, of_items, of_members, converted}
 use Rattle.serde_json.specs.View.{view, items_view}
 use Rattle.serde_json.specs.declared.value.Value.{Value}
-use Rattle.streetmap_json.specs.Values.{value_at, items_at, members_at, whole, Fails}
+use Rattle.streetmap_json.specs.Values.{value_at, items_at, members_at, whole}
+use Rattle.streetmap_json.specs.Reads.{Fails}
 use Rattle.streetmap_json.specs.declared.fault.JsonFault.{JsonFault}
 use Rattle.streetmap_json.specs.declared.fault.JsonFault.TheVariants.{Memory, NotJson}
 

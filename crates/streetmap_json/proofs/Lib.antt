@@ -1,1 +1,10 @@
+pub mod NumberTextTokens
+pub mod NumberTextWhole
+pub mod NumberTextCopies
+pub mod NumberTextKept
+pub mod NumberTextForm
+pub mod NumberTextGrammar
+pub mod WrittenTextReads
+pub mod WrittenTextUtf8
+pub mod WrittenTextAgain
 pub mod Fronts

@@ -1,1 +1,5 @@
+pub mod NumberText
+pub mod JsonText
+pub mod Reads
+pub mod ExactData
 pub mod Values

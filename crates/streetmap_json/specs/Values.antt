@@ -6,7 +6,7 @@ use Rattle.json.specs.Json.{value, items, members, if_last}
 use Rattle.serde_json.specs.Data.{Data, Items, Members, no_members}
 use Rattle.serde_json.specs.Read.{of_json, of_items, of_members, converted}
 use Rattle.streetmap_json.specs.declared.fault.JsonFault.{JsonFault}
-use Rattle.streetmap_json.specs.declared.fault.JsonFault.TheVariants.{Memory, NotJson}
+use Rattle.streetmap_json.specs.Reads.{Fails}
 
 -- the first value, nested no deeper than this, and the tokens behind it
 abbrev pub value_at : ℕ → List Token → Option (Data × List Token)
@@ -23,11 +23,6 @@ members_at depth ts = converted (λ ms. of_members ms no_members) (members (valu
 -- the value that is all of it
 abbrev pub whole : Option (json.Json × List Token) → Option Data
 whole front = option_and_then of_json (option_and_then (λ p. if_last p.0 p.1) front)
-
--- a fault beside memory: nothing is at the front
-abbrev pub Fails : {Y : Type 0} → JsonFault → Option (Y × List Token) → Type 0
-Fails Memory front = Unit {0}
-Fails NotJson front = front ≡ None
 
 -- what was answered, seen by view, is at the front, and these tokens are left, unless memory ran out
 abbrev pub Takes : {X Y : Type 0} → (X → Y) → Result X JsonFault → List Token → Option (Y × List Token) → Type 0

@@ -1,4 +1,4 @@
-//! Why a text has no value.
+//! Why bytes were not read.
 #![tactic(auto)]
 
 ghost use Rattle.std.specs.Prelude.{◌≡◌};
@@ -6,12 +6,12 @@ ghost use Rattle.std.specs.Prelude.{◌≡◌};
 use json::Invalid;
 use std::alloc::{AllocError, AllocFailed};
 
-/// Why no value was read.
+/// Why no value was answered for the bytes of a JSON text.
 #[derive(Clone, Copy, Debug, PartialEq, Eq, Drop)]
 pub enum JsonFault {
-    /// Memory was refused. The call may be made again.
+    /// Memory was refused; the call may be made again.
     Memory,
-    /// The text is no JSON.
+    /// The bytes have no value as a JSON text.
     NotJson,
 }
 

@@ -1,9 +1,25 @@
-//! JSON texts (RFC 8259), and values read from them one at a time.
+//! JSON texts (RFC 8259) read as values, whole numbers also where they have a fraction of zeros.
+//!
+//! Usual exporters write the whole number 1200 as `1200.0`, and 0 as `-0`. `read_json` reads the value
+//! of the bytes after each such number text was changed to the whole number; the change alone is
+//! `plain_text`. `specs/NumberText` says what becomes of a number text and where the tokens of a text
+//! end, `specs/JsonText` what the value of bytes is. The laws tell that the compact text of exact
+//! data (`specs/ExactData`: whole numbers, UTF-8 texts, members in order) reads as that data.
+//!
+//! `read_value` and `read_token` read one value at a time from the tokens of a text, for who must not have
+//! the whole value in memory.
+//!
+//! Modules, in the order of reading: `fault`, `number_text`, `json_text`, `number`, `value`, `laws`.
 #![tactic(auto)]
 
 mod fault;
+mod json_text;
+pub mod laws;
 mod number;
+mod number_text;
 mod value;
 
 pub use fault::JsonFault;
+pub use json_text::read_json;
+pub use number_text::plain_text;
 pub use value::{read_token, read_value};

@@ -4,7 +4,7 @@ use Rattle.std.specs.Map.{keys_of}
 use Rattle.serde_json.specs.View.{items_view, members_view}
 use Rattle.serde_json.specs.Written.{items_have_float, members_have_float}
 use Rattle.std.proofs.Common.{string_cmp}
-use Rattle.streetmap_geojson.specs.ExactData.{are_exact, are_exact_members}
+use Rattle.streetmap_json.specs.ExactData.{are_exact, are_exact_members}
 use Rattle.streetmap_geojson.proofs.exact.+exact.Given as goal
 
 abbrev pub invariant-are_exact-loop-item : goal.invariant-are_exact-loop-item
