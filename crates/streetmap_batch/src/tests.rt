@@ -70,6 +70,26 @@ const NO_BATCH: &[&str] = &[
     "{\"key\":\"b1\"}",
     "{\"edits\":[]}",
     "{\"edits\":[],\"key\":\"b1\",\"more\":null}",
+    "{\"more\":{},\"edits\":[],\"key\":\"b1\"}",
+    "{\"key\":\"b1\",\"edits\":[]}{}",
+    "{\"key\":\"b1\",\"edits\":[]]",
+    "{\"key\":\"b1\",\"edits\":[{},}",
+    "{\"key\":\"b1\",\"edits\":[1e999]}",
+    "{\"key\":\"b1\",\"edits\":[]} \u{e4}",
+];
+
+/// Of two members with one name the last one counts (RFC 8259, section 4, leaves it to the reader).
+const TOLD_TWICE: &[&str] = &[
+    "{\"key\":7,\"edits\":[],\"key\":\"b1\"}",
+    "{\"edits\":7,\"key\":\"b1\",\"edits\":[]}",
+    "{\"edits\":[{\"op\":\"none\"}],\"key\":\"b1\",\"edits\":[]}",
+    "{\"key\":\"b1\",\"edits\":[7.0,{}],\"key\":\"b1\",\"edits\":[]}",
+];
+
+/// The last one is no array.
+const NO_ARRAY_AT_LAST: &[&str] = &[
+    "{\"edits\":[],\"key\":\"b1\",\"edits\":{}}",
+    "{\"edits\":[],\"key\":\"b1\",\"edits\":\"[]\"}",
 ];
 
 /// The edits are no array; the shape of the whole is judged before the key.
@@ -110,6 +130,17 @@ fn counted(alloc: Global, key: &str, count: usize) -> Result<Option<BatchFault>,
     let others = repeated(alloc, ",0", count)?;
     let text = format!(in alloc; "{{\"key\":\"{key}\",\"edits\":[0{others}]}}")?;
     Ok(fault_of(read_batch(alloc, text.as_bytes())))
+}
+
+#[test]
+fn the_last_of_two_members_counts(rt: HostRuntime) -> Result<(), Fail> {
+    for text in TOLD_TWICE {
+        let batch = read_batch(rt.alloc(), text.as_bytes())?;
+        assert_eq!(rt; (batch.key(), batch.edits().len()), ("b1", 0), "at {text}");
+    }
+    let want = BatchFault::BadBatch { place: None };
+    are_refused(&rt, rt.alloc(), NO_ARRAY_AT_LAST, want);
+    Ok(())
 }
 
 #[test]

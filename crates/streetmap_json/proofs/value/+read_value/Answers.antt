@@ -39,7 +39,7 @@ read_token-returns-in_err-read_items-in-BeginArray-clause-takes t c =
     let fault = c.in_err-read_items-in-BeginArray.field-0.0 in
     let same : c.from_residual-in_err-read_items-in-BeginArray.result ≡ Err fault = grind arith in
     subst (λ r. Takes view r c.read_items.new.reader (value_at c.args.depth (token_of c.args.token ∷ ts))) (sym same)
-        (handed_on fault _ _ (λ none. opened ∙ ap (parse_map array) none) c.in_err-read_items-in-BeginArray.ensures.takes)
+    (handed_on fault _ _ (λ none. opened ∙ ap (parse_map array) none) c.in_err-read_items-in-BeginArray.ensures.takes)
 
 pub read_token-returns-in_err-read_members-in-BeginObject-clause-takes : goal.read_token-returns-in_err-read_members-in-BeginObject-clause-takes
 read_token-returns-in_err-read_members-in-BeginObject-clause-takes t c =
@@ -48,7 +48,7 @@ read_token-returns-in_err-read_members-in-BeginObject-clause-takes t c =
     let fault = c.in_err-read_members-in-BeginObject.field-0.0 in
     let same : c.from_residual-in_err-read_members-in-BeginObject.result ≡ Err fault = grind arith in
     subst (λ r. Takes view r c.read_members.new.reader (value_at c.args.depth (token_of c.args.token ∷ ts))) (sym same)
-        (handed_on fault _ _ (λ none. opened ∙ ap (parse_map object) none) c.in_err-read_members-in-BeginObject.ensures.takes)
+    (handed_on fault _ _ (λ none. opened ∙ ap (parse_map object) none) c.in_err-read_members-in-BeginObject.ensures.takes)
 
 pub read_token-returns-in_ok-from_str-in-String-clause-takes : goal.read_token-returns-in_ok-from_str-in-String-clause-takes
 read_token-returns-in_ok-from_str-in-String-clause-takes t c =
@@ -84,14 +84,14 @@ read_token-returns-in_ok-read_items-in-BeginArray-clause-takes t c =
     let ts = c.args.reader.now in
     let found = c.in_ok-read_items-in-BeginArray in
     ap (λ k. value_at c.args.depth (token_of k ∷ ts)) c.in-BeginArray.is ∙ array_opens c.args.depth ts (omega arith)
-        ∙ ap (parse_map array) found.ensures.takes ∙ ap (λ d. Some (d, c.read_items.new.reader)) (sym (view-Array found.field-0))
+    ∙ ap (parse_map array) found.ensures.takes ∙ ap (λ d. Some (d, c.read_items.new.reader)) (sym (view-Array found.field-0))
 
 pub read_token-returns-in_ok-read_members-in-BeginObject-clause-takes : goal.read_token-returns-in_ok-read_members-in-BeginObject-clause-takes
 read_token-returns-in_ok-read_members-in-BeginObject-clause-takes t c =
     let ts = c.args.reader.now in
     let found = c.in_ok-read_members-in-BeginObject in
     ap (λ k. value_at c.args.depth (token_of k ∷ ts)) c.in-BeginObject.is ∙ object_opens c.args.depth ts (omega arith)
-        ∙ ap (parse_map object) found.ensures.takes ∙ ap (λ d. Some (d, c.read_members.new.reader)) (sym (view-Object found.field-0))
+    ∙ ap (parse_map object) found.ensures.takes ∙ ap (λ d. Some (d, c.read_members.new.reader)) (sym (view-Object found.field-0))
 
 pub read_token-returns-in-EndObject-clause-takes : goal.read_token-returns-in-EndObject-clause-takes
 read_token-returns-in-EndObject-clause-takes t c =
@@ -108,7 +108,7 @@ read_items-returns-in_err-item-clause-takes t c =
     let fault = c.in_err-item.field-0.0 in
     let same : c.from_residual.result ≡ Err fault = grind arith in
     subst (λ r. Takes (λ (v : Vec Value Global). items_view v.items) r c.read_value.new.reader (items_at c.args.depth c.args.reader.now)) (sym same)
-        (handed_on fault _ _ (λ none. l.invariant.2 ∙ ap (parse_map (before (map view l.items.items))) (no_item p n l.reader going.0 (rw (← going.1) none))) c.in_err-item.ensures.takes)
+    (handed_on fault _ _ (λ none. l.invariant.2 ∙ ap (parse_map (before (map view l.items.items))) (no_item p n l.reader going.0 (rw (← going.1) none))) c.in_err-item.ensures.takes)
 
 pub read_items-items-preserved : goal.read_items-items-preserved
 read_items-items-preserved t c =
@@ -145,7 +145,7 @@ read_members-returns-in_err-name-clause-takes t c =
     let found = members_view l.members.entries in
     let same : c.from_residual.result ≡ Err NotJson = grind arith in
     subst (λ r. Takes (λ (m : BTreeMap (StdString Global) Value). members_view m.entries) r c.next_key.new.self (members_at c.args.depth c.args.reader.now)) (sym same)
-        (l.invariant.2 ∙ no_name p found n l.reader c.in_err-name.ensures.value)
+    (l.invariant.2 ∙ no_name p found n l.reader c.in_err-name.ensures.value)
 
 pub read_members-returns-in_err-member-clause-takes : goal.read_members-returns-in_err-member-clause-takes
 read_members-returns-in_err-member-clause-takes t c =
@@ -159,7 +159,7 @@ read_members-returns-in_err-member-clause-takes t c =
     let fault = c.in_err-member.field-0.0 in
     let same : c.from_residual-in_err-member.result ≡ Err fault = grind arith in
     subst (λ r. Takes (λ (m : BTreeMap (StdString Global) Value). members_view m.entries) r c.read_value.new.reader (members_at c.args.depth c.args.reader.now)) (sym same)
-        (handed_on fault _ _ (λ none. l.invariant.2 ∙ no_member p found n k l.reader s named none) c.in_err-member.ensures.takes)
+    (handed_on fault _ _ (λ none. l.invariant.2 ∙ no_member p found n k l.reader s named none) c.in_err-member.ensures.takes)
 
 pub read_members-members-preserved : goal.read_members-members-preserved
 read_members-members-preserved t c =
