@@ -103,7 +103,7 @@ fn read_positions(
         (positions (map view values.now) seen.old) }
     ensures counted { seen.new ≤ max_positions }
 {
-    let mut read = Vec::new(alloc);
+    let mut read = Vec::with_capacity(alloc, values.len())?;
     for value in values {
         read.push(read_position_in(value, seen)?)?;
     }
@@ -162,7 +162,7 @@ fn read_lines(alloc: Global, values: &[Value], seen: &mut usize) -> Result<Vec<L
         (lines (map view values.now) seen.old) }
     ensures counted { seen.new ≤ max_positions }
 {
-    let mut read = Vec::new(alloc);
+    let mut read = Vec::with_capacity(alloc, values.len())?;
     for value in values {
         read.push(read_line_in(alloc, value, seen)?)?;
     }
@@ -224,7 +224,7 @@ fn read_rings(alloc: Global, values: &[Value], seen: &mut usize) -> Result<Vec<R
         (rings (map view values.now) seen.old) }
     ensures counted { seen.new ≤ max_positions }
 {
-    let mut read = Vec::new(alloc);
+    let mut read = Vec::with_capacity(alloc, values.len())?;
     for value in values {
         read.push(read_ring_in(alloc, value, seen)?)?;
     }
@@ -278,7 +278,7 @@ fn read_polygons(
         (polygons (map view values.now) seen.old) }
     ensures counted { seen.new ≤ max_positions }
 {
-    let mut read = Vec::new(alloc);
+    let mut read = Vec::with_capacity(alloc, values.len())?;
     for value in values {
         read.push(read_polygon_in(alloc, value, seen)?)?;
     }

@@ -8,7 +8,7 @@ use Rattle.streetmap_geojson.proofs.Fronts.{goes_on, ends, is_done, starts}
 use Rattle.streetmap_geojson.proofs.coordinates.read_polygons.Goals as goal
 
 pub loop-value-init : goal.loop-value-init
-loop-value-init c = record { counted = c.requires; rest = rw c.new-read.ensures.items (starts _) }
+loop-value-init c = record { counted = c.requires; rest = rw c.in_ok-read.ensures.items (starts _) }
 
 pub loop-value-preserved : goal.loop-value-preserved
 loop-value-preserved c = record {
@@ -18,7 +18,7 @@ loop-value-preserved c = record {
 
 pub returns-in_err-read_polygon_in-clause-reads : goal.returns-in_err-read_polygon_in-clause-reads
 returns-in_err-read_polygon_in-clause-reads c =
-    let p = err_from_is_err_and c.from_residual.result c.from_residual.ensures.1 in
+    let p = err_from_is_err_and c.from_residual-in_err-read_polygon_in.result c.from_residual-in_err-read_polygon_in.ensures.1 in
     rw (p.1, p.2) (ends view (inside BadGeometry polygon) c.args.values.now c.loop-value.value-index c.value-item.result c.in_err-read_polygon_in.field-0.0 (polygons_value c.loop-value.read.items) c.loop-value.seen _ c.loop-value-test.true c.value-item.is c.in_err-read_polygon_in.ensures.reads c.loop-value.invariant.rest)
 
 pub returns-clause-reads : goal.returns-clause-reads
