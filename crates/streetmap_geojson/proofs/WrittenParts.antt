@@ -1,5 +1,5 @@
 -- What is appended part by part is the text of a value.
-use Rattle.std.proofs.Common.{◌≡◌, ℕ, ℤ, false, List, ◌++◌, Option, Some, None, Result, Ok, Err, if◌then◌else◌, refl, codes, ◌∙◌, append_assoc, rules}
+use Rattle.std.proofs.Common.{◌≡◌, ℕ, ℤ, List, ◌++◌, Option, Some, None, Result, Ok, Err, if◌then◌else◌, refl, codes, ◌∙◌, append_assoc, rules}
 use Rattle.std.specs.Result.{OnOk, is_ok}
 use Rattle.json.specs.Print.{escape_byte}
 use Rattle.serde_json.specs.Data.{string}

@@ -1,7 +1,7 @@
 //! Features that are kept as their texts.
 #![tactic(auto)]
 
-ghost use Rattle.std.specs.Prelude.{◌≡◌, IfOk, option_map};
+ghost use Rattle.std.specs.Prelude.{◌≡◌, IfOk, IfSome, option_map};
 ghost use Rattle.serde_json.specs.Written.{compact_text};
 ghost use Rattle.streetmap_grid.specs.Views.{box_value};
 ghost use Rattle.streetmap_grid.specs.Extent.{extent_of};
@@ -10,23 +10,32 @@ ghost use Rattle.streetmap_geojson.specs.Fault.{Gives};
 ghost use Rattle.streetmap_geojson.specs.FeatureView.{feature_value};
 ghost use Rattle.streetmap_geojson.specs.Kept.{IsFeature};
 ghost use Rattle.streetmap_geojson.specs.Written.{feature_data};
-ghost use Rattle.streetmap_geojson.specs.Packed.{feature_in_text, retimed};
+ghost use Rattle.streetmap_geojson.specs.Packed.{feature_in_text, retimed, StandsAt};
 
 use crate::fault::JsonFault;
 use crate::feature::Feature;
 use crate::json_text::read_json;
 use crate::read::read_feature;
 use bytes::Bytes;
+use memchr::memmem;
 use std::alloc::{AllocError, Global};
 use std::marker::Model;
 use streetmap_grid::GridBox;
 use streetmap_moment::Interval;
 
-/// Where and when a feature is.
+/// A part of a text, from one place up to another.
+#[derive(Clone, Copy)]
+struct Part {
+    start: u32,
+    end: u32,
+}
+
+/// Where and when a feature is, and where its id stands in its text, if it stands there as it is.
 #[derive(Drop)]
 struct Reach {
     extent: Option<GridBox>,
     time: Option<Interval>,
+    id: Option<Part>,
 }
 
 /// A feature that is kept as its compact text, with its extent and its time beside it: a fraction of
@@ -52,7 +61,26 @@ impl Model for PackedFeature {
 
     ghost view = { λ p. unpacked p.text (option_map interval_value p.reach.value.time) };
 
-    ghost invariant = { λ p. IsPacked p.text (option_map box_value p.reach.value.extent) };
+    ghost invariant = { λ p. IsPacked p.text (option_map box_value p.reach.value.extent) p.reach.value.id };
+}
+
+/// What stands before an id in a feature's text.
+const BEFORE_THE_ID: &[u8] = b"\"id\":\"";
+
+/// Where the id stands in a feature's text, if it stands there as it is.
+fn id_in(text: &[u8], id: &[u8]) -> Option<Part>
+    ensures { IfSome result (λ part. StandsAt part text.now id.now) }
+{
+    let start = memmem::find(text, BEFORE_THE_ID)?.checked_add(BEFORE_THE_ID.len())?;
+    let end = start.checked_add(id.len())?;
+    if end <= text.len() && &text[start..end] == id {
+        Some(Part {
+            start: u32::try_from(start).ok()?,
+            end: u32::try_from(end).ok()?,
+        })
+    } else {
+        None
+    }
 }
 
 /// The feature of a JSON text, without a time.
@@ -87,9 +115,11 @@ impl PackedFeature {
         ensures { IfOk result (λ p. p ≡ retimed feature.now (option_map interval_value time)) }
     {
         feature.facts();
+        let id = id_in(text.as_slice(), feature.id().as_bytes());
         let reach = Reach {
             extent: feature.extent(),
             time,
+            id,
         };
         let reach = Box::new(alloc, reach)?;
         Ok(PackedFeature { text, reach })
@@ -114,6 +144,17 @@ impl PackedFeature {
         ensures { option_map interval_value result ≡ self.now.time }
     {
         self.reach.time
+    }
+
+    /// The bytes of the id, which stand so in the text. None where they do not, since one of them is
+    /// written as an escape: the feature has then to be read.
+    pub fn plain_id(&self) -> Option<&[u8]>
+        ensures { IfSome result (λ id. id.now ≡ self.now.id) }
+    {
+        match self.reach.id {
+            Some(part) => Some(&self.text.as_slice()[part.start as usize..part.end as usize]),
+            None => None,
+        }
     }
 
     /// The feature, read from its text.

@@ -7,4 +7,4 @@ use Rattle.streetmap_geojson.proofs.packed.PackedFeature.facts.Goals as goal
 pub returns : goal.returns
 returns c =
     let h = c.self.invariant in
-    subst IsFeature (sym (packed_view _ _ _ h) ∙ c.self.view_is) (retimed_is h.packed _ h.is (interval_made c.self.inside.reach.value.time))
+    subst IsFeature (sym (packed_view _ _ _ _ h) ∙ c.self.view_is) (retimed_is h.packed _ h.is (interval_made c.self.inside.reach.value.time))

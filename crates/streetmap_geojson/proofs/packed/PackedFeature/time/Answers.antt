@@ -4,4 +4,4 @@ use Rattle.streetmap_geojson.proofs.PackedFacts.{packed_view}
 use Rattle.streetmap_geojson.proofs.packed.PackedFeature.time.Goals as goal
 
 pub returns : goal.returns
-returns c = rw c.deref.ensures (ap (λ (f : FeatureValue). f.time) (sym (packed_view _ _ _ c.self.invariant) ∙ c.self.view_is))
+returns c = rw c.deref.ensures (ap (λ (f : FeatureValue). f.time) (sym (packed_view _ _ _ _ c.self.invariant) ∙ c.self.view_is))

@@ -11,7 +11,7 @@ use Rattle.streetmap_geojson.proofs.packed.PackedFeature.unpack.Goals as goal
 pub unreachable-requires : goal.unreachable-requires
 unreachable-requires c =
     let failed : feature_in_text c.as_slice.result.now ≡ Err c.in-Err-Fault.field-0-0 = subst (λ e. Fails e (feature_in_text c.as_slice.result.now)) c.in-Err-Fault.field-0-is c.in-Err-Fault.ensures in
-    let found = ap feature_in_text c.as_slice.ensures ∙ packed_text _ _ c.self.invariant in
+    let found = ap feature_in_text c.as_slice.ensures ∙ packed_text _ _ _ c.self.invariant in
     subst T (ap is_ok (sym found ∙ failed)) tt
 
 pub returns-in-Ok : goal.returns-in-Ok
