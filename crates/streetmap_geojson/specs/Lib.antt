@@ -17,4 +17,6 @@ pub mod Stored
 pub mod NumberText
 pub mod JsonText
 pub mod ExactData
+pub mod Ends
+pub mod SpanView
 pub mod Packed

@@ -8,7 +8,7 @@
 //! feature, its time left out.
 //!
 //! Modules, in the order of reading: `fault`, `json_text`, `number_text`, `id`, `kind`, `feature`,
-//! `times`, `coordinates`, `geometry`, `scan`, `exact`, `read`, `collection`, `write`, `text`, `packed`, `copy`,
+//! `times`, `coordinates`, `geometry`, `scan`, `exact`, `read`, `collection`, `write`, `text`, `span`, `packed`, `copy`,
 //! `laws`, `text_laws`.
 #![tactic(auto)]
 
@@ -27,6 +27,7 @@ mod number_text;
 mod packed;
 mod read;
 mod scan;
+mod span;
 #[cfg(test)]
 mod tests;
 mod text;

@@ -16,6 +16,7 @@ use crate::fault::JsonFault;
 use crate::feature::Feature;
 use crate::json_text::read_json;
 use crate::read::read_feature;
+use crate::span::Span;
 use bytes::Bytes;
 use memchr::memmem;
 use std::alloc::{AllocError, Global};
@@ -30,11 +31,13 @@ struct Part {
     end: u32,
 }
 
-/// Where and when a feature is, and where its id stands in its text, if it stands there as it is.
+/// What is kept of a feature: its compact text, its extent and its time, and where its id stands in
+/// the text, if it stands there as it is.
 #[derive(Drop)]
-struct Reach {
+struct Kept {
+    text: Bytes,
     extent: Option<GridBox>,
-    time: Option<Interval>,
+    time: Span,
     id: Option<Part>,
 }
 
@@ -43,25 +46,24 @@ struct Reach {
 /// Clauses see it as a `FeatureValue`.
 #[derive(Drop)]
 pub struct PackedFeature {
-    text: Bytes,
-    reach: Box<Reach>,
+    kept: Box<Kept>,
 }
 
 impl Model for PackedFeature {
     ghost use Rattle.std.specs.Prelude.{option_map};
     ghost use Rattle.streetmap_grid.specs.Views.{box_value};
-    ghost use Rattle.streetmap_moment.specs.Views.{interval_value};
     ghost use Rattle.streetmap_geojson.specs.FeatureValue.{FeatureValue};
     ghost use Rattle.streetmap_geojson.specs.Packed.{unpacked, IsPacked};
+    ghost use Rattle.streetmap_geojson.specs.SpanView.{span_value};
     ghost use Rattle.streetmap_geojson.specs.Stored.{coded_feature};
 
     ghost Value = { FeatureValue };
 
     ghost coded = { coded_feature };
 
-    ghost view = { λ p. unpacked p.text (option_map interval_value p.reach.value.time) };
+    ghost view = { λ p. unpacked p.kept.value.text (span_value p.kept.value.time) };
 
-    ghost invariant = { λ p. IsPacked p.text (option_map box_value p.reach.value.extent) p.reach.value.id };
+    ghost invariant = { λ p. IsPacked p.kept.value.text (option_map box_value p.kept.value.extent) p.kept.value.id };
 }
 
 /// What stands before an id in a feature's text.
@@ -116,34 +118,35 @@ impl PackedFeature {
     {
         feature.facts();
         let id = id_in(text.as_slice(), feature.id().as_bytes());
-        let reach = Reach {
+        let kept = Kept {
+            text,
             extent: feature.extent(),
-            time,
+            time: Span::new(time),
             id,
         };
-        let reach = Box::new(alloc, reach)?;
-        Ok(PackedFeature { text, reach })
+        let kept = Box::new(alloc, kept)?;
+        Ok(PackedFeature { kept })
     }
 
     /// What is true of every feature.
     pub fn facts(&self)
         ensures { IsFeature self.now }
     {
-        let _ = &self.reach.time;
+        let _ = &self.kept.time;
     }
 
     /// The extent of the geometry, in millimetres: none where there is none.
     pub fn extent(&self) -> Option<GridBox>
         ensures { option_map box_value result ≡ option_map extent_of self.now.geometry }
     {
-        self.reach.extent
+        self.kept.extent
     }
 
     /// The time, where the feature has one.
     pub fn time(&self) -> Option<Interval>
         ensures { option_map interval_value result ≡ self.now.time }
     {
-        self.reach.time
+        self.kept.time.time()
     }
 
     /// The bytes of the id, which stand so in the text. None where they do not, since one of them is
@@ -151,8 +154,8 @@ impl PackedFeature {
     pub fn plain_id(&self) -> Option<&[u8]>
         ensures { IfSome result (λ id. id.now ≡ self.now.id) }
     {
-        match self.reach.id {
-            Some(part) => Some(&self.text.as_slice()[part.start as usize..part.end as usize]),
+        match self.kept.id {
+            Some(part) => Some(&self.kept.text.as_slice()[part.start as usize..part.end as usize]),
             None => None,
         }
     }
@@ -161,8 +164,8 @@ impl PackedFeature {
     pub fn unpack(&self, alloc: Global) -> Result<Feature, AllocError>
         ensures { IfOk result (λ f. f ≡ self.now) }
     {
-        match read_text(alloc, self.text.as_slice()) {
-            Ok(feature) => Ok(with_time(feature, self.reach.time)),
+        match read_text(alloc, self.kept.text.as_slice()) {
+            Ok(feature) => Ok(with_time(feature, self.kept.time.time())),
             Err(JsonFault::Memory) => Err(AllocError),
             Err(JsonFault::Fault(_)) => unreachable!(),
         }

@@ -49,3 +49,31 @@ fn ids_without_escapes_are_told_unread(rt: HostRuntime) -> Result<(), Fail> {
     }
     Ok(())
 }
+
+/// Texts of times: before 1970 and after, with parts of a second and without, open and closed.
+const TIMES: &[&str] = &[
+    "1969-12-31T23:59:59.999999999Z",
+    "0000-01-01T00:00:00+23:59/1970-01-01T00:00:00Z",
+    "9999-12-31T23:59:59.999999999-23:59",
+    "../1969-12-31T23:59:58.000000001Z",
+    "2024-05-01T12:00:00.5Z/..",
+    "2024-05-01",
+];
+
+#[test]
+fn packed_features_keep_their_times(rt: HostRuntime) -> Result<(), Fail> {
+    let alloc = rt.alloc();
+    for when in TIMES {
+        let text = format!(in alloc;
+            "{{\"type\":\"Feature\",\"id\":1,\"properties\":{{\"when\":\"{when}\"}}}}"
+        )?;
+        let packed = packed(alloc, text.as_str())?;
+        let feature = feature(alloc, text.as_str(), Some("when"))?;
+        assert!(rt; feature.time().is_some(), "at {when}");
+        assert!(rt; packed.time() == feature.time(), "at {when}");
+        let unpacked = packed.unpack(alloc)?;
+        assert!(rt; unpacked.time() == feature.time(), "at {when}");
+    }
+    assert!(rt; packed(alloc, IDS[0].0)?.time().is_none());
+    Ok(())
+}
