@@ -15,4 +15,6 @@ pub mod Collection
 pub mod Written
 pub mod Stored
 pub mod JsonText
+pub mod Ends
+pub mod SpanView
 pub mod Packed

@@ -1,11 +1,12 @@
 -- A feature that is kept as its text, with its extent and its time beside it.
-use Rattle.std.specs.Prelude.{◌≡◌, ℕ, List, [], Option, None, option_map, Result, Ok, Err}
+use Rattle.std.specs.Prelude.{◌≡◌, ℕ, ◌≤◌, List, [], length, slice_range, IfSome, Option, None, option_map, Result, Ok, Err}
 use Rattle.serde_json.specs.Data.{null}
 use Rattle.serde_json.specs.Written.{compact_text}
 use Rattle.streetmap_grid.specs.Values.{BoxValue}
 use Rattle.streetmap_grid.specs.Extent.{extent_of}
 use Rattle.streetmap_moment.specs.IntervalValue.{IntervalValue}
 use Rattle.streetmap_geojson.specs.declared.fault.Fault.{Fault}
+use Rattle.streetmap_geojson.specs.declared.packed.Part.{Part}
 use Rattle.streetmap_geojson.specs.Fault.{◌>>=◌}
 use Rattle.streetmap_geojson.specs.FeatureValue.{FeatureValue}
 use Rattle.streetmap_geojson.specs.FeatureReading.{feature}
@@ -30,9 +31,16 @@ or_nothing (Err fault) = record { id = []; geometry = None; properties = null; t
 unfoldable pub unpacked : List ℕ → Option IntervalValue → FeatureValue
 unpacked text time = retimed (or_nothing (feature_in_text text)) time
 
--- the text is that of a feature, and the extent that of its geometry
-pub record IsPacked (text : List ℕ) (extent : Option BoxValue) : Type 0 where
+-- the part of the text is this
+pub record StandsAt (part : Part) (text part_text : List ℕ) : Type 0 where
+  pub forward : part.start ≤ part.end
+  pub within : part.end ≤ length text
+  pub is : slice_range text part.start part.end ≡ part_text
+
+-- the text is that of a feature, the extent that of its geometry, and the part that is told its id
+pub record IsPacked (text : List ℕ) (extent : Option BoxValue) (id : Option Part) : Type 0 where
   pub packed : FeatureValue
   pub is : IsFeature packed
   pub written : text ≡ compact_text (feature_data packed)
   pub reaches : extent ≡ option_map extent_of packed.geometry
+  pub named : IfSome id (λ part. StandsAt part text packed.id)

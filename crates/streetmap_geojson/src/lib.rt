@@ -11,8 +11,8 @@
 //! this crate.
 //!
 //! Modules, in the order of reading: `fault`, `json_text`, `id`, `kind`, `feature`, `times`,
-//! `coordinates`, `geometry`, `scan`, `exact`, `read`, `collection`, `write`, `text`, `packed`, `copy`,
-//! `laws`.
+//! `coordinates`, `geometry`, `scan`, `exact`, `read`, `collection`, `write`, `text`, `span`, `packed`,
+//! `copy`, `laws`.
 #![tactic(auto)]
 
 mod collection;
@@ -29,6 +29,7 @@ pub mod laws;
 mod packed;
 mod read;
 mod scan;
+mod span;
 #[cfg(test)]
 mod tests;
 mod text;

@@ -1,7 +1,7 @@
 //! Features that are kept as their texts.
 #![tactic(auto)]
 
-ghost use Rattle.std.specs.Prelude.{◌≡◌, IfOk, option_map};
+ghost use Rattle.std.specs.Prelude.{◌≡◌, IfOk, IfSome, option_map};
 ghost use Rattle.serde_json.specs.Written.{compact_text};
 ghost use Rattle.streetmap_grid.specs.Views.{box_value};
 ghost use Rattle.streetmap_grid.specs.Extent.{extent_of};
@@ -10,23 +10,35 @@ ghost use Rattle.streetmap_geojson.specs.Fault.{Gives};
 ghost use Rattle.streetmap_geojson.specs.FeatureView.{feature_value};
 ghost use Rattle.streetmap_geojson.specs.Kept.{IsFeature};
 ghost use Rattle.streetmap_geojson.specs.Written.{feature_data};
-ghost use Rattle.streetmap_geojson.specs.Packed.{feature_in_text, retimed};
+ghost use Rattle.streetmap_geojson.specs.Packed.{feature_in_text, retimed, StandsAt};
 
 use crate::fault::JsonFault;
 use crate::feature::Feature;
 use crate::json_text::read_json;
 use crate::read::read_feature;
+use crate::span::Span;
 use bytes::Bytes;
+use memchr::memmem;
 use std::alloc::{AllocError, Global};
 use std::marker::Model;
 use streetmap_grid::GridBox;
 use streetmap_moment::Interval;
 
-/// Where and when a feature is.
+/// A part of a text, from one place up to another.
+#[derive(Clone, Copy)]
+struct Part {
+    start: u32,
+    end: u32,
+}
+
+/// What is kept of a feature: its compact text, its extent and its time, and where its id stands in
+/// the text, if it stands there as it is.
 #[derive(Drop)]
-struct Reach {
+struct Kept {
+    text: Bytes,
     extent: Option<GridBox>,
-    time: Option<Interval>,
+    time: Span,
+    id: Option<Part>,
 }
 
 /// A feature that is kept as its compact text, with its extent and its time beside it: a fraction of
@@ -34,25 +46,43 @@ struct Reach {
 /// Clauses see it as a `FeatureValue`.
 #[derive(Drop)]
 pub struct PackedFeature {
-    text: Bytes,
-    reach: Box<Reach>,
+    kept: Box<Kept>,
 }
 
 impl Model for PackedFeature {
     ghost use Rattle.std.specs.Prelude.{option_map};
     ghost use Rattle.streetmap_grid.specs.Views.{box_value};
-    ghost use Rattle.streetmap_moment.specs.Views.{interval_value};
     ghost use Rattle.streetmap_geojson.specs.FeatureValue.{FeatureValue};
     ghost use Rattle.streetmap_geojson.specs.Packed.{unpacked, IsPacked};
+    ghost use Rattle.streetmap_geojson.specs.SpanView.{span_value};
     ghost use Rattle.streetmap_geojson.specs.Stored.{coded_feature};
 
     ghost Value = { FeatureValue };
 
     ghost coded = { coded_feature };
 
-    ghost view = { λ p. unpacked p.text (option_map interval_value p.reach.value.time) };
+    ghost view = { λ p. unpacked p.kept.value.text (span_value p.kept.value.time) };
 
-    ghost invariant = { λ p. IsPacked p.text (option_map box_value p.reach.value.extent) };
+    ghost invariant = { λ p. IsPacked p.kept.value.text (option_map box_value p.kept.value.extent) p.kept.value.id };
+}
+
+/// What stands before an id in a feature's text.
+const BEFORE_THE_ID: &[u8] = b"\"id\":\"";
+
+/// Where the id stands in a feature's text, if it stands there as it is.
+fn id_in(text: &[u8], id: &[u8]) -> Option<Part>
+    ensures { IfSome result (λ part. StandsAt part text.now id.now) }
+{
+    let start = memmem::find(text, BEFORE_THE_ID)?.checked_add(BEFORE_THE_ID.len())?;
+    let end = start.checked_add(id.len())?;
+    if end <= text.len() && &text[start..end] == id {
+        Some(Part {
+            start: u32::try_from(start).ok()?,
+            end: u32::try_from(end).ok()?,
+        })
+    } else {
+        None
+    }
 }
 
 /// The feature of a JSON text, without a time.
@@ -87,41 +117,55 @@ impl PackedFeature {
         ensures { IfOk result (λ p. p ≡ retimed feature.now (option_map interval_value time)) }
     {
         feature.facts();
-        let reach = Reach {
+        let id = id_in(text.as_slice(), feature.id().as_bytes());
+        let kept = Kept {
+            text,
             extent: feature.extent(),
-            time,
+            time: Span::new(time),
+            id,
         };
-        let reach = Box::new(alloc, reach)?;
-        Ok(PackedFeature { text, reach })
+        let kept = Box::new(alloc, kept)?;
+        Ok(PackedFeature { kept })
     }
 
     /// What is true of every feature.
     pub fn facts(&self)
         ensures { IsFeature self.now }
     {
-        let _ = &self.reach.time;
+        let _ = &self.kept.time;
     }
 
     /// The extent of the geometry, in millimetres: none where there is none.
     pub fn extent(&self) -> Option<GridBox>
         ensures { option_map box_value result ≡ option_map extent_of self.now.geometry }
     {
-        self.reach.extent
+        self.kept.extent
     }
 
     /// The time, where the feature has one.
     pub fn time(&self) -> Option<Interval>
         ensures { option_map interval_value result ≡ self.now.time }
     {
-        self.reach.time
+        self.kept.time.time()
+    }
+
+    /// The bytes of the id, which stand so in the text. None where they do not, since one of them is
+    /// written as an escape: the feature has then to be read.
+    pub fn plain_id(&self) -> Option<&[u8]>
+        ensures { IfSome result (λ id. id.now ≡ self.now.id) }
+    {
+        match self.kept.id {
+            Some(part) => Some(&self.kept.text.as_slice()[part.start as usize..part.end as usize]),
+            None => None,
+        }
     }
 
     /// The feature, read from its text.
     pub fn unpack(&self, alloc: Global) -> Result<Feature, AllocError>
         ensures { IfOk result (λ f. f ≡ self.now) }
     {
-        match read_text(alloc, self.text.as_slice()) {
-            Ok(feature) => Ok(with_time(feature, self.reach.time)),
+        match read_text(alloc, self.kept.text.as_slice()) {
+            Ok(feature) => Ok(with_time(feature, self.kept.time.time())),
             Err(JsonFault::Memory) => Err(AllocError),
             Err(JsonFault::Fault(_)) => unreachable!(),
         }

@@ -11,6 +11,7 @@ mod faults;
 mod features;
 mod geometries;
 mod limits;
+mod packed;
 mod refused_memory;
 mod times;
 

@@ -1,5 +1,5 @@
 -- What a fold of features holds.
-use Rattle.std.specs.Prelude.{◌≡◌, List, length, take, nat_lt}
+use Rattle.std.specs.Prelude.{◌≡◌, ◌≤◌, List, length, take, nat_lt}
 use Rattle.streetmap_geojson.specs.FeatureValue.{FeatureValue}
 use Rattle.streetmap_query.specs.QueryValue.{QueryValue}
 use Rattle.streetmap_query.specs.Views.{query_value}
@@ -18,3 +18,7 @@ pub record Holds (q : QueryValue) (fold : PageFold) (fs : List FeatureValue) : T
 pub record HoldsCandidates (q : QueryValue) (fold : PageFold) (fs : List FeatureValue) : Type 0 where
   pub holds : Holds q fold (candidates q fs)
   pub whole : selected q (candidates q fs) ≡ selected q fs
+
+-- the page shows as many features as the query asks for at most
+abbrev pub IsFull : PageFold → Type 0
+IsFull fold = fold.query.now.limit ≤ length fold.features.items

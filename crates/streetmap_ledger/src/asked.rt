@@ -1,5 +1,5 @@
 //! What a query asks of a feature.
-ghost use Rattle.std.specs.Prelude.{◌≡◌};
+ghost use Rattle.std.specs.Prelude.{◌≡◌, IfSome, option_map};
 ghost use Rattle.streetmap_grid.specs.Meeting.{geometry_meets};
 ghost use Rattle.streetmap_moment.specs.Views.{interval_value};
 ghost use Rattle.streetmap_moment.specs.Meeting.{meets, seconds_overlap};
@@ -23,13 +23,13 @@ fn meets_box(query: &Query, feature: &Feature) -> bool
     }
 }
 
-/// Whether the feature's time meets the interval, where one is asked.
-fn meets_interval(query: &Query, feature: &Feature) -> bool
-    ensures { result ≡ passes meets feature.now.time (interval_asked (query_value query.now)) }
+/// Whether a feature's time meets the interval, where one is asked.
+fn meets_interval(query: &Query, time: Option<Interval>) -> bool
+    ensures { result ≡ passes meets (option_map interval_value time) (interval_asked (query_value query.now)) }
 {
     match &query.datetime {
         None => true,
-        Some(datetime) => match feature.time() {
+        Some(datetime) => match time {
             None => false,
             Some(time) => time.meets(&datetime.interval),
         },
@@ -40,7 +40,7 @@ fn meets_interval(query: &Query, feature: &Feature) -> bool
 pub fn selects(query: &Query, feature: &Feature) -> bool
     ensures { result ≡ selects_of (query_value query.now) feature.now }
 {
-    meets_box(query, feature) && meets_interval(query, feature)
+    meets_box(query, feature) && meets_interval(query, feature.time())
 }
 
 /// Whether the feature's id comes after the one asked.
@@ -93,4 +93,30 @@ pub fn is_candidate(query: &Query, feature: &PackedFeature) -> bool
     ensures { result ≡ is_candidate_of (query_value query.now) feature.now }
 {
     overlaps_box(query, feature) && overlaps_interval(query, feature)
+}
+
+/// Whether the query selects the feature, where that is known without reading it.
+pub fn selects_unread(query: &Query, feature: &PackedFeature) -> Option<bool>
+    ensures { IfSome result (λ known. known ≡ selects_of (query_value query.now) feature.now) }
+{
+    if !meets_interval(query, feature.time()) {
+        return Some(false);
+    }
+    match &query.bbox {
+        None => Some(true),
+        Some(_) => None,
+    }
+}
+
+/// Whether the feature's id comes after the one asked, where that is known without reading it.
+pub fn comes_after_unread(query: &Query, feature: &PackedFeature) -> Option<bool>
+    ensures { IfSome result (λ known. known ≡ comes_after_of (query_value query.now).after feature.now) }
+{
+    match &query.after {
+        None => Some(true),
+        Some(after) => match feature.plain_id() {
+            Some(id) => Some(id.cmp(after.as_str().as_bytes()).is_gt()),
+            None => None,
+        },
+    }
 }

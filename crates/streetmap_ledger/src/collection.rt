@@ -1,11 +1,12 @@
 //! A collection as the plain keeper keeps it, by its slots.
-ghost use Rattle.std.specs.Prelude.{◌≡◌, ◌+◌, ◌++◌, ◌∷◌, [], List, IfOk, OnOk, OnErr, Option, Some, None, string_bytes, length};
+ghost use Rattle.std.specs.Prelude.{◌≡◌, ◌+◌, ◌++◌, ◌∷◌, [], List, IsTrue, false, IfOk, OnOk, OnErr, Option, Some, None, string_bytes, length};
 ghost use Rattle.std.specs.Option.{option_copied, option_flatten, option_map};
 ghost use Rattle.std.specs.Result.{result_ok};
 ghost use Rattle.std.specs.FinMap.{get, insert, empty};
 ghost use Rattle.std.specs.Map.{values_of};
 ghost use Rattle.std.specs.BTreeMap.{IsOrdered};
 ghost use Rattle.std.specs.String.{string_cmp};
+ghost use Rattle.streetmap_query.specs.QueryValue.{QueryValue};
 ghost use Rattle.streetmap_query.specs.Views.{query_value};
 ghost use Rattle.streetmap_ledger.specs.State.{timed as timed_by};
 ghost use Rattle.streetmap_ledger.specs.Slots.{live_values, is_emptied as is_emptied_of};
@@ -15,11 +16,11 @@ ghost use Rattle.streetmap_ledger.specs.SummaryView.{summary_value};
 ghost use Rattle.serde_json.specs.Written.{compact_text};
 ghost use Rattle.streetmap_geojson.specs.FeatureValue.{FeatureValue};
 ghost use Rattle.streetmap_geojson.specs.Written.{feature_data};
-ghost use Rattle.streetmap_ledger.specs.Folds.{HoldsCandidates};
+ghost use Rattle.streetmap_ledger.specs.Folds.{Holds, HoldsCandidates};
 ghost use Rattle.streetmap_ledger.specs.Pages.{page_over as page_over_of};
 ghost use Rattle.streetmap_ledger.specs.PageView.{page_value};
 
-use crate::asked::is_candidate;
+use crate::asked::{comes_after_unread, is_candidate, selects_unread};
 use crate::extents::grown;
 use crate::fold::PageFold;
 use crate::{Page, Summary};
@@ -197,6 +198,40 @@ fn bounds_of(slots: &BTreeMap<String, Option<PackedFeature>>) -> Option<GridBox>
     bounds
 }
 
+/// Counts the feature that comes next, where it is known unread that the page does not show it, and
+/// answers whether it did.
+fn is_passed(query: &Query, fold: &mut PageFold<'_>, feature: &PackedFeature) -> bool
+    ensures passed { IsTrue result → (fs : List FeatureValue) → Holds (query_value query.now) fold.old fs → Holds (query_value query.now) fold.new (fs ++ feature.now ∷ []) }
+    ensures unchanged { result ≡ false → fold.new ≡ fold.old }
+{
+    match selects_unread(query, feature) {
+        Some(false) => {
+            fold.leave();
+            true
+        }
+        Some(true) => match comes_after_unread(query, feature) {
+            Some(behind) if !behind || fold.is_full() => {
+                fold.pass(behind);
+                true
+            }
+            _ => false,
+        },
+        None => false,
+    }
+}
+
+/// Takes the feature that comes next, read from its text.
+fn take_unpacked(
+    alloc: Global,
+    fold: &mut PageFold<'_>,
+    feature: &PackedFeature,
+) -> Result<(), AllocError>
+    ensures { (q : QueryValue) (fs : List FeatureValue) → Holds q fold.old fs → OnOk result (Holds q fold.new (fs ++ feature.now ∷ [])) }
+{
+    let taken = feature.unpack(alloc)?;
+    fold.take(alloc, &taken)
+}
+
 /// Takes the feature that comes next, where it is a candidate of the query.
 fn examine(
     alloc: Global,
@@ -207,11 +242,13 @@ fn examine(
     ensures { (fs : List FeatureValue) → HoldsCandidates (query_value query.now) fold.old fs → OnOk result (HoldsCandidates (query_value query.now) fold.new (fs ++ feature.now ∷ [])) }
 {
     feature.facts();
-    if is_candidate(query, feature) {
-        let taken = feature.unpack(alloc)?;
-        fold.take(alloc, &taken)?;
+    if !is_candidate(query, feature) {
+        return Ok(());
     }
-    Ok(())
+    if is_passed(query, fold, feature) {
+        return Ok(());
+    }
+    take_unpacked(alloc, fold, feature)
 }
 
 /// The page of the features in the slots, in the order of their ids.

@@ -21,13 +21,13 @@ pub struct PageFold<'a> {
 }
 
 impl<'a> PageFold<'a> {
-    ghost use Rattle.std.specs.Prelude.{List, [], ◌∷◌, ◌++◌, OnOk, OnErr};
+    ghost use Rattle.std.specs.Prelude.{List, [], ◌∷◌, ◌++◌, ◌+◌, ◌↔◌, OnOk, OnErr, IsTrue, Bool, true, false, if◌then◌else◌};
     ghost use Rattle.streetmap_geojson.specs.FeatureValue.{FeatureValue};
     ghost use Rattle.streetmap_query.specs.QueryValue.{QueryValue};
     ghost use Rattle.streetmap_query.specs.Views.{query_value};
-    ghost use Rattle.streetmap_ledger.specs.Pages.{page_of};
+    ghost use Rattle.streetmap_ledger.specs.Pages.{page_of, told, selects as selects_of, comes_after as comes_after_of};
     ghost use Rattle.streetmap_ledger.specs.PageView.{page_value};
-    ghost use Rattle.streetmap_ledger.specs.Folds.{Holds};
+    ghost use Rattle.streetmap_ledger.specs.Folds.{Holds, IsFull};
 
     /// Holds the page of no feature.
     pub fn new(alloc: Global, query: &'a Query) -> Self
@@ -42,23 +42,58 @@ impl<'a> PageFold<'a> {
         }
     }
 
+    /// Counts one feature more.
+    fn count(&mut self, is_selected: bool)
+        ensures matched { self.new.matched ≡ (if is_selected then told (self.old.matched + 1) else self.old.matched) }
+        ensures examined { self.new.examined ≡ told (self.old.examined + 1) }
+        ensures shown { (self.new.query ≡ self.old.query) × (self.new.features ≡ self.old.features) × (self.new.more ≡ self.old.more) }
+    {
+        if is_selected {
+            self.matched = self.matched.saturating_add(1);
+        }
+        self.examined = self.examined.saturating_add(1);
+    }
+
     /// Takes the feature that comes next, and copies it where the page shows it.
     pub fn take(&mut self, alloc: Global, feature: &Feature) -> Result<(), AllocError>
         ensures ok { (q : QueryValue) (fs : List FeatureValue) → Holds q self.old fs → OnOk result (Holds q self.new (fs ++ feature.now ∷ [])) }
         ensures err { (q : QueryValue) (fs : List FeatureValue) → Holds q self.old fs → OnErr result (Holds q self.new fs) }
     {
-        if selects(self.query, feature) {
-            if comes_after(self.query, feature) {
-                if self.features.len() < self.query.limit as usize {
-                    self.features.push(feature.copy(alloc)?)?;
-                } else {
-                    self.more = true;
-                }
+        let is_selected = selects(self.query, feature);
+        if is_selected && comes_after(self.query, feature) {
+            if self.is_full() {
+                self.more = true;
+            } else {
+                self.features.push(feature.copy(alloc)?)?;
             }
-            self.matched = self.matched.saturating_add(1);
         }
-        self.examined = self.examined.saturating_add(1);
+        self.count(is_selected);
         Ok(())
+    }
+
+    /// Whether the page shows as many features as the query asks for at most.
+    pub fn is_full(&self) -> bool
+        ensures { IsTrue result ↔ IsFull self.now }
+    {
+        self.features.len() >= self.query.limit as usize
+    }
+
+    /// Counts the feature that comes next, which is selected and not shown: it does not come after
+    /// the id asked, or else it is behind a full page.
+    pub fn pass(&mut self, behind: bool)
+        ensures { (q : QueryValue) (fs : List FeatureValue) (f : FeatureValue) → Holds q self.old fs → selects_of q f ≡ true → comes_after_of q.after f ≡ behind → (IsTrue behind → IsFull self.old) → Holds q self.new (fs ++ f ∷ []) }
+    {
+        if behind {
+            self.more = true;
+        }
+        self.count(true);
+    }
+
+    /// Counts the feature that comes next, which is not selected.
+    pub fn leave(&mut self)
+        ensures { (q : QueryValue) (fs : List FeatureValue) (f : FeatureValue) → Holds q self.old fs → selects_of q f ≡ false → Holds q self.new (fs ++ f ∷ []) }
+    {
+        self.count(false);
     }
 
     /// The page of the features taken.

@@ -11,6 +11,7 @@ mod lookups;
 mod many;
 mod memory;
 mod pages;
+mod unread;
 mod walks;
 
 /// What a page tells: the ids that it shows, how many features are selected and how many are

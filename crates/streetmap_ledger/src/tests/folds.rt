@@ -9,7 +9,7 @@ use streetmap_geojson::Feature;
 use streetmap_query::read_query;
 
 /// The page of features that are taken in order.
-fn folded(alloc: Global, features: &[Feature], asked: &str) -> Result<Page, Fail> {
+pub fn folded(alloc: Global, features: &[Feature], asked: &str) -> Result<Page, Fail> {
     let query = read_query(alloc, Some(asked))?;
     let mut fold = PageFold::new(alloc, &query);
     for feature in features {
@@ -35,7 +35,7 @@ fn kept(
 }
 
 /// Whether two pages show features with the same ids.
-fn are_alike(one: &Page, other: &Page) -> bool {
+pub fn are_alike(one: &Page, other: &Page) -> bool {
     if one.features.len() != other.features.len() {
         return false;
     }

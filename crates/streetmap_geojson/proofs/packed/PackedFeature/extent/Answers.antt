@@ -7,4 +7,4 @@ use Rattle.streetmap_geojson.proofs.packed.PackedFeature.extent.Goals as goal
 pub returns : goal.returns
 returns c =
     let h = c.self.invariant in
-    rw c.deref.ensures (h.reaches ∙ ap (λ (f : FeatureValue). option_map extent_of f.geometry) (sym (packed_view _ _ _ h) ∙ c.self.view_is))
+    rw c.deref.ensures (h.reaches ∙ ap (λ (f : FeatureValue). option_map extent_of f.geometry) (sym (packed_view _ _ _ _ h) ∙ c.self.view_is))

@@ -1,12 +1,14 @@
 use Rattle.std.proofs.Common.{ap, ◌∙◌, option_map}
 use Rattle.streetmap_moment.specs.Views.{interval_value}
 use Rattle.streetmap_geojson.specs.Packed.{unpacked}
-use Rattle.streetmap_geojson.specs.declared.packed.Reach.{Reach}
+use Rattle.streetmap_geojson.specs.SpanView.{span_value}
+use Rattle.streetmap_geojson.specs.declared.packed.Kept.{Kept}
 use Rattle.streetmap_geojson.proofs.PackedFacts.{unpacked_again}
 use Rattle.streetmap_geojson.proofs.packed.PackedFeature.new.Goals as goal
 
 pub returns : goal.returns
 returns c =
     let time = option_map interval_value c.args.time in
-    ap (λ (r : Reach). unpacked c.args.text (option_map interval_value r.time)) c.in_ok-reach.ensures.ok
+    ap (λ (k : Kept). unpacked k.text (span_value k.time)) c.in_ok-kept.ensures.ok
+    ∙ ap (unpacked c.args.text) c.new.ensures
     ∙ ap (λ text. unpacked text time) c.requires ∙ unpacked_again c.args.feature.now time c.facts.ensures

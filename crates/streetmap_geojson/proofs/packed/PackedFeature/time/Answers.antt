@@ -1,7 +1,11 @@
 use Rattle.std.proofs.Common.{ap, sym, ◌∙◌}
 use Rattle.streetmap_geojson.specs.FeatureValue.{FeatureValue}
+use Rattle.streetmap_geojson.specs.SpanView.{span_value}
+use Rattle.streetmap_geojson.specs.declared.packed.Kept.{Kept}
 use Rattle.streetmap_geojson.proofs.PackedFacts.{packed_view}
 use Rattle.streetmap_geojson.proofs.packed.PackedFeature.time.Goals as goal
 
 pub returns : goal.returns
-returns c = rw c.deref.ensures (ap (λ (f : FeatureValue). f.time) (sym (packed_view _ _ _ c.self.invariant) ∙ c.self.view_is))
+returns c =
+    c.time.ensures ∙ ap (λ (k : Kept). span_value k.time) c.deref.ensures
+    ∙ ap (λ (f : FeatureValue). f.time) (sym (packed_view _ _ _ _ c.self.invariant) ∙ c.self.view_is)
