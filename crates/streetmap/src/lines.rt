@@ -109,6 +109,7 @@ fn next_line<R: BufRead>(alloc: Global, reader: &mut R) -> Result<Line, ProgramF
             Shown::More => {}
             Shown::LineFeed => {
                 drop_carriage_return(&mut line);
+                line.shrink_to_fit();
                 return Ok(Line::Text(line));
             }
             Shown::End => {

@@ -120,7 +120,9 @@ fn keyed(alloc: Global, told: Option<&str>, edits: Edits) -> Result<Batch, Batch
         return Err(BatchFault::BadKey);
     }
     let key = String::from_str(alloc, key)?;
-    Batch::new(key, edits?)
+    let mut edits = edits?;
+    edits.shrink_to_fit();
+    Batch::new(key, edits)
 }
 
 /// The batch of the members read.

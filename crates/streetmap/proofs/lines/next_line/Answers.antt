@@ -1,4 +1,4 @@
-use Rattle.std.proofs.Common.{◌≡◌, ◌≤◌, ◌<◌, length, arith, subst, sym, rules, []}
+use Rattle.std.proofs.Common.{◌≡◌, ◌≤◌, ◌<◌, length, arith, subst, sym, ◌∙◌, rules, []}
 use Rattle.std.proofs.lemmas.Bool.Decides.{nat_tests}
 use Rattle.streetmap.specs.Reading.{TakesShown, TakesLine, IsFirstLine, WhereKnown}
 use Rattle.streetmap.proofs.LineLemmas.{part_none, part_more, part_ended, part_last, part_end, part_too_long, no_bytes}
@@ -24,7 +24,7 @@ returns-in-LineFeed-clause-taken g c =
     let longer = c.take_shown.new.line.items in
     let taken = subst (TakesShown (g.R.Read.remaining c.loop-turn.reader) after c.loop-turn.line.items longer) c.in-LineFeed.is c.in_ok-take_shown.ensures.taken in
     let short : length longer ≤ 8388608 = omega (arith, c.in_ok-take_shown.ensures.short, c.take_shown.new.line.ok.0) in
-    subst (λ l. WhereKnown before after (λ input rest. IsFirstLine input l rest)) (sym c.drop_carriage_return.ensures)
+    subst (λ l. WhereKnown before after (λ input rest. IsFirstLine input l rest)) (sym (c.shrink_to_fit.ensures.items ∙ c.drop_carriage_return.ensures))
     (part_ended before _ after _ longer c.loop-turn.invariant taken c.in_ok-take_shown.ensures.one_line short)
 
 pub returns-in-End-clause-taken : goal.returns-in-End-clause-taken

@@ -1,19 +1,19 @@
 use Rattle.std.proofs.Common.{◌≡◌, ℕ, ◌+◌, ◌-◌, ◌<◌, ◌≤◌, [], ◌∷◌, ◌++◌, List, length, map, true, false, Some, None, Ok, Err, refl, sym, ap, ap₂, subst, ◌∙◌, arith, rules, length-append}
-use Rattle.std.specs.Prelude.{option_map}
+use Rattle.std.specs.Prelude.{option_map, string_bytes}
 use Rattle.streetmap_batch.specs.BatchFaults.{Gives}
 use Rattle.streetmap_batch.specs.BatchReading.{batch_from}
 use Rattle.streetmap_batch.specs.BatchTokens.{edits_view, few_edits}
-use Rattle.streetmap_batch.specs.BatchView.{batch_value}
+use Rattle.streetmap_batch.specs.BatchView.{batch_value, edit_values}
 use Rattle.streetmap_batch.specs.Names.{is_key}
 use Rattle.streetmap_batch.proofs.EditLists.{keyed_read}
 use Rattle.streetmap_batch.proofs.batch_reading.keyed.Goals as goal
 
 pub returns : goal.returns
 returns c ds given =
-    let es = edits_view c.in_ok-edits.field-0 in
+    let es = edits_view c.in_ok-edits.edits in
     let key = c.in-Some.key.now in
     let named : is_key key ≡ true = grind arith in
     let read = subst (λ r. Gives edits_view r (few_edits ds)) c.in_ok-edits.was given in
     let told : option_map (λ t. t.now) c.args.told ≡ Some key = rw c.in-Some.is refl in
-    let made : Gives batch_value c.new.result (batch_from key es) = subst (λ k. Gives batch_value c.new.result (batch_from k es)) c.in_ok-key.ensures.ok c.new.ensures in
+    let made : Gives batch_value c.new.result (batch_from key es) = subst (λ k. Gives batch_value c.new.result (batch_from k es)) c.in_ok-key.ensures.ok (subst (λ items. Gives batch_value c.new.result (batch_from (string_bytes c.in_ok-key.key) (edit_values items))) c.shrink_to_fit.ensures.items c.new.ensures) in
     subst (λ r. Gives batch_value c.new.result r) (sym (keyed_read (option_map (λ t. t.now) c.args.told) key ds es told named read)) made
