@@ -78,8 +78,8 @@ impl<'a> PageFold<'a> {
         self.features.len() >= self.query.limit as usize
     }
 
-    /// Counts the feature that comes next, which is selected and not shown: it does not come after
-    /// the id asked, or else it is behind a full page.
+    /// Counts the feature that comes next, which is selected and not shown: either it is `behind`
+    /// the id asked, and the page is full, or it does not come after that id.
     pub fn pass(&mut self, behind: bool)
         ensures { (q : QueryValue) (fs : List FeatureValue) (f : FeatureValue) → Holds q self.old fs → selects_of q f ≡ true → comes_after_of q.after f ≡ behind → (IsTrue behind → IsFull self.old) → Holds q self.new (fs ++ f ∷ []) }
     {
