@@ -2,8 +2,8 @@
 
 The input: ten batches of 10,000 inserts each, of every kind of geometry and with times, 100 pages with a
 box and an interval, and one batch more. Each line is sent when the answer to the line before it is there, so that each has a time
-of its own. The peak of memory is the kernel's, also for the same number of features in batches of 1,000 and of
-100: while a batch is read its whole JSON value stands beside what is kept.
+of its own. The peak of memory is the kernel's, beside the size of the features' own texts, for 100,000 features in
+batches of 10,000, of 1,000 and of 100: a larger batch has more edits in memory at once.
 """
 import json
 import random
@@ -106,11 +106,10 @@ def run(command, lines):
     return seconds, answers, peak
 
 
-def tell(name, seconds, peak, size):
+def tell(name, seconds):
     batches, pages, last = seconds[:BATCHES], seconds[BATCHES:-1], seconds[-1]
     print(f"{name:>10}: {FEATURES / sum(batches):>9.0f} features a second,"
-          f" {PAGES / sum(pages):>7.1f} pages a second, a batch into {FEATURES} features {last / batches[0]:.2f} times the first,"
-          f" peak {peak / 1024:.0f} MiB, {peak * 1024 / size:.1f} times the features' texts")
+          f" {PAGES / sum(pages):>7.1f} pages a second, a batch into {FEATURES} features {last / batches[0]:.2f} times the first")
     return sum(batches), sum(pages)
 
 
@@ -120,20 +119,32 @@ def main():
     batches = batch_lines(BATCHES)
     size = features_size(batches)
     lines = batches + [page_line(chance) for _ in range(PAGES)] + [batch_line(BATCHES, FEATURES // BATCHES, chance)]
-    ours, answers, our_peak = run(program, lines)
-    plain, plain_answers, plain_peak = run([sys.executable, str(Path(__file__).with_name("plain_lines.py"))], lines)
+    ours, answers, _ = run(program, lines)
+    plain, plain_answers, _ = run([sys.executable, str(Path(__file__).with_name("plain_lines.py"))], lines)
     for line, answer, plain_answer in zip(lines, answers, plain_answers):
         if json.loads(answer) != json.loads(plain_answer):
             sys.exit(f"the two answers to {line[:80]} differ: {answer[:200]} {plain_answer[:200]}")
     print(f"{FEATURES} features, whose texts have {size / 2**20:.1f} MiB, in {BATCHES} batches, and {PAGES} pages:")
-    our_batches, our_pages = tell("streetmap", ours, our_peak, size)
-    plain_batches, plain_pages = tell("Python", plain, plain_peak, size)
+    our_batches, our_pages = tell("streetmap", ours)
+    plain_batches, plain_pages = tell("Python", plain)
     print(f"streetmap is {plain_batches / our_batches:.1f} times as fast on batches and"
           f" {plain_pages / our_pages:.1f} times on pages")
-    for count in [100, 1_000]:
+    for count in [BATCHES, 100, 1_000]:
         lines = batch_lines(count)
         peak, size = run(program, lines)[2], features_size(lines)
-        print(f"in {count} batches: peak {peak / 1024:.0f} MiB, {peak * 1024 / size:.1f} times the features' texts")
+        print(f"in {count} batches: peak {peak / 1024:.1f} MiB, {peak * 1024 / size:.2f} times the features' texts")
+    whole_pages(program)
+
+
+def whole_pages(program):
+    """Pages over all 100,000 features, which show ten of them."""
+    asked = {"neither box nor interval": "limit=10", "after the half": "limit=10&after=street-5-00000",
+             "an interval": "limit=10&datetime=2015-01-01T00:00:00Z/2020-01-01T00:00:00Z",
+             "the box of all": "limit=10&bbox=-100000,-100000,20000000,20000000"}
+    lines = batch_lines(BATCHES) + [f"page street {query}" for query in asked.values()]
+    seconds, answers, _ = run(program, lines)
+    for name, took, answer in zip(asked, seconds[BATCHES:], answers[BATCHES:]):
+        print(f"a page of {name}: {took * 1000:.1f} ms, {json.loads(answer)['numberMatched']} matched")
 
 
 main()

@@ -1,10 +1,10 @@
 -- Edits gathered from left to right.
-use Rattle.std.proofs.Common.{◌≡◌, ℕ, suc, ◌+◌, ◌<◌, ◌≤◌, Bool, true, false, List, [], ◌∷◌, ◌++◌, length, Option, Some, Result, Ok, Err, refl, sym, ap, subst, ◌∙◌, arith, length-append}
+use Rattle.std.proofs.Common.{◌≡◌, ℕ, suc, ◌+◌, ◌<◌, ◌≤◌, Bool, true, false, List, [], ◌∷◌, ◌++◌, length, Option, Some, Result, Ok, Err, refl, sym, ap, subst, ◌∙◌, arith}
 use Rattle.std.specs.Prelude.{nat_le}
 use Rattle.std.proofs.lemmas.Bool.{le-leb, leb-true}
-use Rattle.serde_json.specs.Data.{Data, Items, no_items, item}
+use Rattle.serde_json.specs.Data.{Data, no_items}
 use Rattle.streetmap_json.proofs.Fronts.{before}
-use Rattle.streetmap_batch.specs.BatchValue.{EditValue, BatchValue}
+use Rattle.streetmap_batch.specs.BatchValue.{EditValue}
 use Rattle.streetmap_batch.specs.BatchFaults.{Fails}
 use Rattle.streetmap_batch.specs.BatchReading.{◌>>=◌, unless, most_edits, list_of, edit_at, and_more, edits_after, keyed, batch_from}
 use Rattle.streetmap_batch.specs.Names.{is_key}
@@ -37,7 +37,7 @@ last_edit n [] d = let place : n + 1 ≡ n + 0 + 1 = omega arith in ap (λ k. an
 last_edit n (e ∷ ds) d =
     let place : n + 1 + length ds + 1 ≡ n + suc (length ds) + 1 = omega arith in
     ap (and_more (edit_at (n + 1) e)) (last_edit (n + 1) ds d) ∙ first_and_last (edit_at (n + 1) e) (edits_after (n + 1) ds) _
-        ∙ ap (λ k. and_last (and_more (edit_at (n + 1) e) (edits_after (n + 1) ds)) (edit_at k d)) place
+    ∙ ap (λ k. and_last (and_more (edit_at (n + 1) e) (edits_after (n + 1) ds)) (edit_at k d)) place
 
 next_edit : (ds : List Data) (d : Data) (place : ℕ) → place ≡ length ds + 1 → edits_after 0 (ds ++ d ∷ []) ≡ and_last (edits_after 0 ds) (edit_at place d)
 next_edit ds d place is = let here : 0 + length ds + 1 ≡ place = omega (arith, is) in last_edit 0 ds d ∙ ap (λ k. and_last (edits_after 0 ds) (edit_at k d)) here

@@ -1,6 +1,6 @@
 -- The members of a batch, as they are read.
-use Rattle.std.proofs.Common.{◌≡◌, ℕ, Bool, true, false, ◌&&◌, List, [], ◌∷◌, length, codes, Option, None, Some, Result, Ok, Err, MatchOption, Ordering, Less, Equal, Greater, option_map, option_and_then, ok_or, refl, sym, ap, subst, ◌∙◌, Vec, Global}
-use Rattle.std.specs.Prelude.{bytes_eq, IsTrue}
+use Rattle.std.proofs.Common.{◌≡◌, ℕ, Bool, true, false, ◌&&◌, List, [], ◌∷◌, codes, Option, None, Some, Result, Err, MatchOption, Ordering, Less, Equal, Greater, option_map, option_and_then, refl, sym, ap, subst, ◌∙◌, Vec, Global}
+use Rattle.std.specs.Prelude.{bytes_eq}
 use Rattle.std.specs.Ordering.{nat_cmp, match_ordering, is_eq}
 use Rattle.std.specs.Cmp.Lexicographic.{slice_cmp}
 use Rattle.std.specs.Str.{is_utf8}
@@ -8,9 +8,8 @@ use Rattle.std.proofs.lemmas.Slice.Eq.{bytes_eq-Decides}
 use Rattle.std.proofs.lemmas.Map.Text.{is_eq-slice_cmp}
 use Rattle.json.specs.Token.{Token}
 use Rattle.json.specs.Json.{value, parse_map}
-use Rattle.serde_json.specs.Data.{Data, null, boolean, number, string, array, object, Items, Members, no_members, member, put}
+use Rattle.serde_json.specs.Data.{Data, null, boolean, number, string, array, object, Members, no_members, member, put}
 use Rattle.serde_json.specs.Find.{as_array, as_object, get_member}
-use Rattle.serde_json.specs.Read.{of_json, converted}
 use Rattle.serde_json.specs.View.{view}
 use Rattle.serde_json.specs.declared.value.Value.{Value}
 use Rattle.serde_json.proofs.Views.{get_member-put, get_member-put_other}
@@ -22,8 +21,8 @@ use Rattle.streetmap_json.specs.JsonText.{utf8_value}
 use Rattle.streetmap_json.proofs.Fronts.{whole_value, more_than_a_value, no_value, no_object, empty_front}
 use Rattle.streetmap_batch.specs.Text.{Text}
 use Rattle.streetmap_batch.specs.BatchFaults.{Gives}
-use Rattle.streetmap_batch.specs.BatchReading.{list_of, array_at, may_have, names_pass, has_only, as_whole, batch}
-use Rattle.streetmap_batch.specs.BatchTokens.{edits_view, few_edits, AreItemsRead, IsArrayRead, AreRead, IsWholeRead, batch_in}
+use Rattle.streetmap_batch.specs.BatchReading.{list_of, array_at, may_have, names_pass, has_only, batch}
+use Rattle.streetmap_batch.specs.BatchTokens.{edits_view, few_edits, IsArrayRead, AreRead, IsWholeRead, batch_in}
 use Rattle.streetmap_batch.specs.declared.batch_fault.BatchFault.{BatchFault}
 use Rattle.streetmap_batch.specs.declared.batch_fault.BatchFault.TheVariants.{BadBatch}
 use Rattle.streetmap_batch.specs.declared.batch_reading.Parts.{Parts}

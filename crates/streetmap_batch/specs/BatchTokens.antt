@@ -1,5 +1,5 @@
 -- What is read of a batch while its tokens are read, for the reader's own clauses.
-use Rattle.std.specs.Prelude.{◌≡◌, ℕ, List, length, codes, Option, None, Some, MatchOption, option_map, option_and_then, ok_or, Result, Ok, Err, Bool, nat_le, map, Vec}
+use Rattle.std.specs.Prelude.{◌≡◌, List, length, codes, Option, None, Some, MatchOption, option_map, ok_or, Result, Ok, Err, nat_le, Vec}
 use Rattle.std.specs.declared.alloc.Global.{Global}
 use Rattle.json.specs.Token.{Token}
 use Rattle.serde_json.specs.Data.{Data, object, Items, Members}
@@ -8,7 +8,6 @@ use Rattle.serde_json.specs.View.{view}
 use Rattle.streetmap_json.specs.Reads.{Fails}
 use Rattle.streetmap_json.specs.declared.fault.JsonFault.{JsonFault}
 use Rattle.streetmap_json.specs.declared.fault.JsonFault.TheVariants.{Memory, NotJson}
-use Rattle.streetmap_geojson.specs.declared.fault.Fault.{Fault}
 use Rattle.streetmap_geojson.specs.declared.fault.Fault.TheVariants as faults
 use Rattle.streetmap_batch.specs.BatchFaults.{Gives}
 use Rattle.streetmap_batch.specs.BatchReading.{◌>>=◌, unless, most_edits, may_have, names_pass, list_of, array_at, edits_after, as_whole, batch}

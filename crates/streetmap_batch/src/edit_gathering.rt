@@ -38,11 +38,7 @@ fn with_next(alloc: Global, edits: Edits, value: &Value, place: u64) -> Edits
 }
 
 /// The edits of an array whose opening bracket was read.
-fn read_items(
-    alloc: Global,
-    reader: &mut Reader<'_>,
-    depth: usize,
-) -> Result<Edits, JsonFault>
+fn read_items(alloc: Global, reader: &mut Reader<'_>, depth: usize) -> Result<Edits, JsonFault>
     ensures takes { Takes AreItemsRead result reader.new (items_at depth reader.old) }
     ensures shorter { OnOk result (length reader.new < length reader.old) }
 {

@@ -1,5 +1,5 @@
 -- Values at the front of a list of tokens. RFC 8259, sections 3 to 5.
-use Rattle.std.specs.Prelude.{◌≡◌, ℕ, List, length, Option, None, Some, option_and_then, Result, Ok, Err}
+use Rattle.std.specs.Prelude.{◌≡◌, ℕ, List, length, Option, Some, option_and_then, Result, Ok, Err}
 use Rattle.json.specs.Token.{Token}
 use Rattle.json.specs.Json as json
 use Rattle.json.specs.Json.{value, items, members, if_last}

@@ -1,4 +1,4 @@
-use Rattle.std.proofs.Common.{◌≡◌, ℕ, ◌+◌, ◌-◌, ◌<◌, ◌≤◌, [], ◌∷◌, ◌++◌, List, length, map, true, false, Some, None, Ok, Err, refl, sym, ap, ap₂, subst, ◌∙◌, arith, rules, length-append}
+use Rattle.std.proofs.Common.{◌≡◌, true, Some, refl, sym, subst, arith}
 use Rattle.std.specs.Prelude.{option_map, string_bytes}
 use Rattle.streetmap_batch.specs.BatchFaults.{Gives}
 use Rattle.streetmap_batch.specs.BatchReading.{batch_from}

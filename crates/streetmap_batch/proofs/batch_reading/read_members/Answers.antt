@@ -1,9 +1,8 @@
-use Rattle.std.proofs.Common.{◌≡◌, ℕ, ◌+◌, ◌-◌, ◌<◌, ◌≤◌, [], ◌∷◌, ◌++◌, List, length, map, Some, None, Ok, Err, refl, sym, ap, ap₂, subst, ◌∙◌, arith, rules, length-append}
-use Rattle.json.specs.Json.{value, members, read_key}
+use Rattle.std.proofs.Common.{◌≡◌, ◌-◌, Some, None, Err, sym, subst, ◌∙◌, arith}
+use Rattle.json.specs.Json.{value, read_key}
 use Rattle.json.proofs.Grammar.{read_key-shorter}
-use Rattle.serde_json.specs.Data.{no_members, put}
-use Rattle.serde_json.specs.Read.{of_members, converted}
-use Rattle.streetmap_json.specs.Values.{value_at, members_at}
+use Rattle.serde_json.specs.Data.{put}
+use Rattle.streetmap_json.specs.Values.{members_at}
 use Rattle.streetmap_json.specs.declared.fault.JsonFault.TheVariants.{NotJson}
 use Rattle.streetmap_json.proofs.Fronts.{next_member, no_member, no_name, members_done, handed_on}
 use Rattle.streetmap_batch.specs.BatchTokens.{Takes, AreRead}
@@ -14,7 +13,7 @@ returns-in_err-name c =
     let l = c.members in
     let same : c.from_residual.result ≡ Err NotJson = grind arith in
     subst (λ r. Takes AreRead r c.next_key.new.self (members_at 126 c.args.reader.now)) (sym same)
-        (l.invariant.3 ∙ no_name (value 126) l.invariant.0 l.invariant.1 l.reader c.in_err-name.ensures.value)
+    (l.invariant.3 ∙ no_name (value 126) l.invariant.0 l.invariant.1 l.reader c.in_err-name.ensures.value)
 
 pub members-preserved : goal.members-preserved
 members-preserved c =
@@ -45,7 +44,7 @@ returns-in_err-read_member c =
     let fault = c.in_err-read_member.field-0.0 in
     let same : c.from_residual-in_err-read_member.result ≡ Err fault = grind arith in
     subst (λ r. Takes AreRead r c.read_member.new.reader (members_at 126 c.args.reader.now)) (sym same)
-        (handed_on fault _ _ (λ none. l.invariant.3 ∙ no_member (value 126) ms l.invariant.1 k l.reader s named none) (c.in_err-read_member.ensures.takes ms l.invariant.4))
+    (handed_on fault _ _ (λ none. l.invariant.3 ∙ no_member (value 126) ms l.invariant.1 k l.reader s named none) (c.in_err-read_member.ensures.takes ms l.invariant.4))
 
 pub returns : goal.returns
 returns c =

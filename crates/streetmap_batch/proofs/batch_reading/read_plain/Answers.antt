@@ -1,10 +1,6 @@
-use Rattle.std.proofs.Common.{◌≡◌, ℕ, ◌+◌, ◌-◌, ◌<◌, ◌≤◌, [], ◌∷◌, ◌++◌, List, length, map, true, false, Some, None, Ok, Err, refl, sym, ap, ap₂, subst, ◌∙◌, arith, rules, length-append}
+use Rattle.std.proofs.Common.{◌≡◌, true}
 use Rattle.std.proofs.lemmas.Str.{is_utf8-from_IsUtf8, IsUtf8-from_is_utf8}
 use Rattle.std.specs.Str.{is_utf8}
-use Rattle.streetmap_json.specs.JsonText.{utf8_value}
-use Rattle.streetmap_batch.specs.BatchFaults.{Gives}
-use Rattle.streetmap_batch.specs.BatchTokens.{batch_in}
-use Rattle.streetmap_batch.specs.BatchView.{batch_value}
 use Rattle.streetmap_batch.proofs.Parts.{not_utf8}
 use Rattle.streetmap_batch.proofs.batch_reading.read_plain.Goals as goal
 

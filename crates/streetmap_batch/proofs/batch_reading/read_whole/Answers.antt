@@ -1,11 +1,11 @@
-use Rattle.std.proofs.Common.{◌≡◌, ℕ, ◌+◌, ◌-◌, ◌<◌, ◌≤◌, [], ◌∷◌, ◌++◌, List, length, map, true, false, Some, None, Ok, Err, refl, sym, ap, ap₂, subst, ◌∙◌, arith, rules, length-append}
+use Rattle.std.proofs.Common.{◌≡◌, [], ◌∷◌, true, false, Some, Err, sym, ap, subst, ◌∙◌, arith}
 use Rattle.json.specs.Json.{value, parse_map}
 use Rattle.json.specs.Reads.{token_of}
 use Rattle.serde_json.specs.Data.{object}
-use Rattle.streetmap_json.specs.Values.{value_at, members_at, whole}
+use Rattle.streetmap_json.specs.Values.{value_at, whole}
 use Rattle.streetmap_json.proofs.Fronts.{object_opens, whole_value}
 use Rattle.streetmap_batch.specs.BatchTokens.{IsWholeRead}
-use Rattle.streetmap_batch.proofs.Parts.{without_tokens, without_brace, without_members, with_more_behind, fault_of_members}
+use Rattle.streetmap_batch.proofs.Parts.{without_tokens, without_brace, with_more_behind, fault_of_members}
 use Rattle.streetmap_batch.proofs.batch_reading.read_whole.Goals as goal
 
 pub returns-in_default : goal.returns-in_default

@@ -1,9 +1,9 @@
-use Rattle.std.proofs.Common.{◌≡◌, ℕ, ◌+◌, ◌-◌, ◌<◌, ◌≤◌, [], ◌∷◌, ◌++◌, List, length, map, true, false, Some, None, Ok, Err, refl, sym, ap, ap₂, subst, ◌∙◌, arith, rules, length-append}
+use Rattle.std.proofs.Common.{◌≡◌, [], ◌∷◌, Err, refl, sym, ap, subst, ◌∙◌, arith}
 use Rattle.json.specs.Json.{parse_map}
 use Rattle.json.specs.Reads.{token_of}
 use Rattle.serde_json.specs.Data.{array}
 use Rattle.serde_json.specs.View.{view}
-use Rattle.streetmap_json.specs.Values.{value_at, items_at}
+use Rattle.streetmap_json.specs.Values.{value_at}
 use Rattle.streetmap_json.proofs.Fronts.{array_opens, no_array, empty_front, handed_on}
 use Rattle.streetmap_batch.specs.BatchTokens.{Takes, IsArrayRead}
 use Rattle.streetmap_batch.proofs.edit_gathering.read_array.Goals as goal
@@ -21,7 +21,7 @@ returns-in_err-read_items-clause-takes c =
     let fault = c.in_err-read_items.field-0.0 in
     let same : c.from_residual.result ≡ Err fault = grind arith in
     subst (λ r. Takes IsArrayRead r c.read_items.new.reader (value_at c.args.depth c.args.reader.now)) (sym same)
-        (handed_on fault _ _ (λ none. opened ∙ ap (parse_map array) none) c.in_err-read_items.ensures.takes)
+    (handed_on fault _ _ (λ none. opened ∙ ap (parse_map array) none) c.in_err-read_items.ensures.takes)
 
 pub returns-in_ok-read_items-clause-takes : goal.returns-in_ok-read_items-clause-takes
 returns-in_ok-read_items-clause-takes c =

@@ -1,7 +1,6 @@
-use Rattle.std.proofs.Common.{◌≡◌, ℕ, ◌+◌, ◌-◌, ◌<◌, ◌≤◌, [], ◌∷◌, ◌++◌, List, length, map, Some, None, Ok, Err, refl, sym, ap, ap₂, subst, ◌∙◌, arith, rules, length-append}
-use Rattle.json.specs.Json.{value, items, parse_map, after_end_array}
+use Rattle.std.proofs.Common.{◌≡◌, ◌+◌, ◌-◌, ◌<◌, ◌≤◌, [], ◌∷◌, ◌++◌, length, Some, None, Ok, Err, refl, sym, ap, subst, ◌∙◌, arith, length-append}
+use Rattle.json.specs.Json.{value, parse_map, after_end_array}
 use Rattle.serde_json.specs.Data.{no_items}
-use Rattle.serde_json.specs.Read.{of_items, converted}
 use Rattle.serde_json.specs.View.{view}
 use Rattle.streetmap_json.specs.Values.{items_at}
 use Rattle.streetmap_json.proofs.Fronts.{next_item, no_item, items_done, before, one_more_front, none_before, handed_on}
@@ -28,7 +27,7 @@ returns-in_err-value-clause-takes c =
     let fault = c.in_err-value.field-0.0 in
     let same : c.from_residual.result ≡ Err fault = grind arith in
     subst (λ r. Takes AreItemsRead r c.read_value.new.reader (items_at c.args.depth c.args.reader.now)) (sym same)
-        (handed_on fault _ _ (λ none. l.invariant.3 ∙ ap (parse_map (before ds)) (no_item p n l.reader going.0 (rw (← going.1) none))) c.in_err-value.ensures.takes)
+    (handed_on fault _ _ (λ none. l.invariant.3 ∙ ap (parse_map (before ds)) (no_item p n l.reader going.0 (rw (← going.1) none))) c.in_err-value.ensures.takes)
 
 never : 1 ≤ 0 → ⊥
 never h = omega (arith, h)
@@ -53,13 +52,19 @@ items-preserved c =
           (let is : l.count ≡ length ds = l.invariant.5 w.if-count-lt-MOST_EDITS.true in
           let more : length (ds ++ d ∷ []) ≤ most_edits = omega (arith, is, longer, w.if-count-lt-MOST_EDITS.true) in
           let before : Gives edits_view l.edits (edits_after 0 ds) = subst (λ read. Gives edits_view l.edits read) (few_are ds (omega (arith, is, w.if-count-lt-MOST_EDITS.true))) l.invariant.8 in
-          let after = w.with_next-edits.ensures ds (omega (arith, is)) before in
-          ((λ h. omega (arith, is, w.count-is, longer)), (λ h. omega (arith, is, w.count-is, longer)), omega (arith, w.count-is, w.if-count-lt-MOST_EDITS.true),
-          subst (λ r. Gives edits_view r (few_edits (ds ++ d ∷ []))) (sym w.edits-is) (subst (λ read. Gives edits_view w.with_next-edits.result read) (sym (few_are (ds ++ d ∷ []) more)) after)))
+          let after = w.with_next-edits.ensures ds (omega (arith, is)) before in (
+            (λ h. omega (arith, is, w.count-is, longer)),
+            (λ h. omega (arith, is, w.count-is, longer)),
+            omega (arith, w.count-is, w.if-count-lt-MOST_EDITS.true),
+            subst (λ r. Gives edits_view r (few_edits (ds ++ d ∷ []))) (sym w.edits-is) (subst (λ read. Gives edits_view w.with_next-edits.result read) (sym (few_are (ds ++ d ∷ []) more)) after),
+          ))
       | else-count-lt-MOST_EDITS w ↦
-          (let many : most_edits ≤ length ds = l.invariant.6 (omega (arith, w.if-count-lt-MOST_EDITS.false)) in
-          ((λ h. absurd (never (omega (arith, h, w.count-is, w.if-count-lt-MOST_EDITS.false)))), (λ h. omega (arith, many, longer)), omega (arith, w.count-is, l.invariant.7),
-          subst (λ r. Gives edits_view r (few_edits (ds ++ d ∷ []))) (sym w.edits-is) (too_many (ds ++ d ∷ []) (omega (arith, many, longer)))))
+          (let many : most_edits ≤ length ds = l.invariant.6 (omega (arith, w.if-count-lt-MOST_EDITS.false)) in (
+            (λ h. absurd (never (omega (arith, h, w.count-is, w.if-count-lt-MOST_EDITS.false)))),
+            (λ h. omega (arith, many, longer)),
+            omega (arith, w.count-is, l.invariant.7),
+            subst (λ r. Gives edits_view r (few_edits (ds ++ d ∷ []))) (sym w.edits-is) (too_many (ds ++ d ∷ []) (omega (arith, many, longer))),
+          ))
     ] in (
       ds ++ d ∷ [],
       n - 1,

@@ -1,4 +1,4 @@
-use Rattle.std.proofs.Common.{◌≡◌, ◌++◌, ◌∷◌, [], Err, Ok, refl, sym, ap, subst, ◌∙◌, arith, rules}
+use Rattle.std.proofs.Common.{◌≡◌, ◌++◌, ◌∷◌, [], Err, Ok, refl, sym, ap, subst, ◌∙◌, arith}
 use Rattle.std.proofs.lemmas.List.{map_push}
 use Rattle.serde_json.specs.View.{view}
 use Rattle.streetmap_batch.specs.BatchFaults.{Gives}
@@ -23,7 +23,7 @@ returns-in_err-edit c ds behind given =
     let was : c.args.edits ≡ Ok c.in_ok-edits.edits = c.in_ok-edits.was in
     let same : c.from_residual-in_err-edit.result ≡ Err fault = grind arith in
     subst (λ r. Gives edits_view r (edits_after 0 (ds ++ d ∷ []))) (sym same)
-        (faulty_last ds d c.args.place behind fault (edits_view c.in_ok-edits.edits) (subst (λ r. Gives edits_view r (edits_after 0 ds)) was given) (c.in_err-edit.ensures))
+    (faulty_last ds d c.args.place behind fault (edits_view c.in_ok-edits.edits) (subst (λ r. Gives edits_view r (edits_after 0 ds)) was given) (c.in_err-edit.ensures))
 
 pub returns : goal.returns
 returns c ds behind given =
@@ -31,4 +31,4 @@ returns c ds behind given =
     let was : c.args.edits ≡ Ok c.in_ok-edits.edits = c.in_ok-edits.was in
     let pushed : edits_view c.push.new.self ≡ edits_view c.in_ok-edits.edits ++ edit_value c.in_ok-edit.edit ∷ [] = rw (c.in_ok-push.ensures.items, map_push edit_value c.in_ok-edits.edits.items c.in_ok-edit.edit) refl in
     one_more_edit ds d c.args.place behind (edits_view c.in_ok-edits.edits) (edit_value c.in_ok-edit.edit) (subst (λ r. Gives edits_view r (edits_after 0 ds)) was given) c.in_ok-edit.ensures
-        ∙ ap (λ es. Ok es) (sym pushed)
+    ∙ ap (λ es. Ok es) (sym pushed)
