@@ -18,3 +18,4 @@ pub mod JsonText
 pub mod Ends
 pub mod SpanView
 pub mod Packed
+pub mod Outlines

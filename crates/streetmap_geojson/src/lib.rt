@@ -11,7 +11,7 @@
 //! this crate.
 //!
 //! Modules, in the order of reading: `fault`, `json_text`, `id`, `kind`, `feature`, `times`,
-//! `coordinates`, `geometry`, `scan`, `exact`, `read`, `collection`, `write`, `text`, `span`, `packed`,
+//! `coordinates`, `geometry`, `scan`, `exact`, `read`, `collection`, `write`, `text`, `span`, `outline`, `packed`,
 //! `copy`, `laws`.
 #![tactic(auto)]
 
@@ -26,6 +26,7 @@ mod id;
 mod json_text;
 mod kind;
 pub mod laws;
+mod outline;
 mod packed;
 mod read;
 mod scan;
@@ -41,6 +42,7 @@ pub use fault::{CollectionFault, Fault, JsonFault};
 pub use feature::Feature;
 pub use id::{Id, is_id, is_plain, read_id};
 pub use json_text::read_json;
+pub use outline::Outline;
 pub use packed::PackedFeature;
 pub use read::read_feature;
 pub use text::{collection_text, push_comma, push_feature, push_features, push_quoted};

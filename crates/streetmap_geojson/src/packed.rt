@@ -10,11 +10,13 @@ ghost use Rattle.streetmap_geojson.specs.Fault.{Gives};
 ghost use Rattle.streetmap_geojson.specs.FeatureView.{feature_value};
 ghost use Rattle.streetmap_geojson.specs.Kept.{IsFeature};
 ghost use Rattle.streetmap_geojson.specs.Written.{feature_data};
+ghost use Rattle.streetmap_geojson.specs.Outlines.{outline_of};
 ghost use Rattle.streetmap_geojson.specs.Packed.{feature_in_text, retimed, StandsAt};
 
 use crate::fault::JsonFault;
 use crate::feature::Feature;
 use crate::json_text::read_json;
+use crate::outline::Outline;
 use crate::read::read_feature;
 use crate::span::Span;
 use bytes::Bytes;
@@ -147,6 +149,16 @@ impl PackedFeature {
         ensures { option_map interval_value result ≡ self.now.time }
     {
         self.kept.time.time()
+    }
+
+    /// What is known of the feature without reading it.
+    pub fn outline(&self) -> Outline
+        ensures { result ≡ outline_of self.now }
+    {
+        Outline {
+            extent: self.kept.extent,
+            time: self.kept.time,
+        }
     }
 
     /// The bytes of the id, which stand so in the text. None where they do not, since one of them is

@@ -42,6 +42,11 @@ and_nested true true c d r s e h f = f
 and_nested true false c d r s e h f = cc
 and_nested false b c d r s e h f = cc
 
+pub and_early : (a b c r : Bool) → r ≡ a && b → r ≡ false → r ≡ a && (b && c)
+and_early true true c r e h = cc
+and_early true false c r e h = h
+and_early false b c r e h = h
+
 pub on_true : (b : Bool) (P : Type 0) → (b ≡ true → P) → OnTrue b P
 on_true true P f = f refl
 on_true false P f = tt

@@ -6,10 +6,11 @@ use Rattle.std.proofs.lemmas.List.Elements.{recursion_from_All}
 use Rattle.streetmap_grid.specs.Values.{PositionValue}
 use Rattle.streetmap_grid.specs.Ring.{is_closed, is_right, turned}
 use Rattle.streetmap_grid.specs.Extent.{vertices, polygon_vertices, extent_of}
-use Rattle.streetmap_grid.specs.Laws.{MeetingTestIsRelation, OverlapTestIsRelation, WhatMeetsOverlaps, ExtentIsOneBox, ClosedRingsAreEven, NoneIsInsideOutside, OrientedIsRight, RightIsUnchanged}
+use Rattle.streetmap_grid.specs.Laws.{MeetingTestIsRelation, OverlapTestIsRelation, WhatMeetsOverlaps, WithinTestIsRelation, WhatLiesWithinMeets, ExtentIsOneBox, ClosedRingsAreEven, NoneIsInsideOutside, OrientedIsRight, RightIsUnchanged}
 use Rattle.streetmap_grid.proofs.Growing.{extent_is, same_extent, ordered_extent}
 use Rattle.streetmap_grid.proofs.Deciding.{geometry_decides}
 use Rattle.streetmap_grid.proofs.Overlapping.{HoldsPosition, overlaps_decides, geometry_overlaps, closed_level, each_held, inside_held}
+use Rattle.streetmap_grid.proofs.Within.{within_decides, geometry_within}
 use Rattle.streetmap_grid.proofs.Parity.{IsEven, straddling_even}
 use Rattle.streetmap_grid.proofs.Booleans.{both}
 use Rattle.streetmap_grid.proofs.Turning.{oriented_right, turned_kept}
@@ -25,6 +26,13 @@ what_meets_overlaps v g h b t =
     let e = extent_is v h in
     let o = ordered_extent v h in
     (overlaps_decides (extent_of v) g o (b.4, b.5)).1 (geometry_overlaps (extent_of v) g (b.4, b.5) v h e.holds ((geometry_decides v g b.4 b.5).0 t))
+
+pub within_test_is_relation : WithinTestIsRelation
+within_test_is_relation a b h = within_decides a b (h.4, h.5)
+
+pub what_lies_within_meets : WhatLiesWithinMeets
+what_lies_within_meets v g h b t =
+    (geometry_decides v g b.4 b.5).1 (geometry_within (extent_of v) g v h (extent_is v h).holds ((within_decides (extent_of v) g (ordered_extent v h)).0 t))
 
 pub extent_is_one_box : ExtentIsOneBox
 extent_is_one_box v h = (extent_is v h, λ g e. same_extent (vertices v) g (extent_of v) e (extent_is v h))

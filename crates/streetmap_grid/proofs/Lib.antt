@@ -13,3 +13,4 @@ pub mod Signs
 pub mod Turning
 pub mod Walk
 pub mod Whole
+pub mod Within

@@ -54,3 +54,11 @@ Overlaps a b = (x : ℤ) × ((y : ℤ) × (Holds a x y × Holds b x y))
 -- none ends before the other begins, in either direction
 abbrev pub overlaps : BoxValue → BoxValue → Bool
 overlaps a b = int_le a.x0 b.x1 && (int_le b.x0 a.x1 && (int_le a.y0 b.y1 && int_le b.y0 a.y1))
+
+-- each point of the one box lies in the other
+abbrev pub IsWithin : BoxValue → BoxValue → Type 0
+IsWithin a b = (x y : ℤ) → Holds a x y → Holds b x y
+
+-- the one reaches beyond the other in no direction
+abbrev pub is_within : BoxValue → BoxValue → Bool
+is_within a b = int_le b.x0 a.x0 && (int_le a.x1 b.x1 && (int_le b.y0 a.y0 && int_le a.y1 b.y1))

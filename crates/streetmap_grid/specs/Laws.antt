@@ -5,7 +5,7 @@ use Rattle.streetmap_grid.specs.WellFormed.{IsBox, IsGeometry}
 use Rattle.streetmap_grid.specs.Ring.{is_closed, oriented, is_oriented_polygon}
 use Rattle.streetmap_grid.specs.Crossing.{straddles, IsInside}
 use Rattle.streetmap_grid.specs.Meeting.{Holds, GeometryMeets, geometry_meets}
-use Rattle.streetmap_grid.specs.Extent.{IsExtent, vertices, polygon_vertices, extent_of, Overlaps, overlaps}
+use Rattle.streetmap_grid.specs.Extent.{IsExtent, vertices, polygon_vertices, extent_of, Overlaps, overlaps, IsWithin, is_within}
 
 -- the test of a geometry against a box is true exactly where the relation by fractions holds
 abbrev pub MeetingTestIsRelation : Type 0
@@ -18,6 +18,14 @@ OverlapTestIsRelation = (a b : BoxValue) → IsBox a → IsBox b → (IsTrue (ov
 -- what meets a box has an extent that overlaps it
 abbrev pub WhatMeetsOverlaps : Type 0
 WhatMeetsOverlaps = (v : GeometryValue) (g : BoxValue) → IsGeometry v → IsBox g → IsTrue (geometry_meets v g) → IsTrue (overlaps (extent_of v) g)
+
+-- the test of two boxes is true exactly where each point of the one lies in the other
+abbrev pub WithinTestIsRelation : Type 0
+WithinTestIsRelation = (a b : BoxValue) → IsBox a → (IsTrue (is_within a b) ↔ IsWithin a b)
+
+-- a geometry whose extent lies within a box meets that box
+abbrev pub WhatLiesWithinMeets : Type 0
+WhatLiesWithinMeets = (v : GeometryValue) (g : BoxValue) → IsGeometry v → IsBox g → IsTrue (is_within (extent_of v) g) → IsTrue (geometry_meets v g)
 
 -- the least and greatest coordinates are the extent, and no other box is
 abbrev pub ExtentIsOneBox : Type 0

@@ -49,7 +49,7 @@ impl Geometry {
     ghost use Rattle.streetmap_grid.specs.Views.{geometry_value, box_value};
     ghost use Rattle.streetmap_grid.specs.WellFormed.{IsGeometry};
     ghost use Rattle.streetmap_grid.specs.Meeting as meeting;
-    ghost use Rattle.streetmap_grid.specs.Extent.{IsExtent, extent_of, vertices, Overlaps};
+    ghost use Rattle.streetmap_grid.specs.Extent.{IsExtent, extent_of, vertices, Overlaps, is_within};
 
     /// What is known of every geometry: its coordinates are in range, its lines and rings are long
     /// enough, its rings are closed and its lists are not empty.
@@ -75,6 +75,9 @@ impl Geometry {
 
         // What meets a box has an extent that overlaps it.
         ensures overlaps { OnTrue result (Overlaps (extent_of (geometry_value self.now)) (box_value area.now)) }
+
+        // What has an extent within the box meets it.
+        ensures within { IsTrue (is_within (extent_of (geometry_value self.now)) (box_value area.now)) → IsTrue result }
     {
         geometry_meets(self, area)
     }

@@ -32,10 +32,17 @@ fn ranges_meet(low: i64, high: i64, from: i64, to: i64) -> bool
     low <= to && from <= high
 }
 
+/// Whether the range from `low` to `high` reaches beyond that from `from` to `to` at neither end.
+fn range_within(low: i64, high: i64, from: i64, to: i64) -> bool
+    ensures { result ≡ (int_le from low && int_le high to) }
+{
+    from <= low && high <= to
+}
+
 impl GridBox {
     ghost use Rattle.streetmap_grid.specs.Views.{box_value};
     ghost use Rattle.streetmap_grid.specs.Faults.{box_fault};
-    ghost use Rattle.streetmap_grid.specs.Extent.{Overlaps, overlaps};
+    ghost use Rattle.streetmap_grid.specs.Extent.{Overlaps, overlaps, IsWithin, is_within};
 
     /// The box of four bounds, in millimetres. Refused as `BadBox` where a bound is below
     /// -2,000,000,000 or above 2,000,000,000, or `x0` above `x1`, or `y0` above `y1`.
@@ -61,5 +68,13 @@ impl GridBox {
     {
         ranges_meet(self.x0, self.x1, other.x0, other.x1)
             && ranges_meet(self.y0, self.y1, other.y0, other.y1)
+    }
+    /// Whether each point of the box lies in the other, on its edges too.
+    pub fn is_within(&self, other: &GridBox) -> bool
+        ensures points { IsTrue result ↔ IsWithin (box_value self.now) (box_value other.now) }
+        ensures test { result ≡ is_within (box_value self.now) (box_value other.now) }
+    {
+        range_within(self.x0, self.x1, other.x0, other.x1)
+            && range_within(self.y0, self.y1, other.y0, other.y1)
     }
 }

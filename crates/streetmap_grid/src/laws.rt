@@ -2,7 +2,7 @@
 //! function that does nothing.
 #![tactic(auto)]
 
-ghost use Rattle.streetmap_grid.specs.Laws.{MeetingTestIsRelation, OverlapTestIsRelation, WhatMeetsOverlaps, ExtentIsOneBox, ClosedRingsAreEven, NoneIsInsideOutside, OrientedIsRight, RightIsUnchanged};
+ghost use Rattle.streetmap_grid.specs.Laws.{MeetingTestIsRelation, OverlapTestIsRelation, WhatMeetsOverlaps, WithinTestIsRelation, WhatLiesWithinMeets, ExtentIsOneBox, ClosedRingsAreEven, NoneIsInsideOutside, OrientedIsRight, RightIsUnchanged};
 
 /// The test of a geometry against a box is true exactly where the relation by fractions holds.
 pub fn meeting_test_is_relation()
@@ -17,6 +17,16 @@ pub fn overlap_test_is_relation()
 /// What meets a box has an extent that overlaps it.
 pub fn what_meets_overlaps()
     ensures { WhatMeetsOverlaps }
+{}
+
+/// The test of two boxes is true exactly where each point of the one lies in the other.
+pub fn within_test_is_relation()
+    ensures { WithinTestIsRelation }
+{}
+
+/// A geometry whose extent lies within a box meets that box.
+pub fn what_lies_within_meets()
+    ensures { WhatLiesWithinMeets }
 {}
 
 /// The least and greatest coordinates are the one box that holds every position, and each of whose

@@ -5,9 +5,10 @@ use Rattle.std.proofs.lemmas.List.Elements.{filter-append}
 use Rattle.streetmap_grid.specs.Values.{GeometryValue}
 use Rattle.streetmap_grid.specs.Views.{box_value}
 use Rattle.streetmap_grid.specs.Meeting.{geometry_meets}
+use Rattle.streetmap_grid.specs.Extent.{extent_of, is_within}
 use Rattle.streetmap_grid.specs.declared.grid_box.GridBox.{GridBox}
 use Rattle.streetmap_grid.proofs.Facts.{box_facts}
-use Rattle.streetmap_grid.proofs.LawProofs.{what_meets_overlaps}
+use Rattle.streetmap_grid.proofs.LawProofs.{what_meets_overlaps, what_lies_within_meets}
 use Rattle.streetmap_moment.specs.IntervalValue.{IntervalValue}
 use Rattle.streetmap_moment.specs.Meeting.{meets, seconds_overlap}
 use Rattle.streetmap_moment.proofs.IntervalFacts.{interval_facts, meets-seconds_overlap}
@@ -83,3 +84,18 @@ paged q n shown = record {
 pub same_page : (q : QueryValue) (n : ℕ) (cs fs : List FeatureValue) → selected q cs ≡ selected q fs → page_of q n cs ≡ page_of q n fs
 unfolding paged
 same_page q n cs fs e = ap (paged q n) e
+
+-- a geometry meets the box that its extent lies within
+pub within_passes : (g : Option GeometryValue) (e b : GridBox) → Some (box_value e) ≡ option_map extent_of g → IsGeometryIf g → is_within (box_value e) (box_value b) ≡ true → passes geometry_meets g (Some (box_value b)) ≡ true
+within_passes None e b is h w = cc
+within_passes (Some v) e b is h w =
+    let same : box_value e ≡ extent_of v = cc in
+    what_lies_within_meets v (box_value b) h (box_facts b) (ap (λ x. is_within x (box_value b)) (sym same) ∙ w)
+
+-- the fold's own query is the one that it holds a page of
+pub left_out_of : (fold : PageFold) (q : QueryValue) (fs : List FeatureValue) (f : FeatureValue) → IsFeature f → is_candidate (query_value fold.query.now) f ≡ false → HoldsCandidates q fold fs → HoldsCandidates q fold (fs ++ f ∷ [])
+left_out_of fold q fs f made e held =
+    subst (λ v. HoldsCandidates v fold fs → HoldsCandidates v fold (fs ++ f ∷ [])) held.holds.asks (left_out fold.query.now fold fs f made e) held
+
+pub passed_on : (old new : PageFold) (q : QueryValue) (fs : List FeatureValue) (f : FeatureValue) → is_candidate (query_value old.query.now) f ≡ true → (Holds q old (candidates q fs) → Holds q new (candidates q fs ++ f ∷ [])) → HoldsCandidates q old fs → HoldsCandidates q new (fs ++ f ∷ [])
+passed_on old new q fs f e takes held = taken q new fs f (ap (λ v. is_candidate v f) (sym held.holds.asks) ∙ e) held.whole (takes held.holds)

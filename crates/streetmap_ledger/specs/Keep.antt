@@ -77,11 +77,12 @@ ApplyLeaves s b (Err Device) left = LeavesEither left (Some s) (Some (act s b).s
 ApplyLeaves s b (Err Damaged) left = ⊥
 ApplyLeaves s b (Err Reopen) left = ⊥
 
--- neither the states that it stands for have changed, nor what a stop may leave has grown
+-- neither the states that it stands for have changed, nor what a stop may leave
 pub record AsBefore (old new : State → Type 0) (left leaves : Option State → Type 0) : Type 0 where
   pub still : (s : State) → old s → new s
   pub no_other : (s : State) → new s → old s
   pub nothing_else : (o : Option State) → leaves o → left o
+  pub all_of_it : (o : Option State) → left o → leaves o
 
 -- what it stands for after a run of which k batches were answered
 abbrev pub RunEnds : State → List BatchValue → ℕ → Option Fault → (State → Type 0) → Type 0

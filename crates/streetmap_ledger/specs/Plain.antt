@@ -1,7 +1,7 @@
 -- The state that the plain keeper stands for.
 use Rattle.std.specs.Prelude.{Some, Option, ◌≡◌, ℕ, String, None, IsSome, T, not}
 use mathlib.Core.Path.{subst}
-use Rattle.std.proofs.Common.{sym, ◌∙◌}
+use Rattle.std.proofs.Common.{sym, ap, ◌∙◌}
 use Rattle.std.specs.BTreeMap.{BTreeMap}
 use Rattle.std.specs.declared.alloc.Global.{Global}
 use Rattle.streetmap_batch.specs.BatchValue.{BatchValue}
@@ -44,3 +44,7 @@ one_plain k s t p q = sym p.is ∙ q.is
 -- a stop leaves the state that it stands for
 abbrev pub PlainLeaves : PlainKeeper → Option State → Type 0
 PlainLeaves k o = o ≡ Some (plain_state k)
+
+-- a stop may leave that state
+pub leaves_it : (k : PlainKeeper) (s : State) → IsPlain k s → PlainLeaves k (Some s)
+leaves_it k s p = ap (λ t. Some t) (sym p.is)

@@ -1,12 +1,15 @@
 //! What a query asks of a feature.
-ghost use Rattle.std.specs.Prelude.{◌≡◌, IfSome, option_map};
+ghost use Rattle.std.specs.Prelude.{◌≡◌, IfSome, IsTrue, true, option_map};
 ghost use Rattle.streetmap_grid.specs.Meeting.{geometry_meets};
 ghost use Rattle.streetmap_moment.specs.Views.{interval_value};
 ghost use Rattle.streetmap_moment.specs.Meeting.{meets, seconds_overlap};
+ghost use Rattle.streetmap_geojson.specs.FeatureValue.{FeatureValue};
+ghost use Rattle.streetmap_geojson.specs.Kept.{IsFeature, IsGeometryIf};
+ghost use Rattle.streetmap_geojson.specs.Outlines.{outline_of};
 ghost use Rattle.streetmap_query.specs.Views.{query_value};
 ghost use Rattle.streetmap_ledger.specs.Pages.{passes, interval_asked, selects as selects_of, comes_after as comes_after_of, extent_overlaps, is_candidate as is_candidate_of};
 
-use streetmap_geojson::{Feature, PackedFeature};
+use streetmap_geojson::{Feature, Outline};
 use streetmap_moment::Interval;
 use streetmap_query::Query;
 
@@ -53,15 +56,28 @@ pub fn comes_after(query: &Query, feature: &Feature) -> bool
     }
 }
 
-/// Whether the feature's extent overlaps the box, where one is asked.
-fn overlaps_box(query: &Query, feature: &PackedFeature) -> bool
-    ensures { result ≡ passes extent_overlaps feature.now.geometry (query_value query.now).bbox }
+/// Whether the extent overlaps the box, where one is asked.
+fn overlaps_box(query: &Query, outline: &Outline) -> bool
+    ensures { (f : FeatureValue) → outline.now ≡ outline_of f → result ≡ passes extent_overlaps f.geometry (query_value query.now).bbox }
 {
     match &query.bbox {
         None => true,
-        Some(area) => match feature.extent() {
+        Some(area) => match outline.extent() {
             None => false,
             Some(extent) => extent.overlaps(area),
+        },
+    }
+}
+
+/// Whether the extent lies within the box, where one is asked.
+fn lies_within_box(query: &Query, outline: &Outline) -> bool
+    ensures { IsTrue result → (f : FeatureValue) → outline.now ≡ outline_of f → IsGeometryIf f.geometry → passes geometry_meets f.geometry (query_value query.now).bbox ≡ true }
+{
+    match &query.bbox {
+        None => true,
+        Some(area) => match outline.extent() {
+            None => false,
+            Some(extent) => extent.is_within(area),
         },
     }
 }
@@ -75,46 +91,46 @@ fn overlap_seconds(one: &Interval, other: &Interval) -> bool
     one_start <= other_end && other_start <= one_end
 }
 
-/// Whether the feature's seconds overlap those of the interval, where one is asked.
-fn overlaps_interval(query: &Query, feature: &PackedFeature) -> bool
-    ensures { result ≡ passes seconds_overlap feature.now.time (interval_asked (query_value query.now)) }
+/// Whether the seconds of the time overlap those of the interval, where one is asked.
+fn overlaps_interval(query: &Query, outline: &Outline) -> bool
+    ensures { (f : FeatureValue) → outline.now ≡ outline_of f → result ≡ passes seconds_overlap f.time (interval_asked (query_value query.now)) }
 {
     match &query.datetime {
         None => true,
-        Some(datetime) => match feature.time() {
+        Some(datetime) => match outline.time() {
             None => false,
             Some(time) => overlap_seconds(&time, &datetime.interval),
         },
     }
 }
 
-/// Whether a page examines the feature.
-pub fn is_candidate(query: &Query, feature: &PackedFeature) -> bool
-    ensures { result ≡ is_candidate_of (query_value query.now) feature.now }
+/// Whether a page examines the feature with this outline.
+pub fn is_candidate(query: &Query, outline: &Outline) -> bool
+    ensures { (f : FeatureValue) → outline.now ≡ outline_of f → result ≡ is_candidate_of (query_value query.now) f }
 {
-    overlaps_box(query, feature) && overlaps_interval(query, feature)
+    overlaps_box(query, outline) && overlaps_interval(query, outline)
 }
 
-/// Whether the query selects the feature, where that is known without reading it.
-pub fn selects_unread(query: &Query, feature: &PackedFeature) -> Option<bool>
-    ensures { IfSome result (λ known. known ≡ selects_of (query_value query.now) feature.now) }
+/// Whether the query selects the feature with this outline, where the outline tells.
+pub fn selects_unread(query: &Query, outline: &Outline) -> Option<bool>
+    ensures { (f : FeatureValue) → outline.now ≡ outline_of f → IsFeature f → IfSome result (λ known. known ≡ selects_of (query_value query.now) f) }
 {
-    if !meets_interval(query, feature.time()) {
+    if !meets_interval(query, outline.time()) {
         return Some(false);
     }
-    match &query.bbox {
-        None => Some(true),
-        Some(_) => None,
+    if lies_within_box(query, outline) {
+        return Some(true);
     }
+    None
 }
 
-/// Whether the feature's id comes after the one asked, where that is known without reading it.
-pub fn comes_after_unread(query: &Query, feature: &PackedFeature) -> Option<bool>
-    ensures { IfSome result (λ known. known ≡ comes_after_of (query_value query.now).after feature.now) }
+/// Whether a feature with this id comes after the one asked, where the id is known.
+pub fn comes_after_unread(query: &Query, id: Option<&[u8]>) -> Option<bool>
+    ensures { (f : FeatureValue) → IfSome id.entry (λ known. known.now ≡ f.id) → IfSome result (λ known. known ≡ comes_after_of (query_value query.now).after f) }
 {
     match &query.after {
         None => Some(true),
-        Some(after) => match feature.plain_id() {
+        Some(after) => match id {
             Some(id) => Some(id.cmp(after.as_str().as_bytes()).is_gt()),
             None => None,
         },

@@ -20,7 +20,6 @@ ghost use Rattle.streetmap_ledger.specs.Folds.{Holds, HoldsCandidates};
 ghost use Rattle.streetmap_ledger.specs.Pages.{page_over as page_over_of};
 ghost use Rattle.streetmap_ledger.specs.PageView.{page_value};
 
-use crate::asked::{comes_after_unread, is_candidate, selects_unread};
 use crate::extents::grown;
 use crate::fold::PageFold;
 use crate::{Page, Summary};
@@ -198,28 +197,6 @@ fn bounds_of(slots: &BTreeMap<String, Option<PackedFeature>>) -> Option<GridBox>
     bounds
 }
 
-/// Counts the feature that comes next, where it is known unread that the page does not show it, and
-/// answers whether it did.
-fn is_passed(query: &Query, fold: &mut PageFold<'_>, feature: &PackedFeature) -> bool
-    ensures passed { IsTrue result → (fs : List FeatureValue) → Holds (query_value query.now) fold.old fs → Holds (query_value query.now) fold.new (fs ++ feature.now ∷ []) }
-    ensures unchanged { result ≡ false → fold.new ≡ fold.old }
-{
-    match selects_unread(query, feature) {
-        Some(false) => {
-            fold.leave();
-            true
-        }
-        Some(true) => match comes_after_unread(query, feature) {
-            Some(behind) if !behind || fold.is_full() => {
-                fold.pass(behind);
-                true
-            }
-            _ => false,
-        },
-        None => false,
-    }
-}
-
 /// Takes the feature that comes next, read from its text.
 fn take_unpacked(
     alloc: Global,
@@ -235,17 +212,13 @@ fn take_unpacked(
 /// Takes the feature that comes next, where it is a candidate of the query.
 fn examine(
     alloc: Global,
-    query: &Query,
     fold: &mut PageFold<'_>,
     feature: &PackedFeature,
 ) -> Result<(), AllocError>
-    ensures { (fs : List FeatureValue) → HoldsCandidates (query_value query.now) fold.old fs → OnOk result (HoldsCandidates (query_value query.now) fold.new (fs ++ feature.now ∷ [])) }
+    ensures { (q : QueryValue) (fs : List FeatureValue) → HoldsCandidates q fold.old fs → OnOk result (HoldsCandidates q fold.new (fs ++ feature.now ∷ [])) }
 {
     feature.facts();
-    if !is_candidate(query, feature) {
-        return Ok(());
-    }
-    if is_passed(query, fold, feature) {
+    if fold.take_unread(&feature.outline(), feature.plain_id()) {
         return Ok(());
     }
     take_unpacked(alloc, fold, feature)
@@ -263,7 +236,7 @@ fn page_over(
     let mut fold = PageFold::new(alloc, query);
     for slot in slots.values() {
         if let Some(feature) = slot {
-            examine(alloc, query, &mut fold, feature)?;
+            examine(alloc, &mut fold, feature)?;
         }
     }
     fold.end(alloc)

@@ -1,12 +1,13 @@
 //! A page, made feature by feature.
-ghost use Rattle.std.specs.Prelude.{◌≡◌, ◌≤◌, ◌<◌, IfOk, length, string_bytes};
-ghost use Rattle.std.specs.Option.{option_map};
+ghost use Rattle.std.specs.Prelude.{◌≡◌, ◌≤◌, ◌<◌, IfOk, IsTrue, length, string_bytes};
+ghost use Rattle.std.specs.Option.{option_map, ForSome};
+ghost use Rattle.streetmap_geojson.specs.Id.{is_id};
 ghost use Rattle.streetmap_ledger.specs.Pages.{last_id};
 
 use crate::Page;
-use crate::asked::{comes_after, selects};
+use crate::asked::{comes_after, comes_after_unread, is_candidate, selects, selects_unread};
 use std::alloc::{AllocError, Global};
-use streetmap_geojson::Feature;
+use streetmap_geojson::{Feature, Outline};
 use streetmap_query::Query;
 
 /// The page of the features taken so far. It holds at most the query's `limit` of them.
@@ -21,13 +22,15 @@ pub struct PageFold<'a> {
 }
 
 impl<'a> PageFold<'a> {
-    ghost use Rattle.std.specs.Prelude.{List, [], ◌∷◌, ◌++◌, ◌+◌, ◌↔◌, OnOk, OnErr, IsTrue, Bool, true, false, if◌then◌else◌};
+    ghost use Rattle.std.specs.Prelude.{List, [], ◌∷◌, ◌++◌, ◌+◌, ◌↔◌, OnOk, OnErr, IfSome, IsTrue, Bool, true, false, if◌then◌else◌};
     ghost use Rattle.streetmap_geojson.specs.FeatureValue.{FeatureValue};
+    ghost use Rattle.streetmap_geojson.specs.Kept.{IsFeature};
+    ghost use Rattle.streetmap_geojson.specs.Outlines.{outline_of};
     ghost use Rattle.streetmap_query.specs.QueryValue.{QueryValue};
     ghost use Rattle.streetmap_query.specs.Views.{query_value};
-    ghost use Rattle.streetmap_ledger.specs.Pages.{page_of, told, selects as selects_of, comes_after as comes_after_of};
+    ghost use Rattle.streetmap_ledger.specs.Pages.{page_of, told, selects as selects_of, comes_after as comes_after_of, is_candidate as is_candidate_of};
     ghost use Rattle.streetmap_ledger.specs.PageView.{page_value};
-    ghost use Rattle.streetmap_ledger.specs.Folds.{Holds, IsFull};
+    ghost use Rattle.streetmap_ledger.specs.Folds.{Holds, HoldsCandidates, IsFull};
 
     /// Holds the page of no feature.
     pub fn new(alloc: Global, query: &'a Query) -> Self
@@ -96,6 +99,38 @@ impl<'a> PageFold<'a> {
         self.count(false);
     }
 
+    /// Counts the candidate that comes next, where its outline and its id, if that is known, tell that the
+    /// page does not show it, and answers whether it did.
+    fn pass_candidate(&mut self, outline: &Outline, id: Option<&[u8]>) -> bool
+        ensures passed { IsTrue result → (q : QueryValue) (fs : List FeatureValue) (f : FeatureValue) → outline.now ≡ outline_of f → IsFeature f → IfSome id.entry (λ known. known.now ≡ f.id) → Holds q self.old fs → Holds q self.new (fs ++ f ∷ []) }
+        ensures unchanged { result ≡ false → self.new ≡ self.old }
+    {
+        match selects_unread(self.query, outline) {
+            Some(false) => {
+                self.leave();
+                true
+            }
+            Some(true) => match comes_after_unread(self.query, id) {
+                Some(behind) if !behind || self.is_full() => {
+                    self.pass(behind);
+                    true
+                }
+                _ => false,
+            },
+            None => false,
+        }
+    }
+
+    /// Takes the feature that comes next, where its outline and its id, if that is known, tell enough,
+    /// and answers whether it did. Otherwise the feature is a candidate, and has to be taken itself.
+    pub fn take_unread(&mut self, outline: &Outline, id: Option<&[u8]>) -> bool
+        ensures taken { IsTrue result → (q : QueryValue) (fs : List FeatureValue) (f : FeatureValue) → outline.now ≡ outline_of f → IsFeature f → IfSome id.entry (λ known. known.now ≡ f.id) → HoldsCandidates q self.old fs → HoldsCandidates q self.new (fs ++ f ∷ []) }
+        ensures unchanged { result ≡ false → self.new ≡ self.old }
+        ensures candidate { result ≡ false → (f : FeatureValue) → outline.now ≡ outline_of f → is_candidate_of (query_value self.old.query.now) f ≡ true }
+    {
+        !is_candidate(self.query, outline) || self.pass_candidate(outline, id)
+    }
+
     /// The page of the features taken.
     pub fn end(self, alloc: Global) -> Result<Page, AllocError>
         ensures { (q : QueryValue) (fs : List FeatureValue) → Holds q self.entry fs → IfOk result (λ page. page_value page ≡ page_of q (length fs) fs) }
@@ -123,10 +158,14 @@ impl<'a> PageFold<'a> {
 
 /// The id of the last feature.
 fn last_of(alloc: Global, features: &[Feature]) -> Result<Option<String>, AllocError>
-    ensures { IfOk result (λ id. option_map string_bytes id ≡ last_id features.now) }
+    ensures value { IfOk result (λ id. option_map string_bytes id ≡ last_id features.now) }
+    ensures named { IfOk result (λ id. ForSome id (λ text. IsTrue (is_id (string_bytes text)))) }
 {
     match features.last() {
-        Some(feature) => Ok(Some(String::from_str(alloc, feature.id())?)),
+        Some(feature) => {
+            feature.facts();
+            Ok(Some(String::from_str(alloc, feature.id())?))
+        }
         None => Ok(None),
     }
 }

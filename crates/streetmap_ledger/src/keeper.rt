@@ -72,6 +72,9 @@ pub trait Keeper {
     /// A shut keeper stands for no state.
     ghost shut_has_none: { (keeper : Self) (s : State) → IsSome (cause keeper) → stands keeper s → ⊥ };
 
+    /// A stop may leave the state that it stands for.
+    ghost may_leave_it: { (keeper : Self) (s : State) → stands keeper s → may_leave keeper (Some s) };
+
     /// The states that it stands for are well-formed.
     ghost well_formed: { (keeper : Self) (s : State) → stands keeper s → IsState s };
 }

@@ -1,4 +1,8 @@
 //! Pages.
+ghost use Rattle.std.specs.Prelude.{IsTrue, string_bytes};
+ghost use Rattle.std.specs.Option.{ForSome};
+ghost use Rattle.streetmap_geojson.specs.Id.{is_id};
+
 use streetmap_geojson::Feature;
 
 /// A page of a collection.
@@ -12,4 +16,5 @@ pub struct Page {
     pub next: Option<String>,
     /// How many features have an extent and seconds that overlap what is asked; 2^64 - 1 where they are more.
     pub examined: u64,
+    pub ghost named: { ForSome next (λ id. IsTrue (is_id (string_bytes id))) },
 }

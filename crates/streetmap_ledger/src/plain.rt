@@ -194,7 +194,7 @@ impl PlainKeeper {
 }
 
 impl Keeper for PlainKeeper {
-    ghost use Rattle.streetmap_ledger.specs.Plain.{IsPlain, PlainLeaves, one_plain, never_shut};
+    ghost use Rattle.streetmap_ledger.specs.Plain.{IsPlain, PlainLeaves, one_plain, leaves_it, never_shut};
 
     ghost stands = { IsPlain };
 
@@ -205,6 +205,8 @@ impl Keeper for PlainKeeper {
     ghost is_clean = { λ _. Unit {0} };
 
     ghost one_state = { one_plain };
+
+    ghost may_leave_it = { leaves_it };
 
     ghost shut_has_none = { λ k s shut stands. never_shut shut };
 

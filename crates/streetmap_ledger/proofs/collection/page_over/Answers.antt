@@ -19,7 +19,7 @@ loop-slot-preserved-in-Continue-1 c =
     let met : c.loop-slot.slot-iterator ≡ c.in-Some.slot.now ∷ c.next.new.self = search rules in (
       fs ++ f ∷ [],
       append_assoc fs (f ∷ []) (live_values c.next.new.self) ∙ (ap (λ o. fs ++ live_values (o ∷ c.next.new.self)) (sym c.in-Some-slot.is) ∙ (ap (λ os. fs ++ live_values os) (sym met) ∙ c.loop-slot.invariant.1)),
-      c.in_ok-examine.ensures fs c.loop-slot.invariant.2,
+      c.in_ok-examine.ensures (query_value c.args.query.now) fs c.loop-slot.invariant.2,
     )
 
 pub loop-slot-preserved : goal.loop-slot-preserved
