@@ -4,3 +4,4 @@ pub mod TextFacts
 pub mod IntervalFacts
 pub mod IntervalTextFacts
 pub mod ReadFacts
+pub mod PropertyFacts

@@ -48,10 +48,10 @@ empty_tested None end h = cc
 empty_tested (Some s) None h = cc
 empty_tested (Some s) (Some e) h = (s, e, refl, refl, omega (arith, ints))
 
-in_order_ends : (i : IntervalValue) → IsInOrder i.start i.end → ordered_ends (Some i) ≡ Ok i
+pub in_order_ends : (i : IntervalValue) → IsInOrder i.start i.end → ordered_ends (Some i) ≡ Ok i
 in_order_ends i h = rw (order_tested i.start i.end h) refl
 
-ordered_ok : (o : Option IntervalValue) (i : IntervalValue) → ordered_ends o ≡ Ok i → o ≡ Some i
+pub ordered_ok : (o : Option IntervalValue) (i : IntervalValue) → ordered_ends o ≡ Ok i → o ≡ Some i
 ordered_ok None i e = cc
 ordered_ok (Some j) i e =
     elim (cases_Bool (starts_after j.start j.end)) [
@@ -96,7 +96,7 @@ interval_once text i j x y = same_Some i j (sym (ends_read text i x) ∙ ends_re
 
 -- ---- full dates
 
-full_takes : (text : List ℕ) (day : ℤ) → full_date_of text ≡ Some day → IsFullDateText text (day_interval day)
+pub full_takes : (text : List ℕ) (day : ℤ) → full_date_of text ≡ Some day → IsFullDateText text (day_interval day)
 unfolding full_date_of
 full_takes text day e =
     via ended (date_at text) day e (λ x x_is e.
@@ -104,7 +104,7 @@ full_takes text day e =
     let date = date_takes text x.1 x.0 x_is in
     (date.0, date.1, date.2, date.3, cc (date.4, ends.0), ap day_interval (ends.1 ∙ date.5)))
 
-full_read : (text : List ℕ) (i : IntervalValue) → IsFullDateText text i → (day : ℤ) × (full_date_of text ≡ Some day) × (i ≡ day_interval day)
+pub full_read : (text : List ℕ) (i : IntervalValue) → IsFullDateText text i → (day : ℤ) × (full_date_of text ≡ Some day) × (i ≡ day_interval day)
 unfolding full_date_of
 full_read text i x =
     let day = days_from_civil (pos x.0) x.1 x.2 in
@@ -134,7 +134,7 @@ interval_no_date (Between a b) h = moment_no_date a (47 ∷ date_time_text b) h.
 interval_no_date (Since a open_end) h = moment_no_date a (47 ∷ open_text open_end) h
 interval_no_date (Until open_end b) h = open_no_date open_end (date_time_text b)
 
-no_date : (text : List ℕ) (i : IntervalValue) → IsIntervalText text i → full_date_of text ≡ None
+pub no_date : (text : List ℕ) (i : IntervalValue) → IsIntervalText text i → full_date_of text ≡ None
 no_date text i x = ap full_date_of x.2 ∙ interval_no_date x.0 x.1
 
 -- ---- texts of time properties

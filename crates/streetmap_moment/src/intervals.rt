@@ -92,6 +92,16 @@ impl Interval {
             && !Interval::starts_after(self.start, other.end)
     }
 
+    /// Whether the two intervals have a second in common, where each end that is between two seconds is
+    /// rounded down, and both ends count.
+    pub fn overlaps_seconds(&self, other: &Interval) -> bool
+        ensures { result ≡ seconds_overlap (interval_value self.now) (interval_value other.now) }
+    {
+        let (start, end) = self.seconds();
+        let (other_start, other_end) = other.seconds();
+        start <= other_end && other_start <= end
+    }
+
     /// The first and the last second of the interval: its ends in whole seconds since
     /// 1970-01-01T00:00:00Z, rounded down.
     ///
