@@ -4,7 +4,7 @@ use Rattle.std.specs.Prelude.{decimal}
 use Rattle.json.specs.Print.{escape_byte}
 use Rattle.serde_json.specs.Written.{compact_text}
 use Rattle.streetmap_geojson.specs.FeatureValue.{FeatureValue}
-use Rattle.streetmap_geojson.specs.Written.{array_of, feature_data}
+use Rattle.streetmap_feature_text.specs.Written.{array_of, feature_data}
 use Rattle.streetmap_batch.specs.Text.{Text}
 use Rattle.streetmap.specs.Answers.{page_data}
 use Rattle.streetmap.specs.PageText.{next_text}

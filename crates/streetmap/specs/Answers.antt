@@ -4,7 +4,7 @@ use Rattle.serde_json.specs.Data.{Data, number, unsigned, string, array, object,
 use Rattle.serde_json.specs.View.{items_of}
 use Rattle.streetmap_geojson.specs.FeatureValue.{FeatureValue}
 use Rattle.streetmap_geojson.specs.FaultCodes.{fault_code}
-use Rattle.streetmap_geojson.specs.Written.{feature_data}
+use Rattle.streetmap_feature_text.specs.Written.{feature_data}
 use Rattle.streetmap_query.specs.QueryValue.{QueryValue}
 use Rattle.streetmap_query.specs.Query.{query_of}
 use Rattle.streetmap_query.specs.Faults as query

@@ -1,13 +1,14 @@
 //! Pages and features as JSON texts.
 ghost use Rattle.std.specs.Prelude.{◌≡◌, ◌++◌, IfOk, OnOk, decimal, map, option_map, string_bytes};
 ghost use Rattle.serde_json.specs.Written.{compact_text};
-ghost use Rattle.streetmap_geojson.specs.Written.{feature_data};
+ghost use Rattle.streetmap_feature_text.specs.Written.{feature_data};
 ghost use Rattle.streetmap_ledger.specs.PageView.{page_value};
 ghost use Rattle.streetmap.specs.Answers.{page_data};
 ghost use Rattle.streetmap.specs.PageText.{next_text};
 
 use std::alloc::{AllocError, Global};
-use streetmap_geojson::{Feature, push_feature, push_features, push_quoted};
+use streetmap_feature_text::{push_feature, push_features, push_quoted};
+use streetmap_geojson::Feature;
 use streetmap_ledger::Page;
 
 /// Appends a number.

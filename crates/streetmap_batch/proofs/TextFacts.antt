@@ -4,7 +4,7 @@ use Rattle.serde_json.specs.Data.{string}
 use Rattle.serde_json.specs.Written.{compact_text, items_text}
 use Rattle.json.specs.Print.{escape_byte}
 use Rattle.streetmap_geojson.specs.FeatureValue.{FeatureValue}
-use Rattle.streetmap_geojson.specs.Written.{feature_data}
+use Rattle.streetmap_feature_text.specs.Written.{feature_data}
 use Rattle.streetmap_batch.specs.Text.{Text}
 use Rattle.streetmap_batch.specs.BatchValue.{BatchValue}
 use Rattle.streetmap_batch.specs.BatchText.{feature_edit_data, edits_data, batch_data, batch_text}

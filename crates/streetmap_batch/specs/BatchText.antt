@@ -4,7 +4,7 @@ use Rattle.serde_json.specs.Data.{Data, string, array, object, Items, Members, n
 use Rattle.serde_json.specs.View.{items_of}
 use Rattle.serde_json.specs.Written.{compact_text}
 use Rattle.streetmap_geojson.specs.FeatureValue.{FeatureValue}
-use Rattle.streetmap_geojson.specs.Written.{feature_data}
+use Rattle.streetmap_feature_text.specs.Written.{feature_data}
 use Rattle.streetmap_batch.specs.Text.{Text}
 use Rattle.streetmap_batch.specs.BatchValue as value
 use Rattle.streetmap_batch.specs.BatchValue.{EditValue, BatchValue}

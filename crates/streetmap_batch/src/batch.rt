@@ -1,6 +1,4 @@
 //! Batches of edits.
-#![tactic(auto)]
-
 ghost use Rattle.std.specs.Prelude.{◌≡◌, ◌≤◌, IsTrue, IfOk, length, string_bytes};
 ghost use Rattle.streetmap_batch.specs.Names.{is_key};
 

@@ -1,6 +1,4 @@
 //! Why a batch is refused.
-#![tactic(auto)]
-
 ghost use Rattle.std.specs.Prelude.{◌≡◌, option_map};
 
 use std::alloc::{AllocError, AllocFailed};

@@ -1,6 +1,4 @@
 //! Batches from JSON.
-#![tactic(auto)]
-
 ghost use Rattle.std.specs.Prelude.{◌≡◌, ◌<◌, Ok, IfOk, OnOk, IsTrue, false, List, length, option_map};
 ghost use Rattle.json.specs.Json.{value};
 ghost use Rattle.json.specs.Reads.{token_of};

@@ -1,6 +1,4 @@
 //! The text of a batch, edit by edit.
-#![tactic(auto)]
-
 ghost use Rattle.std.specs.Prelude.{◌≡◌, ◌++◌, IfOk, OnOk, false, option_map, string_bytes};
 ghost use Rattle.serde_json.specs.View.{view};
 ghost use Rattle.serde_json.specs.Written.{compact_text, has_float, items_text};
@@ -11,7 +9,8 @@ ghost use Rattle.streetmap_batch.specs.BatchView.{edit_value, edit_values};
 use crate::edit::{CollectionId, Edit, TimeProperty, Title};
 use serde_json::{Value, json};
 use std::alloc::{AllocError, Global};
-use streetmap_geojson::{Feature, Id, push_comma, push_feature, push_quoted};
+use streetmap_feature_text::{push_comma, push_feature, push_quoted};
+use streetmap_geojson::{Feature, Id};
 
 /// The value of an open edit.
 #[tactic(auto, unfolding(crate::specs::BatchText::edit_data))]

@@ -1,6 +1,4 @@
 //! Edits, whose types keep the rules of the names in them.
-#![tactic(auto)]
-
 ghost use Rattle.std.specs.Prelude.{◌≡◌, IsTrue, IfOk, string_bytes};
 ghost use Rattle.streetmap_batch.specs.Names.{is_collection_id, is_title, is_time_property, passing};
 ghost use Rattle.streetmap_batch.specs.BatchFaults.{Gives};

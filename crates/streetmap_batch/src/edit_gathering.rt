@@ -1,7 +1,5 @@
 //! The edits of a batch, gathered from its tokens one at a time, so that only one of them is ever in
 //! memory as a JSON value.
-#![tactic(auto)]
-
 ghost use Rattle.std.specs.Prelude.{◌≡◌, ◌+◌, ◌∷◌, ◌++◌, ◌<◌, ◌≤◌, [], List, length, false, IsTrue, OnOk};
 ghost use Rattle.json.specs.Reads.{token_of};
 ghost use Rattle.json.specs.Token.{begin_array};

@@ -1,6 +1,4 @@
 //! Edits from JSON. Each is judged at its place, counted from 1.
-#![tactic(auto)]
-
 ghost use Rattle.std.specs.Prelude.{◌≡◌, Ok, Some, None, option_map, codes};
 ghost use Rattle.serde_json.specs.Find.{get};
 ghost use Rattle.serde_json.specs.View.{view};

@@ -1,6 +1,4 @@
 //! The objects of the formats.
-#![tactic(auto)]
-
 /// The objects that a batch is made of, by the members that they may have.
 #[derive(Clone, Copy, Debug, PartialEq, Eq, Drop)]
 pub(crate) enum Format {

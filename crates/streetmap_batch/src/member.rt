@@ -1,6 +1,4 @@
 //! The members of an object.
-#![tactic(auto)]
-
 ghost use Rattle.std.specs.Prelude.{◌≡◌, option_map, string_bytes};
 ghost use Rattle.std.specs.BTreeMap.{keys};
 ghost use Rattle.std.specs.List.{list_all};

@@ -1,6 +1,4 @@
 //! The names in a batch.
-#![tactic(auto)]
-
 ghost use Rattle.std.specs.Prelude.{◌≡◌};
 ghost use Rattle.std.specs.List.{list_all};
 ghost use Rattle.streetmap_batch.specs.Names.{is_long, is_id_byte, is_key_byte, is_key, begins_alphanumeric, is_collection_id, is_title, is_time_property};

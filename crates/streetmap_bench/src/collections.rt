@@ -1,13 +1,12 @@
 //! A collection of features, read and written, beside its JSON value alone.
-#![tactic(auto)]
-
 use anyhow::Context;
 use serde_json::Value;
 use std::alloc::Global;
 use std::io::{BufReader, Read};
 use std::rt::Clock;
 use std::time::Instant;
-use streetmap_geojson::{Feature, collection_text, read_collection, read_json};
+use streetmap_feature_text::collection_text;
+use streetmap_geojson::{Feature, read_collection, read_json};
 
 /// How often each task is timed.
 const ROUNDS: u32 = 5;

@@ -1,6 +1,4 @@
 //! The shapes that are timed, the same as those of `bench/meets.rs`.
-#![tactic(auto)]
-
 use anyhow::Context;
 use std::alloc::Global;
 use streetmap_grid::{Geometry, GridBox, Polygon, Position, Ring, SimpleGeometry};

@@ -104,7 +104,7 @@ simple_bounded k d n o m e le =
 
 part_as_bounded : (k : Option Kind) → Bounded (member_as k)
 part_as_bounded None d n s m e le = absurd cc
-part_as_bounded (Some Collection) d n s m e le = absurd cc
+part_as_bounded (Some Collection) d n s m e le = let x = bind_ok (array_at (codes "geometries") d) _ (s, m) e in absurd (cc x.2)
 part_as_bounded (Some (Simple k)) d n s m e le = simple_bounded k d n s m e le
 
 or_none : {A : Type 0} (b : Bool) (read : Read (Option A)) (n : ℕ) (o : Option A) (m : ℕ) → cond b (Ok (None, n)) read ≡ Ok (o, m) → n ≤ max_positions → (read ≡ Ok (o, m) → m ≤ max_positions) → m ≤ max_positions

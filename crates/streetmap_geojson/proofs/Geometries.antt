@@ -99,7 +99,7 @@ simple_takes k = record { found = simple_found k; again = simple_again k }
 
 part_as_found : (o : Option Kind) (d : Data) (n : ℕ) (s : Option SimpleValue) (m : ℕ) → kind_at d ≡ o → member_as o d n ≡ Ok (s, m) → ReadsAsMember d s × (m ≡ n + count_if simple_count s)
 part_as_found None d n s m at e = absurd cc
-part_as_found (Some Collection) d n s m at e = absurd cc
+part_as_found (Some Collection) d n s m at e = let x = bind_ok (array_at (codes "geometries") d) _ (s, m) e in absurd (cc x.2)
 part_as_found (Some (Simple k)) d n s m at e = let r = simple_found k d n s m e in (inr (k, at, r.0), r.1)
 
 part_by : (b : Bool) (d : Data) (n : ℕ) (s : Option SimpleValue) (m : ℕ) → is_some (as_null d) ≡ b → cond b (Ok (None, n)) (member_as (kind_at d) d n) ≡ Ok (s, m) → ReadsAsMember d s × (m ≡ n + count_if simple_count s)

@@ -6,15 +6,8 @@ pub mod Directions
 pub mod Bounds
 pub mod Geometries
 pub mod Facts
-pub mod Again
 pub mod Ids
 pub mod Timing
 pub mod Wholes
 pub mod Collections
 pub mod ExactMembers
-pub mod JsonTexts
-pub mod ExactFeatures
-pub mod WrittenFeatures
-pub mod WrittenCollections
-pub mod WrittenParts
-pub mod PackedFacts

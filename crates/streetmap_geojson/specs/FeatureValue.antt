@@ -13,3 +13,7 @@ pub record FeatureValue : Type 0 where
 -- the feature with its time left out
 abbrev pub untimed : FeatureValue → FeatureValue
 untimed f = record { id = f.id; geometry = f.geometry; properties = f.properties; time = None }
+
+-- the feature with this time
+abbrev pub retimed : FeatureValue → Option IntervalValue → FeatureValue
+retimed f time = record { id = f.id; geometry = f.geometry; properties = f.properties; time = time }

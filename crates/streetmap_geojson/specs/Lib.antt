@@ -12,10 +12,5 @@ pub mod FeatureMeaning
 pub mod Kept
 pub mod FeatureView
 pub mod Collection
-pub mod Written
 pub mod Stored
 pub mod JsonText
-pub mod Ends
-pub mod SpanView
-pub mod Packed
-pub mod Outlines

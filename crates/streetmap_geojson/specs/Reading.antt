@@ -155,10 +155,16 @@ simple_as k d n = do
   ds ← array_at (codes "coordinates") d
   unless_empty (coordinates_as k) ds n
 
+-- a GeometryCollection within one is refused, first where it has no array of members
+abbrev pub nested : Data → ℕ → Read (Option SimpleValue)
+nested d n = do
+  ds ← array_at (codes "geometries") d
+  Err NestedCollection
+
 -- a member of `geometries`
 abbrev pub member_as : Option Kind → Data → ℕ → Read (Option SimpleValue)
 member_as None d n = Err BadGeometry
-member_as (Some Collection) d n = Err NestedCollection
+member_as (Some Collection) d n = nested d n
 member_as (Some (Simple k)) d n = simple_as k d n
 
 unfoldable pub member_of_collection : Data → ℕ → Read (Option SimpleValue)

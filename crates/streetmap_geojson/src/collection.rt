@@ -1,6 +1,4 @@
 //! Collections of features (RFC 7946, section 3.3).
-#![tactic(auto)]
-
 ghost use Rattle.std.specs.Prelude.{◌≡◌, ◌<◌, ◌^◌, ◌+◌, List, Ok, Some, IfOk, map, option_map, option_and_then, codes};
 ghost use Rattle.serde_json.specs.View.{view, items_view};
 ghost use Rattle.serde_json.specs.Find.{as_array, get};
@@ -13,7 +11,7 @@ ghost use Rattle.streetmap_geojson.specs.Collection.{GivesAt, at_place, features
 use crate::fault::{CollectionFault, Fault, JsonFault};
 use crate::feature::Feature;
 use crate::geometry::array_in;
-use crate::read::read_at;
+use crate::feature_reading::read_at;
 use serde_json::Value;
 use std::alloc::Global;
 

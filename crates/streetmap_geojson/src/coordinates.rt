@@ -1,6 +1,4 @@
 //! Positions, lines, rings and polygons of JSON arrays (RFC 7946, sections 3.1.1 to 3.1.7).
-#![tactic(auto)]
-
 ghost use Rattle.std.specs.Prelude.{◌≡◌, ◌≤◌, IfOk, length, map};
 ghost use Rattle.serde_json.specs.View.{view};
 ghost use Rattle.streetmap_grid.specs.Range.{IsCoordinate};

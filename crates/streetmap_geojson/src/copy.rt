@@ -1,6 +1,4 @@
 //! Copies of geometries.
-#![tactic(auto)]
-
 ghost use Rattle.std.specs.Prelude.{◌≡◌, map, option_map, IfOk};
 ghost use Rattle.streetmap_grid.specs.Views.{position_value, positions_value, line_value, lines_value, ring_value, rings_value, polygon_value, polygons_value, items_of, simple_value, simples_value, geometry_value};
 

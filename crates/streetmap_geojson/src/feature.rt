@@ -1,6 +1,4 @@
 //! A feature.
-#![tactic(auto)]
-
 ghost use Rattle.std.specs.Prelude.{◌≡◌, option_map};
 ghost use Rattle.serde_json.specs.View.{view};
 ghost use Rattle.streetmap_grid.specs.Views.{geometry_value, box_value};
@@ -49,6 +47,7 @@ impl Model for Feature {
 }
 
 impl Feature {
+    ghost use Rattle.streetmap_geojson.specs.FeatureValue.{retimed};
     ghost use Rattle.streetmap_geojson.specs.Kept.{IsFeature};
     ghost use Rattle.streetmap_geojson.specs.Times.{time_of, timed};
     ghost use Rattle.std.specs.Prelude.{Ok, Err, IfOk, IfErr, OnErr};
@@ -66,6 +65,18 @@ impl Feature {
             properties,
             time: self.time,
         })
+    }
+
+    /// The feature with this time.
+    pub fn with_time(self, time: Option<Interval>) -> Feature
+        ensures { result ≡ retimed self (option_map interval_value time) }
+    {
+        Feature {
+            id: self.id,
+            geometry: self.geometry,
+            properties: self.properties,
+            time,
+        }
     }
 
     /// What is true of every feature.

@@ -1,6 +1,4 @@
 //! Geometries of JSON values (RFC 7946, section 3.1).
-#![tactic(auto)]
-
 ghost use Rattle.std.specs.Prelude.{◌≡◌, ◌≤◌, length, map, option_map, option_and_then};
 ghost use Rattle.serde_json.specs.Find.{as_array, get};
 ghost use Rattle.serde_json.specs.View.{view, items_view};
@@ -109,7 +107,10 @@ fn read_member(
     }
     match kind_at(value) {
         None => Err(JsonFault::Fault(Fault::BadGeometry)),
-        Some(Kind::Collection) => Err(JsonFault::Fault(Fault::NestedCollection)),
+        Some(Kind::Collection) => {
+            let _members = array_at(value, "geometries")?;
+            Err(JsonFault::Fault(Fault::NestedCollection))
+        }
         Some(Kind::Simple(kind)) => read_simple(alloc, kind, value, seen),
     }
 }

@@ -1,6 +1,4 @@
 //! Ids: texts, and whole numbers as their decimal texts (RFC 7946, section 3.2).
-#![tactic(auto)]
-
 ghost use Rattle.std.specs.Prelude.{◌≡◌, ◌↔◌, IfOk, IfErr, IsOk, IsTrue, ℤ, string_bytes, codes, option_map};
 ghost use Rattle.std.specs.Fmt.{signed_decimal};
 ghost use Rattle.std.specs.Str.{is_utf8};

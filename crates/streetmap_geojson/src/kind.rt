@@ -1,6 +1,4 @@
 //! The kinds of geometry, by their names.
-#![tactic(auto)]
-
 ghost use Rattle.std.specs.Prelude.{◌≡◌};
 
 /// The geometry types that have coordinates (RFC 7946, sections 3.1.2 to 3.1.7).

@@ -1,6 +1,4 @@
 //! Times of features, read from their properties.
-#![tactic(auto)]
-
 ghost use Rattle.std.specs.Prelude.{◌≡◌, Ok, Err, IfOk, IfErr, Result, option_map};
 ghost use Rattle.serde_json.specs.View.{view};
 ghost use Rattle.streetmap_moment.specs.Views.{interval_value};

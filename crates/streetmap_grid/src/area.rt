@@ -1,5 +1,3 @@
-#![tactic(auto)]
-
 ghost use Rattle.std.specs.Prelude.{◌≡◌, ℤ, pos, negsuc, ◌≤ℤ◌, ◌*ℤ◌};
 ghost use Rattle.streetmap_grid.specs.Range.{IsCoordinate};
 ghost use Rattle.streetmap_grid.specs.PositionViews.{position_value, positions_value};

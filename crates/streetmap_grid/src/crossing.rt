@@ -1,5 +1,3 @@
-#![tactic(auto)]
-
 ghost use Rattle.std.specs.Prelude.{◌≡◌, ◌+◌, ◌%◌, cond, ℤ, pos, ◌≤ℤ◌, ◌<ℤ◌, int_lt, ◌↔◌, IsTrue};
 ghost use Rattle.streetmap_grid.specs.Range.{IsBound};
 ghost use Rattle.streetmap_grid.specs.Views.{position_value, positions_value, rings_value};

@@ -1,5 +1,3 @@
-#![tactic(auto)]
-
 ghost use Rattle.std.specs.Prelude.{◌≡◌, []};
 
 /// What a constructor of this crate refuses.

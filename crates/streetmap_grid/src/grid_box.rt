@@ -1,5 +1,3 @@
-#![tactic(auto)]
-
 ghost use Rattle.std.specs.Prelude.{◌≡◌, ◌≤ℤ◌, ◌↔◌, ◌&&◌, int_le, IsTrue, None, Some, IfOk, IfErr, OnOk};
 ghost use Rattle.streetmap_grid.specs.Range.{IsBound};
 

@@ -1,7 +1,5 @@
 //! What holds of the definitions of this crate, for all plain values. Each law is the contract of a
 //! function that does nothing.
-#![tactic(auto)]
-
 ghost use Rattle.streetmap_grid.specs.Laws.{MeetingTestIsRelation, OverlapTestIsRelation, WhatMeetsOverlaps, WithinTestIsRelation, WhatLiesWithinMeets, ExtentIsOneBox, ClosedRingsAreEven, NoneIsInsideOutside, OrientedIsRight, RightIsUnchanged};
 
 /// The test of a geometry against a box is true exactly where the relation by fractions holds.

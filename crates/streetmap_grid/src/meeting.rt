@@ -1,5 +1,3 @@
-#![tactic(auto)]
-
 ghost use Rattle.std.specs.Prelude.{◌↔◌, IsTrue};
 ghost use Rattle.streetmap_grid.specs.Views.{position_value, positions_value, lines_value, rings_value, polygon_value, polygons_value, simple_value, simples_value, geometry_value, box_value};
 ghost use Rattle.streetmap_grid.specs.Some.{SomeOf};

@@ -1,5 +1,3 @@
-#![tactic(auto)]
-
 ghost use Rattle.std.specs.Prelude.{◌≡◌, ◌≤◌, IsTrue, vec_len};
 
 use crate::ring::Ring;

@@ -1,5 +1,3 @@
-#![tactic(auto)]
-
 ghost use Rattle.std.specs.Prelude.{◌≡◌, None, Some, IfSome, IfOk, IfErr, OnOk};
 ghost use Rattle.std.proofs.Props.{props};
 ghost use Rattle.streetmap_grid.specs.Range.{IsCoordinate};

@@ -1,5 +1,3 @@
-#![tactic(auto)]
-
 ghost use Rattle.std.specs.Prelude.{◌≡◌, Bool};
 ghost use Rattle.streetmap_grid.specs.Range as range;
 ghost use Rattle.streetmap_grid.specs.Faults as faults;

@@ -1,5 +1,3 @@
-#![tactic(auto)]
-
 ghost use Rattle.std.specs.Prelude.{◌≡◌, ◌≤◌, None, Some, IfOk, IfErr, OnOk, IsTrue, vec_len};
 ghost use Rattle.streetmap_grid.specs.PositionViews.{positions_value};
 ghost use Rattle.streetmap_grid.specs.Ring.{is_closed};

@@ -1,5 +1,3 @@
-#![tactic(auto)]
-
 ghost use Rattle.std.specs.Prelude.{◌≡◌, ℤ, pos, negsuc, ◌≤ℤ◌, ◌*ℤ◌, ◌↔◌, IsTrue};
 ghost use Rattle.streetmap_grid.specs.Range.{IsCoordinate, IsBound};
 ghost use Rattle.streetmap_grid.specs.Views.{position_value, box_value};

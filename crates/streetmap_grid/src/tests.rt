@@ -1,6 +1,4 @@
 //! What no clause says: worked rows, and a plain program by fractions beside `meets`.
-#![tactic(auto)]
-
 ghost use Rattle.std.specs.Prelude.{◌≡◌};
 
 use crate::{

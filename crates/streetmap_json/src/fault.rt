@@ -1,6 +1,4 @@
 //! Why bytes were not read.
-#![tactic(auto)]
-
 ghost use Rattle.std.specs.Prelude.{◌≡◌};
 
 use json::Invalid;

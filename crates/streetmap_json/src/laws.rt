@@ -1,6 +1,4 @@
 // Laws of JSON texts.
-#![tactic(auto)]
-
 ghost use Rattle.std.specs.Prelude.{◌≡◌, ◌≢◌, ℕ, List, [], ◌∷◌, ◌++◌, ◌<◌, ◌≤◌, length, true, false, ◌==◌, Some, IsTrue};
 ghost use Rattle.std.specs.List.{list_all};
 ghost use Rattle.json.specs.Ascii as ascii;

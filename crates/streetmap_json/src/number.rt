@@ -1,6 +1,4 @@
 //! Numbers from their texts.
-#![tactic(auto)]
-
 ghost use Rattle.std.specs.Prelude.{◌≡◌, ◌==◌, ◌<◌, option_map, true, false, length, slice_index, IsTrue};
 ghost use Rattle.json.specs.Ascii as ascii;
 ghost use Rattle.serde_json.specs.Read.{number_of, number_from, float_of};

@@ -1,6 +1,4 @@
 // Number texts whose fraction is zeros alone, in the bytes of a JSON text.
-#![tactic(auto)]
-
 ghost use Rattle.std.specs.Prelude.{◌≡◌, ◌∷◌, ℕ, IfOk, MatchOption, ◌<◌, ◌≤◌, length, take, drop};
 ghost use Rattle.std.specs.List.{prefix_len, position_or_len, onto_first};
 ghost use Rattle.streetmap_json.specs.NumberText.{is_in_number, is_dot, are_digits, are_signed_digits, are_zeros, without_fraction, whole_text, outside, within, tokens_from, plain_text};

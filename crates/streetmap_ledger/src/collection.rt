@@ -15,7 +15,7 @@ ghost use Rattle.streetmap_ledger.specs.Summaries.{all_vertices, summary_of};
 ghost use Rattle.streetmap_ledger.specs.SummaryView.{summary_value};
 ghost use Rattle.serde_json.specs.Written.{compact_text};
 ghost use Rattle.streetmap_geojson.specs.FeatureValue.{FeatureValue};
-ghost use Rattle.streetmap_geojson.specs.Written.{feature_data};
+ghost use Rattle.streetmap_feature_text.specs.Written.{feature_data};
 ghost use Rattle.streetmap_ledger.specs.Folds.{Holds, HoldsCandidates};
 ghost use Rattle.streetmap_ledger.specs.Pages.{page_over as page_over_of};
 ghost use Rattle.streetmap_ledger.specs.PageView.{page_value};
@@ -27,7 +27,8 @@ use bytes::Bytes;
 use std::alloc::{AllocError, Global};
 use std::collections::BTreeMap;
 use std::marker::Model;
-use streetmap_geojson::{Feature, PackedFeature};
+use streetmap_feature_text::PackedFeature;
+use streetmap_geojson::Feature;
 use streetmap_grid::GridBox;
 use streetmap_query::Query;
 

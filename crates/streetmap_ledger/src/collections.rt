@@ -4,7 +4,7 @@ ghost use Rattle.std.specs.Option.{option_copied};
 ghost use Rattle.std.specs.FinMap.{get, insert, empty};
 ghost use Rattle.serde_json.specs.Written.{compact_text};
 ghost use Rattle.streetmap_geojson.specs.FeatureValue.{FeatureValue};
-ghost use Rattle.streetmap_geojson.specs.Written.{feature_data};
+ghost use Rattle.streetmap_feature_text.specs.Written.{feature_data};
 ghost use Rattle.streetmap_ledger.specs.Slots.{SlotCollections, map_of, slot_in, put_in, cut_in, reset_in, swept_in};
 ghost use Rattle.std.specs.BTreeMap.{IsOrdered};
 ghost use Rattle.std.specs.String.{string_cmp};
@@ -18,7 +18,8 @@ use crate::undo::Undo;
 use bytes::Bytes;
 use std::alloc::{AllocError, Global};
 use std::collections::BTreeMap;
-use streetmap_geojson::{Feature, PackedFeature};
+use streetmap_feature_text::PackedFeature;
+use streetmap_geojson::Feature;
 
 /// Takes a slot out of a collection.
 fn cut(collections: &mut BTreeMap<String, PlainCollection>, name: &str, id: &str)

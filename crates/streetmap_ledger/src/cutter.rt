@@ -1,12 +1,13 @@
 //! The texts of features, cut out of the text of their batch.
 ghost use Rattle.std.specs.Prelude.{◌≡◌, ◌≤◌, IfOk, IfSome, length, slice_range};
 ghost use Rattle.serde_json.specs.Written.{compact_text};
-ghost use Rattle.streetmap_geojson.specs.Written.{feature_data};
+ghost use Rattle.streetmap_feature_text.specs.Written.{feature_data};
 
 use bytes::Bytes;
 use memchr::memmem;
 use std::alloc::{AllocError, Global};
-use streetmap_geojson::{Feature, push_feature};
+use streetmap_feature_text::push_feature;
+use streetmap_geojson::Feature;
 
 /// The text of a batch, from which the texts of its features are cut in their order. What is cut
 /// shares the memory of the whole.

@@ -6,7 +6,7 @@ ghost use Rattle.streetmap_grid.specs.Bounds.{AreBounds, IsLeast, IsGreatest};
 ghost use Rattle.streetmap_grid.specs.Extent.{IsExtent};
 ghost use Rattle.streetmap_ledger.specs.Summaries.{feature_vertices};
 
-use streetmap_geojson::PackedFeature;
+use streetmap_feature_text::PackedFeature;
 use streetmap_grid::GridBox;
 
 fn least(a: i64, b: i64) -> i64

@@ -7,7 +7,8 @@ ghost use Rattle.streetmap_ledger.specs.Pages.{last_id};
 use crate::Page;
 use crate::asked::{comes_after, comes_after_unread, is_candidate, selects, selects_unread};
 use std::alloc::{AllocError, Global};
-use streetmap_geojson::{Feature, Outline};
+use streetmap_feature_text::Outline;
+use streetmap_geojson::Feature;
 use streetmap_query::Query;
 
 /// The page of the features taken so far. It holds at most the query's `limit` of them.
@@ -25,7 +26,7 @@ impl<'a> PageFold<'a> {
     ghost use Rattle.std.specs.Prelude.{List, [], ◌∷◌, ◌++◌, ◌+◌, ◌↔◌, OnOk, OnErr, IfSome, IsTrue, Bool, true, false, if◌then◌else◌};
     ghost use Rattle.streetmap_geojson.specs.FeatureValue.{FeatureValue};
     ghost use Rattle.streetmap_geojson.specs.Kept.{IsFeature};
-    ghost use Rattle.streetmap_geojson.specs.Outlines.{outline_of};
+    ghost use Rattle.streetmap_feature_text.specs.Outlines.{outline_of};
     ghost use Rattle.streetmap_query.specs.QueryValue.{QueryValue};
     ghost use Rattle.streetmap_query.specs.Views.{query_value};
     ghost use Rattle.streetmap_ledger.specs.Pages.{page_of, told, selects as selects_of, comes_after as comes_after_of, is_candidate as is_candidate_of};

@@ -1,5 +1,5 @@
 //! What takes an edit back. None of it asks for memory.
-use streetmap_geojson::PackedFeature;
+use streetmap_feature_text::PackedFeature;
 
 #[derive(Drop)]
 pub enum Undo<'a> {

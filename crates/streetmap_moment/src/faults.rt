@@ -1,6 +1,4 @@
 //! Why a text of time is refused.
-#![tactic(auto)]
-
 /// Why a text gives no moment or no interval.
 #[derive(Clone, Copy, Debug, PartialEq, Eq)]
 pub enum TimeFault {

@@ -1,6 +1,4 @@
 //! Intervals of time.
-#![tactic(auto)]
-
 ghost use Rattle.std.specs.Prelude.{◌≡◌, ◌||◌, ℤ, ℕ, pos, neg_ℤ, IfOk, IfErr, IsTrue, ◌↔◌, is_some, ◌≤ℤ◌, true, false};
 ghost use Rattle.std.specs.Option.{ForSome};
 

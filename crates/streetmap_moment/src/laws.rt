@@ -1,6 +1,4 @@
 //! Laws of the definitions that the contracts cite, for whoever reasons over plain values.
-#![tactic(auto)]
-
 ghost use Rattle.std.specs.Prelude.{◌≡◌, ◌↔◌, ℕ, IsTrue, List, Ok};
 ghost use Rattle.streetmap_moment.specs.IntervalText.{IsPropertyText};
 ghost use Rattle.streetmap_moment.specs.Intervals.{property_of};

@@ -1,6 +1,4 @@
 //! Moments of time.
-#![tactic(auto)]
-
 ghost use Rattle.std.specs.Prelude.{◌≡◌, ℤ, ◌<◌, pos, ◌*ℤ◌, ◌+ℤ◌, ◌-ℤ◌, neg_ℤ};
 ghost use Rattle.jiff_core.specs.Calendar.{IsBetween};
 ghost use Rattle.streetmap_moment.specs.DateTime.{nanoseconds};

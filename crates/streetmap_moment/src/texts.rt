@@ -1,6 +1,4 @@
 //! Moments and intervals, read from their texts.
-#![tactic(auto)]
-
 ghost use Rattle.std.specs.Prelude.{◌≡◌, ◌||◌, ℤ, Ok, IfOk, IfErr, IfSome, IsTrue, is_some, MatchOption, ok_or, length, option_map};
 ghost use Rattle.std.specs.Option.{ForSome};
 ghost use Rattle.streetmap_moment.specs.DateTime.{IsMomentText};

@@ -1,6 +1,4 @@
 //! Boxes, read from their texts and written.
-#![tactic(auto)]
-
 ghost use Rattle.std.specs.Prelude.{◌≡◌, option_map, IfOk, IfSome, Some, string_bytes};
 ghost use Rattle.streetmap_grid.specs.Range.{IsBound};
 ghost use Rattle.streetmap_grid.specs.Values.{BoxValue};

@@ -1,6 +1,4 @@
 //! Intervals of time beside their texts.
-#![tactic(auto)]
-
 ghost use Rattle.std.specs.Prelude.{◌≡◌, Ok};
 ghost use Rattle.std.specs.String.{string_bytes};
 ghost use Rattle.streetmap_moment.specs.Intervals.{interval_of};

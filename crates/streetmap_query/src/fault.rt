@@ -1,6 +1,4 @@
 //! What is wrong with a query.
-#![tactic(auto)]
-
 ghost use Rattle.std.specs.Prelude.{◌≡◌};
 ghost use Rattle.streetmap_query.specs.declared.fault.QueryFault.TheVariants.{Memory};
 

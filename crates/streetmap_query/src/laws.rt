@@ -1,6 +1,4 @@
 //! Laws of the definitions, for the crates above.
-#![tactic(auto)]
-
 ghost use Rattle.streetmap_query.specs.Laws.{BoxTextsAreRead, QueryTextsAreRead};
 
 /// A text is read as a box exactly where it is spelled as one that means it: four numbers with

@@ -1,6 +1,4 @@
 //! Numbers, read at the front of what is left of a text.
-#![tactic(auto)]
-
 ghost use Rattle.std.specs.Prelude.{◌≡◌, ◌<◌, ◌≤◌, ◌≤ℤ◌, pos, IfSome, option_copied};
 ghost use Rattle.streetmap_grid.specs.Range.{IsBound};
 ghost use Rattle.streetmap_query.specs.Number.{read_view, digit_at, whole_at, zeros_from, fraction_at, unsigned_at, bound_at, comma_at, reach};

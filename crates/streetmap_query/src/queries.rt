@@ -1,6 +1,4 @@
 //! Queries, and the parameters of a query as far as they were read.
-#![tactic(auto)]
-
 ghost use Rattle.std.specs.Prelude.{IsTrue};
 ghost use Rattle.std.specs.Option.{ForSome};
 ghost use Rattle.streetmap_geojson.specs.Id.{is_id};

@@ -1,6 +1,4 @@
 //! Queries, read from their texts.
-#![tactic(auto)]
-
 ghost use Rattle.std.specs.Prelude.{◌≡◌, MatchResult, Err, option_copied, IfSome};
 ghost use Rattle.std.specs.Cow.{cow_str_bytes};
 ghost use Rattle.streetmap_query.specs.Faults.{Gives};

@@ -1,6 +1,4 @@
 //! Queries, written as texts.
-#![tactic(auto)]
-
 ghost use Rattle.std.specs.Prelude.{◌≡◌, ℕ, [], option_map, option_copied, string_bytes, IfOk, OnOk, IsTrue, Ok, Some, None, codes, decimal};
 ghost use Rattle.std.specs.Option.{ForSome};
 ghost use Rattle.form_urlencoded.specs.Form as spec;

@@ -1,7 +1,5 @@
 //! Meeting by a plain program: a segment is tried at each fraction where it enters or leaves the
 //! box, and a point against the fraction at which an edge has its northing.
-#![tactic(auto)]
-
 use crate::{GridBox, Position};
 
 /// Whether what lies p/q of the way from a to b is at least low and at most high.

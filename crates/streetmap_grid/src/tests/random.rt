@@ -1,6 +1,4 @@
 //! Random small polygons and boxes.
-#![tactic(auto)]
-
 ghost use Rattle.std.specs.Prelude.{◌<◌};
 
 use super::fractions::{edge_meets, is_odd};

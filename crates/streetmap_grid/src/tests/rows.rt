@@ -1,6 +1,4 @@
 //! Worked rows.
-#![tactic(auto)]
-
 use super::{collection, extent, line, meets, polygon, positions, ring, two_rings};
 use crate::{GridBox, GridFault, Line, Polygon, Position, Ring, SimpleGeometry};
 use std::test::Fail;

@@ -4,7 +4,7 @@ use crate::{Keeper, PlainKeeper, Summary};
 use std::alloc::Global;
 use std::process::Abort;
 use std::test::Fail;
-use streetmap_geojson::write_feature;
+use streetmap_feature_text::write_feature;
 
 /// Points, and a square whose exterior ring is clockwise.
 const LAMPS: &str = r#"{"key":"lamps","edits":[

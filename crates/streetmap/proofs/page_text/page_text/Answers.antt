@@ -1,7 +1,7 @@
 use Rattle.std.proofs.Common.{◌≡◌, ◌++◌, ap, ◌∙◌, string_bytes, decimal, length, append_assoc, rules}
 use Rattle.std.proofs.lemmas.List.{map-id}
 use Rattle.serde_json.specs.Written.{compact_text}
-use Rattle.streetmap_geojson.specs.Written.{array_of, feature_data}
+use Rattle.streetmap_feature_text.specs.Written.{array_of, feature_data}
 use Rattle.streetmap_ledger.specs.PageView.{page_value}
 use Rattle.streetmap.proofs.PageTexts.{page_parts, page_text_is}
 use Rattle.streetmap.proofs.page_text.page_text.Goals as goal

@@ -1,5 +1,5 @@
 use Rattle.std.proofs.Common.{◌≡◌, ◌++◌, ap, codes, ◌∙◌, string_bytes, append_assoc, rules}
-use Rattle.streetmap_geojson.proofs.WrittenParts.{ended}
+use Rattle.streetmap_feature_text.proofs.WrittenParts.{ended}
 use Rattle.streetmap_batch.proofs.TextFacts.{feature_edit_parts, feature_edit_text_is}
 use Rattle.streetmap_batch.proofs.batch_text.push_feature_edit.Goals as goal
 

@@ -2,7 +2,7 @@ use Rattle.std.proofs.Common.{Option, option_map, Some, ap, sym, ◌∙◌}
 use Rattle.streetmap_grid.specs.Meeting.{geometry_meets}
 use Rattle.streetmap_grid.specs.Views.{box_value}
 use Rattle.streetmap_grid.specs.declared.grid_box.GridBox.{GridBox}
-use Rattle.streetmap_geojson.specs.Outlines.{OutlineValue}
+use Rattle.streetmap_feature_text.specs.Outlines.{OutlineValue}
 use Rattle.streetmap_ledger.specs.Pages.{passes}
 use Rattle.streetmap_ledger.proofs.Examining.{within_passes}
 use Rattle.streetmap_ledger.proofs.asked.lies_within_box.Goals as goal

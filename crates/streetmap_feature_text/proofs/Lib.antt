@@ -1,0 +1,7 @@
+pub mod Again
+pub mod JsonTexts
+pub mod ExactFeatures
+pub mod WrittenFeatures
+pub mod WrittenCollections
+pub mod WrittenParts
+pub mod PackedFacts

@@ -1,0 +1,5 @@
+pub mod Written
+pub mod Ends
+pub mod PackedIntervalView
+pub mod Packed
+pub mod Outlines

@@ -1,0 +1,169 @@
+//! Features that are kept as their texts.
+ghost use Rattle.std.specs.Prelude.{◌≡◌, IfOk, IfSome, option_map};
+ghost use Rattle.serde_json.specs.Written.{compact_text};
+ghost use Rattle.streetmap_grid.specs.Views.{box_value};
+ghost use Rattle.streetmap_grid.specs.Extent.{extent_of};
+ghost use Rattle.streetmap_moment.specs.Views.{interval_value};
+ghost use Rattle.streetmap_geojson.specs.Fault.{Gives};
+ghost use Rattle.streetmap_geojson.specs.FeatureValue.{retimed};
+ghost use Rattle.streetmap_geojson.specs.FeatureView.{feature_value};
+ghost use Rattle.streetmap_geojson.specs.Kept.{IsFeature};
+ghost use Rattle.streetmap_feature_text.specs.Written.{feature_data};
+ghost use Rattle.streetmap_feature_text.specs.Outlines.{outline_of};
+ghost use Rattle.streetmap_feature_text.specs.Packed.{feature_in_text, StandsAt};
+
+use crate::outline::Outline;
+use crate::packed_interval::PackedInterval;
+use bytes::Bytes;
+use memchr::memmem;
+use std::alloc::{AllocError, Global};
+use std::marker::Model;
+use streetmap_geojson::{Feature, JsonFault, read_feature, read_json};
+use streetmap_grid::GridBox;
+use streetmap_moment::Interval;
+
+/// A part of a text, from one place up to another.
+#[derive(Clone, Copy)]
+struct Part {
+    start: u32,
+    end: u32,
+}
+
+/// What is kept of a feature: its compact text, its extent and its time, and where its id stands in
+/// the text, if it stands there as it is.
+#[derive(Drop)]
+struct Kept {
+    text: Bytes,
+    extent: Option<GridBox>,
+    time: PackedInterval,
+    id: Option<Part>,
+}
+
+/// A feature that is kept as its compact text, with its extent and its time beside it: a fraction of
+/// the memory of a [`Feature`], and none of its own for the text where that is a part of a shared one.
+/// Clauses see it as a `FeatureValue`.
+#[derive(Drop)]
+pub struct PackedFeature {
+    kept: Box<Kept>,
+}
+
+impl Model for PackedFeature {
+    ghost use Rattle.std.specs.Prelude.{option_map};
+    ghost use Rattle.streetmap_grid.specs.Views.{box_value};
+    ghost use Rattle.streetmap_geojson.specs.FeatureValue.{FeatureValue};
+    ghost use Rattle.streetmap_feature_text.specs.Packed.{unpacked, IsPacked};
+    ghost use Rattle.streetmap_feature_text.specs.PackedIntervalView.{packed_interval_value};
+    ghost use Rattle.streetmap_geojson.specs.Stored.{coded_feature};
+
+    ghost Value = { FeatureValue };
+
+    ghost coded = { coded_feature };
+
+    ghost view = { λ p. unpacked p.kept.value.text (packed_interval_value p.kept.value.time) };
+
+    ghost invariant = { λ p. IsPacked p.kept.value.text (option_map box_value p.kept.value.extent) p.kept.value.id };
+}
+
+/// What stands before an id in a feature's text.
+const BEFORE_THE_ID: &[u8] = b"\"id\":\"";
+
+/// Where the id stands in a feature's text, if it stands there as it is.
+fn id_in(text: &[u8], id: &[u8]) -> Option<Part>
+    ensures { IfSome result (λ part. StandsAt part text.now id.now) }
+{
+    let start = memmem::find(text, BEFORE_THE_ID)?.checked_add(BEFORE_THE_ID.len())?;
+    let end = start.checked_add(id.len())?;
+    if end <= text.len() && &text[start..end] == id {
+        Some(Part {
+            start: u32::try_from(start).ok()?,
+            end: u32::try_from(end).ok()?,
+        })
+    } else {
+        None
+    }
+}
+
+/// The feature of a JSON text, without a time.
+fn read_text(alloc: Global, text: &[u8]) -> Result<Feature, JsonFault>
+    ensures { Gives feature_value result (feature_in_text text.now) }
+{
+    let value = read_json(alloc, text)?;
+    read_feature(alloc, &value, None)
+}
+
+impl PackedFeature {
+    /// Packs a feature whose compact text this is, as [`crate::push_feature`] writes it, with this time.
+    pub fn new(
+        alloc: Global,
+        text: Bytes,
+        feature: &Feature,
+        time: Option<Interval>,
+    ) -> Result<PackedFeature, AllocError>
+        requires { text ≡ compact_text (feature_data feature.now) }
+        ensures { IfOk result (λ p. p ≡ retimed feature.now (option_map interval_value time)) }
+    {
+        feature.facts();
+        let id = id_in(text.as_slice(), feature.id().as_bytes());
+        let kept = Kept {
+            text,
+            extent: feature.extent(),
+            time: PackedInterval::new(time),
+            id,
+        };
+        let kept = Box::new(alloc, kept)?;
+        Ok(PackedFeature { kept })
+    }
+
+    /// What is true of every feature.
+    pub fn facts(&self)
+        ensures { IsFeature self.now }
+    {
+        let _ = &self.kept.time;
+    }
+
+    /// The extent of the geometry, in millimetres: none where there is none.
+    pub fn extent(&self) -> Option<GridBox>
+        ensures { option_map box_value result ≡ option_map extent_of self.now.geometry }
+    {
+        self.kept.extent
+    }
+
+    /// The time, where the feature has one.
+    pub fn time(&self) -> Option<Interval>
+        ensures { option_map interval_value result ≡ self.now.time }
+    {
+        self.kept.time.time()
+    }
+
+    /// What is known of the feature without reading it.
+    pub fn outline(&self) -> Outline
+        ensures { result ≡ outline_of self.now }
+    {
+        Outline {
+            extent: self.kept.extent,
+            time: self.kept.time,
+        }
+    }
+
+    /// The bytes of the id, which stand so in the text. None where they do not, since one of them is
+    /// written as an escape: the feature has then to be read.
+    pub fn plain_id(&self) -> Option<&[u8]>
+        ensures { IfSome result (λ id. id.now ≡ self.now.id) }
+    {
+        match self.kept.id {
+            Some(part) => Some(&self.kept.text.as_slice()[part.start as usize..part.end as usize]),
+            None => None,
+        }
+    }
+
+    /// The feature, read from its text.
+    pub fn unpack(&self, alloc: Global) -> Result<Feature, AllocError>
+        ensures { IfOk result (λ f. f ≡ self.now) }
+    {
+        match read_text(alloc, self.kept.text.as_slice()) {
+            Ok(feature) => Ok(feature.with_time(self.kept.time.time())),
+            Err(JsonFault::Memory) => Err(AllocError),
+            Err(JsonFault::Fault(_)) => unreachable!(),
+        }
+    }
+}

@@ -1,9 +1,0 @@
-use Rattle.std.proofs.Common.{subst, sym, ◌∙◌}
-use Rattle.streetmap_geojson.specs.Kept.{IsFeature}
-use Rattle.streetmap_geojson.proofs.PackedFacts.{packed_view, retimed_is, span_made}
-use Rattle.streetmap_geojson.proofs.packed.PackedFeature.facts.Goals as goal
-
-pub returns : goal.returns
-returns c =
-    let h = c.self.invariant in
-    subst IsFeature (sym (packed_view _ _ _ _ h) ∙ c.self.view_is) (retimed_is h.packed _ h.is (span_made c.self.inside.kept.value.time))
