@@ -10,8 +10,8 @@ use Rattle.std.specs.Str.Lines.{lines}
 use Rattle.streetmap_ledger.specs.State.{State, opening_state}
 use Rattle.serde_json.specs.Data.{Data}
 use Rattle.serde_json.specs.Written.{compact_text}
-use Rattle.streetmap_ledger.specs.Plain.{IsPlain, plain_state}
-use Rattle.streetmap_ledger.specs.declared.plain.PlainKeeper.{PlainKeeper}
+use Rattle.streetmap_memory.specs.Plain.{IsPlain, plain_state}
+use Rattle.streetmap_memory.specs.declared.plain.PlainKeeper.{PlainKeeper}
 use Rattle.std.specs.declared.alloc.AllocError.{AllocError}
 use Rattle.streetmap.specs.AnswerView.{LineSays}
 use Rattle.streetmap.specs.Answers.{answer_to}

@@ -6,8 +6,8 @@ use Rattle.serde_json.specs.Written.{compact_text}
 use Rattle.streetmap_batch.specs.BatchValue.{BatchValue}
 use Rattle.streetmap_ledger.specs.State.{State}
 use Rattle.streetmap_ledger.specs.Batches.{act}
-use Rattle.streetmap_ledger.specs.Plain.{IsPlain}
-use Rattle.streetmap_ledger.specs.declared.plain.PlainKeeper.{PlainKeeper}
+use Rattle.streetmap_memory.specs.Plain.{IsPlain}
+use Rattle.streetmap_memory.specs.declared.plain.PlainKeeper.{PlainKeeper}
 use Rattle.streetmap_ledger.specs.declared.reply.Reply.{Reply}
 use Rattle.streetmap.specs.Answers.{Answer}
 

@@ -6,7 +6,7 @@ ghost use Rattle.streetmap_query.specs.Query.{query_of};
 ghost use Rattle.streetmap_batch.specs.BatchReading.{batch_of};
 ghost use Rattle.streetmap_batch.specs.BatchView.{batch_value};
 ghost use Rattle.streetmap_ledger.specs.State.{State};
-ghost use Rattle.streetmap_ledger.specs.Plain.{IsPlain as IsPlainState};
+ghost use Rattle.streetmap_memory.specs.Plain.{IsPlain as IsPlainState};
 ghost use Rattle.streetmap_ledger.specs.Pages.{feature_in};
 ghost use Rattle.streetmap_web.specs.Plain.{IsPlain};
 ghost use Rattle.streetmap.specs.Answers.{answer_to, batch_answer, batch_fault_body, reply_body, page_body, found_feature, plain_error, unknown_command, not_found};
@@ -17,7 +17,8 @@ ghost use Rattle.streetmap.specs.RequestView.{request_value};
 use crate::page_text::{feature_text, page_text};
 use crate::request::{Request, read_request};
 use std::alloc::{AllocError, Global};
-use streetmap_ledger::{Batch, BatchFault, Fault, Keeper, PlainKeeper, Reply, read_batch};
+use streetmap_ledger::{Batch, BatchFault, Fault, Keeper, Reply, read_batch};
+use streetmap_memory::PlainKeeper;
 use streetmap_query::{QueryFault, read_query};
 use streetmap_web::{push_error, push_reply};
 

@@ -3,7 +3,7 @@ ghost use Rattle.std.specs.Prelude.{◌≡◌, ◌≢◌, ◌≤◌, ◌++◌, �
 ghost use Rattle.std.specs.List.{position_from, position_or_len};
 ghost use Rattle.std.specs.Str.Lines.{lines, strip_carriage_return};
 ghost use Rattle.std.specs.Io.KnownBytes.{Appends, IsAtEnd};
-ghost use Rattle.streetmap_ledger.specs.Plain.{IsPlain, plain_state};
+ghost use Rattle.streetmap_memory.specs.Plain.{IsPlain, plain_state};
 ghost use Rattle.streetmap_ledger.specs.State.{opening_state};
 ghost use Rattle.streetmap.specs.Faults.{IsLineFault, IsWriteFault};
 ghost use Rattle.streetmap.specs.Lines.{line_answer, state_after, answer_text, answers_of, first_too_long, AppendsFirst, AnswersFirst};
@@ -13,7 +13,7 @@ use crate::answer::answer_line;
 use crate::fault::ProgramFault;
 use std::alloc::Global;
 use std::io::{BufRead, ErrorKind, Write};
-use streetmap_ledger::PlainKeeper;
+use streetmap_memory::PlainKeeper;
 
 /// The most bytes that a line may have, its line feed not counted.
 pub const MAX_LINE: usize = 8_388_608;

@@ -7,3 +7,4 @@ pub mod BatchFaults
 pub mod BatchReading
 pub mod BatchTokens
 pub mod BatchMeaning
+pub mod BatchFacts

@@ -4,7 +4,7 @@ ghost use Rattle.streetmap_batch.specs.Names.{is_key};
 
 use crate::batch_fault::BatchFault;
 use crate::batch_text::write_batch;
-use crate::edit::Edit;
+use crate::edit::{Edit, facts_of_each};
 use crate::names::is_key;
 use std::alloc::{AllocError, Global};
 
@@ -18,6 +18,7 @@ pub struct Batch {
 }
 
 impl Batch {
+    ghost use Rattle.streetmap_batch.specs.BatchFacts.{IsSoundBatch};
     ghost use Rattle.streetmap_batch.specs.BatchView.{batch_value, edit_values};
     ghost use Rattle.streetmap_batch.specs.BatchFaults.{Gives};
     ghost use Rattle.streetmap_batch.specs.BatchReading.{batch_from};
@@ -34,6 +35,13 @@ impl Batch {
             return Err(BatchFault::TooManyEdits);
         }
         Ok(Batch { key, edits })
+    }
+
+    /// What is true of every batch.
+    pub fn facts(&self)
+        ensures { IsSoundBatch (batch_value self.now) }
+    {
+        facts_of_each(&self.edits);
     }
 
     /// The key.

@@ -1,8 +1,10 @@
 //! Edits, whose types keep the rules of the names in them.
-ghost use Rattle.std.specs.Prelude.{◌≡◌, IsTrue, IfOk, string_bytes};
+ghost use Rattle.std.specs.Prelude.{◌≡◌, All, IsTrue, IfOk, string_bytes};
 ghost use Rattle.streetmap_batch.specs.Names.{is_collection_id, is_title, is_time_property, passing};
+ghost use Rattle.streetmap_batch.specs.BatchFacts.{IsSoundEdit};
 ghost use Rattle.streetmap_batch.specs.BatchFaults.{Gives};
 ghost use Rattle.streetmap_batch.specs.BatchReading.{collection_in};
+ghost use Rattle.streetmap_batch.specs.BatchView.{edit_value};
 
 use crate::batch_fault::BatchFault;
 use crate::names::{is_collection_id, is_time_property, is_title};
@@ -160,7 +162,43 @@ pub enum Edit {
 impl Edit {
     ghost use Rattle.streetmap_batch.specs.BatchReading.{edit_in};
     ghost use Rattle.streetmap_batch.specs.BatchValue as value;
-    ghost use Rattle.streetmap_batch.specs.BatchView.{edit_value};
+
+    /// What is true of every edit.
+    pub fn facts(&self)
+        ensures { IsSoundEdit (edit_value self.now) }
+    {
+        match self {
+            Edit::Open {
+                collection,
+                title,
+                time,
+            } => {
+                let _name = collection.as_str();
+                let _title = title.as_str();
+                match time {
+                    Some(time) => {
+                        let _property = time.as_str();
+                    }
+                    None => {}
+                }
+            }
+            Edit::Insert {
+                collection,
+                feature,
+            }
+            | Edit::Replace {
+                collection,
+                feature,
+            } => {
+                let _name = collection.as_str();
+                feature.facts();
+            }
+            Edit::Delete { collection, id } => {
+                let _name = collection.as_str();
+                let _id = id.as_str();
+            }
+        }
+    }
 
     /// The edit that inserts a feature. It is refused as `BadBatch` where the text is no collection id.
     pub fn insert(alloc: Global, collection: &str, feature: Feature) -> Result<Edit, BatchFault>
@@ -182,6 +220,15 @@ impl Edit {
             collection,
             feature,
         })
+    }
+}
+
+/// What is true of each edit of a list.
+pub(crate) fn facts_of_each(edits: &[Edit])
+    ensures { All (λ edit. IsSoundEdit (edit_value edit)) edits.now }
+{
+    for edit in edits {
+        edit.facts();
     }
 }
 

@@ -26,6 +26,3 @@ pub use batch_fault::BatchFault;
 pub use batch_reading::read_batch;
 pub use edit::{CollectionId, Edit, TimeProperty, Title};
 pub use names::{is_collection_id, is_key, is_time_property, is_title};
-
-#[cfg(test)]
-mod tests;

@@ -36,9 +36,6 @@ unpacked_of text time f is = ap (λ r. retimed (or_nothing r) time) is
 pub packed_view : (text : List ℕ) (extent : Option BoxValue) (id : Option Part) (time : Option IntervalValue) (h : IsPacked text extent id) → unpacked text time ≡ retimed h.packed time
 packed_view text extent id time h = unpacked_of text time (untimed h.packed) (packed_text text extent id h)
 
-pub retimed_is : (f : FeatureValue) (time : Option IntervalValue) → IsFeature f → IsIntervalIf time → IsFeature (retimed f time)
-retimed_is f time h timed = record { named = h.named; text = h.text; made = h.made; few = h.few; oriented = h.oriented; kept = h.kept; flat = h.flat; whole = h.whole; exact = h.exact; timed = timed }
-
 between_made : (a b : Option ℤ) → ForSome a IsMoment → ForSome b IsMoment → ForSome a (λ s. ForSome b (λ e. s ≤ℤ e)) → IsIntervalIf (time_between a b)
 between_made None None h k order = tt
 between_made (Some s) None h k order = record { bounded = refl; ordered = tt; start_in = h; end_in = k }

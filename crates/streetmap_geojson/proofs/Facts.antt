@@ -5,9 +5,10 @@ use Rattle.streetmap_grid.specs.declared.geometry.Geometry.{Geometry}
 use Rattle.streetmap_grid.specs.Views.{geometry_value}
 use Rattle.streetmap_grid.proofs.Facts.{geometry_facts}
 use Rattle.streetmap_moment.specs.declared.intervals.Interval.{Interval}
+use Rattle.streetmap_moment.specs.IntervalValue.{IntervalValue}
 use Rattle.streetmap_moment.specs.Views.{interval_value}
 use Rattle.streetmap_moment.proofs.IntervalFacts.{interval_facts}
-use Rattle.streetmap_geojson.specs.FeatureValue.{FeatureValue}
+use Rattle.streetmap_geojson.specs.FeatureValue.{FeatureValue, retimed}
 use Rattle.streetmap_geojson.specs.Id.{is_id}
 use Rattle.streetmap_geojson.specs.Kept.{IsGeometryIf, IsIntervalIf, IsFeature, KeepsRules}
 
@@ -21,3 +22,7 @@ interval_made (Some i) = interval_facts i
 
 pub feature_made : (f : FeatureValue) → KeepsRules f → IsTrue (is_id f.id) → IsTrue (is_utf8 f.id) → IsGeometryIf f.geometry → IsIntervalIf f.time → IsFeature f
 feature_made f rules named text made timed = record { named = named; text = text; made = made; few = rules.few; oriented = rules.oriented; kept = rules.kept; flat = rules.flat; whole = rules.whole; exact = rules.exact; timed = timed }
+
+-- a feature with another time is one
+pub retimed_is : (f : FeatureValue) (time : Option IntervalValue) → IsFeature f → IsIntervalIf time → IsFeature (retimed f time)
+retimed_is f time h timed = record { named = h.named; text = h.text; made = h.made; few = h.few; oriented = h.oriented; kept = h.kept; flat = h.flat; whole = h.whole; exact = h.exact; timed = timed }

@@ -4,7 +4,8 @@ use Rattle.serde_json.specs.Data.{Data, null, string}
 use Rattle.serde_json.specs.Find.{get}
 use Rattle.streetmap_moment.specs.declared.faults.TimeFault.{TimeFault}
 use Rattle.streetmap_moment.specs.declared.faults.TimeFault.TheVariants as times
-use Rattle.streetmap_moment.specs.IntervalValue.{IntervalValue}
+use Rattle.streetmap_moment.specs.IntervalText.{IsPropertyText}
+use Rattle.streetmap_moment.specs.IntervalValue.{IntervalValue, IsInOrder}
 use Rattle.streetmap_moment.specs.Intervals.{property_of}
 use Rattle.streetmap_geojson.specs.declared.fault.Fault.{Fault}
 use Rattle.streetmap_geojson.specs.declared.fault.Fault.TheVariants.{BadTime, EmptyInterval}
@@ -46,12 +47,14 @@ as_fault (Err f) = Err (time_fault f)
 
 -- ---- "reads as"
 
+-- the time that a property says: a text, an interval whose start is not after its end
 abbrev pub IsTimeFrom : Option Data → Option IntervalValue → Type 0
 IsTimeFrom None time = time ≡ None
 IsTimeFrom (Some null) time = time ≡ None
-IsTimeFrom (Some (string s)) time = (i : IntervalValue) × (property_of s ≡ Ok i) × (time ≡ Some i)
+IsTimeFrom (Some (string s)) time = (i : IntervalValue) × IsPropertyText s i × IsInOrder i.start i.end × (time ≡ Some i)
 IsTimeFrom (Some _) time = ⊥
 
+-- the time under the property of that name
 abbrev pub IsTimeOf : (time_property : Option (List ℕ)) → (properties : Data) → Option IntervalValue → Type 0
 IsTimeOf None properties time = time ≡ None
 IsTimeOf (Some name) properties time = IsTimeFrom (get name properties) time

@@ -31,8 +31,6 @@ mod position;
 mod range;
 mod ring;
 mod segment;
-#[cfg(test)]
-mod tests;
 
 pub use fault::GridFault;
 pub use geometry::{Geometry, SimpleGeometry};

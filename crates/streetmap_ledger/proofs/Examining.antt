@@ -1,7 +1,7 @@
 -- A feature that is selected is a candidate, and a page of candidates is that of all.
-use Rattle.std.proofs.Common.{◌≡◌, ℕ, List, [], ◌∷◌, ◌++◌, Bool, true, false, cond, ◌&&◌, Option, None, Some, option_map, length, take, refl, sym, ap, subst, ◌∙◌, append-nil}
+use Rattle.std.proofs.Common.{◌≡◌, ◌⊎◌, inl, inr, All, ℕ, List, [], ◌∷◌, ◌++◌, Bool, true, false, cond, ◌&&◌, Option, None, Some, option_map, length, take, refl, sym, ap, subst, ◌∙◌, append-nil}
 use Rattle.std.specs.Prelude.{filter, nat_lt, if◌then◌else◌, T}
-use Rattle.std.proofs.lemmas.List.Elements.{filter-append}
+use Rattle.std.proofs.lemmas.List.Elements.{filter-append, All-head, All-tail}
 use Rattle.streetmap_grid.specs.Values.{GeometryValue}
 use Rattle.streetmap_grid.specs.Views.{box_value}
 use Rattle.streetmap_grid.specs.Meeting.{geometry_meets}
@@ -20,6 +20,7 @@ use Rattle.streetmap_query.specs.declared.datetimes.Datetime.{Datetime}
 use Rattle.streetmap_query.specs.declared.queries.Query.{Query}
 use Rattle.streetmap_ledger.specs.Pages.{PageValue, passes, selects, selected, extent_overlaps, is_candidate, candidates, behind, last_id, told, page_of}
 use Rattle.streetmap_ledger.specs.Folds.{Holds, HoldsCandidates}
+use Rattle.streetmap_ledger.specs.Laws.{SelectedAreCandidates}
 use Rattle.streetmap_ledger.specs.declared.fold.PageFold.{PageFold}
 
 both : (a b : Bool) → (a && b) ≡ true → (a ≡ true) × (b ≡ true)
@@ -99,3 +100,26 @@ left_out_of fold q fs f made e held =
 
 pub passed_on : (old new : PageFold) (q : QueryValue) (fs : List FeatureValue) (f : FeatureValue) → is_candidate (query_value old.query.now) f ≡ true → (Holds q old (candidates q fs) → Holds q new (candidates q fs ++ f ∷ [])) → HoldsCandidates q old fs → HoldsCandidates q new (fs ++ f ∷ [])
 passed_on old new q fs f e takes held = taken q new fs f (ap (λ v. is_candidate v f) (sym held.holds.asks) ∙ e) held.whole (takes held.holds)
+
+known : (b : Bool) → (b ≡ true) ⊎ (b ≡ false)
+known true = inl refl
+known false = inr refl
+
+-- leaving out what is no candidate leaves out nothing that is selected
+candidates_selected : (q : Query) (fs : List FeatureValue) → All IsFeature fs → selected (query_value q) (candidates (query_value q) fs) ≡ selected (query_value q) fs
+candidates_selected q [] made = refl
+candidates_selected q (f ∷ fs) made =
+    let v = query_value q in
+    let rest = candidates_selected q fs (All-tail IsFeature f fs made) in
+    elim (known (is_candidate v f)) [
+      | inl is ↦ rw is (ap (λ l. cond (selects v f) (f ∷ l) l) rest)
+      | inr not ↦
+          let off : selects v f ≡ false = refuted (selects v f) (λ s. subst T (sym (selected_are_candidates q f (All-head IsFeature f fs made) s) ∙ not) tt) in
+          rw (not, off) rest
+    ]
+
+pub page_of_candidates : (q : Query) (n : ℕ) (fs : List FeatureValue) → All IsFeature fs → page_of (query_value q) n (candidates (query_value q) fs) ≡ page_of (query_value q) n fs
+page_of_candidates q n fs made = same_page (query_value q) n (candidates (query_value q) fs) fs (candidates_selected q fs made)
+
+pub candidates_are_enough : SelectedAreCandidates
+candidates_are_enough = (selected_are_candidates, page_of_candidates)

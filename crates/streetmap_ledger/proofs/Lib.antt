@@ -1,14 +1,5 @@
-pub mod Maps
-pub mod Finite
-pub mod Ordered
-pub mod SlotLemmas
-pub mod Live
+pub mod TextMaps
 pub mod Examining
-pub mod ExtentLemmas
-pub mod Sweeping
-pub mod CollectionsInOrder
-pub mod Steps
-pub mod PlainLemmas
 pub mod Repeat
 pub mod StatesStay
 pub mod Acceptance

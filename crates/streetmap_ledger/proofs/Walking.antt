@@ -19,8 +19,8 @@ use Rattle.streetmap_batch.specs.Text.{Text, text_cmp}
 use Rattle.streetmap_ledger.specs.State.{Features}
 use Rattle.streetmap_ledger.specs.Pages.{PageValue, selects, selected, comes_after, behind, last_id, told}
 use Rattle.streetmap_ledger.specs.Walks.{page_behind, IsWalk, ends, goes_on, shown, WalksShowAll}
-use Rattle.streetmap_ledger.proofs.Maps.{one_text}
-use Rattle.streetmap_ledger.proofs.Live.{first, second, none_below}
+use Rattle.streetmap_ledger.proofs.TextMaps.{one_text}
+use Rattle.streetmap_ledger.proofs.TextMaps.{first, second, none_below}
 
 -- ---- the order of ids
 greater : (a b : Text) → text_cmp a b ≡ Less → is_gt (text_cmp b a) ≡ true
@@ -273,7 +273,7 @@ behind_none (f ∷ fs) = ap (λ gs. f ∷ gs) (behind_none fs)
 pub walks_show_all : WalksShowAll
 walks_show_all s name c q sound there some =
     let fs = values c.features in
-    let up = ascends_some (selects q) fs (values_ascend c.features (λ id f e. (sound.placed name c there id f e).named)) in (
+    let up = ascends_some (selects q) fs (values_ascend c.features (λ id f e. ((sound.made name c there).holds id f e).named)) in (
       λ pages walk.
           let shows = walk_shows q fs some up None pages walk in
           record { whole = shows.0 ∙ behind_none (selected q fs); matched = shows.1 },

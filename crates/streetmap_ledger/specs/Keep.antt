@@ -13,6 +13,9 @@ use Rattle.streetmap_ledger.specs.Pages.{page_in, feature_in}
 use Rattle.streetmap_ledger.specs.PageView.{page_value}
 use Rattle.streetmap_ledger.specs.Summaries.{summary_in, summaries_in}
 use Rattle.streetmap_ledger.specs.SummaryView.{summary_value, summary_values}
+use Rattle.streetmap_ledger.specs.Outlines.{outlines_in}
+use Rattle.streetmap_ledger.specs.OutlineView.{feature_outline_values}
+use Rattle.streetmap_ledger.specs.declared.outline.FeatureOutline.{FeatureOutline}
 use Rattle.streetmap_ledger.specs.declared.summary.Summary.{Summary}
 use Rattle.streetmap_ledger.specs.declared.page.Page.{Page}
 use Rattle.streetmap_ledger.specs.declared.reply.Reply.{Reply}
@@ -60,6 +63,10 @@ Tells s id result stands = Looks s (λ summary. option_map summary_value summary
 -- what is told of all collections
 abbrev pub Lists : State → Result (Vec Summary Global) Fault → (State → Type 0) → Type 0
 Lists s result stands = Looks s (λ (summaries : Vec Summary Global). summary_values summaries.items ≡ summaries_in s) result stands
+
+-- what is known of a collection's features without reading them
+abbrev pub Outlines : State → Text → Result (Option (Vec FeatureOutline Global)) Fault → (State → Type 0) → Type 0
+Outlines s name result stands = Looks s (λ found. option_map (λ (os : Vec FeatureOutline Global). feature_outline_values os.items) found ≡ outlines_in s name) result stands
 
 -- a stop may leave this and nothing else
 abbrev pub LeavesOnly : (Option State → Type 0) → Option State → Type 0

@@ -1,9 +1,14 @@
 -- Laws of batches.
-use Rattle.std.specs.Prelude.{◌≡◌, ℕ, Bool, true, false, List, [], ◌∷◌, ◌++◌, Option, None, Some, if◌then◌else◌}
+use Rattle.std.specs.Prelude.{◌≡◌, ℕ, Bool, true, false, List, [], ◌∷◌, ◌++◌, Option, None, Some, if◌then◌else◌, All}
 use Rattle.std.specs.FinMap.{get}
+use Rattle.streetmap_geojson.specs.FeatureValue.{FeatureValue}
+use Rattle.streetmap_geojson.specs.Kept.{IsFeature}
+use Rattle.streetmap_query.specs.Views.{query_value}
+use Rattle.streetmap_query.specs.declared.queries.Query.{Query}
 use Rattle.streetmap_batch.specs.BatchValue.{BatchValue}
 use Rattle.streetmap_ledger.specs.State.{State}
 use Rattle.streetmap_ledger.specs.Batches.{act, after_all}
+use Rattle.streetmap_ledger.specs.Pages.{selects, is_candidate, candidates, page_of}
 use Rattle.streetmap_ledger.specs.declared.reply.Refusal.{Refusal}
 use Rattle.streetmap_ledger.specs.declared.reply.Reply.{Reply}
 use Rattle.streetmap_ledger.specs.declared.reply.Reply.TheVariants.{Accepted, Repeated, Refused}
@@ -46,3 +51,9 @@ RefusedChangesNothing =
     (s : State) (b : BatchValue) (why : Refusal) (place : Option ℕ) →
     (act s b).reply ≡ Refused why place →
     ((act s b).state ≡ s) × ((n : ℕ) → place ≡ Some n → get (act s b).state.keys b.key ≡ None)
+
+-- what a query selects is among its candidates, so the page of the candidates is the page of all
+abbrev pub SelectedAreCandidates : Type 0
+SelectedAreCandidates =
+    ((q : Query) (f : FeatureValue) → IsFeature f → selects (query_value q) f ≡ true → is_candidate (query_value q) f ≡ true)
+    × ((q : Query) (n : ℕ) (fs : List FeatureValue) → All IsFeature fs → page_of (query_value q) n (candidates (query_value q) fs) ≡ page_of (query_value q) n fs)

@@ -10,7 +10,5 @@ pub mod Refusals
 pub mod Keep
 pub mod Laws
 pub mod Walks
-pub mod Slots
-pub mod Undo
-pub mod Does
-pub mod Plain
+pub mod Outlines
+pub mod OutlineView

@@ -5,7 +5,7 @@ ghost use Rattle.streetmap_geojson.specs.Id.{is_id};
 ghost use Rattle.streetmap_ledger.specs.Pages.{last_id};
 
 use crate::Page;
-use crate::asked::{comes_after, comes_after_unread, is_candidate, selects, selects_unread};
+use crate::selection::{comes_after, comes_after_unread, is_candidate, selects, selects_unread};
 use std::alloc::{AllocError, Global};
 use streetmap_feature_text::Outline;
 use streetmap_geojson::Feature;
@@ -58,20 +58,46 @@ impl<'a> PageFold<'a> {
         self.examined = self.examined.saturating_add(1);
     }
 
-    /// Takes the feature that comes next, and copies it where the page shows it.
-    pub fn take(&mut self, alloc: Global, feature: &Feature) -> Result<(), AllocError>
-        ensures ok { (q : QueryValue) (fs : List FeatureValue) → Holds q self.old fs → OnOk result (Holds q self.new (fs ++ feature.now ∷ [])) }
+    /// Takes the feature that comes next, and keeps it where the page shows it. Where memory is refused
+    /// for that, it is not counted.
+    pub fn take(&mut self, feature: Feature) -> Result<(), AllocError>
+        ensures ok { (q : QueryValue) (fs : List FeatureValue) → Holds q self.old fs → OnOk result (Holds q self.new (fs ++ feature ∷ [])) }
         ensures err { (q : QueryValue) (fs : List FeatureValue) → Holds q self.old fs → OnErr result (Holds q self.new fs) }
     {
-        let is_selected = selects(self.query, feature);
-        if is_selected && comes_after(self.query, feature) {
-            if self.is_full() {
-                self.more = true;
-            } else {
-                self.features.push(feature.copy(alloc)?)?;
-            }
+        if self.pass_hidden(&feature) {
+            return Ok(());
         }
-        self.count(is_selected);
+        self.show(feature)
+    }
+
+    /// Counts the feature that comes next, where the page does not show it, and answers whether it did.
+    fn pass_hidden(&mut self, feature: &Feature) -> bool
+        ensures passed { IsTrue result → (q : QueryValue) (fs : List FeatureValue) → Holds q self.old fs → Holds q self.new (fs ++ feature.now ∷ []) }
+        ensures unchanged { result ≡ false → self.new ≡ self.old }
+        ensures selected { result ≡ false → selects_of (query_value self.old.query.now) feature.now ≡ true }
+        ensures behind { result ≡ false → comes_after_of (query_value self.old.query.now).after feature.now ≡ true }
+        ensures room { result ≡ false → length self.old.features.items < self.old.query.now.limit }
+    {
+        if !selects(self.query, feature) {
+            self.leave();
+            return true;
+        }
+        let behind = comes_after(self.query, feature);
+        if behind && !self.is_full() {
+            return false;
+        }
+        self.pass(behind);
+        true
+    }
+
+    /// Shows the feature that comes next.
+    fn show(&mut self, feature: Feature) -> Result<(), AllocError>
+        requires { length self.old.features.items < self.old.query.now.limit }
+        ensures ok { (q : QueryValue) (fs : List FeatureValue) → Holds q self.old fs → selects_of q feature ≡ true → comes_after_of q.after feature ≡ true → OnOk result (Holds q self.new (fs ++ feature ∷ [])) }
+        ensures err { (q : QueryValue) (fs : List FeatureValue) → Holds q self.old fs → OnErr result (Holds q self.new fs) }
+    {
+        self.features.push(feature)?;
+        self.count(true);
         Ok(())
     }
 

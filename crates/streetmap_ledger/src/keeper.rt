@@ -1,18 +1,27 @@
 //! What keeps a state, and a run of batches over it.
-ghost use Rattle.std.specs.Prelude.{◌≡◌, ◌≤◌, ◌+◌, ℕ, Option, None, Some, IfOk, OnOk, IsErrOf, IsNone, IsSome, length, take, map};
+ghost use Rattle.std.specs.Prelude.{◌≡◌, ◌≤◌, ◌<◌, ◌+◌, ℕ, Option, None, Some, IfOk, OnOk, IsErrOf, IsNone, IsSome, length, take, map};
 ghost use Rattle.streetmap_ledger.specs.State.{State};
 ghost use Rattle.streetmap_ledger.specs.WellFormed.{IsState};
 ghost use Rattle.streetmap_ledger.specs.Batches.{replies_of};
 ghost use Rattle.streetmap_batch.specs.BatchView.{batch_value};
-ghost use Rattle.streetmap_ledger.specs.Keep.{Acts, Shows, Finds, Tells, Lists, ShutsBy, ApplyLeaves, LeavesOnly, AsBefore, RunEnds, RunLeaves, RunShuts};
+ghost use Rattle.streetmap_ledger.specs.Keep.{Acts, Shows, Finds, Tells, Lists, Outlines, ShutsBy, ApplyLeaves, LeavesOnly, AsBefore, RunEnds, RunLeaves, RunShuts};
 ghost use Rattle.streetmap_ledger.specs.declared.reply.Cause.{Cause};
 
-use crate::{Fault, Page, Reply, Run, Summary};
+use crate::{Fault, FeatureOutline, Page, Reply, Run, Summary};
 use std::alloc::Global;
 use streetmap_batch::Batch;
 use streetmap_geojson::Feature;
 use streetmap_query::Query;
 
+/// What stands for a state, and acts on it by batches.
+///
+/// An implementer says by four meanings what it stands for, what a stop may leave, what shut it and
+/// whether its store is clean, and owes the laws at the end. Where its store was clean as a call ends, the
+/// call answered what the definitions give for the state before, and stands for the state that they give
+/// after; `Memory` changed nothing, and the call may be made again; `Device` and `Damaged` shut the keeper,
+/// and a shut keeper answers `Reopen` and changes nothing. Of a keeper of which a stop could leave its
+/// state alone, it may leave after `apply` the new state alone, where the batch was answered; after
+/// `Device` the old or the new one; and after each other call the same state alone.
 pub trait Keeper {
     /// The states that it stands for: none where it is shut, or where its store is that of no state.
     ghost stands: { Self → State → Type 0 };
@@ -66,6 +75,15 @@ pub trait Keeper {
         ensures leaves { is_clean self.new → (s : State) → stands self.old s → LeavesOnly (may_leave self.old) (Some s) → LeavesOnly (may_leave self.new) (Some s) }
         ensures reopen { IsErrOf result Fault.Reopen → AsBefore (stands self.old) (stands self.new) (may_leave self.old) (may_leave self.new) };
 
+    /// What is known of each feature of a collection without reading it, in byte order of ids; none where
+    /// the collection is not there.
+    fn outlines(&mut self, collection: &str) -> Result<Option<Vec<FeatureOutline>>, Fault>
+        ensures began_clean { is_clean self.new → is_clean self.old }
+        ensures faults { ShutsBy result (cause self.old) (cause self.new) }
+        ensures outlines { is_clean self.new → (s : State) → stands self.old s → Outlines s collection.now result (stands self.new) }
+        ensures leaves { is_clean self.new → (s : State) → stands self.old s → LeavesOnly (may_leave self.old) (Some s) → LeavesOnly (may_leave self.new) (Some s) }
+        ensures reopen { IsErrOf result Fault.Reopen → AsBefore (stands self.old) (stands self.new) (may_leave self.old) (may_leave self.new) };
+
     /// It stands for one state at most.
     ghost one_state: { (keeper : Self) (s t : State) → stands keeper s → stands keeper t → s ≡ t };
 
@@ -79,10 +97,12 @@ pub trait Keeper {
     ghost well_formed: { (keeper : Self) (s : State) → stands keeper s → IsState s };
 }
 
-/// Applies the batches in order, up to the first fault.
+/// Applies the batches in order, up to the first fault. Where the room for the replies is refused, no call
+/// is made.
 pub fn run<K: Keeper>(alloc: Global, keeper: &mut K, batches: &[Batch]) -> Run
     ensures count { length result.replies.items ≤ length batches.now }
     ensures all { IsNone result.fault → length result.replies.items ≡ length batches.now }
+    ensures some { IsSome result.fault → length result.replies.items < length batches.now }
     ensures began_clean { K.is_clean keeper.new → K.is_clean keeper.old }
     ensures faults { RunShuts result.fault (K.cause keeper.old) (K.cause keeper.new) }
     ensures replies { K.is_clean keeper.new → (s : State) → K.stands keeper.old s →
@@ -92,6 +112,12 @@ pub fn run<K: Keeper>(alloc: Global, keeper: &mut K, batches: &[Batch]) -> Run
     ensures leaves { K.is_clean keeper.new → (s : State) → K.stands keeper.old s → LeavesOnly (K.may_leave keeper.old) (Some s) →
         RunLeaves s (map batch_value batches.now) (length result.replies.items) result.fault (K.may_leave keeper.new) }
 {
+    if batches.is_empty() {
+        return Run {
+            replies: Vec::new(alloc),
+            fault: None,
+        };
+    }
     let Ok(mut replies) = Vec::with_capacity(alloc, batches.len()) else {
         return Run {
             replies: Vec::new(alloc),

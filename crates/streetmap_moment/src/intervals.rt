@@ -63,20 +63,6 @@ impl Interval {
         }
     }
 
-    /// The first moment, or nothing where the start is open.
-    pub fn start(&self) -> Option<Moment>
-        ensures { result ≡ self.now.start }
-    {
-        self.start
-    }
-
-    /// The last moment, or nothing where the end is open.
-    pub fn end(&self) -> Option<Moment>
-        ensures { result ≡ self.now.end }
-    {
-        self.end
-    }
-
     /// Whether the two intervals meet: neither ends before the other starts, so that some moment
     /// lies in both. An open end is never over, and an open start was always there.
     pub fn meets(&self, other: &Interval) -> bool

@@ -25,8 +25,6 @@ mod intervals;
 pub mod laws;
 mod moments;
 mod reading;
-#[cfg(test)]
-mod tests;
 mod texts;
 
 pub use faults::TimeFault;

@@ -18,13 +18,6 @@ pub struct Moment {
 }
 
 impl Moment {
-    /// The nanoseconds since 1970-01-01T00:00:00Z.
-    pub fn nanoseconds(self) -> i128
-        ensures { result ≡ self.nanoseconds }
-    {
-        self.nanoseconds
-    }
-
     // The whole seconds since 1970-01-01T00:00:00Z, rounded down.
     pub(crate) fn second(self) -> i64
         ensures value { result ≡ second_of self.nanoseconds }

@@ -23,6 +23,3 @@ pub use fault::QueryFault;
 pub use queries::Query;
 pub use reading::{has_parameter, read_query};
 pub use writing::{next_query, self_query};
-
-#[cfg(test)]
-mod tests;

@@ -3,7 +3,7 @@
 use super::answer_line;
 use std::process::Abort;
 use std::test::Fail;
-use streetmap_ledger::PlainKeeper;
+use streetmap_memory::PlainKeeper;
 
 /// A line that shows what the ledger holds.
 const SHOW: &str = "page lamps";

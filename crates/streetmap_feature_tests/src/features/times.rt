@@ -58,10 +58,10 @@ fn has_ends(feature: &Feature, ends: (i128, i128)) -> bool {
     let Some(time) = feature.time() else {
         return false;
     };
-    let (Some(start), Some(end)) = (time.start(), time.end()) else {
+    let (Some(start), Some(end)) = (time.start, time.end) else {
         return false;
     };
-    start.nanoseconds() == ends.0 && end.nanoseconds() == ends.1
+    start.nanoseconds == ends.0 && end.nanoseconds == ends.1
 }
 
 const TIMES: &[(&str, (i128, i128))] = &[

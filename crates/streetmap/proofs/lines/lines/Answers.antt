@@ -1,5 +1,5 @@
 use Rattle.std.proofs.Common.{subst}
-use Rattle.streetmap_ledger.specs.Plain.{IsPlain, plain_state}
+use Rattle.streetmap_memory.specs.Plain.{IsPlain, plain_state}
 use Rattle.streetmap.specs.Lines.{line_answer, state_after, answer_text, AppendsFirst}
 use Rattle.streetmap.specs.Reading.{TakesLine}
 use Rattle.std.specs.Io.KnownBytes.{Appends}

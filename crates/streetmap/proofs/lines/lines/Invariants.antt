@@ -1,4 +1,4 @@
-use Rattle.streetmap_ledger.specs.Plain.{IsPlain, plain_state}
+use Rattle.streetmap_memory.specs.Plain.{IsPlain, plain_state}
 use Rattle.streetmap.specs.Reading.{WhereKnown}
 use Rattle.streetmap.proofs.AnswerLemmas.{IsAnswered}
 use Rattle.streetmap.proofs.lines.lines.Given as goal

@@ -1,7 +1,7 @@
 use Rattle.std.proofs.Common.{◌≡◌, ◌∷◌, ◌++◌, [], OnOk, OnErr, ap, subst, ◌∙◌, string_bytes}
 use Rattle.std.proofs.KnownBytes.{Appends-nil}
 use Rattle.std.specs.Io.KnownBytes.{Appends}
-use Rattle.streetmap_ledger.specs.Plain.{IsPlain, plain_state}
+use Rattle.streetmap_memory.specs.Plain.{IsPlain, plain_state}
 use Rattle.streetmap.specs.Lines.{line_answer, answer_text, AppendsFirst}
 use Rattle.streetmap.proofs.AnswerLemmas.{line_answered, said_text, said_none, on_ok, IsLineAnswer}
 use Rattle.streetmap.proofs.lines.write_answer.Goals as goal

@@ -1,6 +1,7 @@
 use Rattle.std.proofs.Common.{subst, sym, ◌∙◌}
 use Rattle.streetmap_geojson.specs.Kept.{IsFeature}
-use Rattle.streetmap_feature_text.proofs.PackedFacts.{packed_view, retimed_is, packed_interval_made}
+use Rattle.streetmap_feature_text.proofs.PackedFacts.{packed_view, packed_interval_made}
+use Rattle.streetmap_geojson.proofs.Facts.{retimed_is}
 use Rattle.streetmap_feature_text.proofs.packed.PackedFeature.facts.Goals as goal
 
 pub returns : goal.returns

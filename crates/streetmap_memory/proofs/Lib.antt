@@ -1,0 +1,10 @@
+pub mod Maps
+pub mod Finite
+pub mod Ordered
+pub mod SlotLemmas
+pub mod Live
+pub mod ExtentLemmas
+pub mod Sweeping
+pub mod CollectionsInOrder
+pub mod Steps
+pub mod PlainLemmas

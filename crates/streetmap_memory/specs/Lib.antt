@@ -1,0 +1,4 @@
+pub mod Slots
+pub mod Undo
+pub mod Does
+pub mod Plain

@@ -1,0 +1,50 @@
+-- The state that the plain keeper stands for.
+use Rattle.std.specs.Prelude.{Some, Option, ◌≡◌, ℕ, String, None, IsSome, T, not}
+use mathlib.Core.Path.{subst}
+use Rattle.std.proofs.Common.{sym, ap, ◌∙◌}
+use Rattle.std.specs.BTreeMap.{BTreeMap}
+use Rattle.std.specs.declared.alloc.Global.{Global}
+use Rattle.streetmap_batch.specs.BatchValue.{BatchValue}
+use Rattle.streetmap_ledger.specs.State.{State, Kept}
+use Rattle.streetmap_ledger.specs.Batches.{Outcome, fresh, edited}
+use Rattle.streetmap_ledger.specs.WellFormed.{IsState}
+use Rattle.streetmap_memory.specs.Slots.{SlotCollection, map_of}
+use Rattle.streetmap_memory.specs.Does.{state_of}
+use Rattle.streetmap_memory.specs.declared.plain.PlainKeeper.{PlainKeeper}
+use Rattle.streetmap_ledger.specs.declared.reply.Reply.{Reply}
+use Rattle.streetmap_ledger.specs.declared.reply.Cause.{Cause}
+
+-- the state of the keeper's maps
+abbrev pub plain_state : PlainKeeper → State
+plain_state k = state_of (map_of k.collections.entries) (map_of k.keys.entries)
+
+-- what a batch whose key is not there comes to
+abbrev pub outcome_of : BTreeMap (String Global) SlotCollection → BTreeMap (String Global) Kept → BatchValue → ℕ → Outcome
+outcome_of collections keys b serial =
+    let s = state_of (map_of collections.entries) (map_of keys.entries) in
+    fresh s b serial (edited 1 s b.edits)
+
+-- the reply is the outcome's, and the maps are those of its state
+abbrev pub IsOutcome : Outcome → Reply → BTreeMap (String Global) SlotCollection → BTreeMap (String Global) Kept → Type 0
+IsOutcome o reply collections keys = (reply ≡ o.reply) × (state_of (map_of collections.entries) (map_of keys.entries) ≡ o.state)
+
+-- nothing shut a keeper that has no cause
+pub never_shut : {B : Type 0} → IsSome {T = Cause} None → B
+never_shut shut = absurd (subst (λ b. T (not b)) shut tt)
+
+-- the plain keeper stands for the state of its maps, which is well-formed, and for no other
+pub record IsPlain (k : PlainKeeper) (s : State) : Type 0 where
+  pub is : plain_state k ≡ s
+  pub sound : IsState s
+
+-- it stands for one state
+pub one_plain : (k : PlainKeeper) (s t : State) → IsPlain k s → IsPlain k t → s ≡ t
+one_plain k s t p q = sym p.is ∙ q.is
+
+-- a stop leaves the state that it stands for
+abbrev pub PlainLeaves : PlainKeeper → Option State → Type 0
+PlainLeaves k o = o ≡ Some (plain_state k)
+
+-- a stop may leave that state
+pub leaves_it : (k : PlainKeeper) (s : State) → IsPlain k s → PlainLeaves k (Some s)
+leaves_it k s p = ap (λ t. Some t) (sym p.is)

@@ -1,0 +1,272 @@
+//! A keeper in memory.
+ghost use Rattle.std.specs.Prelude.{◌≡◌, ◌≤◌, ◌+◌, Option, Some, None, Vec, IfOk, OnOk, OnErr, IsErrOf, map, length, string_bytes};
+ghost use Rattle.std.specs.FinMap.{get, insert};
+ghost use Rattle.std.specs.Option.{option_map};
+ghost use Rattle.std.specs.declared.alloc.Global.{Global};
+ghost use Rattle.streetmap_query.specs.Views.{query_value};
+ghost use Rattle.streetmap_ledger.specs.State.{opening_state};
+ghost use Rattle.streetmap_ledger.specs.Batches.{counts_of, act};
+ghost use Rattle.streetmap_batch.specs.BatchText.{batch_text};
+ghost use Rattle.streetmap_batch.specs.BatchView.{batch_value, edit_value};
+ghost use Rattle.streetmap_memory.specs.Slots.{map_of};
+ghost use Rattle.streetmap_ledger.specs.Pages.{page_in, feature_in};
+ghost use Rattle.streetmap_ledger.specs.PageView.{page_value};
+ghost use Rattle.streetmap_ledger.specs.Outlines.{outlines_in};
+ghost use Rattle.streetmap_ledger.specs.OutlineView.{feature_outline_values};
+ghost use Rattle.streetmap_ledger.specs.declared.outline.FeatureOutline.{FeatureOutline};
+ghost use Rattle.streetmap_ledger.specs.Summaries.{summary_in, summaries_in};
+ghost use Rattle.streetmap_ledger.specs.SummaryView.{summary_value, summary_values};
+ghost use Rattle.streetmap_memory.specs.Plain.{plain_state, outcome_of, IsOutcome, IsPlain};
+ghost use Rattle.streetmap_ledger.specs.declared.reply.Fault.TheVariants.{Memory};
+
+use crate::collection::PlainCollection;
+use crate::collections::summaries;
+use crate::edits::act_all;
+use crate::kept::KeptBatch;
+use bytes::Bytes;
+use std::alloc::{AllocError, Global};
+use std::collections::BTreeMap;
+use streetmap_batch::{Batch, Edit};
+use streetmap_geojson::Feature;
+use streetmap_ledger::{
+    Counts, Fault, FeatureOutline, Keeper, Page, Refusal, Reply, Summary,
+};
+use streetmap_query::Query;
+
+/// How many batches may be accepted.
+const MOST_BATCHES: usize = (1 << 63) - 1;
+
+/// A keeper whose state is in memory. It is never shut, and its only fault is `Memory`.
+#[derive(Drop)]
+pub struct PlainKeeper {
+    alloc: Global,
+    collections: BTreeMap<String, PlainCollection>,
+    keys: BTreeMap<String, KeptBatch>,
+}
+
+/// How many edits there are of each kind.
+fn count(edits: &[Edit]) -> Counts
+    requires { length edits.now ≤ 10000 }
+    ensures { result ≡ counts_of (map edit_value edits.now) }
+{
+    let mut counts = Counts {
+        opened: 0,
+        inserted: 0,
+        replaced: 0,
+        deleted: 0,
+    };
+    for edit in edits {
+        match edit {
+            Edit::Open { .. } => counts.opened += 1,
+            Edit::Insert { .. } => counts.inserted += 1,
+            Edit::Replace { .. } => counts.replaced += 1,
+            Edit::Delete { .. } => counts.deleted += 1,
+        }
+    }
+    counts
+}
+
+/// The text of a batch, in no more memory than it needs.
+fn text_of(alloc: Global, batch: &Batch) -> Result<Bytes, AllocError>
+    ensures { IfOk result (λ text. text ≡ batch_text (batch_value batch.now)) }
+{
+    let mut text = batch.text(alloc)?;
+    text.shrink_to_fit();
+    Bytes::from_string(text)
+}
+
+/// Keeps a batch under a key that is not there.
+fn keep(
+    alloc: Global,
+    keys: &mut BTreeMap<String, KeptBatch>,
+    key: &str,
+    text: &Bytes,
+    counts: Counts,
+    serial: u64,
+) -> Result<(), AllocError>
+    ensures ok { OnOk result (map_of keys.new.entries ≡ insert (map_of keys.old.entries) key.now (record { text = text.now; counts = counts; serial = serial })) }
+    ensures err { OnErr result (map_of keys.new.entries ≡ map_of keys.old.entries) }
+{
+    let own_key = String::from_str(alloc, key)?;
+    let own_text = text.clone()?;
+    let kept = KeptBatch::new(own_text, counts, serial);
+    keys.insert(own_key, kept)?;
+    Ok(())
+}
+
+/// Acts on a batch whose key is not there.
+fn accept(
+    alloc: Global,
+    collections: &mut BTreeMap<String, PlainCollection>,
+    keys: &mut BTreeMap<String, KeptBatch>,
+    batch: &Batch,
+    text: &Bytes,
+    serial: u64,
+) -> Result<Reply, AllocError>
+    requires new { get (map_of keys.old.entries) (batch_value batch.now).key ≡ None }
+    requires its_text { text.now ≡ batch_text (batch_value batch.now) }
+    ensures ok { IfOk result (λ reply. IsOutcome (outcome_of collections.old keys.old (batch_value batch.now) serial) reply collections.new keys.new) }
+    ensures err_collections { OnErr result (map_of collections.new.entries ≡ map_of collections.old.entries) }
+    ensures err_keys { OnErr result (map_of keys.new.entries ≡ map_of keys.old.entries) }
+{
+    let counts = count(batch.edits());
+    keep(alloc, keys, batch.key(), text, counts, serial)?;
+    match act_all(alloc, collections, batch.edits(), text) {
+        Ok(None) => Ok(Reply::Accepted(counts, serial)),
+        Ok(Some((place, why))) => {
+            let _ = keys.remove(batch.key());
+            Ok(Reply::Refused(why, Some(place)))
+        }
+        Err(e) => {
+            let _ = keys.remove(batch.key());
+            Err(e)
+        }
+    }
+}
+
+impl PlainKeeper {
+    /// A keeper that stands for the opening state.
+    pub fn new(alloc: Global) -> Self
+        ensures { IsPlain result opening_state }
+    {
+        PlainKeeper {
+            alloc,
+            collections: BTreeMap::new(alloc),
+            keys: BTreeMap::new(alloc),
+        }
+    }
+
+    fn page_of(&self, collection: &str, query: &Query) -> Result<Option<Page>, AllocError>
+        ensures { IfOk result (λ page. option_map page_value page ≡ page_in (plain_state self.now) collection.now (query_value query.now)) }
+    {
+        match self.collections.get(collection) {
+            Some(collection) => Ok(Some(collection.page(self.alloc, query)?)),
+            None => Ok(None),
+        }
+    }
+
+    fn feature_of(&self, collection: &str, id: &str) -> Result<Option<Feature>, AllocError>
+        ensures { IfOk result (λ found. found ≡ feature_in (plain_state self.now) collection.now id.now) }
+    {
+        match self.collections.get(collection) {
+            Some(collection) => match collection.get(id) {
+                Some(feature) => Ok(Some(feature.unpack(self.alloc)?)),
+                None => Ok(None),
+            },
+            None => Ok(None),
+        }
+    }
+
+    fn summary_of(&self, id: &str) -> Result<Option<Summary>, AllocError>
+        ensures { IfOk result (λ told. option_map summary_value told ≡ summary_in (plain_state self.now) id.now) }
+    {
+        match self.collections.get(id) {
+            Some(collection) => Ok(Some(collection.summary(self.alloc, id)?)),
+            None => Ok(None),
+        }
+    }
+
+    fn outlines_of(&self, collection: &str) -> Result<Option<Vec<FeatureOutline>>, AllocError>
+        ensures { IfOk result (λ found. option_map (λ (os : Vec FeatureOutline Global). feature_outline_values os.items) found ≡ outlines_in (plain_state self.now) collection.now) }
+    {
+        match self.collections.get(collection) {
+            Some(collection) => Ok(Some(collection.outlines(self.alloc)?)),
+            None => Ok(None),
+        }
+    }
+
+    fn summaries_of(&self) -> Result<Vec<Summary>, AllocError>
+        ensures { IfOk result (λ told. summary_values told.items ≡ summaries_in (plain_state self.now)) }
+    {
+        summaries(self.alloc, &self.collections)
+    }
+
+    fn apply_batch(&mut self, batch: &Batch) -> Result<Reply, AllocError>
+        ensures reply { IfOk result (λ reply. reply ≡ (act (plain_state self.old) (batch_value batch.now)).reply) }
+        ensures state { OnOk result (plain_state self.new ≡ (act (plain_state self.old) (batch_value batch.now)).state) }
+        ensures err { OnErr result (plain_state self.new ≡ plain_state self.old) }
+    {
+        let text = text_of(self.alloc, batch)?;
+        if let Some(kept) = self.keys.get(batch.key()) {
+            if kept.text() == text.as_slice() {
+                return Ok(Reply::Repeated(kept.counts(), kept.serial()));
+            }
+            return Ok(Reply::Refused(Refusal::KeyUsed, None));
+        }
+        let count = self.keys.len();
+        if count >= MOST_BATCHES {
+            return Ok(Reply::Refused(Refusal::Full, None));
+        }
+        Ok(accept(
+            self.alloc,
+            &mut self.collections,
+            &mut self.keys,
+            batch,
+            &text,
+            count as u64 + 1,
+        )?)
+    }
+}
+
+impl Keeper for PlainKeeper {
+    ghost use Rattle.streetmap_memory.specs.Plain.{IsPlain, PlainLeaves, one_plain, leaves_it, never_shut};
+
+    ghost stands = { IsPlain };
+
+    ghost may_leave = { PlainLeaves };
+
+    ghost cause = { λ _. None };
+
+    ghost is_clean = { λ _. Unit {0} };
+
+    ghost one_state = { one_plain };
+
+    ghost may_leave_it = { leaves_it };
+
+    ghost shut_has_none = { λ k s shut stands. never_shut shut };
+
+    ghost well_formed = { λ k s stands. stands.sound };
+
+    fn apply(&mut self, batch: &Batch) -> Result<Reply, Fault> {
+        batch.facts();
+        match self.apply_batch(batch) {
+            Ok(reply) => Ok(reply),
+            Err(_) => Err(Fault::Memory),
+        }
+    }
+
+    fn page(&mut self, collection: &str, query: &Query) -> Result<Option<Page>, Fault> {
+        match self.page_of(collection, query) {
+            Ok(page) => Ok(page),
+            Err(_) => Err(Fault::Memory),
+        }
+    }
+
+    fn feature(&mut self, collection: &str, id: &str) -> Result<Option<Feature>, Fault> {
+        match self.feature_of(collection, id) {
+            Ok(feature) => Ok(feature),
+            Err(_) => Err(Fault::Memory),
+        }
+    }
+
+    fn collection(&mut self, id: &str) -> Result<Option<Summary>, Fault> {
+        match self.summary_of(id) {
+            Ok(summary) => Ok(summary),
+            Err(_) => Err(Fault::Memory),
+        }
+    }
+
+    fn collections(&mut self) -> Result<Vec<Summary>, Fault> {
+        match self.summaries_of() {
+            Ok(summaries) => Ok(summaries),
+            Err(_) => Err(Fault::Memory),
+        }
+    }
+
+    fn outlines(&mut self, collection: &str) -> Result<Option<Vec<FeatureOutline>>, Fault> {
+        match self.outlines_of(collection) {
+            Ok(outlines) => Ok(outlines),
+            Err(_) => Err(Fault::Memory),
+        }
+    }
+}
