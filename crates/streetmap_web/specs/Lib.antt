@@ -1,0 +1,5 @@
+pub mod Response
+pub mod Standing
+pub mod Responds
+pub mod Turns
+pub mod Exchanges
