@@ -6,6 +6,7 @@ use Rattle.streetmap_http.specs.FramingView.{head_value}
 use Rattle.streetmap_http.specs.declared.body.BodyEnd.{BodyEnd}
 use Rattle.streetmap_http.specs.declared.body.BodyEnd.TheVariants.{Whole, Truncated}
 use Rattle.streetmap_ledger.specs.declared.reply.Fault.TheVariants.{Memory}
+use Rattle.streetmap_routes.specs.BaseView.{root_of}
 use Rattle.streetmap_web.specs.Response.{response_text, fault_response}
 use Rattle.streetmap_web.specs.Responds.{answer_text}
 use Rattle.streetmap_web.specs.Standing.{Stands, IsKnown}
@@ -19,7 +20,7 @@ pub returns-in_default-clause-says : goal.returns-in_default-clause-says
 returns-in_default-clause-says g c = λ clean bytes left x cut framed read h.
     let head = head_value c.args.head in
     let text = c.fixed.ensures ∙ ap (λ bare. response_text true bare (fault_response (Keeper Memory))) c.is_bare-bare.ensures in
-    subst (λ t. TurnSays t c.args.root.now x (record {
+    subst (λ t. TurnSays t (root_of c.args.base.now) x (record {
       old_left = left;
       new_left = g.R.Read.remaining c.args.reader.now;
       old_held = g.W.Write.contents c.args.writer.now;
@@ -29,7 +30,7 @@ returns-in_default-clause-says g c = λ clean bytes left x cut framed read h.
       old_leaves = g.K.Keeper.may_leave c.args.keeper.now;
       new_leaves = g.K.Keeper.may_leave c.args.keeper.now;
     })) (sym c.turn_after.ensures)
-    (starved_turn c.args.root.now x bytes (answer_text c.fixed.result) (request_of head []) c.write_answer.result _ _ _ _ _ _
+    (starved_turn (root_of c.args.base.now) x bytes (answer_text c.fixed.result) (request_of head []) c.write_answer.result _ _ _ _ _ _
     (no_room head cut framed refl refl) read h text c.write_answer.ensures)
 
 -- what filling says where it is known how it ended
@@ -40,12 +41,12 @@ pub returns-in-Truncated-clause-says : goal.returns-in-Truncated-clause-says
 returns-in-Truncated-clause-says g c = λ clean bytes left x cut framed read h.
     let (part, short, came, end) = filled _ Truncated _ _ _ c.in-Truncated.is c.read_all-end.ensures.says in
     let fits : length c.read_all-end.result.1.items ≡ c.args.head.len = c.read_all-end.ensures.len ∙ c.in-Ok.ensures in
-    truncated_turn c.args.root.now x (bytes ++ part) left _ _ _ _
+    truncated_turn (root_of c.args.base.now) x (bytes ++ part) left _ _ _ _
     (in_body bytes part (head_value c.args.head) refl cut framed (subst (λ n. length part < n) fits short))
     (Consumes-trans left _ _ bytes part read came) end h
 
 pub returns-in-Failed-clause-says : goal.returns-in-Failed-clause-says
-returns-in-Failed-clause-says g c = λ clean bytes left x cut framed read h. unread_turn c.args.root.now x _ _ _ _ _ h
+returns-in-Failed-clause-says g c = λ clean bytes left x cut framed read h. unread_turn (root_of c.args.base.now) x _ _ _ _ _ h
 
 pub returns-clause-says : goal.returns-clause-says
 returns-clause-says g c = λ clean bytes left x cut framed read h.
@@ -64,7 +65,7 @@ returns-clause-says g c = λ clean bytes left x cut framed read h.
       new_leaves = g.K.Keeper.may_leave c.answer_to-answer.new.keeper;
     } in
     let came : Consumes y z body = subst (Consumes y z) (sym value) (filled _ Whole _ y z c.in-Whole.is c.read_all-end.ensures.says) in
-    subst (λ t. TurnSays t c.args.root.now x a) (sym c.turn_after-2.ensures)
-    (answered_turn c.args.root.now x (head_value c.args.head) bytes body (answer_text c.answer_to-answer.result.0) c.answer_to-answer.result.1 c.write_answer-2.result a
+    subst (λ t. TurnSays t (root_of c.args.base.now) x a) (sym c.turn_after-2.ensures)
+    (answered_turn (root_of c.args.base.now) x (head_value c.args.head) bytes body (answer_text c.answer_to-answer.result.0) c.answer_to-answer.result.1 c.write_answer-2.result a
     cut framed (ap length value ∙ c.read_all-end.ensures.len ∙ c.in-Ok.ensures) (Consumes-trans left y z bytes body read came) refl
     (c.answer_to-answer.ensures.answers clean x h) c.write_answer-2.ensures)
