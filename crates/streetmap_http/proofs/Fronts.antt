@@ -1,12 +1,10 @@
 -- What stands at the front of a stream is one thing, and a stream is cut in one way.
-use Rattle.std.proofs.Common.{◌≡◌, ◌≢◌, ◌≤◌, ◌<◌, ◌+◌, ◌-◌, ◌∙◌, ◌++◌, ◌∷◌, [], ℕ, List, Bool, true, false, length, take, drop, map, sym, ap, subst, refl, arith, take-append-drop, append_assoc, append-nil, length-append, inl, inr, ◌⊎◌, IsTrue}
+use Rattle.std.proofs.Common.{◌≡◌, ◌≢◌, ◌≤◌, ◌<◌, ◌+◌, ◌-◌, ◌∙◌, ◌++◌, ◌∷◌, [], ℕ, List, Bool, true, false, length, take, drop, map, sym, ap, subst, refl, arith, append_assoc, append-nil, length-append, inl, inr, ◌⊎◌}
 use Rattle.std.proofs.lemmas.Grind.{common_steps}
-use Rattle.std.proofs.lemmas.List.{take-append-le}
 use Rattle.std.proofs.lemmas.List.Elements.{All-head, All-tail}
 use Rattle.std.proofs.Math.Seq.{take-append_seam, drop-append_seam, take-append-add}
-use Rattle.std.specs.Prelude.{nat_le, if◌then◌else◌}
+use Rattle.std.specs.Prelude.{nat_le}
 use Rattle.std.specs.List.{flat_map}
-use Rattle.httparse.specs.Grammar.{RequestHead}
 use Rattle.httparse.specs.Spans.{name_and_value}
 use Rattle.httparse.proofs.GrammarLemmas.{request_unique}
 use Rattle.streetmap_http.specs.declared.limits.TheConstants.{HEAD_LIMIT}
@@ -15,8 +13,8 @@ use Rattle.streetmap_http.specs.declared.head.HeadProgress.TheVariants.{Blank, B
 use Rattle.streetmap_http.specs.declared.fault.FramingFault.{FramingFault}
 use Rattle.streetmap_http.specs.declared.fault.FramingFault.TheVariants.{HeadTooLarge}
 use Rattle.streetmap_http.specs.Head.{progress_after, IsHead, HasNoHead}
-use Rattle.streetmap_http.specs.Framing.{HeadValue, Framing, broken, sized, Frames, many, unread, read, framing_in, Breaks, no_end, rule, IsRequest}
-use Rattle.streetmap_http.specs.Streams.{Request, IsWhole, BeginsWith, IsBlank, LacksOfBody, IsUnfinished, in_head, in_body, StreamEnd, refused, ended, truncated, EndsAs, Front, request, stops, IsFront, BeginsWithAll, IsCut}
+use Rattle.streetmap_http.specs.Framing.{HeadValue, Framing, broken, sized, Frames, many, unread, read, framing_in, Breaks, no_end, rule}
+use Rattle.streetmap_http.specs.Streams.{Request, IsWhole, BeginsWith, IsUnfinished, in_head, in_body, StreamEnd, refused, ended, truncated, EndsAs, Front, request, stops, IsFront, BeginsWithAll, IsCut}
 use Rattle.streetmap_http.proofs.Heads.{progress_append, done_stays, head_unique}
 
 -- a head says one thing
@@ -111,10 +109,10 @@ not_blank Done h = refl
 blank_is_no_head : (bytes : List ℕ) → progress_after Blank bytes ≡ Blank → HasNoHead bytes
 blank_is_no_head bytes blank = λ done. let wrong : Blank ≡ Done = sym blank ∙ done in cc
 
-le_true : (n m : ℕ) → n ≤ m → nat_le n m ≡ true
+pub le_true : (n m : ℕ) → n ≤ m → nat_le n m ≡ true
 le_true n m h = grind (arith, common_steps)
 
-le_false : (n m : ℕ) → m < n → nat_le n m ≡ false
+pub le_false : (n m : ℕ) → m < n → nat_le n m ≡ false
 le_false n m h = grind (arith, common_steps)
 
 request_same : (r q : Request) → r.bytes ≡ q.bytes → r.head ≡ q.head → r.body ≡ q.body → request r ≡ request q

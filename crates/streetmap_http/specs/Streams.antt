@@ -4,7 +4,6 @@ use Rattle.std.specs.List.{flat_map}
 use Rattle.streetmap_http.specs.Head.{progress_after, IsHead, HasNoHead}
 use Rattle.streetmap_http.specs.Framing.{HeadValue, Frames, sized, Breaks, IsRequest}
 use Rattle.streetmap_http.specs.declared.limits.TheConstants.{HEAD_LIMIT}
-use Rattle.streetmap_http.specs.declared.head.HeadProgress.{HeadProgress}
 use Rattle.streetmap_http.specs.declared.head.HeadProgress.TheVariants.{Blank}
 use Rattle.streetmap_http.specs.declared.fault.FramingFault.{FramingFault}
 
