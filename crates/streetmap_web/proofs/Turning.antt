@@ -1,9 +1,10 @@
 -- From what was read, answered and sent to what a turn did.
-use Rattle.std.proofs.Common.{◌≡◌, ℕ, ◌++◌, List, [], length, Bool, true, false, refl, sym, subst, ap, ◌∙◌, Some, inl, inr}
+use Rattle.std.proofs.Common.{◌≡◌, ℕ, ◌<◌, ◌+◌, ◌-◌, arith, ◌++◌, List, [], length, Bool, true, false, refl, sym, subst, ap, ◌∙◌, Some, inl, inr}
 use Rattle.std.specs.Prelude.{Option}
 use Rattle.std.specs.Io.KnownBytes.{Consumes, Keeps, IsAtEnd}
 use Rattle.std.proofs.KnownBytes.{Keeps-refl}
 use Rattle.streetmap_http.specs.Head.{IsHead}
+use Rattle.streetmap_http.specs.Streams.{IsBlank, IsUnfinished, in_body}
 use Rattle.streetmap_http.specs.Framing.{HeadValue, Frames, sized, Breaks, is_bare}
 use Rattle.streetmap_http.specs.Sending.{SentSays}
 use Rattle.streetmap_http.specs.declared.fault.FramingFault.{FramingFault}
@@ -18,7 +19,7 @@ use Rattle.streetmap_web.specs.Response.{fault_response, response_text, closes_w
 use Rattle.streetmap_web.specs.Standing.{Standing, of_state, shut, told, starved, failed, answer_by, after, Outcome, CanBe, Leaves, LeavesNoMore, Stays, IsKnown}
 use Rattle.streetmap_web.specs.Responds.{Answers}
 use Rattle.streetmap_web.specs.Turns.{turn_after, RefuseSays}
-use Rattle.streetmap_web.specs.Exchanges.{Exchange, RequestValue, request_of, broken_request, Asks, whole, broken, no_room, closes, answer_bytes, response, Around, Acted, Rested, IsBlank, IsUnfinished, TurnSays}
+use Rattle.streetmap_web.specs.Exchanges.{Exchange, RequestValue, request_of, broken_request, Asks, whole, broken, no_room, closes, answer_bytes, response, Around, Acted, Rested, TurnSays}
 use Rattle.streetmap_web.specs.declared.serving.Turn.{Turn}
 use Rattle.streetmap_web.specs.declared.serving.Turn.TheVariants.{Open, Closed, Ended, Truncated, ReadFailed, WriteFailed}
 use Rattle.streetmap_bodies.specs.declared.request_fault.RequestFault.TheVariants.{Keeper, Framing}
@@ -50,19 +51,19 @@ answered_turn root x h head body text closing sent a cut framed len read known a
     sent_turn root x e closing text sent a acted answers.closed
     (answers.bytes ∙ ap (λ c. response_text c (is_bare h.method) (response root x e)) answers.closed) written
 
-faulty_after : (x : Standing) (stands : Standing → Type 0) (fault : FramingFault) → stands x → stands (after x (faulty (Framing fault)) told)
+pub faulty_after : (x : Standing) (stands : Standing → Type 0) (fault : FramingFault) → stands x → stands (after x (faulty (Framing fault)) told)
 faulty_after (of_state s) stands fault h = h
 faulty_after (shut why) stands fault h = h
 
-faulty_response : (root : Text) (x : Standing) (fault : FramingFault) → answer_by root x (faulty (Framing fault)) told ≡ fault_response (Framing fault)
+pub faulty_response : (root : Text) (x : Standing) (fault : FramingFault) → answer_by root x (faulty (Framing fault)) told ≡ fault_response (Framing fault)
 faulty_response root (of_state s) fault = refl
 faulty_response root (shut why) fault = refl
 
-faulty_leaves : (x : Standing) (fault : FramingFault) (leaves : Option State → Type 0) → Leaves x (faulty (Framing fault)) told (IsKnown x leaves) leaves leaves
+pub faulty_leaves : (x : Standing) (fault : FramingFault) (leaves : Option State → Type 0) → Leaves x (faulty (Framing fault)) told (IsKnown x leaves) leaves leaves
 faulty_leaves (of_state s) fault leaves = λ only. only
 faulty_leaves (shut why) fault leaves = λ o h. h
 
-can_told : (x : Standing) (ask : AskValue) → CanBe x ask told
+pub can_told : (x : Standing) (ask : AskValue) → CanBe x ask told
 can_told (of_state s) ask = tt
 can_told (shut why) ask = tt
 
@@ -81,19 +82,19 @@ refused_turn root x bytes text bare fault sent left rest old_held new_held stand
     } in
     sent_turn root x e true text sent _ acted refl (same ∙ ap (response_text true bare) (sym (faulty_response root x fault))) written
 
-starved_after : (x : Standing) (stands : Standing → Type 0) (ask : AskValue) → stands x → stands (after x ask starved)
+pub starved_after : (x : Standing) (stands : Standing → Type 0) (ask : AskValue) → stands x → stands (after x ask starved)
 starved_after (of_state s) stands ask h = h
 starved_after (shut why) stands ask h = h
 
-starved_leaves : (x : Standing) (ask : AskValue) (leaves : Option State → Type 0) → Leaves x ask starved (IsKnown x leaves) leaves leaves
+pub starved_leaves : (x : Standing) (ask : AskValue) (leaves : Option State → Type 0) → Leaves x ask starved (IsKnown x leaves) leaves leaves
 starved_leaves (of_state s) ask leaves = λ only. only
 starved_leaves (shut why) ask leaves = λ o h. h
 
-starved_response : (root : Text) (x : Standing) (ask : AskValue) → answer_by root x ask starved ≡ fault_response (Keeper Memory)
+pub starved_response : (root : Text) (x : Standing) (ask : AskValue) → answer_by root x ask starved ≡ fault_response (Keeper Memory)
 starved_response root (of_state s) ask = refl
 starved_response root (shut why) ask = refl
 
-can_starve : (x : Standing) (ask : AskValue) → CanBe x ask starved
+pub can_starve : (x : Standing) (ask : AskValue) → CanBe x ask starved
 can_starve (of_state s) ask = tt
 can_starve (shut why) ask = tt
 
@@ -115,6 +116,13 @@ starved_turn root x bytes text request sent left rest old_held new_held stands l
     (same ∙ ap (response_text true request.bare) (sym (starved_response root x request.ask)) ∙ ap (λ c. response_text c request.bare (response root x e)) closed) written
 
 -- ---- turns without an answer
+
+-- a head and less than its body
+pub unfinished_body : (head came : Text) (h : HeadValue) → IsHead head → Frames head (sized h) → length came < h.len → IsUnfinished (head ++ came)
+unfinished_body head came h cut framed short =
+    let some : 0 < h.len - length came = omega arith in
+    let whole : length came + (h.len - length came) ≡ h.len = omega arith in
+    in_body (h.len - length came) some (record { head = head; came = came; value = h; parts = refl; cut = cut; framed = framed; len = whole })
 
 pub stays : (x : Standing) (leaves : Option State → Type 0) → Stays x (IsKnown x leaves) leaves leaves
 stays (of_state s) leaves = λ known. known

@@ -11,7 +11,7 @@ use Rattle.streetmap_ledger.specs.State.{State}
 use Rattle.streetmap_ledger.specs.Batches.{after_all}
 use Rattle.streetmap_routes.specs.Ask.{AskValue, faulty, landing_page, api_text, conformance_classes, all_collections, one_collection, page, feature, batch, ask_of}
 use Rattle.streetmap_web.specs.Response.{ResponseValue, closes_with, response_text}
-use Rattle.streetmap_web.specs.Standing.{Standing, Outcome, told, starved, failed, CanBe, answer_by, after, Leaves, Stays, of_state, shut}
+use Rattle.streetmap_web.specs.Standing.{Standing, Outcome, told, starved, failed, CanBe, answer_by, after, Leaves, Stays, IsKnown, of_state, shut}
 use Rattle.streetmap_web.specs.Turns.{begun_in, end_of}
 use Rattle.streetmap_web.specs.declared.serving.End.{End}
 use Rattle.streetmap_web.specs.declared.serving.Turn.{Turn}
@@ -122,6 +122,16 @@ pub record Acted (x : Standing) (e : Exchange) (a : Around) : Type 0 where
   pub read : Consumes a.old_left a.new_left e.bytes
   pub stands : a.stands (standing_after x e)
   pub leaves : Leaves x e.request.ask e.outcome a.known a.old_leaves a.new_leaves
+
+-- one request was answered: these bytes are it and this text is its answer, the keeper stands for what is after it, and a stop may leave that
+pub record Answered (root : Text) (x : Standing) (bytes text : Text) (closing : Bool) (stands : Standing → Type 0) (old_leaves new_leaves : Option State → Type 0) : Type 0 where
+  pub exchange : Exchange
+  pub bytes_are : exchange.bytes ≡ bytes
+  pub is : IsExchange x exchange
+  pub text_is : text ≡ answer_bytes root x exchange
+  pub closing_is : closing ≡ closes root x exchange
+  pub standing : stands (standing_after x exchange)
+  pub leaves : Leaves x exchange.request.ask exchange.outcome (IsKnown x old_leaves) old_leaves new_leaves
 
 -- nothing was acted on or written
 pub record Rested (x : Standing) (a : Around) : Type 0 where

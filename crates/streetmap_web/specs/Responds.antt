@@ -1,5 +1,5 @@
 -- What the functions that answer say of their results.
-use Rattle.std.specs.Prelude.{◌≡◌, Bool, true, List, Option, None, Some, Result, Ok, Err, string_bytes, ◌++◌, ⊤}
+use Rattle.std.specs.Prelude.{◌≡◌, ◌⊎◌, Bool, true, List, Option, None, Some, Result, Ok, Err, string_bytes, ◌++◌, ⊤}
 use Rattle.streetmap_batch.specs.Text.{Text}
 use Rattle.streetmap_ledger.specs.State.{State}
 use Rattle.streetmap_ledger.specs.Keep.{LeavesOnly, LeavesEither}
@@ -7,10 +7,14 @@ use Rattle.streetmap_ledger.specs.declared.reply.Cause.{Cause}
 use Rattle.streetmap_ledger.specs.declared.reply.Cause.TheVariants as causes
 use Rattle.streetmap_ledger.specs.declared.reply.Fault.{Fault}
 use Rattle.streetmap_ledger.specs.declared.reply.Fault.TheVariants as faults
+use Rattle.streetmap_ledger.specs.declared.reply.Reply.{Reply}
+use Rattle.streetmap_batch.specs.BatchValue.{BatchValue}
 use Rattle.streetmap_routes.specs.Ask.{AskValue}
-use Rattle.streetmap_web.specs.Response.{ResponseValue, response_in, response_shut, state_in, asks_state, fault_response, closes_with, response_text}
+use Rattle.streetmap_web.specs.Response.{ResponseValue, response_in, response_shut, state_in, asks_state, fault_response, closes_with, response_text, replied}
 use Rattle.streetmap_web.specs.Standing.{Standing, Outcome, answer_by, after, CanBe, Leaves, IsKnown}
-use Rattle.streetmap_bodies.specs.declared.request_fault.RequestFault.TheVariants.{Keeper}
+use Rattle.streetmap_http.specs.declared.fault.FramingFault.{FramingFault}
+use Rattle.streetmap_bodies.specs.declared.request_fault.RequestFault.{RequestFault}
+use Rattle.streetmap_bodies.specs.declared.request_fault.RequestFault.TheVariants.{Keeper, Framing}
 use Rattle.streetmap_web.specs.declared.response.Response.{Response}
 use Rattle.streetmap_web.specs.declared.answer.Answer.{Answer}
 use Rattle.streetmap_web.specs.declared.answer.Answer.TheVariants.{Made, Fixed}
@@ -89,3 +93,28 @@ TryLeaves s ask (Err faults.Memory) left = LeavesOnly left (Some s)
 TryLeaves s ask (Err faults.Device) left = LeavesEither left (Some s) (Some (state_in s ask))
 TryLeaves s ask (Err faults.Damaged) left = LeavesOnly left (Some s)
 TryLeaves s ask (Err faults.Reopen) left = LeavesOnly left (Some s)
+
+-- ---- batches
+
+-- a batch by what the keeper answered: its reply is the answer, and its fault is to be answered; `unasked` says that the keeper was never asked, and then memory was refused
+abbrev pub BatchResponds : Text → Result Response Fault → (applies : Result Reply Fault → Type 0) → (unasked : Type 0) → Type 0
+BatchResponds key (Ok response) applies unasked = (reply : Reply) × applies (Ok reply) × (response_value response ≡ replied key reply)
+BatchResponds key (Err fault) applies unasked = applies (Err fault) ⊎ (unasked × (fault ≡ faults.Memory))
+
+-- the same with its head, and whether the connection closes
+abbrev pub BatchTries : Text → Bool → Bool → Result (Answer × Bool) Fault → (applies : Result Reply Fault → Type 0) → (unasked : Type 0) → Type 0
+BatchTries key asked bare (Ok r) applies unasked =
+    (reply : Reply) × applies (Ok reply) × (r.1 ≡ closes_with asked (replied key reply)) × (answer_text r.0 ≡ response_text r.1 bare (replied key reply))
+BatchTries key asked bare (Err fault) applies unasked = applies (Err fault) ⊎ (unasked × (fault ≡ faults.Memory))
+
+-- the answer to a batch: the reply of the keeper, whatever it is, or its fault; or that memory was refused, where the keeper was never asked
+pub data BatchAnswers (key : Text) (asked bare : Bool) (text : Text) (closes : Bool) (applies : Result Reply Fault → Type 0) (unasked : Type 0) : Type 0 where
+  by_reply : (reply : Reply) → applies (Ok reply) → closes ≡ closes_with asked (replied key reply) → text ≡ response_text closes bare (replied key reply) → BatchAnswers key asked bare text closes applies unasked
+  by_fault : (fault : Fault) → applies (Err fault) → closes ≡ true → text ≡ response_text true bare (fault_response (Keeper fault)) → BatchAnswers key asked bare text closes applies unasked
+  unasked_of : unasked → closes ≡ true → text ≡ response_text true bare (fault_response (Keeper faults.Memory)) → BatchAnswers key asked bare text closes applies unasked
+
+-- ---- broken rules
+
+-- the answer to a request that breaks this rule of framing, or that memory was refused for it
+abbrev pub RefusesBy : Text → Bool → FramingFault → Type 0
+RefusesBy text bare fault = (answer : RequestFault) × ((answer ≡ Framing fault) ⊎ (answer ≡ Keeper faults.Memory)) × (text ≡ response_text true bare (fault_response answer))

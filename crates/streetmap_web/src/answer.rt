@@ -5,11 +5,12 @@ ghost use Rattle.streetmap_ledger.specs.State.{State};
 ghost use Rattle.streetmap_ledger.specs.declared.reply.Cause.{Cause};
 ghost use Rattle.streetmap_http.specs.AnswerHead.{head_text};
 ghost use Rattle.streetmap_http.specs.Framing.{is_bare as is_bare_of};
-ghost use Rattle.streetmap_routes.specs.Ask.{ask_of};
+ghost use Rattle.streetmap_batch.specs.BatchValue.{BatchValue};
+ghost use Rattle.streetmap_routes.specs.Ask.{ask_of, batch};
 ghost use Rattle.streetmap_routes.specs.BaseView.{root_of};
 ghost use Rattle.streetmap_web.specs.Response.{response_text, closes_with, head_of, fault_response};
 ghost use Rattle.streetmap_web.specs.Standing.{Standing, Stands, LeavesNoMore};
-ghost use Rattle.streetmap_web.specs.Responds.{response_value, answer_text, Answers, TriesIn, TriesShut, TryLeaves};
+ghost use Rattle.streetmap_web.specs.Responds.{response_value, answer_text, Answers, TriesIn, TriesShut, TryLeaves, BatchTries, BatchAnswers, RefusesBy};
 ghost use Rattle.streetmap_bodies.specs.declared.request_fault.RequestFault.TheVariants.{Keeper as KeeperFault, Framing};
 
 use crate::respond::{faulty, respond_to};
@@ -145,6 +146,7 @@ fn try_answer<K: Keeper>(
     request: RequestHead,
     body: &[u8],
 ) -> Result<(Answer, bool), Fault>
+    ensures told { (b : BatchValue) → ask_of request.entry.method.now request.entry.target.now body.now ≡ batch b → BatchTries b.key request.entry.closes (is_bare_of request.entry.method.now) result (λ r. K.applies keeper.old b r keeper.new) (keeper.new ≡ keeper.old) }
     ensures began_clean { K.is_clean keeper.new → K.is_clean keeper.old }
     ensures answers { K.is_clean keeper.new → (s : State) → K.stands keeper.old s → TriesIn (root_of base.now) s (ask_of request.entry.method.now request.entry.target.now body.now) request.entry.closes (is_bare_of request.entry.method.now) result (K.stands keeper.new) (K.cause keeper.new) }
     ensures shut { (why : Cause) → K.cause keeper.old ≡ Some why → TriesShut (root_of base.now) (ask_of request.entry.method.now request.entry.target.now body.now) request.entry.closes (is_bare_of request.entry.method.now) result × (K.cause keeper.new ≡ Some why) × LeavesNoMore (K.may_leave keeper.old) (K.may_leave keeper.new) }
@@ -173,6 +175,7 @@ pub(crate) fn answer_to<K: Keeper>(
     request: RequestHead,
     body: &[u8],
 ) -> (Answer, bool)
+    ensures told { (b : BatchValue) → ask_of request.entry.method.now request.entry.target.now body.now ≡ batch b → BatchAnswers b.key request.entry.closes (is_bare_of request.entry.method.now) (answer_text result.0) result.1 (λ r. K.applies keeper.old b r keeper.new) (keeper.new ≡ keeper.old) }
     ensures began_clean { K.is_clean keeper.new → K.is_clean keeper.old }
     ensures answers { K.is_clean keeper.new → (x : Standing) → Stands (K.stands keeper.old) (K.cause keeper.old) x →
         Answers (root_of base.now) x (ask_of request.entry.method.now request.entry.target.now body.now) request.entry.closes (is_bare_of request.entry.method.now) (answer_text result.0) result.1 (Stands (K.stands keeper.new) (K.cause keeper.new)) (K.may_leave keeper.old) (K.may_leave keeper.new) }
@@ -183,15 +186,21 @@ pub(crate) fn answer_to<K: Keeper>(
     }
 }
 
-/// The answer to a request that breaks a rule of framing.
-pub(crate) fn framing_answer(
-    alloc: Global,
-    fault: FramingFault,
-    bare: bool,
-) -> Result<Answer, AllocError>
+/// The answer to a request that breaks a rule of framing, unless memory is refused for it.
+fn framing_answer(alloc: Global, fault: FramingFault, bare: bool) -> Result<Answer, AllocError>
     ensures { IfOk result (λ a. answer_text a ≡ response_text true bare (fault_response (Framing fault))) }
 {
     let room = String::with_capacity(alloc, HEAD_ROOM)?;
     let response = faulty(alloc, RequestFault::Framing(fault))?;
     Ok(finish(room, response, true, bare))
+}
+
+/// The answer to a request that breaks a rule of framing. The connection closes behind it.
+pub(crate) fn refused(alloc: Global, fault: FramingFault, bare: bool) -> Answer
+    ensures { RefusesBy (answer_text result) bare fault }
+{
+    match framing_answer(alloc, fault, bare) {
+        Ok(answer) => answer,
+        Err(_) => fixed(Fault::Memory, bare),
+    }
 }

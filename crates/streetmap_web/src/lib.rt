@@ -10,13 +10,15 @@
 //! bytes that came hold of a request, and `answer_request` answers the bytes of one.
 //!
 //! Modules, in the order of reading: `response`, `respond` (what is answered in a state), `answer` (with
-//! its head), `serving`.
+//! its head), `requests` (the bytes of one), `serving`.
 #![tactic(auto)]
 
 mod answer;
+mod requests;
 mod respond;
 mod response;
 mod serving;
 
 pub use answer::Answer;
+pub use requests::answer_request;
 pub use serving::{End, Served, serve};

@@ -1,8 +1,9 @@
-//! Answers to what is asked, over any keeper.
+//! What is answered to what is asked, over any keeper.
 ghost use Rattle.std.specs.Prelude.{◌≡◌, ◌≤◌, Some, None, IfOk, IfErr, OnErr, [], ⊤, string_bytes, string_len, string_capacity};
 ghost use Rattle.std.specs.Option.{option_map};
 ghost use Rattle.serde_json.specs.Written.{compact_text};
 ghost use Rattle.streetmap_query.specs.Views.{query_value};
+ghost use Rattle.streetmap_batch.specs.BatchValue.{BatchValue};
 ghost use Rattle.streetmap_batch.specs.BatchView.{batch_value};
 ghost use Rattle.streetmap_ledger.specs.Keep.{LeavesOnly};
 ghost use Rattle.streetmap_ledger.specs.State.{State};
@@ -15,7 +16,7 @@ ghost use Rattle.streetmap_web.specs.Response.{fault_response, found};
 ghost use Rattle.streetmap_bodies.specs.Bodies as spec_bodies;
 ghost use Rattle.streetmap_web.specs.Standing.{LeavesNoMore};
 ghost use Rattle.streetmap_routes.specs.AskView.{ask_value};
-ghost use Rattle.streetmap_web.specs.Responds.{response_value, RespondsIn, RespondsShut, RespondLeaves};
+ghost use Rattle.streetmap_web.specs.Responds.{response_value, RespondsIn, RespondsShut, RespondLeaves, BatchResponds};
 ghost use Rattle.streetmap_http.specs.declared.answer_head.MediaType.TheVariants.{Json, GeoJson, Html};
 
 use crate::response::Response;
@@ -120,6 +121,7 @@ fn respond_batch<K: Keeper>(
     root: &str,
     batch: &Batch,
 ) -> Result<Response, Fault>
+    ensures told { BatchResponds (batch_value batch.now).key result (λ r. K.applies keeper.old (batch_value batch.now) r keeper.new) (keeper.new ≡ keeper.old) }
     ensures began_clean { K.is_clean keeper.new → K.is_clean keeper.old }
     ensures responds { K.is_clean keeper.new → (s : State) → K.stands keeper.old s → RespondsIn root.now s (spec.batch (batch_value batch.now)) result (K.stands keeper.new) (K.cause keeper.new) }
     ensures shut { (why : Cause) → K.cause keeper.old ≡ Some why → RespondsShut root.now (spec.batch (batch_value batch.now)) result × (K.cause keeper.new ≡ Some why) × LeavesNoMore (K.may_leave keeper.old) (K.may_leave keeper.new) }
@@ -301,6 +303,7 @@ pub(crate) fn respond_to<K: Keeper>(
     root: &str,
     ask: &Ask,
 ) -> Result<Response, Fault>
+    ensures told { (b : BatchValue) → ask_value ask.now ≡ spec.batch b → BatchResponds b.key result (λ r. K.applies keeper.old b r keeper.new) (keeper.new ≡ keeper.old) }
     ensures began_clean { K.is_clean keeper.new → K.is_clean keeper.old }
     ensures responds { K.is_clean keeper.new → (s : State) → K.stands keeper.old s → RespondsIn root.now s (ask_value ask.now) result (K.stands keeper.new) (K.cause keeper.new) }
     ensures shut { (why : Cause) → K.cause keeper.old ≡ Some why → RespondsShut root.now (ask_value ask.now) result × (K.cause keeper.new ≡ Some why) × LeavesNoMore (K.may_leave keeper.old) (K.may_leave keeper.new) }

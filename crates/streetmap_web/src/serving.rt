@@ -13,7 +13,7 @@ ghost use Rattle.streetmap_web.specs.Standing.{Standing, Stands, IsKnown};
 ghost use Rattle.streetmap_web.specs.Exchanges.{Around, TurnSays, Serves};
 ghost use Rattle.streetmap_web.specs.Turns.{turn_after, end_of, begun_in, FillSays, RefuseSays};
 
-use crate::answer::{Answer, answer_to, fixed, framing_answer};
+use crate::answer::{Answer, answer_to, fixed, refused};
 use httparse::spans::EMPTY_HEADER_SPAN;
 use std::alloc::{AllocError, Global};
 use std::io::{BufRead, Read, Write};
@@ -121,10 +121,8 @@ fn body_room(alloc: Global, len: usize) -> Result<Vec<u8>, AllocError>
 fn refuse_turn<W: Write>(alloc: Global, writer: &mut W, fault: FramingFault, bare: bool) -> Turn
     ensures { RefuseSays result bare fault (W.contents writer.old) (W.contents writer.new) }
 {
-    match framing_answer(alloc, fault, bare) {
-        Ok(answer) => turn_after(write_answer(writer, &answer), true),
-        Err(_) => turn_after(write_answer(writer, &fixed(Fault::Memory, bare)), true),
-    }
+    let answer = refused(alloc, fault, bare);
+    turn_after(write_answer(writer, &answer), true)
 }
 
 /// Fills the room with a body. Answers how that ended.

@@ -11,9 +11,9 @@ use Rattle.streetmap_web.specs.Response.{response_text, fault_response}
 use Rattle.streetmap_web.specs.Responds.{answer_text}
 use Rattle.streetmap_web.specs.Standing.{Stands, IsKnown}
 use Rattle.streetmap_web.specs.Turns.{FillSays}
-use Rattle.streetmap_web.specs.Exchanges.{request_of, no_room, in_body, Around, TurnSays}
+use Rattle.streetmap_web.specs.Exchanges.{request_of, no_room, Around, TurnSays}
 use Rattle.streetmap_bodies.specs.declared.request_fault.RequestFault.TheVariants.{Keeper}
-use Rattle.streetmap_web.proofs.Turning.{starved_turn, answered_turn, truncated_turn, unread_turn}
+use Rattle.streetmap_web.proofs.Turning.{starved_turn, answered_turn, truncated_turn, unread_turn, unfinished_body}
 use Rattle.streetmap_web.proofs.serving.answer_turn.Goals as goal
 
 pub returns-in_default-clause-says : goal.returns-in_default-clause-says
@@ -42,7 +42,7 @@ returns-in-Truncated-clause-says g c = λ clean bytes left x cut framed read h.
     let (part, short, came, end) = filled _ Truncated _ _ _ c.in-Truncated.is c.read_all-end.ensures.says in
     let fits : length c.read_all-end.result.1.items ≡ c.args.head.len = c.read_all-end.ensures.len ∙ c.in-Ok.ensures in
     truncated_turn (root_of c.args.base.now) x (bytes ++ part) left _ _ _ _
-    (in_body bytes part (head_value c.args.head) refl cut framed (subst (λ n. length part < n) fits short))
+    (unfinished_body bytes part (head_value c.args.head) cut framed (subst (λ n. length part < n) fits short))
     (Consumes-trans left _ _ bytes part read came) end h
 
 pub returns-in-Failed-clause-says : goal.returns-in-Failed-clause-says
