@@ -2,7 +2,10 @@
 use Rattle.std.proofs.Common.{◌≡◌, ◌++◌, List, [], Bool, true, refl, sym, ap, subst, ◌∙◌, inl, inr, append-nil}
 use Rattle.std.specs.Prelude.{Option}
 use Rattle.streetmap_http.specs.Framing.{HeadValue, Breaks, IsRequest, is_bare}
-use Rattle.streetmap_http.specs.Streams.{Front, request, stops, refused}
+use Rattle.streetmap_http.specs.Arrivals.{SplitsAs}
+use Rattle.streetmap_http.specs.FramingView.{framing_value}
+use Rattle.streetmap_http.specs.declared.framing.Framed.{Framed}
+use Rattle.streetmap_http.specs.Streams.{Request, request, stops, refused}
 use Rattle.streetmap_http.specs.declared.fault.FramingFault.{FramingFault}
 use Rattle.streetmap_http.proofs.Fronts.{front_unique}
 use Rattle.streetmap_batch.specs.Text.{Text}
@@ -64,14 +67,20 @@ not_broken bytes body h bare fault is breaks =
     front_unique bytes _ _ (is, ([], sym (append-nil bytes))) (breaks, ([], sym (append-nil bytes))) in
     cc
 
+same_request : (r q : Request) → request r ≡ request q → r ≡ q
+same_request r q e = cc
+
 same_front : (bytes : Text) (h k : HeadValue) (a b : Text) → IsRequest bytes h a → IsRequest bytes k b
-    → request (record { bytes = bytes; head = h; body = a }) ≡ request (record { bytes = bytes; head = k; body = b })
-same_front bytes h k a b one other = front_unique bytes _ _ (one, ([], sym (append-nil bytes))) (other, ([], sym (append-nil bytes)))
+    → ◌≡◌ {A = Request} (record { bytes = bytes; head = h; body = a }) (record { bytes = bytes; head = k; body = b })
+same_front bytes h k a b one other =
+    same_request _ _ (front_unique bytes (request (record { bytes = bytes; head = h; body = a })) (request (record { bytes = bytes; head = k; body = b })) (one, ([], sym (append-nil bytes))) (other, ([], sym (append-nil bytes))))
 
 -- and says one thing
 pub said_of : (bytes : Text) (h k : HeadValue) (a b : Text) (P : HeadValue → Text → Type 0) → IsRequest bytes h a → IsRequest bytes k b → P k b → P h a
 said_of bytes h k a b P one other says =
-    let front = same_front bytes h k a b one other in
-    let heads : h ≡ k = cc in
-    let bodies : a ≡ b = cc in
-    subst (λ j. P j a) (sym heads) (subst (P k) (sym bodies) says)
+    let same = same_front bytes h k a b one other in
+    subst (λ (r : Request). P r.head r.body) (sym same) says
+
+-- what splitting says where it is known what the bytes say
+pub split_as : (f g : Framed) (body bytes : Text) → f ≡ g → SplitsAs (framing_value f) body bytes → SplitsAs (framing_value g) body bytes
+split_as f g body bytes is says = subst (λ k. SplitsAs (framing_value k) body bytes) is says
