@@ -16,7 +16,7 @@ use Rattle.streetmap_batch.specs.Names.{is_key, is_key_byte}
 use Rattle.streetmap_ledger.specs.declared.reply.Refusal.{Refusal}
 use Rattle.streetmap_ledger.specs.declared.reply.Refusal.TheVariants as refusal_kinds
 use Rattle.streetmap_ledger.specs.Refusals as refusals
-use Rattle.streetmap_web.specs.Plain.{IsPlain, IsEscapeFree}
+use Rattle.streetmap_bodies.specs.Plain.{IsPlain, IsEscapeFree}
 
 pub query_code : (f : QueryFault) → IsPlain (query.code_of f)
 unfolding escape_byte

@@ -19,8 +19,8 @@ use Rattle.streetmap_ledger.specs.Refusals as refusals
 use Rattle.streetmap_ledger.specs.State.{State}
 use Rattle.streetmap_ledger.specs.declared.reply.Reply.{Reply}
 use Rattle.streetmap_ledger.specs.declared.reply.Reply.TheVariants.{Accepted, Repeated, Refused}
-use Rattle.streetmap_web.specs.Errors.{error_data}
-use Rattle.streetmap_web.specs.Replies.{reply_data}
+use Rattle.streetmap_bodies.specs.Errors.{error_data}
+use Rattle.streetmap_bodies.specs.Replies.{reply_data}
 use Rattle.streetmap.specs.Request.{Text, RequestValue, batch, page, feature}
 
 -- the JSON value that is answered, and the state after it

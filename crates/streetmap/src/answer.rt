@@ -8,7 +8,7 @@ ghost use Rattle.streetmap_batch.specs.BatchView.{batch_value};
 ghost use Rattle.streetmap_ledger.specs.State.{State};
 ghost use Rattle.streetmap_memory.specs.Plain.{IsPlain as IsPlainState};
 ghost use Rattle.streetmap_ledger.specs.Pages.{feature_in};
-ghost use Rattle.streetmap_web.specs.Plain.{IsPlain};
+ghost use Rattle.streetmap_bodies.specs.Plain.{IsPlain};
 ghost use Rattle.streetmap.specs.Answers.{answer_to, batch_answer, batch_fault_body, reply_body, page_body, found_feature, plain_error, unknown_command, not_found};
 ghost use Rattle.streetmap.specs.AnswerView.{SaysOr, LineSays, ActsOr};
 ghost use Rattle.streetmap.specs.Request.{request_in, Text};
@@ -20,7 +20,7 @@ use std::alloc::{AllocError, Global};
 use streetmap_ledger::{Batch, BatchFault, Fault, Keeper, Reply, read_batch};
 use streetmap_memory::PlainKeeper;
 use streetmap_query::{QueryFault, read_query};
-use streetmap_web::{push_error, push_reply};
+use streetmap_bodies::{push_error, push_reply};
 
 /// The room that is taken for an answer to a batch before the batch is applied, in bytes.
 const ROOM: usize = 1024;

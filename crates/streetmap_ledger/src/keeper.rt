@@ -1,11 +1,14 @@
 //! What keeps a state, and a run of batches over it.
-ghost use Rattle.std.specs.Prelude.{◌≡◌, ◌≤◌, ◌<◌, ◌+◌, ℕ, Option, None, Some, IfOk, OnOk, IsErrOf, IsNone, IsSome, length, take, map};
+ghost use Rattle.std.specs.Prelude.{◌≡◌, ◌≤◌, ◌<◌, ◌+◌, ℕ, Option, None, Some, Result, IfOk, OnOk, IsErrOf, IsNone, IsSome, length, take, map};
 ghost use Rattle.streetmap_ledger.specs.State.{State};
 ghost use Rattle.streetmap_ledger.specs.WellFormed.{IsState};
 ghost use Rattle.streetmap_ledger.specs.Batches.{replies_of};
+ghost use Rattle.streetmap_batch.specs.BatchValue.{BatchValue};
 ghost use Rattle.streetmap_batch.specs.BatchView.{batch_value};
 ghost use Rattle.streetmap_ledger.specs.Keep.{Acts, Shows, Finds, Tells, Lists, Outlines, ShutsBy, ApplyLeaves, LeavesOnly, AsBefore, RunEnds, RunLeaves, RunShuts};
 ghost use Rattle.streetmap_ledger.specs.declared.reply.Cause.{Cause};
+ghost use Rattle.streetmap_ledger.specs.declared.reply.Fault.{Fault};
+ghost use Rattle.streetmap_ledger.specs.declared.reply.Reply.{Reply};
 
 use crate::{Fault, FeatureOutline, Page, Reply, Run, Summary};
 use std::alloc::Global;
@@ -35,8 +38,13 @@ pub trait Keeper {
     /// Nobody else wrote to the store, and it returned what was written.
     ghost is_clean: { Self → Type 0 };
 
+    /// From the first keeper a call of `apply` with this batch came to this result and the second. Over any
+    /// keeper nothing but the call gives it, so a caller cannot tell another result than the one that came.
+    ghost applies: { Self → BatchValue → Result Reply Fault → Self → Type 0 } = { λ _ _ _ _. Unit {0} };
+
     /// Acts on one batch.
     fn apply(&mut self, batch: &Batch) -> Result<Reply, Fault>
+        ensures applied { applies self.old (batch_value batch.now) result self.new }
         ensures began_clean { is_clean self.new → is_clean self.old }
         ensures faults { ShutsBy result (cause self.old) (cause self.new) }
         ensures acts { is_clean self.new → (s : State) → stands self.old s → Acts s (batch_value batch.now) result (stands self.new) }

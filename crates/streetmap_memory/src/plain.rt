@@ -28,9 +28,7 @@ use std::alloc::{AllocError, Global};
 use std::collections::BTreeMap;
 use streetmap_batch::{Batch, Edit};
 use streetmap_geojson::Feature;
-use streetmap_ledger::{
-    Counts, Fault, FeatureOutline, Keeper, Page, Refusal, Reply, Summary,
-};
+use streetmap_ledger::{Counts, Fault, FeatureOutline, Keeper, Page, Refusal, Reply, Summary};
 use streetmap_query::Query;
 
 /// How many batches may be accepted.

@@ -1,3 +1,5 @@
-pub mod Errors
-pub mod Plain
-pub mod Replies
+pub mod Response
+pub mod Standing
+pub mod Responds
+pub mod Turns
+pub mod Exchanges

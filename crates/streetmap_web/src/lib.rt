@@ -1,18 +1,24 @@
-//! The bodies of answers: replies and errors as JSON, appended to room that was taken before.
+//! HTTP from bytes to bytes, over any keeper.
 //!
-//! An answer to a batch must not fail for want of memory once the batch was applied. So the room for
-//! it is taken first, and what is appended here is proved to fit and to be the compact JSON text of
-//! the reply (`push_reply`) or of the error (`push_error`). Read `room`, then `reply_body` and
-//! `error_body`.
+//! One request in a state has one of three outcomes: the answer of that state with the state of the
+//! batch; the fixed 503 with the state as it was, where memory was refused; or the 500 of the fault
+//! that shut the keeper. `serve` reads requests one after the other and writes their answers, in
+//! order, up to the first that closes the connection; its contract says so for any keeper, reader and
+//! writer that tell their bytes (`specs/Exchanges`, `Serves`), and what a stop may leave.
+//!
+//! For an edge with many connections there are the two halves of a turn: `streetmap_http` tells what
+//! bytes that came hold of a request, and `answer_request` answers the bytes of one.
+//!
+//! Modules, in the order of reading: `response`, `respond` (what is answered in a state), `answer` (with
+//! its head), `requests` (the bytes of one), `serving`.
 #![tactic(auto)]
 
-mod error_body;
-mod reply_body;
-mod room;
+mod answer;
+mod requests;
+mod respond;
+mod response;
+mod serving;
 
-pub use error_body::push_error;
-pub use reply_body::push_reply;
-pub use room::{push, push_number};
-
-#[cfg(test)]
-mod tests;
+pub use answer::Answer;
+pub use requests::answer_request;
+pub use serving::{End, Served, serve};

@@ -1,0 +1,5 @@
+pub mod Plain
+pub mod Errors
+pub mod Replies
+pub mod RequestFaults
+pub mod Bodies

@@ -1,0 +1,33 @@
+-- What bytes that came hold of a request, and how far they were looked through for the end of its head.
+use Rattle.std.specs.Prelude.{◌≡◌, ◌≢◌, ◌⊎◌, ℕ, ◌<◌, ◌≤◌, List, [], length, take, Bool}
+use Rattle.streetmap_http.specs.Head.{progress_after, HasNoHead}
+use Rattle.streetmap_http.specs.Framing.{HeadValue, Framing, broken, sized, Breaks, IsRequest}
+use Rattle.streetmap_http.specs.Streams.{LacksOfBody}
+use Rattle.streetmap_http.specs.declared.limits.TheConstants.{HEAD_LIMIT}
+use Rattle.streetmap_http.specs.declared.fault.FramingFault.{FramingFault}
+use Rattle.streetmap_http.specs.declared.head.HeadProgress.TheVariants.{Blank, Done}
+use Rattle.streetmap_http.specs.declared.arrival.HeadScan.{HeadScan}
+use Rattle.streetmap_http.specs.declared.arrival.Arrival.{Arrival}
+use Rattle.streetmap_http.specs.declared.arrival.Arrival.TheVariants.{Request, Head, Body}
+
+-- bytes that are answered as one: a whole request, or what breaks a rule of framing
+abbrev pub IsAnswered : List ℕ → Type 0
+IsAnswered bytes = ((h : HeadValue) × (body : List ℕ) × IsRequest bytes h body) ⊎ ((bare : Bool) × (fault : FramingFault) × Breaks bytes bare fault)
+
+-- the first n bytes are answered as one; or no head ends in the bytes, and may yet; or so many bytes of the body are missing
+abbrev pub HoldsOf : Arrival → List ℕ → Type 0
+HoldsOf (Request n) bytes = (n ≤ length bytes) × IsAnswered (take n bytes)
+HoldsOf Head bytes = (length bytes < HEAD_LIMIT) × HasNoHead bytes
+HoldsOf (Body missing) bytes = (0 < missing) × LacksOfBody missing bytes
+
+-- the bytes break a rule of framing, or are a head that says so and this body
+abbrev pub SplitsAs : Framing → List ℕ → List ℕ → Type 0
+SplitsAs (broken bare fault) body bytes = Breaks bytes bare fault × (body ≡ [])
+SplitsAs (sized h) body bytes = IsRequest bytes h body
+
+-- no head ends in the first bytes, which were looked through, and the progress is theirs
+pub record HasScanned (scan : HeadScan) (bytes : List ℕ) : Type 0 where
+  pub within : scan.scanned ≤ length bytes
+  pub short : scan.scanned ≤ HEAD_LIMIT
+  pub progress : progress_after Blank (take scan.scanned bytes) ≡ scan.progress
+  pub unfinished : scan.progress ≢ Done

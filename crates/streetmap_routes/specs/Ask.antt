@@ -1,0 +1,137 @@
+-- What a request asks for, before the state is asked. OGC 17-069, section 7.
+use Rattle.std.specs.Prelude.{ℕ, List, [], ◌∷◌, Bool, true, false, ◌||◌, Option, None, Some, option_map, option_and_then, Result, Ok, Err, codes, if◌then◌else◌, ◌==◌, bytes_eq, slice_get, nat_lt, length}
+use Rattle.std.specs.List.{before_first, after_first, position_or_len, slice_split}
+use Rattle.std.specs.Str.{is_utf8}
+use Rattle.percent_encoding.specs.Percent.{percent_decode}
+use Rattle.matchit.specs.Seek.{first}
+use Rattle.streetmap_http.specs.declared.answer_head.Methods.{Methods}
+use Rattle.streetmap_http.specs.declared.answer_head.Methods.TheVariants.{Reads, Posts}
+use Rattle.streetmap_query.specs.QueryValue.{QueryValue}
+use Rattle.streetmap_query.specs.Query.{query_of, has_pair}
+use Rattle.streetmap_query.specs.declared.fault.QueryFault.{QueryFault}
+use Rattle.streetmap_query.specs.declared.fault.QueryFault.TheVariants.{UnknownParameter}
+use Rattle.streetmap_batch.specs.BatchValue.{BatchValue}
+use Rattle.streetmap_batch.specs.BatchReading.{batch_of}
+use Rattle.streetmap_batch.specs.Text.{Text}
+use Rattle.streetmap_batch.specs.declared.batch_fault.BatchFault.{BatchFault}
+use Rattle.streetmap_routes.specs.Routes.{the_rows}
+use Rattle.streetmap_routes.specs.declared.routes.Route.{Route}
+use Rattle.streetmap_routes.specs.declared.routes.Route.TheVariants as routes
+use Rattle.streetmap_bodies.specs.declared.request_fault.RequestFault.{RequestFault}
+use Rattle.streetmap_bodies.specs.declared.request_fault.RequestFault.TheVariants.{BadTarget, NotFound, MethodNotAllowed, Query, Batch}
+
+-- a resource, with the names in its path
+pub data ResourceValue : Type 0 where
+  landing : ResourceValue
+  api : ResourceValue
+  conformance : ResourceValue
+  collections : ResourceValue
+  collection : (name : Text) → ResourceValue
+  items : (name : Text) → ResourceValue
+  item : (name id : Text) → ResourceValue
+  batches : ResourceValue
+
+-- what a path has at this place between its slashes
+abbrev pub or_empty : Option Text → Text
+or_empty None = []
+or_empty (Some text) = text
+
+abbrev pub segment : ℕ → Text → Text
+segment place path = or_empty (slice_get (slice_split (λ b. b == 47) path) place)
+
+abbrev pub if_text : Text → Option Text
+if_text bytes = if is_utf8 bytes then Some bytes else None
+
+-- the same, percent-decoded; none where that is no text
+unfoldable pub decoded : ℕ → Text → Option Text
+decoded place path = if_text (percent_decode (segment place path))
+
+-- the resource of a route, with the names that the path has
+abbrev pub resource_by : Text → Route → Option ResourceValue
+resource_by path routes.Landing = Some landing
+resource_by path routes.Api = Some api
+resource_by path routes.Conformance = Some conformance
+resource_by path routes.Collections = Some collections
+resource_by path routes.Collection = option_map collection (decoded 2 path)
+resource_by path routes.Items = option_map items (decoded 2 path)
+resource_by path routes.Item = option_and_then (λ name. option_map (item name) (decoded 4 path)) (decoded 2 path)
+resource_by path routes.Batches = Some batches
+
+-- the route that the router finds for a path
+unfoldable pub route_of : Text → Option Route
+route_of path = option_map (λ row. row.value) (first the_rows path)
+
+-- the resource of a path
+unfoldable pub resource_at : Text → Option ResourceValue
+resource_at path = option_and_then (resource_by path) (route_of path)
+
+-- what is asked: an error, or what is to be answered
+pub data AskValue : Type 0 where
+  faulty : RequestFault → AskValue
+  landing_page : AskValue
+  api_text : AskValue
+  conformance_classes : AskValue
+  all_collections : AskValue
+  one_collection : (name : Text) → AskValue
+  page : (name : Text) → QueryValue → AskValue
+  feature : (name id : Text) → AskValue
+  batch : BatchValue → AskValue
+
+abbrev pub ask_batch : Result BatchValue BatchFault → AskValue
+ask_batch (Ok b) = batch b
+ask_batch (Err fault) = faulty (Batch fault)
+
+abbrev pub ask_page : Text → Result QueryValue QueryFault → AskValue
+ask_page name (Ok q) = page name q
+ask_page name (Err fault) = faulty (Query fault)
+
+-- what is asked of a resource without a query
+abbrev pub unqueried : ResourceValue → Text → AskValue
+unqueried landing body = landing_page
+unqueried api body = api_text
+unqueried conformance body = conformance_classes
+unqueried collections body = all_collections
+unqueried (collection name) body = one_collection name
+unqueried (items name) body = ask_page name (query_of None)
+unqueried (item name id) body = feature name id
+unqueried batches body = ask_batch (batch_of body)
+
+-- a resource that takes no parameter
+abbrev pub without_query : ResourceValue → Option Text → Text → AskValue
+without_query r query body = if has_pair query then faulty (Query UnknownParameter) else unqueried r body
+
+-- by the query, and then by the body
+abbrev pub queried : ResourceValue → Option Text → Text → AskValue
+queried (items name) query body = ask_page name (query_of query)
+queried r query body = without_query r query body
+
+-- the methods of a resource
+abbrev pub methods_of : ResourceValue → Methods
+methods_of batches = Posts
+methods_of _ = Reads
+
+abbrev pub allows : Methods → Text → Bool
+allows Reads method = bytes_eq method (codes "GET") || bytes_eq method (codes "HEAD")
+allows Posts method = bytes_eq method (codes "POST")
+
+-- by the path, and then by the method
+abbrev pub placed : Option ResourceValue → Text → Option Text → Text → AskValue
+placed None method query body = faulty NotFound
+placed (Some r) method query body =
+    if allows (methods_of r) method then queried r query body else faulty (MethodNotAllowed (methods_of r))
+
+-- the part of a target before its first question mark, and the part behind it, where there is one
+unfoldable pub path_part : Text → Text
+path_part target = before_first (λ b. b == 63) target
+
+unfoldable pub query_part : Text → Option Text
+query_part target = if nat_lt (position_or_len (λ b. b == 63) target) (length target) then Some (after_first (λ b. b == 63) target) else None
+
+unfoldable pub begins_with_slash : Text → Bool
+begins_with_slash [] = false
+begins_with_slash (b ∷ bs) = b == 47
+
+-- the whole order: the target, the path, the method, the query, the body
+unfoldable pub ask_of : Text → Text → Text → AskValue
+ask_of method target body =
+    if begins_with_slash target then placed (resource_at (path_part target)) method (query_part target) body else faulty BadTarget

@@ -1,0 +1,6 @@
+pub mod Routes
+pub mod Ask
+pub mod AskView
+pub mod BaseUrl
+pub mod BaseView
+pub mod BaseFaults

@@ -1,0 +1,164 @@
+//! The base of links, with the router of the eight paths.
+ghost use Rattle.std.specs.Prelude.{◌≡◌, ◌++◌, ◌↔◌, [], None, codes, IsTrue};
+ghost use Rattle.url.specs.Parts.{serialize};
+ghost use Rattle.streetmap_routes.specs.BaseUrl.{IsBase, is_web as is_web_of};
+ghost use Rattle.streetmap_routes.specs.BaseFaults.{code_of, description_of};
+ghost use Rattle.streetmap_routes.specs.Routes.{the_rows};
+
+use crate::asks::{Ask, ask_for};
+use crate::routes::{Route, make_router};
+use matchit::Router;
+use std::alloc::{AllocError, Global};
+use url::{ParseError, Position, Url};
+
+/// Why a text gives no base.
+#[derive(Clone, Copy, Debug, PartialEq, Eq)]
+pub enum BaseFault {
+    /// `bad_base`: the text is no `http` or `https` URL with the path `/` and no user name, password,
+    /// query or fragment.
+    BadBase,
+    /// `memory`: memory was refused, or the URL came to 4 GB.
+    Memory,
+}
+
+impl BaseFault {
+    /// The name of the fault.
+    #[tactic(auto, unfolding(crate::specs::BaseFaults::code_of))]
+    pub fn code(&self) -> &'static str
+        ensures { result.now ≡ code_of self.now }
+    {
+        match self {
+            BaseFault::BadBase => "bad_base",
+            BaseFault::Memory => "memory",
+        }
+    }
+
+    /// The sentence of the fault; empty where it has none.
+    #[tactic(auto, unfolding(crate::specs::BaseFaults::description_of))]
+    pub fn description(&self) -> &'static str
+        ensures { result.now ≡ description_of self.now }
+    {
+        match self {
+            BaseFault::BadBase => "",
+            BaseFault::Memory => "Memory was refused; the call may be made again.",
+        }
+    }
+}
+
+/// Whether the scheme is that of the web.
+fn is_web(url: &Url) -> bool
+    ensures { result ≡ is_web_of url.now.scheme }
+{
+    let scheme = url.scheme();
+    scheme == "http" || scheme == "https"
+}
+
+/// Whether there is no user name and no password.
+fn has_no_user(url: &Url) -> bool
+    ensures { IsTrue result ↔ ((url.now.username ≡ []) × (url.now.password ≡ [])) }
+{
+    url.username().is_empty() && url.password().is_none()
+}
+
+/// Whether there is no query and no fragment.
+fn has_no_query(url: &Url) -> bool
+    ensures { IsTrue result ↔ ((url.now.query ≡ None) × (url.now.fragment ≡ None)) }
+{
+    url.query().is_none() && url.fragment().is_none()
+}
+
+/// Whether the path is the root.
+fn is_at_root(url: &Url) -> bool
+    ensures { IsTrue result ↔ (url.now.path ≡ codes "/") }
+{
+    url.path() == "/"
+}
+
+/// Whether a URL is a base.
+fn is_base(url: &Url) -> bool
+    ensures { IsTrue result ↔ IsBase url.now }
+{
+    is_web(url) && has_no_user(url) && is_at_root(url) && has_no_query(url)
+}
+
+/// The text of a base without its last slash.
+fn without_slash(url: &Url) -> &str
+    requires { IsBase url.now }
+    ensures { result.now ++ codes "/" ≡ serialize url.now }
+{
+    url.slice(Position::BeforeScheme, Position::BeforePath)
+}
+
+/// The base of links: an `http` or `https` URL with the path `/` and no user name, password, query or
+/// fragment. It holds the router of the eight paths too.
+#[derive(Drop)]
+pub struct Base {
+    url: Url,
+    router: Router<Route>,
+    ghost is_base: { IsBase url },
+    ghost routes: { router ≡ the_rows },
+}
+
+impl Base {
+    ghost use Rattle.std.specs.Prelude.{IfOk, IsErrOf};
+    ghost use Rattle.url.specs.Parts.{Parts};
+    ghost use Rattle.streetmap_routes.specs.Ask.{ask_of};
+    ghost use Rattle.streetmap_routes.specs.AskView.{ask_value};
+    ghost use Rattle.streetmap_routes.specs.BaseUrl.{ReadsBase};
+    ghost use Rattle.streetmap_routes.specs.BaseView.{url_of, root_of};
+
+    /// The base that a text is, as `url` reads it.
+    ///
+    /// # Errors
+    ///
+    /// `BadBase` exactly where the text is none, want of memory aside.
+    pub fn new(alloc: Global, text: &str) -> Result<Base, BaseFault>
+        ensures ok { IfOk result (λ base. ReadsBase text.now (url_of base)) }
+        ensures bad { IsErrOf result BaseFault.BadBase → (url : Parts) → ReadsBase text.now url → ⊥ }
+    {
+        let url = match Url::parse(alloc, text) {
+            Ok(url) => url,
+            Err(ParseError::OutOfMemory | ParseError::Overflow) => return Err(BaseFault::Memory),
+            Err(_) => return Err(BaseFault::BadBase),
+        };
+        if !is_base(&url) {
+            return Err(BaseFault::BadBase);
+        }
+        match make_router(alloc) {
+            Ok(router) => Ok(Base { url, router }),
+            Err(_) => Err(BaseFault::Memory),
+        }
+    }
+
+    /// The text of the base, as `url` writes it.
+    pub fn text(&self) -> &str
+        ensures { result.now ≡ serialize (url_of self.now) }
+    {
+        self.url.as_str()
+    }
+
+    /// The text of the base without its last slash.
+    pub fn root(&self) -> &str
+        ensures value { result.now ≡ root_of self.now }
+        ensures slash { result.now ++ codes "/" ≡ serialize (url_of self.now) }
+    {
+        without_slash(&self.url)
+    }
+
+    /// What a request asks for, by its method, its target and its body (OGC 17-069, section 7).
+    ///
+    /// # Errors
+    ///
+    /// Want of memory alone.
+    pub fn ask(
+        &self,
+        alloc: Global,
+        method: &[u8],
+        target: &str,
+        body: &[u8],
+    ) -> Result<Ask, AllocError>
+        ensures { IfOk result (λ ask. ask_value ask ≡ ask_of method.now target.now body.now) }
+    {
+        ask_for(alloc, &self.router, method, target, body)
+    }
+}

@@ -1,0 +1,11 @@
+use Rattle.std.proofs.Common.{refl, Err, ap}
+use Rattle.streetmap_routes.specs.Ask.{one_collection}
+use Rattle.streetmap_web.specs.Response.{found_feature}
+use Rattle.streetmap_web.proofs.Looks.{look_leaves, found_responds}
+use Rattle.streetmap_web.proofs.respond.respond_collection.Goals as goal
+
+pub returns-in-Ok-clause-leaves : goal.returns-in-Ok-clause-leaves
+returns-in-Ok-clause-leaves g c = λ clean s stands only. look_leaves s (one_collection c.args.name.now) c.or_starved.result _ refl (c.in-Ok.ensures.leaves clean s stands only)
+
+pub returns-in-Err-clause-leaves : goal.returns-in-Err-clause-leaves
+returns-in-Err-clause-leaves g c = λ clean s stands only. look_leaves s (one_collection c.args.name.now) (Err c.in-Err.fault) _ refl (c.in-Err.ensures.leaves clean s stands only)

@@ -1,0 +1,164 @@
+-- Requests of a stream with their answers.
+use Rattle.std.specs.Prelude.{◌≡◌, ◌≢◌, ℕ, ◌<◌, ◌+◌, ◌++◌, List, [], ◌∷◌, Bool, true, false, length, take, Option, Some, nat_lt, if◌then◌else◌, ⊤}
+use Rattle.std.specs.Io.KnownBytes.{Consumes, Appends, Keeps, IsAtEnd}
+use Rattle.streetmap_http.specs.Head.{IsHead}
+use Rattle.streetmap_http.specs.Streams.{IsBlank, IsUnfinished}
+use Rattle.streetmap_http.specs.Framing.{HeadValue, sized, Frames, Breaks, IsRequest, is_bare}
+use Rattle.streetmap_http.specs.declared.fault.FramingFault.{FramingFault}
+use Rattle.streetmap_batch.specs.Text.{Text}
+use Rattle.streetmap_batch.specs.BatchValue.{BatchValue}
+use Rattle.streetmap_ledger.specs.State.{State}
+use Rattle.streetmap_ledger.specs.Batches.{after_all}
+use Rattle.streetmap_routes.specs.Ask.{AskValue, faulty, landing_page, api_text, conformance_classes, all_collections, one_collection, page, feature, batch, ask_of}
+use Rattle.streetmap_web.specs.Response.{ResponseValue, closes_with, response_text}
+use Rattle.streetmap_web.specs.Standing.{Standing, Outcome, told, starved, failed, CanBe, answer_by, after, Leaves, Stays, IsKnown, of_state, shut}
+use Rattle.streetmap_web.specs.Turns.{begun_in, end_of}
+use Rattle.streetmap_web.specs.declared.serving.End.{End}
+use Rattle.streetmap_web.specs.declared.serving.Turn.{Turn}
+use Rattle.streetmap_web.specs.declared.serving.Turn.TheVariants.{Open, Closed, Ended, Truncated, ReadFailed, WriteFailed}
+use Rattle.streetmap_bodies.specs.declared.request_fault.RequestFault.TheVariants.{Framing}
+
+-- a request: what it asks for, whether it asks to close the connection, and whether its answer has no body
+pub record RequestValue : Type 0 where
+  pub ask : AskValue
+  pub closes : Bool
+  pub bare : Bool
+
+-- that of a head and a body
+abbrev pub request_of : HeadValue → Text → RequestValue
+request_of h body = record { ask = ask_of h.method h.target body; closes = h.closes; bare = is_bare h.method }
+
+-- one that breaks a rule of framing; the connection closes behind its answer
+abbrev pub broken_request : Bool → FramingFault → RequestValue
+broken_request bare fault = record { ask = faulty (Framing fault); closes = true; bare = bare }
+
+-- one request of the stream: its bytes, what it says, and how it came out
+pub record Exchange : Type 0 where
+  pub bytes : Text
+  pub request : RequestValue
+  pub outcome : Outcome
+
+-- the bytes are this request: a head with its body, or bytes that break a rule of framing; where memory was refused for the body, they are the head alone
+pub data Asks (e : Exchange) : Type 0 where
+  whole : (h : HeadValue) (body : Text) → IsRequest e.bytes h body → e.request ≡ request_of h body → Asks e
+  broken : (bare : Bool) (fault : FramingFault) → Breaks e.bytes bare fault → e.request ≡ broken_request bare fault → Asks e
+  no_room : (h : HeadValue) → IsHead e.bytes → Frames e.bytes (sized h) → e.request ≡ request_of h [] → e.outcome ≡ starved → Asks e
+
+-- the answer, over a keeper that stands so
+abbrev pub response : Text → Standing → Exchange → ResponseValue
+response root x e = answer_by root x e.request.ask e.outcome
+
+-- whether the connection closes behind it
+abbrev pub closes : Text → Standing → Exchange → Bool
+closes root x e = closes_with e.request.closes (response root x e)
+
+-- the bytes of the answer
+abbrev pub answer_bytes : Text → Standing → Exchange → Text
+answer_bytes root x e = response_text (closes root x e) e.request.bare (response root x e)
+
+-- what the keeper stands for afterwards
+abbrev pub standing_after : Standing → Exchange → Standing
+standing_after x e = after x e.request.ask e.outcome
+
+-- the request is one of the stream, and came out as it can
+pub record IsExchange (x : Standing) (e : Exchange) : Type 0 where
+  pub asks : Asks e
+  pub can : CanBe x e.request.ask e.outcome
+
+-- exchanges in a row, each of which leaves the connection open
+abbrev pub GoOn : Text → Standing → List Exchange → Type 0
+GoOn root x [] = ⊤
+GoOn root x (e ∷ es) = IsExchange x e × (closes root x e ≡ false) × GoOn root (standing_after x e) es
+
+-- the bytes of the requests, and those of the answers
+abbrev pub all_requests : List Exchange → Text
+all_requests [] = []
+all_requests (e ∷ es) = e.bytes ++ all_requests es
+
+abbrev pub all_answers : Text → Standing → List Exchange → Text
+all_answers root x [] = []
+all_answers root x (e ∷ es) = answer_bytes root x e ++ all_answers root (standing_after x e) es
+
+-- what the keeper stands for after them
+abbrev pub standing_after_all : Standing → List Exchange → Standing
+standing_after_all x [] = x
+standing_after_all x (e ∷ es) = standing_after_all (standing_after x e) es
+
+-- the batches that the keeper answered without a fault, in order
+abbrev pub with_batch : AskValue → List BatchValue → List BatchValue
+with_batch (batch b) others = b ∷ others
+with_batch _ others = others
+
+abbrev pub with_answered : AskValue → Outcome → List BatchValue → List BatchValue
+with_answered ask told others = with_batch ask others
+with_answered ask starved others = others
+with_answered ask failed others = others
+
+abbrev pub batches_of : List Exchange → List BatchValue
+batches_of [] = []
+batches_of (e ∷ es) = with_answered e.request.ask e.outcome (batches_of es)
+
+-- what the keeper stands for after batches
+abbrev pub after_batches : Standing → List BatchValue → Standing
+after_batches (of_state s) bs = of_state (after_all s bs)
+after_batches (shut why) bs = shut why
+
+-- ---- ends
+
+-- what a keeper, a reader and a writer are before and after a turn; and what was known of the states that a stop may leave
+pub record Around : Type 1 where
+  pub old_left : Option Text
+  pub new_left : Option Text
+  pub old_held : Option Text
+  pub new_held : Option Text
+  pub stands : Standing → Type 0
+  pub known : Type 0
+  pub old_leaves : Option State → Type 0
+  pub new_leaves : Option State → Type 0
+
+-- a request was read and acted on: its bytes are off the reader, the keeper stands for what is after it, and a stop may leave that
+pub record Acted (x : Standing) (e : Exchange) (a : Around) : Type 0 where
+  pub is : IsExchange x e
+  pub read : Consumes a.old_left a.new_left e.bytes
+  pub stands : a.stands (standing_after x e)
+  pub leaves : Leaves x e.request.ask e.outcome a.known a.old_leaves a.new_leaves
+
+-- one request was answered: these bytes are it and this text is its answer, the keeper stands for what is after it, and a stop may leave that
+pub record Answered (root : Text) (x : Standing) (bytes text : Text) (closing : Bool) (stands : Standing → Type 0) (old_leaves new_leaves : Option State → Type 0) : Type 0 where
+  pub exchange : Exchange
+  pub bytes_are : exchange.bytes ≡ bytes
+  pub is : IsExchange x exchange
+  pub text_is : text ≡ answer_bytes root x exchange
+  pub closing_is : closing ≡ closes root x exchange
+  pub standing : stands (standing_after x exchange)
+  pub leaves : Leaves x exchange.request.ask exchange.outcome (IsKnown x old_leaves) old_leaves new_leaves
+
+-- nothing was acted on or written
+pub record Rested (x : Standing) (a : Around) : Type 0 where
+  pub written : Keeps a.old_held a.new_held
+  pub stands : a.stands x
+  pub leaves : Stays x a.known a.old_leaves a.new_leaves
+
+-- what a turn did
+abbrev pub TurnSays : Turn → Text → Standing → Around → Type 0
+TurnSays Open root x a = (e : Exchange) × Acted x e a × Appends a.old_held a.new_held (answer_bytes root x e) × (closes root x e ≡ false)
+TurnSays Closed root x a = (e : Exchange) × Acted x e a × Appends a.old_held a.new_held (answer_bytes root x e) × (closes root x e ≡ true)
+TurnSays (WriteFailed begun) root x a = (e : Exchange) × Acted x e a × (n : ℕ) × (n < length (answer_bytes root x e)) × (begun ≡ nat_lt 0 n) × Appends a.old_held a.new_held (take n (answer_bytes root x e))
+TurnSays Ended root x a = Rested x a × (bytes : Text) × IsBlank bytes × Consumes a.old_left a.new_left bytes × IsAtEnd a.new_left
+TurnSays Truncated root x a = Rested x a × (bytes : Text) × IsUnfinished bytes × Consumes a.old_left a.new_left bytes × IsAtEnd a.new_left
+TurnSays ReadFailed root x a = Rested x a
+
+-- what was served: exchanges that leave the connection open, and then the turn that ends it
+pub record Serves (root : Text) (end : End) (count : ℕ) (x : Standing) (a : Around) : Type 0 where
+  pub exchanges : List Exchange
+  pub turn : Turn
+  pub middle : Option Text
+  pub written : Option Text
+  pub go_on : GoOn root x exchanges
+  pub read : Consumes a.old_left middle (all_requests exchanges)
+  pub answered : Appends a.old_held written (all_answers root x exchanges)
+  pub batches : standing_after_all x exchanges ≡ after_batches x (batches_of exchanges)
+  pub ends : TurnSays turn root (standing_after_all x exchanges) (record a { old_left = middle; old_held = written })
+  pub end_is : end ≡ end_of turn
+  pub closed : turn ≢ Open
+  pub counted : count ≡ (if begun_in turn then length exchanges + 1 else length exchanges)

@@ -1,0 +1,120 @@
+-- What the functions that answer say of their results.
+use Rattle.std.specs.Prelude.{◌≡◌, ◌⊎◌, Bool, true, List, Option, None, Some, Result, Ok, Err, string_bytes, ◌++◌, ⊤}
+use Rattle.streetmap_batch.specs.Text.{Text}
+use Rattle.streetmap_ledger.specs.State.{State}
+use Rattle.streetmap_ledger.specs.Keep.{LeavesOnly, LeavesEither}
+use Rattle.streetmap_ledger.specs.declared.reply.Cause.{Cause}
+use Rattle.streetmap_ledger.specs.declared.reply.Cause.TheVariants as causes
+use Rattle.streetmap_ledger.specs.declared.reply.Fault.{Fault}
+use Rattle.streetmap_ledger.specs.declared.reply.Fault.TheVariants as faults
+use Rattle.streetmap_ledger.specs.declared.reply.Reply.{Reply}
+use Rattle.streetmap_batch.specs.BatchValue.{BatchValue}
+use Rattle.streetmap_routes.specs.Ask.{AskValue}
+use Rattle.streetmap_web.specs.Response.{ResponseValue, response_in, response_shut, state_in, asks_state, fault_response, closes_with, response_text, replied}
+use Rattle.streetmap_web.specs.Standing.{Standing, Outcome, answer_by, after, CanBe, Leaves, IsKnown}
+use Rattle.streetmap_http.specs.declared.fault.FramingFault.{FramingFault}
+use Rattle.streetmap_bodies.specs.declared.request_fault.RequestFault.{RequestFault}
+use Rattle.streetmap_bodies.specs.declared.request_fault.RequestFault.TheVariants.{Keeper, Framing}
+use Rattle.streetmap_web.specs.declared.response.Response.{Response}
+use Rattle.streetmap_web.specs.declared.answer.Answer.{Answer}
+use Rattle.streetmap_web.specs.declared.answer.Answer.TheVariants.{Made, Fixed}
+
+-- an answer without its head, as a value
+abbrev pub response_value : Response → ResponseValue
+response_value b = record { status = b.status; kind = b.kind; allow = b.allow; body = string_bytes b.body }
+
+-- over a keeper that stood for a state: the answer of the state, or the fault that is to be answered
+abbrev pub RespondsIn : Text → State → AskValue → Result Response Fault → (State → Type 0) → Option Cause → Type 0
+RespondsIn root s ask (Ok response) stands cause = (response_value response ≡ response_in root s ask) × stands (state_in s ask)
+RespondsIn root s ask (Err faults.Memory) stands cause = stands s
+RespondsIn root s ask (Err faults.Device) stands cause = (asks_state ask ≡ true) × (cause ≡ Some causes.Device)
+RespondsIn root s ask (Err faults.Damaged) stands cause = ⊥
+RespondsIn root s ask (Err faults.Reopen) stands cause = ⊥
+
+-- over a shut keeper
+abbrev pub RespondsShut : Text → AskValue → Result Response Fault → Type 0
+RespondsShut root ask (Ok response) = response_value response ≡ response_shut root ask
+RespondsShut root ask (Err faults.Memory) = ⊤
+RespondsShut root ask (Err faults.Device) = ⊥
+RespondsShut root ask (Err faults.Damaged) = ⊥
+RespondsShut root ask (Err faults.Reopen) = response_shut root ask ≡ fault_response (Keeper faults.Reopen)
+
+-- what a stop may leave, where the keeper stood for a state and a stop could leave it and no other
+abbrev pub RespondLeaves : State → AskValue → Result Response Fault → (Option State → Type 0) → Type 0
+RespondLeaves s ask (Ok response) left = LeavesOnly left (Some (state_in s ask))
+RespondLeaves s ask (Err faults.Memory) left = LeavesOnly left (Some s)
+RespondLeaves s ask (Err faults.Device) left = LeavesEither left (Some s) (Some (state_in s ask))
+RespondLeaves s ask (Err faults.Damaged) left = LeavesOnly left (Some s)
+RespondLeaves s ask (Err faults.Reopen) left = LeavesOnly left (Some s)
+
+-- the bytes of the head and of the body of an answer
+abbrev pub head_bytes : Answer → Text
+head_bytes (Made head body) = string_bytes head
+head_bytes (Fixed head body) = head.now
+
+abbrev pub body_bytes : Answer → Text
+body_bytes (Made head body) = string_bytes body
+body_bytes (Fixed head body) = body.now
+
+-- the bytes of an answer
+abbrev pub answer_text : Answer → Text
+answer_text answer = head_bytes answer ++ body_bytes answer
+
+-- an answer to what is asked: how it came out, its bytes, whether the connection closes, what the keeper stands for afterwards, and what a stop may leave
+pub record Answers (root : Text) (x : Standing) (ask : AskValue) (asked bare : Bool) (text : Text) (closes : Bool) (new : Standing → Type 0) (old_left new_left : Option State → Type 0) : Type 0 where
+  pub outcome : Outcome
+  pub can : CanBe x ask outcome
+  pub closed : closes ≡ closes_with asked (answer_by root x ask outcome)
+  pub bytes : text ≡ response_text closes bare (answer_by root x ask outcome)
+  pub standing : new (after x ask outcome)
+  pub leaves : Leaves x ask outcome (IsKnown x old_left) old_left new_left
+
+-- an answer, or the fault that is to be answered, over a keeper that stood for a state
+abbrev pub TriesIn : Text → State → AskValue → Bool → Bool → Result (Answer × Bool) Fault → (State → Type 0) → Option Cause → Type 0
+TriesIn root s ask asked bare (Ok r) stands cause =
+    (r.1 ≡ closes_with asked (response_in root s ask)) × (answer_text r.0 ≡ response_text r.1 bare (response_in root s ask)) × stands (state_in s ask)
+TriesIn root s ask asked bare (Err faults.Memory) stands cause = stands s
+TriesIn root s ask asked bare (Err faults.Device) stands cause = (asks_state ask ≡ true) × (cause ≡ Some causes.Device)
+TriesIn root s ask asked bare (Err faults.Damaged) stands cause = ⊥
+TriesIn root s ask asked bare (Err faults.Reopen) stands cause = ⊥
+
+-- over a shut keeper
+abbrev pub TriesShut : Text → AskValue → Bool → Bool → Result (Answer × Bool) Fault → Type 0
+TriesShut root ask asked bare (Ok r) = (r.1 ≡ closes_with asked (response_shut root ask)) × (answer_text r.0 ≡ response_text r.1 bare (response_shut root ask))
+TriesShut root ask asked bare (Err faults.Memory) = ⊤
+TriesShut root ask asked bare (Err faults.Device) = ⊥
+TriesShut root ask asked bare (Err faults.Damaged) = ⊥
+TriesShut root ask asked bare (Err faults.Reopen) = response_shut root ask ≡ fault_response (Keeper faults.Reopen)
+
+-- what a stop may leave then
+abbrev pub TryLeaves : State → AskValue → Result (Answer × Bool) Fault → (Option State → Type 0) → Type 0
+TryLeaves s ask (Ok r) left = LeavesOnly left (Some (state_in s ask))
+TryLeaves s ask (Err faults.Memory) left = LeavesOnly left (Some s)
+TryLeaves s ask (Err faults.Device) left = LeavesEither left (Some s) (Some (state_in s ask))
+TryLeaves s ask (Err faults.Damaged) left = LeavesOnly left (Some s)
+TryLeaves s ask (Err faults.Reopen) left = LeavesOnly left (Some s)
+
+-- ---- batches
+
+-- a batch by what the keeper answered: its reply is the answer, and its fault is to be answered; `unasked` says that the keeper was never asked, and then memory was refused
+abbrev pub BatchResponds : Text → Result Response Fault → (applies : Result Reply Fault → Type 0) → (unasked : Type 0) → Type 0
+BatchResponds key (Ok response) applies unasked = (reply : Reply) × applies (Ok reply) × (response_value response ≡ replied key reply)
+BatchResponds key (Err fault) applies unasked = applies (Err fault) ⊎ (unasked × (fault ≡ faults.Memory))
+
+-- the same with its head, and whether the connection closes
+abbrev pub BatchTries : Text → Bool → Bool → Result (Answer × Bool) Fault → (applies : Result Reply Fault → Type 0) → (unasked : Type 0) → Type 0
+BatchTries key asked bare (Ok r) applies unasked =
+    (reply : Reply) × applies (Ok reply) × (r.1 ≡ closes_with asked (replied key reply)) × (answer_text r.0 ≡ response_text r.1 bare (replied key reply))
+BatchTries key asked bare (Err fault) applies unasked = applies (Err fault) ⊎ (unasked × (fault ≡ faults.Memory))
+
+-- the answer to a batch: the reply of the keeper, whatever it is, or its fault; or that memory was refused, where the keeper was never asked
+pub data BatchAnswers (key : Text) (asked bare : Bool) (text : Text) (closes : Bool) (applies : Result Reply Fault → Type 0) (unasked : Type 0) : Type 0 where
+  by_reply : (reply : Reply) → applies (Ok reply) → closes ≡ closes_with asked (replied key reply) → text ≡ response_text closes bare (replied key reply) → BatchAnswers key asked bare text closes applies unasked
+  by_fault : (fault : Fault) → applies (Err fault) → closes ≡ true → text ≡ response_text true bare (fault_response (Keeper fault)) → BatchAnswers key asked bare text closes applies unasked
+  unasked_of : unasked → closes ≡ true → text ≡ response_text true bare (fault_response (Keeper faults.Memory)) → BatchAnswers key asked bare text closes applies unasked
+
+-- ---- broken rules
+
+-- the answer to a request that breaks this rule of framing, or that memory was refused for it
+abbrev pub RefusesBy : Text → Bool → FramingFault → Type 0
+RefusesBy text bare fault = (answer : RequestFault) × ((answer ≡ Framing fault) ⊎ (answer ≡ Keeper faults.Memory)) × (text ≡ response_text true bare (fault_response answer))

@@ -1,0 +1,119 @@
+-- What a request is answered, and the state after it.
+use Rattle.std.specs.Prelude.{◌≡◌, ℕ, ◌++◌, List, [], Bool, true, false, ◌||◌, Option, None, Some, codes, if◌then◌else◌, length, ◌==◌}
+use Rattle.serde_json.specs.Data.{Data}
+use Rattle.serde_json.specs.Written.{compact_text}
+use Rattle.streetmap_http.specs.AnswerHead.{head_text}
+use Rattle.streetmap_http.specs.declared.answer_head.AnswerHead.{AnswerHead}
+use Rattle.streetmap_http.specs.declared.answer_head.MediaType.{MediaType}
+use Rattle.streetmap_http.specs.declared.answer_head.MediaType.TheVariants.{Json, GeoJson, Html}
+use Rattle.streetmap_http.specs.declared.answer_head.Methods.{Methods}
+use Rattle.streetmap_geojson.specs.FeatureValue.{FeatureValue}
+use Rattle.streetmap_query.specs.QueryValue.{QueryValue}
+use Rattle.streetmap_batch.specs.Text.{Text}
+use Rattle.streetmap_ledger.specs.State.{State}
+use Rattle.streetmap_ledger.specs.Batches.{act}
+use Rattle.streetmap_ledger.specs.Pages.{PageValue, page_in, feature_in}
+use Rattle.streetmap_ledger.specs.Summaries.{SummaryValue, summary_in, summaries_in}
+use Rattle.streetmap_ledger.specs.declared.reply.Reply.{Reply}
+use Rattle.streetmap_ledger.specs.declared.reply.Reply.TheVariants.{Accepted, Repeated, Refused}
+use Rattle.streetmap_ledger.specs.declared.reply.Fault.TheVariants.{Reopen}
+use Rattle.streetmap_routes.specs.Ask.{AskValue, faulty, landing_page, api_text, conformance_classes, all_collections, one_collection, page, feature, batch}
+use Rattle.streetmap_bodies.specs.Bodies.{landing_data, api_document, conformance_data, collections_data, collection_data, page_data, linked_feature_data}
+use Rattle.streetmap_bodies.specs.Replies.{reply_body}
+use Rattle.streetmap_bodies.specs.RequestFaults.{status_of, allow_of, fault_body}
+use Rattle.streetmap_bodies.specs.declared.request_fault.RequestFault.{RequestFault}
+use Rattle.streetmap_bodies.specs.declared.request_fault.RequestFault.TheVariants as faults
+
+-- an answer without its head
+pub record ResponseValue : Type 0 where
+  pub status : ℕ
+  pub kind : MediaType
+  pub allow : Option Methods
+  pub body : Text
+
+-- an error
+unfoldable pub fault_response : RequestFault → ResponseValue
+fault_response fault = record { status = status_of fault; kind = Json; allow = allow_of fault; body = compact_text (fault_body fault) }
+
+abbrev pub found : MediaType → Text → ResponseValue
+found kind body = record { status = 200; kind = kind; allow = None; body = body }
+
+abbrev pub not_found : ResponseValue
+not_found = fault_response faults.NotFound
+
+abbrev pub found_page : Text → Text → QueryValue → Option PageValue → ResponseValue
+found_page root name q None = not_found
+found_page root name q (Some p) = found GeoJson (compact_text (page_data root name q p))
+
+abbrev pub found_feature : Text → Text → Option FeatureValue → ResponseValue
+found_feature root name None = not_found
+found_feature root name (Some f) = found GeoJson (compact_text (linked_feature_data root name f))
+
+abbrev pub found_collection : Text → Option SummaryValue → ResponseValue
+found_collection root None = not_found
+found_collection root (Some s) = found Json (compact_text (collection_data root s))
+
+-- the status of the answer to a batch
+abbrev pub reply_status : Reply → ℕ
+reply_status (Accepted counts serial) = 200
+reply_status (Repeated counts serial) = 200
+reply_status (Refused refusal place) = 409
+
+-- the answer to the batch of this key
+abbrev pub replied : Text → Reply → ResponseValue
+replied key reply = record { status = reply_status reply; kind = Json; allow = None; body = compact_text (reply_body key reply) }
+
+-- what is answered in a state; root is the base of links without its last slash
+abbrev pub response_in : Text → State → AskValue → ResponseValue
+response_in root s (faulty fault) = fault_response fault
+response_in root s landing_page = found Json (compact_text (landing_data root))
+response_in root s api_text = found Html api_document
+response_in root s conformance_classes = found Json (compact_text conformance_data)
+response_in root s all_collections = found Json (compact_text (collections_data root (summaries_in s)))
+response_in root s (one_collection name) = found_collection root (summary_in s name)
+response_in root s (page name q) = found_page root name q (page_in s name q)
+response_in root s (feature name id) = found_feature root name (feature_in s name id)
+response_in root s (batch b) = replied b.key (act s b).reply
+
+-- what is answered where the keeper is shut: what asks no state as ever, and for the others that it must be opened again
+abbrev pub response_shut : Text → AskValue → ResponseValue
+response_shut root (faulty fault) = fault_response fault
+response_shut root landing_page = found Json (compact_text (landing_data root))
+response_shut root api_text = found Html api_document
+response_shut root conformance_classes = found Json (compact_text conformance_data)
+response_shut root all_collections = fault_response (faults.Keeper Reopen)
+response_shut root (one_collection name) = fault_response (faults.Keeper Reopen)
+response_shut root (page name q) = fault_response (faults.Keeper Reopen)
+response_shut root (feature name id) = fault_response (faults.Keeper Reopen)
+response_shut root (batch b) = fault_response (faults.Keeper Reopen)
+
+-- whether the state is asked
+abbrev pub asks_state : AskValue → Bool
+asks_state (faulty fault) = false
+asks_state landing_page = false
+asks_state api_text = false
+asks_state conformance_classes = false
+asks_state all_collections = true
+asks_state (one_collection name) = true
+asks_state (page name q) = true
+asks_state (feature name id) = true
+asks_state (batch b) = true
+
+-- the state afterwards: that of the batch, and else the same
+abbrev pub state_in : State → AskValue → State
+state_in s (batch b) = (act s b).state
+state_in s _ = s
+
+-- whether the connection closes behind an answer; asked tells whether the request closes it
+abbrev pub closes_with : Bool → ResponseValue → Bool
+closes_with asked p = asked || (p.status == 500 || p.status == 503)
+
+abbrev pub head_of : Bool → ResponseValue → AnswerHead
+head_of closes p = record { status = p.status; kind = p.kind; len = length p.body; allow = p.allow; closes = closes }
+
+abbrev pub body_of : Bool → Text → Text
+body_of bare body = if bare then [] else body
+
+-- the bytes of an answer, without its body where it is bare
+unfoldable pub response_text : Bool → Bool → ResponseValue → Text
+response_text closes bare p = head_text (head_of closes p) ++ body_of bare p.body

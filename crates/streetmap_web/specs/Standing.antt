@@ -1,0 +1,73 @@
+-- What a keeper stands for, what becomes of it, and what a stop may leave.
+use Rattle.std.specs.Prelude.{◌≡◌, Bool, true, List, Option, None, Some, ⊤}
+use Rattle.streetmap_batch.specs.Text.{Text}
+use Rattle.streetmap_ledger.specs.State.{State}
+use Rattle.streetmap_ledger.specs.Keep.{LeavesOnly, LeavesEither}
+use Rattle.streetmap_ledger.specs.declared.reply.Cause.{Cause}
+use Rattle.streetmap_ledger.specs.declared.reply.Cause.TheVariants as causes
+use Rattle.streetmap_ledger.specs.declared.reply.Fault.TheVariants.{Memory, Device}
+use Rattle.streetmap_routes.specs.Ask.{AskValue}
+use Rattle.streetmap_web.specs.Response.{ResponseValue, fault_response, response_in, response_shut, asks_state, state_in}
+use Rattle.streetmap_bodies.specs.declared.request_fault.RequestFault.TheVariants.{Keeper}
+
+-- a keeper stands for a state, or it is shut
+pub data Standing : Type 0 where
+  of_state : State → Standing
+  shut : Cause → Standing
+
+-- the keeper that stands for these states, and that this shut, stands so
+abbrev pub Stands : (State → Type 0) → Option Cause → Standing → Type 0
+Stands stands cause (of_state s) = stands s
+Stands stands cause (shut why) = cause ≡ Some why
+
+-- how a request came out: it was answered as asked, memory was refused, or the device failed
+pub data Outcome : Type 0 where
+  told : Outcome
+  starved : Outcome
+  failed : Outcome
+
+-- a device fails only where the state is asked of a keeper that is not shut
+abbrev pub CanBe : Standing → AskValue → Outcome → Type 0
+CanBe (of_state s) ask failed = asks_state ask ≡ true
+CanBe (shut why) ask failed = ⊥
+CanBe x ask told = ⊤
+CanBe x ask starved = ⊤
+
+-- the answer
+abbrev pub answer_by : Text → Standing → AskValue → Outcome → ResponseValue
+answer_by root (of_state s) ask told = response_in root s ask
+answer_by root (shut why) ask told = response_shut root ask
+answer_by root x ask starved = fault_response (Keeper Memory)
+answer_by root x ask failed = fault_response (Keeper Device)
+
+-- what the keeper stands for afterwards
+abbrev pub after : Standing → AskValue → Outcome → Standing
+after (of_state s) ask told = of_state (state_in s ask)
+after (of_state s) ask starved = of_state s
+after (of_state s) ask failed = shut causes.Device
+after (shut why) ask outcome = shut why
+
+-- what a stop may leave behind a request, where it could leave the state and no other before
+abbrev pub StateLeaves : State → AskValue → Outcome → (Option State → Type 0) → Type 0
+StateLeaves s ask told left = LeavesOnly left (Some (state_in s ask))
+StateLeaves s ask starved left = LeavesOnly left (Some s)
+StateLeaves s ask failed left = LeavesEither left (Some s) (Some (state_in s ask))
+
+-- no more than before
+abbrev pub LeavesNoMore : (old new : Option State → Type 0) → Type 0
+LeavesNoMore old new = (o : Option State) → new o → old o
+
+-- what is known before: where the keeper stands for a state, a stop may leave it and no other
+abbrev pub IsKnown : Standing → (Option State → Type 0) → Type 0
+IsKnown (of_state s) left = LeavesOnly left (Some s)
+IsKnown (shut why) left = ⊤
+
+-- what a stop may leave behind a request, where this was known before; a shut keeper leaves no more than before
+abbrev pub Leaves : Standing → AskValue → Outcome → (known : Type 0) → (old new : Option State → Type 0) → Type 0
+Leaves (of_state s) ask outcome known old new = known → StateLeaves s ask outcome new
+Leaves (shut why) ask outcome known old new = LeavesNoMore old new
+
+-- what a stop may leave where nothing was acted on
+abbrev pub Stays : Standing → (known : Type 0) → (old new : Option State → Type 0) → Type 0
+Stays (of_state s) known old new = known → LeavesOnly new (Some s)
+Stays (shut why) known old new = LeavesNoMore old new

@@ -1,0 +1,206 @@
+//! Answers to requests, over any keeper.
+ghost use Rattle.std.specs.Prelude.{◌≡◌, ◌≤◌, ◌++◌, ◌||◌, ◌==◌, [], true, Some, IfOk, string_bytes, string_len, string_capacity};
+ghost use Rattle.streetmap_ledger.specs.Keep.{LeavesOnly};
+ghost use Rattle.streetmap_ledger.specs.State.{State};
+ghost use Rattle.streetmap_ledger.specs.declared.reply.Cause.{Cause};
+ghost use Rattle.streetmap_http.specs.AnswerHead.{head_text};
+ghost use Rattle.streetmap_http.specs.Framing.{is_bare as is_bare_of};
+ghost use Rattle.streetmap_batch.specs.BatchValue.{BatchValue};
+ghost use Rattle.streetmap_routes.specs.Ask.{ask_of, batch};
+ghost use Rattle.streetmap_routes.specs.BaseView.{root_of};
+ghost use Rattle.streetmap_web.specs.Response.{response_text, closes_with, head_of, fault_response};
+ghost use Rattle.streetmap_web.specs.Standing.{Standing, Stands, LeavesNoMore};
+ghost use Rattle.streetmap_web.specs.Responds.{response_value, answer_text, Answers, TriesIn, TriesShut, TryLeaves, BatchTries, BatchAnswers, RefusesBy};
+ghost use Rattle.streetmap_bodies.specs.declared.request_fault.RequestFault.TheVariants.{Keeper as KeeperFault, Framing};
+
+use crate::respond::{faulty, respond_to};
+use crate::response::Response;
+use http::StatusCode;
+use std::alloc::{AllocError, Global};
+use streetmap_bodies::RequestFault;
+use streetmap_http::{AnswerHead, FramingFault, RequestHead, is_bare, push_head};
+use streetmap_ledger::{Fault, Keeper};
+use streetmap_routes::Base;
+
+/// An answer: its head and its body, both at hand.
+#[derive(Drop)]
+pub enum Answer {
+    /// In memory of its own.
+    Made(String, String),
+    /// One of the fixed answers, which take no memory.
+    Fixed(&'static str, &'static str),
+}
+
+impl Answer {
+    ghost use Rattle.streetmap_web.specs.Responds.{head_bytes, body_bytes};
+
+    /// The status line and the fields, up to the empty line behind them.
+    pub fn head(&self) -> &[u8]
+        ensures { result.now ≡ head_bytes self.now }
+    {
+        match self {
+            Answer::Made(head, _) => head.as_bytes(),
+            Answer::Fixed(head, _) => head.as_bytes(),
+        }
+    }
+
+    /// The body; empty where the request is a `HEAD`.
+    pub fn body(&self) -> &[u8]
+        ensures { result.now ≡ body_bytes self.now }
+    {
+        match self {
+            Answer::Made(_, body) => body.as_bytes(),
+            Answer::Fixed(_, body) => body.as_bytes(),
+        }
+    }
+}
+
+/// The room that is taken for the head of an answer.
+const HEAD_ROOM: usize = 256;
+
+/// Puts the head before a body, in room that was taken before.
+#[tactic(auto, unfolding(crate::specs::Response::response_text))]
+fn finish(room: String, response: Response, closes: bool, bare: bool) -> Answer
+    requires room { 256 ≤ string_capacity room }
+    requires blank { string_bytes room ≡ [] }
+    requires blank_len { string_len room ≡ 0 }
+    ensures { answer_text result ≡ response_text closes bare (response_value response) }
+{
+    let mut head = room;
+    let Response {
+        status,
+        kind,
+        allow,
+        body,
+    } = response;
+    let mut body = body;
+    push_head(
+        &mut head,
+        AnswerHead {
+            status,
+            kind,
+            len: body.len() as u64,
+            allow,
+            closes,
+        },
+    );
+    if bare {
+        body.clear();
+    }
+    Answer::Made(head, body)
+}
+
+/// The head of the answer with a keeper's fault.
+fn fixed_head(fault: Fault) -> &'static str
+    ensures { result.now ≡ head_text (head_of true (fault_response (KeeperFault fault))) }
+{
+    match fault {
+        Fault::Memory =>
+            "HTTP/1.1 503 Service Unavailable\r\nContent-Type: application/json\r\nContent-Length: 81\r\nConnection: close\r\n\r\n",
+        Fault::Device =>
+            "HTTP/1.1 500 Internal Server Error\r\nContent-Type: application/json\r\nContent-Length: 76\r\nConnection: close\r\n\r\n",
+        Fault::Damaged =>
+            "HTTP/1.1 500 Internal Server Error\r\nContent-Type: application/json\r\nContent-Length: 77\r\nConnection: close\r\n\r\n",
+        Fault::Reopen =>
+            "HTTP/1.1 500 Internal Server Error\r\nContent-Type: application/json\r\nContent-Length: 77\r\nConnection: close\r\n\r\n",
+    }
+}
+
+/// The body of the answer with a keeper's fault.
+fn fixed_body(fault: Fault) -> &'static str
+    ensures { result.now ≡ (fault_response (KeeperFault fault)).body }
+{
+    match fault {
+        Fault::Memory =>
+            "{\"code\":\"memory\",\"description\":\"Memory was refused; the call may be made again.\"}",
+        Fault::Device =>
+            "{\"code\":\"device\",\"description\":\"The store failed and must be opened again.\"}",
+        Fault::Damaged =>
+            "{\"code\":\"damaged\",\"description\":\"The store holds a row that cannot be read.\"}",
+        Fault::Reopen =>
+            "{\"code\":\"reopen\",\"description\":\"The store is shut and must be opened again.\"}",
+    }
+}
+
+/// The answer with a keeper's fault. It takes no memory.
+#[tactic(auto, unfolding(crate::specs::Response::response_text))]
+pub(crate) fn fixed(fault: Fault, bare: bool) -> Answer
+    ensures { answer_text result ≡ response_text true bare (fault_response (KeeperFault fault)) }
+{
+    let body = if bare { "" } else { fixed_body(fault) };
+    Answer::Fixed(fixed_head(fault), body)
+}
+
+/// Whether a status closes the connection.
+fn closes(status: StatusCode) -> bool
+    ensures { result ≡ (status == 500 || status == 503) }
+{
+    status.as_u16() == 500 || status.as_u16() == 503
+}
+
+/// Answers a request, unless a fault keeps it from that.
+fn try_answer<K: Keeper>(
+    alloc: Global,
+    keeper: &mut K,
+    base: &Base,
+    request: RequestHead,
+    body: &[u8],
+) -> Result<(Answer, bool), Fault>
+    ensures told { (b : BatchValue) → ask_of request.entry.method.now request.entry.target.now body.now ≡ batch b → BatchTries b.key request.entry.closes (is_bare_of request.entry.method.now) result (λ r. K.applies keeper.old b r keeper.new) (keeper.new ≡ keeper.old) }
+    ensures began_clean { K.is_clean keeper.new → K.is_clean keeper.old }
+    ensures answers { K.is_clean keeper.new → (s : State) → K.stands keeper.old s → TriesIn (root_of base.now) s (ask_of request.entry.method.now request.entry.target.now body.now) request.entry.closes (is_bare_of request.entry.method.now) result (K.stands keeper.new) (K.cause keeper.new) }
+    ensures shut { (why : Cause) → K.cause keeper.old ≡ Some why → TriesShut (root_of base.now) (ask_of request.entry.method.now request.entry.target.now body.now) request.entry.closes (is_bare_of request.entry.method.now) result × (K.cause keeper.new ≡ Some why) × LeavesNoMore (K.may_leave keeper.old) (K.may_leave keeper.new) }
+    ensures leaves { K.is_clean keeper.new → (s : State) → K.stands keeper.old s → LeavesOnly (K.may_leave keeper.old) (Some s) → TryLeaves s (ask_of request.entry.method.now request.entry.target.now body.now) result (K.may_leave keeper.new) }
+{
+    let Ok(room) = String::with_capacity(alloc, HEAD_ROOM) else {
+        return Err(Fault::Memory);
+    };
+    let Ok(ask) = base.ask(alloc, request.method, request.target, body) else {
+        return Err(Fault::Memory);
+    };
+    match respond_to(alloc, keeper, base.root(), &ask) {
+        Ok(response) => {
+            let closes = request.closes || closes(response.status);
+            Ok((finish(room, response, closes, is_bare(request.method)), closes))
+        }
+        Err(fault) => Err(fault),
+    }
+}
+
+/// Answers a request. Answers the bytes, and whether the connection closes.
+pub(crate) fn answer_to<K: Keeper>(
+    alloc: Global,
+    keeper: &mut K,
+    base: &Base,
+    request: RequestHead,
+    body: &[u8],
+) -> (Answer, bool)
+    ensures told { (b : BatchValue) → ask_of request.entry.method.now request.entry.target.now body.now ≡ batch b → BatchAnswers b.key request.entry.closes (is_bare_of request.entry.method.now) (answer_text result.0) result.1 (λ r. K.applies keeper.old b r keeper.new) (keeper.new ≡ keeper.old) }
+    ensures began_clean { K.is_clean keeper.new → K.is_clean keeper.old }
+    ensures answers { K.is_clean keeper.new → (x : Standing) → Stands (K.stands keeper.old) (K.cause keeper.old) x →
+        Answers (root_of base.now) x (ask_of request.entry.method.now request.entry.target.now body.now) request.entry.closes (is_bare_of request.entry.method.now) (answer_text result.0) result.1 (Stands (K.stands keeper.new) (K.cause keeper.new)) (K.may_leave keeper.old) (K.may_leave keeper.new) }
+{
+    match try_answer(alloc, keeper, base, request, body) {
+        Ok(answer) => answer,
+        Err(fault) => (fixed(fault, is_bare(request.method)), true),
+    }
+}
+
+/// The answer to a request that breaks a rule of framing, unless memory is refused for it.
+fn framing_answer(alloc: Global, fault: FramingFault, bare: bool) -> Result<Answer, AllocError>
+    ensures { IfOk result (λ a. answer_text a ≡ response_text true bare (fault_response (Framing fault))) }
+{
+    let room = String::with_capacity(alloc, HEAD_ROOM)?;
+    let response = faulty(alloc, RequestFault::Framing(fault))?;
+    Ok(finish(room, response, true, bare))
+}
+
+/// The answer to a request that breaks a rule of framing. The connection closes behind it.
+pub(crate) fn refused(alloc: Global, fault: FramingFault, bare: bool) -> Answer
+    ensures { RefusesBy (answer_text result) bare fault }
+{
+    match framing_answer(alloc, fault, bare) {
+        Ok(answer) => answer,
+        Err(_) => fixed(Fault::Memory, bare),
+    }
+}

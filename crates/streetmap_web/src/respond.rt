@@ -1,0 +1,325 @@
+//! What is answered to what is asked, over any keeper.
+ghost use Rattle.std.specs.Prelude.{◌≡◌, ◌≤◌, Some, None, IfOk, IfErr, OnErr, [], ⊤, string_bytes, string_len, string_capacity};
+ghost use Rattle.std.specs.Option.{option_map};
+ghost use Rattle.serde_json.specs.Written.{compact_text};
+ghost use Rattle.streetmap_query.specs.Views.{query_value};
+ghost use Rattle.streetmap_batch.specs.BatchValue.{BatchValue};
+ghost use Rattle.streetmap_batch.specs.BatchView.{batch_value};
+ghost use Rattle.streetmap_ledger.specs.Keep.{LeavesOnly};
+ghost use Rattle.streetmap_ledger.specs.State.{State};
+ghost use Rattle.streetmap_ledger.specs.PageView.{page_value};
+ghost use Rattle.streetmap_ledger.specs.SummaryView.{summary_value, summary_values};
+ghost use Rattle.streetmap_ledger.specs.declared.reply.Cause.{Cause};
+ghost use Rattle.streetmap_routes.specs.Ask as spec;
+ghost use Rattle.streetmap_web.specs.Response as spec_response;
+ghost use Rattle.streetmap_web.specs.Response.{fault_response, found};
+ghost use Rattle.streetmap_bodies.specs.Bodies as spec_bodies;
+ghost use Rattle.streetmap_web.specs.Standing.{LeavesNoMore};
+ghost use Rattle.streetmap_routes.specs.AskView.{ask_value};
+ghost use Rattle.streetmap_web.specs.Responds.{response_value, RespondsIn, RespondsShut, RespondLeaves, BatchResponds};
+ghost use Rattle.streetmap_http.specs.declared.answer_head.MediaType.TheVariants.{Json, GeoJson, Html};
+
+use crate::response::Response;
+use http::StatusCode;
+use std::alloc::{AllocError, Global};
+use streetmap_batch::Batch;
+use streetmap_bodies::{
+    RequestFault, api_text, collection_text, collections_text, conformance_text, feature_text,
+    landing_text, page_text, push_fault, push_reply_body,
+};
+use streetmap_geojson::Feature;
+use streetmap_http::MediaType;
+use streetmap_ledger::{Fault, Keeper, Page, Reply, Summary};
+use streetmap_query::Query;
+use streetmap_routes::Ask;
+
+/// The room that is taken for the body of the answer to a batch before the batch is applied. With that of
+/// the head, 256 bytes, it is 1,024.
+const BODY_ROOM: usize = 768;
+
+/// An answer of a body.
+fn found(kind: MediaType, body: String) -> Response
+    ensures { response_value result ≡ spec_response.found kind (string_bytes body) }
+{
+    Response {
+        status: StatusCode::OK,
+        kind,
+        allow: None,
+        body,
+    }
+}
+
+/// An answer that names a fault, in room that was taken before.
+#[tactic(auto, unfolding(crate::specs::Response::fault_response))]
+fn faulty_in(body: String, fault: RequestFault) -> Response
+    requires room { 320 ≤ string_capacity body }
+    requires blank { string_bytes body ≡ [] }
+    requires blank_len { string_len body ≡ 0 }
+    ensures { response_value result ≡ fault_response fault }
+{
+    let mut body = body;
+    push_fault(&mut body, &fault);
+    Response {
+        status: fault.status(),
+        kind: MediaType::Json,
+        allow: fault.allow(),
+        body,
+    }
+}
+
+/// An answer that names a fault.
+pub(crate) fn faulty(alloc: Global, fault: RequestFault) -> Result<Response, AllocError>
+    ensures { IfOk result (λ b. response_value b ≡ fault_response fault) }
+{
+    let body = String::with_capacity(alloc, 320)?;
+    Ok(faulty_in(body, fault))
+}
+
+/// The same, where want of memory is the fault that is to be answered.
+fn or_starved(response: Result<Response, AllocError>) -> Result<Response, Fault>
+    ensures ok { IfOk response (λ b. result ≡ Ok b) }
+    ensures err { OnErr response (result ≡ Err Fault.Memory) }
+{
+    match response {
+        Ok(response) => Ok(response),
+        Err(_) => Err(Fault::Memory),
+    }
+}
+
+/// The status of the answer to a batch.
+fn reply_status(reply: Reply) -> StatusCode
+    ensures { result ≡ spec_response.reply_status reply }
+{
+    match reply {
+        Reply::Accepted(_, _) | Reply::Repeated(_, _) => StatusCode::OK,
+        Reply::Refused(_, _) => StatusCode::CONFLICT,
+    }
+}
+
+/// The answer to a batch that the keeper answered without a fault, in room that was taken before: there
+/// is one whatever the reply is, and no memory is taken for it.
+fn replied(body: String, batch: &Batch, reply: Reply) -> Response
+    requires room { 320 ≤ string_capacity body }
+    requires blank { string_bytes body ≡ [] }
+    requires blank_len { string_len body ≡ 0 }
+    ensures { response_value result ≡ spec_response.replied (batch_value batch.now).key reply }
+{
+    let mut body = body;
+    push_reply_body(&mut body, batch, reply);
+    Response {
+        status: reply_status(reply),
+        kind: MediaType::Json,
+        allow: None,
+        body,
+    }
+}
+
+/// Applies a batch. Once it was applied no memory is taken.
+fn respond_batch<K: Keeper>(
+    alloc: Global,
+    keeper: &mut K,
+    root: &str,
+    batch: &Batch,
+) -> Result<Response, Fault>
+    ensures told { BatchResponds (batch_value batch.now).key result (λ r. K.applies keeper.old (batch_value batch.now) r keeper.new) (keeper.new ≡ keeper.old) }
+    ensures began_clean { K.is_clean keeper.new → K.is_clean keeper.old }
+    ensures responds { K.is_clean keeper.new → (s : State) → K.stands keeper.old s → RespondsIn root.now s (spec.batch (batch_value batch.now)) result (K.stands keeper.new) (K.cause keeper.new) }
+    ensures shut { (why : Cause) → K.cause keeper.old ≡ Some why → RespondsShut root.now (spec.batch (batch_value batch.now)) result × (K.cause keeper.new ≡ Some why) × LeavesNoMore (K.may_leave keeper.old) (K.may_leave keeper.new) }
+    ensures leaves { K.is_clean keeper.new → (s : State) → K.stands keeper.old s → LeavesOnly (K.may_leave keeper.old) (Some s) → RespondLeaves s (spec.batch (batch_value batch.now)) result (K.may_leave keeper.new) }
+{
+    let _ = root;
+    let Ok(body) = String::with_capacity(alloc, BODY_ROOM) else {
+        return Err(Fault::Memory);
+    };
+    match keeper.apply(batch) {
+        Ok(reply) => Ok(replied(body, batch, reply)),
+        Err(fault) => Err(fault),
+    }
+}
+
+/// The answer with a page, where its collection is there.
+fn found_page(
+    alloc: Global,
+    root: &str,
+    name: &str,
+    query: &Query,
+    page: &Option<Page>,
+) -> Result<Response, AllocError>
+    ensures { IfOk result (λ b. response_value b ≡ spec_response.found_page root.now name.now (query_value query.now) (option_map page_value page.now)) }
+{
+    match page {
+        Some(page) => Ok(found(
+            MediaType::GeoJson,
+            page_text(alloc, root, name, query, page)?,
+        )),
+        None => faulty(alloc, RequestFault::NotFound),
+    }
+}
+
+/// Looks a page up.
+fn respond_page<K: Keeper>(
+    alloc: Global,
+    keeper: &mut K,
+    root: &str,
+    name: &str,
+    query: &Query,
+) -> Result<Response, Fault>
+    ensures began_clean { K.is_clean keeper.new → K.is_clean keeper.old }
+    ensures responds { K.is_clean keeper.new → (s : State) → K.stands keeper.old s → RespondsIn root.now s (spec.page name.now (query_value query.now)) result (K.stands keeper.new) (K.cause keeper.new) }
+    ensures shut { (why : Cause) → K.cause keeper.old ≡ Some why → RespondsShut root.now (spec.page name.now (query_value query.now)) result × (K.cause keeper.new ≡ Some why) × LeavesNoMore (K.may_leave keeper.old) (K.may_leave keeper.new) }
+    ensures leaves { K.is_clean keeper.new → (s : State) → K.stands keeper.old s → LeavesOnly (K.may_leave keeper.old) (Some s) → RespondLeaves s (spec.page name.now (query_value query.now)) result (K.may_leave keeper.new) }
+{
+    match keeper.page(name, query) {
+        Ok(page) => or_starved(found_page(alloc, root, name, query, &page)),
+        Err(fault) => Err(fault),
+    }
+}
+
+/// The answer with a feature, where it is there.
+fn found_feature(
+    alloc: Global,
+    root: &str,
+    name: &str,
+    feature: &Option<Feature>,
+) -> Result<Response, AllocError>
+    ensures { IfOk result (λ b. response_value b ≡ spec_response.found_feature root.now name.now feature.now) }
+{
+    match feature {
+        Some(feature) => Ok(found(
+            MediaType::GeoJson,
+            feature_text(alloc, root, name, feature)?,
+        )),
+        None => faulty(alloc, RequestFault::NotFound),
+    }
+}
+
+/// Looks a feature up.
+fn respond_feature<K: Keeper>(
+    alloc: Global,
+    keeper: &mut K,
+    root: &str,
+    name: &str,
+    id: &str,
+) -> Result<Response, Fault>
+    ensures began_clean { K.is_clean keeper.new → K.is_clean keeper.old }
+    ensures responds { K.is_clean keeper.new → (s : State) → K.stands keeper.old s → RespondsIn root.now s (spec.feature name.now id.now) result (K.stands keeper.new) (K.cause keeper.new) }
+    ensures shut { (why : Cause) → K.cause keeper.old ≡ Some why → RespondsShut root.now (spec.feature name.now id.now) result × (K.cause keeper.new ≡ Some why) × LeavesNoMore (K.may_leave keeper.old) (K.may_leave keeper.new) }
+    ensures leaves { K.is_clean keeper.new → (s : State) → K.stands keeper.old s → LeavesOnly (K.may_leave keeper.old) (Some s) → RespondLeaves s (spec.feature name.now id.now) result (K.may_leave keeper.new) }
+{
+    match keeper.feature(name, id) {
+        Ok(feature) => or_starved(found_feature(alloc, root, name, &feature)),
+        Err(fault) => Err(fault),
+    }
+}
+
+/// The answer with a collection, where it is there.
+fn found_collection(
+    alloc: Global,
+    root: &str,
+    summary: &Option<Summary>,
+) -> Result<Response, AllocError>
+    ensures { IfOk result (λ b. response_value b ≡ spec_response.found_collection root.now (option_map summary_value summary.now)) }
+{
+    match summary {
+        Some(summary) => Ok(found(MediaType::Json, collection_text(alloc, root, summary)?)),
+        None => faulty(alloc, RequestFault::NotFound),
+    }
+}
+
+/// Looks a collection up.
+fn respond_collection<K: Keeper>(
+    alloc: Global,
+    keeper: &mut K,
+    root: &str,
+    name: &str,
+) -> Result<Response, Fault>
+    ensures began_clean { K.is_clean keeper.new → K.is_clean keeper.old }
+    ensures responds { K.is_clean keeper.new → (s : State) → K.stands keeper.old s → RespondsIn root.now s (spec.one_collection name.now) result (K.stands keeper.new) (K.cause keeper.new) }
+    ensures shut { (why : Cause) → K.cause keeper.old ≡ Some why → RespondsShut root.now (spec.one_collection name.now) result × (K.cause keeper.new ≡ Some why) × LeavesNoMore (K.may_leave keeper.old) (K.may_leave keeper.new) }
+    ensures leaves { K.is_clean keeper.new → (s : State) → K.stands keeper.old s → LeavesOnly (K.may_leave keeper.old) (Some s) → RespondLeaves s (spec.one_collection name.now) result (K.may_leave keeper.new) }
+{
+    match keeper.collection(name) {
+        Ok(summary) => or_starved(found_collection(alloc, root, &summary)),
+        Err(fault) => Err(fault),
+    }
+}
+
+/// The answer with all collections.
+fn found_collections(alloc: Global, root: &str, summaries: &[Summary]) -> Result<Response, AllocError>
+    ensures { IfOk result (λ b. response_value b ≡ spec_response.found Json (compact_text (spec_bodies.collections_data root.now (summary_values summaries.now)))) }
+{
+    let body = collections_text(alloc, root, summaries)?;
+    Ok(found(MediaType::Json, body))
+}
+
+/// Looks all collections up.
+fn respond_collections<K: Keeper>(alloc: Global, keeper: &mut K, root: &str) -> Result<Response, Fault>
+    ensures began_clean { K.is_clean keeper.new → K.is_clean keeper.old }
+    ensures responds { K.is_clean keeper.new → (s : State) → K.stands keeper.old s → RespondsIn root.now s spec.all_collections result (K.stands keeper.new) (K.cause keeper.new) }
+    ensures shut { (why : Cause) → K.cause keeper.old ≡ Some why → RespondsShut root.now spec.all_collections result × (K.cause keeper.new ≡ Some why) × LeavesNoMore (K.may_leave keeper.old) (K.may_leave keeper.new) }
+    ensures leaves { K.is_clean keeper.new → (s : State) → K.stands keeper.old s → LeavesOnly (K.may_leave keeper.old) (Some s) → RespondLeaves s spec.all_collections result (K.may_leave keeper.new) }
+{
+    match keeper.collections() {
+        Ok(summaries) => or_starved(found_collections(alloc, root, summaries.as_slice())),
+        Err(fault) => Err(fault),
+    }
+}
+
+/// The answer with the landing page.
+fn found_landing(alloc: Global, root: &str) -> Result<Response, AllocError>
+    ensures { IfOk result (λ b. response_value b ≡ spec_response.found Json (compact_text (spec_bodies.landing_data root.now))) }
+{
+    let body = landing_text(alloc, root)?;
+    Ok(found(MediaType::Json, body))
+}
+
+/// The answer with a text that is always the same.
+fn found_text(alloc: Global, kind: MediaType, text: &str) -> Result<Response, AllocError>
+    ensures { IfOk result (λ b. response_value b ≡ spec_response.found kind text.now) }
+{
+    let mut body = String::new(alloc);
+    body.push_str(text)?;
+    Ok(found(kind, body))
+}
+
+/// The answer with the description of the service.
+fn found_api(alloc: Global) -> Result<Response, AllocError>
+    ensures { IfOk result (λ b. response_value b ≡ spec_response.found Html spec_bodies.api_document) }
+{
+    found_text(alloc, MediaType::Html, api_text())
+}
+
+/// The answer with the conformance classes.
+fn found_conformance(alloc: Global) -> Result<Response, AllocError>
+    ensures { IfOk result (λ b. response_value b ≡ spec_response.found Json (compact_text spec_bodies.conformance_data)) }
+{
+    found_text(alloc, MediaType::Json, conformance_text())
+}
+
+/// Answers what is asked.
+pub(crate) fn respond_to<K: Keeper>(
+    alloc: Global,
+    keeper: &mut K,
+    root: &str,
+    ask: &Ask,
+) -> Result<Response, Fault>
+    ensures told { (b : BatchValue) → ask_value ask.now ≡ spec.batch b → BatchResponds b.key result (λ r. K.applies keeper.old b r keeper.new) (keeper.new ≡ keeper.old) }
+    ensures began_clean { K.is_clean keeper.new → K.is_clean keeper.old }
+    ensures responds { K.is_clean keeper.new → (s : State) → K.stands keeper.old s → RespondsIn root.now s (ask_value ask.now) result (K.stands keeper.new) (K.cause keeper.new) }
+    ensures shut { (why : Cause) → K.cause keeper.old ≡ Some why → RespondsShut root.now (ask_value ask.now) result × (K.cause keeper.new ≡ Some why) × LeavesNoMore (K.may_leave keeper.old) (K.may_leave keeper.new) }
+    ensures leaves { K.is_clean keeper.new → (s : State) → K.stands keeper.old s → LeavesOnly (K.may_leave keeper.old) (Some s) → RespondLeaves s (ask_value ask.now) result (K.may_leave keeper.new) }
+{
+    match ask {
+        Ask::Faulty(fault) => or_starved(faulty(alloc, *fault)),
+        Ask::LandingPage => or_starved(found_landing(alloc, root)),
+        Ask::ApiText => or_starved(found_api(alloc)),
+        Ask::ConformanceClasses => or_starved(found_conformance(alloc)),
+        Ask::AllCollections => respond_collections(alloc, keeper, root),
+        Ask::OneCollection(name) => respond_collection(alloc, keeper, root, name.as_str()),
+        Ask::Page(name, query) => respond_page(alloc, keeper, root, name.as_str(), query),
+        Ask::Feature(name, id) => {
+            respond_feature(alloc, keeper, root, name.as_str(), id.as_str())
+        }
+        Ask::Batch(batch) => respond_batch(alloc, keeper, root, batch),
+    }
+}

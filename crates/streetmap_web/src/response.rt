@@ -1,0 +1,13 @@
+//! Answers without their heads.
+use http::StatusCode;
+use streetmap_http::{MediaType, Methods};
+
+/// An answer without its head.
+#[derive(Drop)]
+pub struct Response {
+    pub status: StatusCode,
+    pub kind: MediaType,
+    /// The methods of the path, where the request has another.
+    pub allow: Option<Methods>,
+    pub body: String,
+}

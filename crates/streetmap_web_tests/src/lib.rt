@@ -1,0 +1,20 @@
+//! Tests of HTTP over the keeper in memory, by public items alone: rows of bytes, streams that are cut or fail,
+//! and hostile streams.
+#![tactic(auto)]
+
+#[cfg(test)]
+mod answers;
+#[cfg(test)]
+mod batches;
+#[cfg(test)]
+mod failing;
+#[cfg(test)]
+mod hostile;
+#[cfg(test)]
+mod large;
+#[cfg(test)]
+mod pages;
+#[cfg(test)]
+mod requests;
+#[cfg(test)]
+mod streams;
