@@ -7,10 +7,10 @@ use std::io::{ErrorKind, Read};
 
 /// A read failed, or none came after 2^64 - 1 tries.
 #[derive(Debug, Drop, Clone, Copy, PartialEq, Eq)]
-pub struct ReadFailed;
+pub(crate) struct ReadFailed;
 
 /// The next byte, or `None` at the end. A read that a signal interrupts is made again.
-pub fn read_byte<R: Read>(reader: &mut R) -> Result<Option<u8>, ReadFailed>
+pub(crate) fn read_byte<R: Read>(reader: &mut R) -> Result<Option<u8>, ReadFailed>
     ensures { MatchResult result
         (λ found. MatchOption found
         (Keeps (R.remaining reader.old) (R.remaining reader.new) × IsAtEnd (R.remaining reader.new))
