@@ -1,25 +1,22 @@
-//! Pages and features as JSON texts.
-ghost use Rattle.std.specs.Prelude.{◌≡◌, ◌++◌, IfOk, OnOk, decimal, map, option_map, string_bytes};
+//! The bodies of lines: pages and features without links.
+ghost use Rattle.std.specs.Prelude.{◌≡◌, ◌++◌, IfOk, OnOk, option_map, string_bytes};
 ghost use Rattle.serde_json.specs.Written.{compact_text};
 ghost use Rattle.streetmap_geojson.specs.Written.{feature_data};
 ghost use Rattle.streetmap_ledger.specs.PageView.{page_value};
-ghost use Rattle.streetmap.specs.Answers.{page_data};
-ghost use Rattle.streetmap.specs.PageText.{next_text};
+ghost use Rattle.streetmap_bodies.specs.Bodies.{line_page_data};
+ghost use Rattle.streetmap_bodies.specs.LineTexts.{next_text};
 
+use crate::links::add_number;
 use std::alloc::{AllocError, Global};
 use streetmap_geojson::{Feature, push_feature, push_features, push_quoted};
 use streetmap_ledger::Page;
 
-/// Appends a number.
-fn add_number(out: &mut String, number: u64) -> Result<(), AllocError>
-    ensures { OnOk result (string_bytes out.new ≡ string_bytes out.old ++ decimal number) }
-{
-    let mut digits = itoa::Buffer::new();
-    out.push_str(digits.format(number))
-}
-
-/// The compact text of a feature.
-pub(crate) fn feature_text(alloc: Global, feature: &Feature) -> Result<String, AllocError>
+/// The text of a feature, as a line shows it: without links.
+///
+/// # Errors
+///
+/// Want of memory alone.
+pub fn line_feature_text(alloc: Global, feature: &Feature) -> Result<String, AllocError>
     ensures { IfOk result (λ text. string_bytes text ≡ compact_text (feature_data feature.now)) }
 {
     let mut out = String::new(alloc);
@@ -40,11 +37,15 @@ fn add_next(alloc: Global, out: &mut String, next: &Option<String>) -> Result<()
     }
 }
 
-/// The compact text of a page: its features, the last id shown where more follow, and the numbers of
-/// features selected and shown.
-#[tactic(auto, unfolding(crate::specs::Answers::page_data))]
-pub(crate) fn page_text(alloc: Global, page: &Page) -> Result<String, AllocError>
-    ensures { IfOk result (λ text. string_bytes text ≡ compact_text (page_data (page_value page.now))) }
+/// The text of a page, as a line shows it: its features, the last id shown where more follow, and how
+/// many features are selected and shown.
+///
+/// # Errors
+///
+/// Want of memory alone.
+#[tactic(auto, unfolding(crate::specs::Bodies::line_page_data))]
+pub fn line_page_text(alloc: Global, page: &Page) -> Result<String, AllocError>
+    ensures { IfOk result (λ text. string_bytes text ≡ compact_text (line_page_data (page_value page.now))) }
 {
     let features = page.features.as_slice();
     let mut out = String::new(alloc);
