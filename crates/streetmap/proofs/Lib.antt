@@ -1,5 +1,3 @@
 pub mod AnswerLemmas
 pub mod LineLemmas
-pub mod PageTexts
-pub mod PlainTexts
 pub mod Requests

@@ -3,7 +3,6 @@ pub mod Answers
 pub mod CommandView
 pub mod Faults
 pub mod Lines
-pub mod PageText
 pub mod Program
 pub mod Reading
 pub mod Request

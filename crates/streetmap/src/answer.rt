@@ -8,19 +8,20 @@ ghost use Rattle.streetmap_batch.specs.BatchView.{batch_value};
 ghost use Rattle.streetmap_ledger.specs.State.{State};
 ghost use Rattle.streetmap_memory.specs.Plain.{IsPlain as IsPlainState};
 ghost use Rattle.streetmap_ledger.specs.Pages.{feature_in};
-ghost use Rattle.streetmap_bodies.specs.Plain.{IsPlain};
-ghost use Rattle.streetmap.specs.Answers.{answer_to, batch_answer, batch_fault_body, reply_body, page_body, found_feature, plain_error, unknown_command, not_found};
+ghost use Rattle.streetmap_bodies.specs.RequestFaults.{fault_body};
+ghost use Rattle.streetmap.specs.Answers.{answer_to, batch_answer, page_body, found_feature, unknown_command};
 ghost use Rattle.streetmap.specs.AnswerView.{SaysOr, LineSays, ActsOr};
 ghost use Rattle.streetmap.specs.Request.{request_in, Text};
 ghost use Rattle.streetmap.specs.RequestView.{request_value};
 
-use crate::page_text::{feature_text, page_text};
 use crate::request::{Request, read_request};
 use std::alloc::{AllocError, Global};
 use streetmap_ledger::{Batch, BatchFault, Fault, Keeper, Reply, read_batch};
 use streetmap_memory::PlainKeeper;
 use streetmap_query::{QueryFault, read_query};
-use streetmap_bodies::{push_error, push_reply};
+use streetmap_bodies::{
+    RequestFault, line_feature_text, line_page_text, push_error, push_fault, push_reply_body,
+};
 
 /// The room that is taken for an answer to a batch before the batch is applied, in bytes.
 const ROOM: usize = 1024;
@@ -33,55 +34,21 @@ fn room(alloc: Global) -> Result<String, AllocError>
     String::with_capacity(alloc, ROOM)
 }
 
-/// An error without a place, in a text of its own.
-fn error_text(alloc: Global, code: &str, description: &str) -> Result<String, AllocError>
-    requires plain_code { IsPlain code.now }
-    requires plain_description { IsPlain description.now }
-    ensures { IfOk result (λ text. string_bytes text ≡ compact_text (plain_error code.now description.now)) }
+/// The text of an error.
+fn fault_text(alloc: Global, fault: RequestFault) -> Result<String, AllocError>
+    ensures { IfOk result (λ text. string_bytes text ≡ compact_text (fault_body fault)) }
 {
     let mut answer = room(alloc)?;
-    push_error(&mut answer, code, description, None, None);
+    push_fault(&mut answer, &fault);
     Ok(answer)
 }
 
 fn unknown_command_text(alloc: Global) -> Result<String, AllocError>
     ensures { IfOk result (λ text. string_bytes text ≡ compact_text unknown_command) }
 {
-    error_text(alloc, "bad_command", "The command is not known.")
-}
-
-fn not_found_text(alloc: Global) -> Result<String, AllocError>
-    ensures { IfOk result (λ text. string_bytes text ≡ compact_text not_found) }
-{
-    error_text(alloc, "not_found", "There is nothing at this path.")
-}
-
-/// Appends the reply to the batch of this key, for which there is room.
-#[tactic(auto, unfolding(crate::specs::Answers::reply_body))]
-fn push_reply_body(answer: &mut String, batch: &Batch, reply: Reply)
-    requires { string_len answer.old + 512 ≤ string_capacity answer.old }
-    ensures { string_bytes answer.new ≡ string_bytes answer.old ++ compact_text (reply_body (batch_value batch.now).key reply) }
-{
-    match reply {
-        Reply::Accepted(counts, serial) => push_reply(answer, batch.key(), counts, serial),
-        Reply::Repeated(counts, serial) => push_reply(answer, batch.key(), counts, serial),
-        Reply::Refused(refusal, place) => {
-            push_error(answer, refusal.code(), refusal.description(), place, None);
-        }
-    }
-}
-
-/// Appends why a batch cannot be read, for which there is room.
-#[tactic(auto, unfolding(crate::specs::Answers::batch_fault_body))]
-fn push_batch_fault(answer: &mut String, fault: BatchFault)
-    requires { string_len answer.old + 512 ≤ string_capacity answer.old }
-    ensures { string_bytes answer.new ≡ string_bytes answer.old ++ compact_text (batch_fault_body fault) }
-{
-    let (code, description, place) = (fault.code(), fault.description(), fault.place());
-    match fault.cause() {
-        Some(cause) => push_error(answer, code, description, place, Some(cause.code())),
-        None => push_error(answer, code, description, place, None),
-    }
+    let mut answer = room(alloc)?;
+    push_error(&mut answer, "bad_command", "The command is not known.", None, None);
+    Ok(answer)
 }
 
 /// Applies a batch. In memory nothing but memory can be wanting.
@@ -107,7 +74,7 @@ fn answer_batch(alloc: Global, keeper: &mut PlainKeeper, text: &str) -> Result<S
         }
         Err(BatchFault::Memory) => Err(AllocError),
         Err(fault) => {
-            push_batch_fault(&mut answer, fault);
+            push_fault(&mut answer, &RequestFault::Batch(fault));
             Ok(answer)
         }
     }
@@ -124,12 +91,12 @@ fn answer_page(
 {
     match read_query(alloc, query) {
         Ok(query) => match keeper.page(collection, &query) {
-            Ok(Some(page)) => page_text(alloc, &page),
-            Ok(None) => not_found_text(alloc),
+            Ok(Some(page)) => line_page_text(alloc, &page),
+            Ok(None) => fault_text(alloc, RequestFault::NotFound),
             Err(_) => Err(AllocError),
         },
         Err(QueryFault::Memory) => Err(AllocError),
-        Err(fault) => error_text(alloc, fault.code(), fault.description()),
+        Err(fault) => fault_text(alloc, RequestFault::Query(fault)),
     }
 }
 
@@ -143,8 +110,8 @@ fn answer_feature(
     ensures { (s : State) → IsPlainState keeper.old s → SaysOr s (record { body = found_feature (feature_in s collection.now id.now); state = s }) result keeper.new }
 {
     match keeper.feature(collection, id) {
-        Ok(Some(feature)) => feature_text(alloc, &feature),
-        Ok(None) => not_found_text(alloc),
+        Ok(Some(feature)) => line_feature_text(alloc, &feature),
+        Ok(None) => fault_text(alloc, RequestFault::NotFound),
         Err(_) => Err(AllocError),
     }
 }

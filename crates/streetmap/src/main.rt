@@ -5,7 +5,6 @@ pub mod answer;
 pub mod command;
 pub mod fault;
 pub mod lines;
-mod page_text;
 pub mod request;
 #[cfg(test)]
 mod rows;

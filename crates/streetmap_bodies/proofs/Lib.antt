@@ -1,3 +1,4 @@
 pub mod Texts
 pub mod PlainTexts
 pub mod BodyTexts
+pub mod LineParts

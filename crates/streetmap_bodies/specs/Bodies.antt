@@ -18,6 +18,7 @@ use Rattle.streetmap_ledger.specs.Summaries.{SummaryValue}
 abbrev pub json : Text
 json = codes "application/json"
 
+-- that of features and pages; RFC 7946, section 12
 abbrev pub geo_json : Text
 geo_json = codes "application/geo+json"
 
@@ -25,27 +26,32 @@ geo_json = codes "application/geo+json"
 abbrev pub link : Text → Text → Text → Data
 link href rel kind = object (member (codes "href") (string href) (member (codes "rel") (string rel) (member (codes "type") (string kind) no_members)))
 
+-- the address of a collection
 abbrev pub collection_href : Text → Text → Text
 collection_href root name = root ++ codes "/collections/" ++ name
 
+-- the address of its features
 abbrev pub items_href : Text → Text → Text
 items_href root name = collection_href root name ++ codes "/items"
 
+-- the address of a page of them
 abbrev pub page_href : Text → Text → Text → Text
 page_href root name query = items_href root name ++ codes "?" ++ query
 
--- the links of a page: to itself, and to the page behind it
+-- the link to the page behind it, where there is one
 abbrev pub next_link : Option Text → Items
 next_link None = no_items
 next_link (Some href) = item (link href (codes "next") geo_json) no_items
 
+-- to itself, and to the page behind it, where there is one; OGC 17-069, section 7.15.5
 abbrev pub page_links : Text → Option Text → Data
 page_links here next = array (item (link here (codes "self") geo_json) (next_link next))
 
--- the address of a page itself, and of the page behind an id
+-- the address of a page itself
 abbrev pub self_href : Text → Text → QueryValue → Text
 self_href root name q = page_href root name (query_text q)
 
+-- the same query, from behind an id
 abbrev pub next_href : Text → Text → QueryValue → Text → Text
 next_href root name q id = page_href root name (query_text (record q { after = Some id }))
 
@@ -58,6 +64,19 @@ page_data root name q p =
     (member (codes "numberReturned") (number (unsigned (length p.features)))
     (member (codes "type") (string (codes "FeatureCollection")) no_members)))))
 
+-- the member `next`, where more features follow
+abbrev pub next_member : Option Text → Members → Members
+next_member None others = others
+next_member (Some id) others = member (codes "next") (string id) others
+
+-- a page as a line shows it: without links, with the last id shown where more follow
+unfoldable pub line_page_data : PageValue → Data
+line_page_data p =
+    object (member (codes "features") (array_of feature_data p.features)
+    (next_member p.next
+    (member (codes "numberMatched") (number (unsigned p.matched))
+    (member (codes "numberReturned") (number (unsigned (length p.features))) no_members))))
+
 -- the links of the landing page: to itself, to the description, to the conformance classes and to the collections
 abbrev pub landing_links : Text → Text → Text → Text → Data
 landing_links here api conformance collections =
@@ -66,6 +85,7 @@ landing_links here api conformance collections =
     (item (link conformance (codes "conformance") json)
     (item (link collections (codes "data") json) no_items))))
 
+-- the landing page with these links
 abbrev pub landing_by : Data → Data
 landing_by links =
     object (member (codes "description") (string (codes "Street assets on a local grid of whole millimetres."))
@@ -92,9 +112,11 @@ conformance_data = object (member (codes "conformsTo") (array (item (string (cod
 abbrev pub grid_crs : Data
 grid_crs = string (codes "tag:streetmap.invalid,2024:crs/grid-mm")
 
+-- the four bounds of a box, west, south, east and north
 abbrev pub box_numbers : BoxValue → List Data
 box_numbers b = number_data b.x0 ∷ number_data b.y0 ∷ number_data b.x1 ∷ number_data b.y1 ∷ []
 
+-- an extent; OGC 17-069, section 7.14.2
 abbrev pub extent_data : BoxValue → Data
 extent_data b = object (member (codes "spatial") (object (member (codes "bbox") (array (item (array (items_of (box_numbers b))) no_items)) (member (codes "crs") grid_crs no_members))) no_members)
 
@@ -103,9 +125,11 @@ abbrev pub extent_member : Option BoxValue → Members → Members
 extent_member None others = others
 extent_member (Some b) others = member (codes "extent") (extent_data b) others
 
+-- the links of a collection: to itself, and to its features
 abbrev pub links_of_collection : Text → Text → Data
 links_of_collection here items = array (item (link here (codes "self") json) (item (link items (codes "items") geo_json) no_items))
 
+-- those under a base
 abbrev pub collection_links : Text → Text → Data
 collection_links root name = links_of_collection (collection_href root name) (items_href root name)
 
@@ -118,6 +142,7 @@ collection_data root s =
     (member (codes "links") (collection_links root s.id)
     (member (codes "title") (string s.title) no_members)))))
 
+-- a link of all collections to themselves
 abbrev pub self_link : Text → Data
 self_link here = array (item (link here (codes "self") json) no_items)
 
@@ -135,9 +160,11 @@ encoded_bytes = record { mask = 244577951340790884343731678625228914687 }
 abbrev pub feature_href : Text → Text → Text → Text
 feature_href root name id = items_href root name ++ codes "/" ++ percent_encode encoded_bytes id
 
+-- the links of a feature: to itself, and to its collection
 abbrev pub links_of_feature : Text → Text → Data
 links_of_feature here collection = array (item (link here (codes "self") geo_json) (item (link collection (codes "collection") json) no_items))
 
+-- those under a base
 abbrev pub feature_links : Text → Text → Text → Data
 feature_links root name id = links_of_feature (feature_href root name id) (collection_href root name)
 

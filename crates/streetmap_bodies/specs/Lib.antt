@@ -3,3 +3,4 @@ pub mod Errors
 pub mod Replies
 pub mod RequestFaults
 pub mod Bodies
+pub mod LineTexts

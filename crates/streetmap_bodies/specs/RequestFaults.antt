@@ -40,14 +40,17 @@ description_of (Batch fault) = batch.description_of fault
 description_of (Refused refusal place) = ledger.description_of refusal
 description_of (Keeper fault) = ledger.fault_description fault
 
+-- the status of a query that cannot be read
 abbrev pub query_status : QueryFault → ℕ
 query_status query_faults.Memory = 503
 query_status _ = 400
 
+-- the status of a batch that cannot be read
 abbrev pub batch_status : BatchFault → ℕ
 batch_status batch_faults.Memory = 503
 batch_status _ = 400
 
+-- the status of a keeper that did not answer
 abbrev pub keeper_status : Fault → ℕ
 keeper_status keeper_faults.Memory = 503
 keeper_status _ = 500

@@ -82,7 +82,11 @@ fn add_collection(
     Ok(())
 }
 
-/// The body of a collection.
+/// The body of a collection (OGC 17-069, section 7.14). Its time property is not shown.
+///
+/// # Errors
+///
+/// Want of memory alone.
 pub fn collection_text(
     alloc: Global,
     root: &str,
@@ -131,7 +135,11 @@ fn add_collections_link(alloc: Global, out: &mut String, root: &str) -> Result<(
     out.push_str(text.as_str())
 }
 
-/// The body of all collections.
+/// The body of all collections (OGC 17-069, section 7.13), in the order that they are handed in.
+///
+/// # Errors
+///
+/// Want of memory alone.
 pub fn collections_text(
     alloc: Global,
     root: &str,

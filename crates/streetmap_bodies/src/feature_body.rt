@@ -57,7 +57,11 @@ fn linked_feature(
     }
 }
 
-/// The body of a feature.
+/// The body of a feature of a collection (OGC 17-069, section 7.16), with its links.
+///
+/// # Errors
+///
+/// Want of memory alone.
 pub fn feature_text(
     alloc: Global,
     root: &str,

@@ -11,13 +11,14 @@
 //! `RequestFault` is one enum over the faults of all layers: its code, its sentence and its status.
 //!
 //! Modules, in the order of reading: `error_body`, `request_fault`, `reply_body`; `links`; `landing_body`,
-//! `collection_body`, `feature_body`, `page_body`.
+//! `collection_body`, `feature_body`, `page_body`, `line_body`.
 #![tactic(auto)]
 
 mod collection_body;
 mod error_body;
 mod feature_body;
 mod landing_body;
+mod line_body;
 mod links;
 mod page_body;
 mod reply_body;
@@ -27,6 +28,7 @@ pub use collection_body::{collection_text, collections_text};
 pub use error_body::push_error;
 pub use feature_body::feature_text;
 pub use landing_body::{api_text, conformance_text, landing_text};
+pub use line_body::{line_feature_text, line_page_text};
 pub use page_body::page_text;
 pub use reply_body::{push_reply, push_reply_body};
 pub use request_fault::{RequestFault, push_fault};

@@ -1,5 +1,5 @@
-//! The addresses in links.
-ghost use Rattle.std.specs.Prelude.{◌≡◌, ◌++◌, IfOk, OnOk, string_bytes};
+//! Texts that are appended where memory is taken as it is needed, and the addresses in links.
+ghost use Rattle.std.specs.Prelude.{◌≡◌, ◌++◌, IfOk, OnOk, decimal, string_bytes};
 ghost use Rattle.percent_encoding.specs.Percent.{percent_encode};
 ghost use Rattle.streetmap_bodies.specs.Bodies as spec;
 
@@ -11,6 +11,14 @@ pub(crate) fn add(out: &mut String, text: &str) -> Result<(), AllocError>
     ensures { OnOk result (string_bytes out.new ≡ string_bytes out.old ++ text.now) }
 {
     out.push_str(text)
+}
+
+/// Appends a number.
+pub(crate) fn add_number(out: &mut String, number: u64) -> Result<(), AllocError>
+    ensures { OnOk result (string_bytes out.new ≡ string_bytes out.old ++ decimal number) }
+{
+    let mut digits = itoa::Buffer::new();
+    out.push_str(digits.format(number))
 }
 
 /// The base without its last slash, and a path.

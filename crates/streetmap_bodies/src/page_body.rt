@@ -1,5 +1,5 @@
 //! The body of a page, feature by feature.
-ghost use Rattle.std.specs.Prelude.{◌≡◌, ◌++◌, IfOk, OnOk, IfSome, IsTrue, decimal, option_map, string_bytes};
+ghost use Rattle.std.specs.Prelude.{◌≡◌, ◌++◌, IfOk, OnOk, IfSome, IsTrue, option_map, string_bytes};
 ghost use Rattle.std.specs.Option.{ForSome, option_copied};
 ghost use Rattle.serde_json.specs.View.{view};
 ghost use Rattle.serde_json.specs.Written.{compact_text};
@@ -9,20 +9,12 @@ ghost use Rattle.streetmap_ledger.specs.PageView.{page_value};
 ghost use Rattle.streetmap_bodies.specs.Bodies as spec;
 ghost use Rattle.streetmap_bodies.specs.Bodies.{page_data, page_links};
 
-use crate::links::{add, page_href};
+use crate::links::{add, add_number, page_href};
 use serde_json::{Value, json};
 use std::alloc::{AllocError, Global};
 use streetmap_feature_text::push_features;
 use streetmap_ledger::Page;
 use streetmap_query::{Query, next_query, self_query};
-
-/// Appends a number.
-fn add_number(out: &mut String, number: u64) -> Result<(), AllocError>
-    ensures { OnOk result (string_bytes out.new ≡ string_bytes out.old ++ decimal number) }
-{
-    let mut digits = itoa::Buffer::new();
-    out.push_str(digits.format(number))
-}
 
 /// The links of a page.
 fn links_value(alloc: Global, here: &str, next: Option<&str>) -> Result<Value, AllocError>
@@ -96,7 +88,12 @@ fn add_page_links(
     }
 }
 
-/// The body of a page. Its features are appended one by one, with no value of the whole.
+/// The body of a page (OGC 17-069, section 7.15): its features are appended one by one, with no value
+/// of the whole. `root` is the base of links without its last slash, and `name` the collection.
+///
+/// # Errors
+///
+/// Want of memory alone.
 #[tactic(auto, unfolding(crate::specs::Bodies::page_data))]
 pub fn page_text(
     alloc: Global,

@@ -31,14 +31,16 @@ pub data ResourceValue : Type 0 where
   item : (name id : Text) → ResourceValue
   batches : ResourceValue
 
--- what a path has at this place between its slashes
+-- a text, or nothing
 abbrev pub or_empty : Option Text → Text
 or_empty None = []
 or_empty (Some text) = text
 
+-- what a path has at this place between its slashes
 abbrev pub segment : ℕ → Text → Text
 segment place path = or_empty (slice_get (slice_split (λ b. b == 47) path) place)
 
+-- bytes that are text
 abbrev pub if_text : Text → Option Text
 if_text bytes = if is_utf8 bytes then Some bytes else None
 
@@ -77,10 +79,12 @@ pub data AskValue : Type 0 where
   feature : (name id : Text) → AskValue
   batch : BatchValue → AskValue
 
+-- what a body asks for: a batch, or the first fault in it
 abbrev pub ask_batch : Result BatchValue BatchFault → AskValue
 ask_batch (Ok b) = batch b
 ask_batch (Err fault) = faulty (Batch fault)
 
+-- what a query asks for: a page, or the first fault in it
 abbrev pub ask_page : Text → Result QueryValue QueryFault → AskValue
 ask_page name (Ok q) = page name q
 ask_page name (Err fault) = faulty (Query fault)
@@ -110,6 +114,7 @@ abbrev pub methods_of : ResourceValue → Methods
 methods_of batches = Posts
 methods_of _ = Reads
 
+-- whether a method is one of these
 abbrev pub allows : Methods → Text → Bool
 allows Reads method = bytes_eq method (codes "GET") || bytes_eq method (codes "HEAD")
 allows Posts method = bytes_eq method (codes "POST")
@@ -120,13 +125,15 @@ placed None method query body = faulty NotFound
 placed (Some r) method query body =
     if allows (methods_of r) method then queried r query body else faulty (MethodNotAllowed (methods_of r))
 
--- the part of a target before its first question mark, and the part behind it, where there is one
+-- the part of a target before its first question mark; RFC 3986, section 3.4
 unfoldable pub path_part : Text → Text
 path_part target = before_first (λ b. b == 63) target
 
+-- the part behind it, where there is one
 unfoldable pub query_part : Text → Option Text
 query_part target = if nat_lt (position_or_len (λ b. b == 63) target) (length target) then Some (after_first (λ b. b == 63) target) else None
 
+-- whether a target begins with a slash
 unfoldable pub begins_with_slash : Text → Bool
 begins_with_slash [] = false
 begins_with_slash (b ∷ bs) = b == 47

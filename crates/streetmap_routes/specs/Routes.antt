@@ -8,10 +8,12 @@ use Rattle.matchit.specs.declared.error.InsertError.{InsertError}
 use Rattle.streetmap_routes.specs.declared.routes.Route.{Route}
 use Rattle.streetmap_routes.specs.declared.routes.Route.TheVariants.{Landing, Api, Conformance, Collections, Collection, Items, Item, Batches}
 
+-- the rows with one more, where its text is a route
 abbrev pub put_scan : Result Scan InsertError → Route → RowsOf (RouteOf Route) → RowsOf (RouteOf Route)
 put_scan (Ok s) path rows = placed (s.pattern, route_from s path) rows
 put_scan (Err e) path rows = rows
 
+-- the rows with the route of this text
 unfoldable pub put : List ℕ → Route → RowsOf (RouteOf Route) → RowsOf (RouteOf Route)
 put text path rows = put_scan (parse_route text) path rows
 

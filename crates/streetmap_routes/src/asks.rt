@@ -18,20 +18,27 @@ use streetmap_query::{Query, QueryFault, has_parameter, read_query};
 /// What a request asks for.
 #[derive(Drop)]
 pub enum Ask {
-    /// Nothing that is there: it is answered by an error.
+    /// It is answered by an error, whatever the state is.
     Faulty(RequestFault),
+    /// The landing page.
     LandingPage,
+    /// The description of the service.
     ApiText,
+    /// The conformance classes.
     ConformanceClasses,
+    /// All collections.
     AllCollections,
+    /// The collection with this id.
     OneCollection(String),
     /// A page of this collection.
     Page(String, Query),
     /// The feature of this collection with this id.
     Feature(String, String),
+    /// A batch that is to be applied.
     Batch(Batch),
 }
 
+/// The methods of a resource.
 fn methods_of(resource: &Resource) -> Methods
     ensures { result ≡ spec.methods_of (resource_value resource.now) }
 {
@@ -71,6 +78,7 @@ fn is_rooted(target: &str) -> bool
     target.starts_with('/')
 }
 
+/// What a body asks for.
 fn ask_batch(alloc: Global, body: &[u8]) -> Result<Ask, AllocError>
     ensures { IfOk result (λ a. ask_value a ≡ spec.ask_batch (batch_of body.now)) }
 {
@@ -81,6 +89,7 @@ fn ask_batch(alloc: Global, body: &[u8]) -> Result<Ask, AllocError>
     }
 }
 
+/// What a query asks for.
 fn ask_page(alloc: Global, name: String, query: Option<&str>) -> Result<Ask, AllocError>
     ensures { IfOk result (λ a. ask_value a ≡ spec.ask_page (string_bytes name) (query_of (option_copied query.entry))) }
 {
@@ -147,7 +156,7 @@ fn ask_path(
     ask_resource(alloc, resource, query, body)
 }
 
-/// What a request asks for.
+/// What a request asks for, by its target first.
 #[tactic(auto, unfolding(crate::specs::Ask::ask_of))]
 pub(crate) fn ask_for(
     alloc: Global,

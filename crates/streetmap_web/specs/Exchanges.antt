@@ -70,11 +70,12 @@ abbrev pub GoOn : Text → Standing → List Exchange → Type 0
 GoOn root x [] = ⊤
 GoOn root x (e ∷ es) = IsExchange x e × (closes root x e ≡ false) × GoOn root (standing_after x e) es
 
--- the bytes of the requests, and those of the answers
+-- the bytes of the requests
 abbrev pub all_requests : List Exchange → Text
 all_requests [] = []
 all_requests (e ∷ es) = e.bytes ++ all_requests es
 
+-- the bytes of the answers
 abbrev pub all_answers : Text → Standing → List Exchange → Text
 all_answers root x [] = []
 all_answers root x (e ∷ es) = answer_bytes root x e ++ all_answers root (standing_after x e) es
@@ -84,16 +85,18 @@ abbrev pub standing_after_all : Standing → List Exchange → Standing
 standing_after_all x [] = x
 standing_after_all x (e ∷ es) = standing_after_all (standing_after x e) es
 
--- the batches that the keeper answered without a fault, in order
+-- a batch before others
 abbrev pub with_batch : AskValue → List BatchValue → List BatchValue
 with_batch (batch b) others = b ∷ others
 with_batch _ others = others
 
+-- the same, where it was answered as asked
 abbrev pub with_answered : AskValue → Outcome → List BatchValue → List BatchValue
 with_answered ask told others = with_batch ask others
 with_answered ask starved others = others
 with_answered ask failed others = others
 
+-- the batches that the keeper answered without a fault, in order
 abbrev pub batches_of : List Exchange → List BatchValue
 batches_of [] = []
 batches_of (e ∷ es) = with_answered e.request.ask e.outcome (batches_of es)

@@ -47,11 +47,12 @@ RespondLeaves s ask (Err faults.Device) left = LeavesEither left (Some s) (Some 
 RespondLeaves s ask (Err faults.Damaged) left = LeavesOnly left (Some s)
 RespondLeaves s ask (Err faults.Reopen) left = LeavesOnly left (Some s)
 
--- the bytes of the head and of the body of an answer
+-- the bytes of the head of an answer
 abbrev pub head_bytes : Answer → Text
 head_bytes (Made head body) = string_bytes head
 head_bytes (Fixed head body) = head.now
 
+-- the bytes of its body
 abbrev pub body_bytes : Answer → Text
 body_bytes (Made head body) = string_bytes body
 body_bytes (Fixed head body) = body.now

@@ -35,20 +35,25 @@ pub record ResponseValue : Type 0 where
 unfoldable pub fault_response : RequestFault → ResponseValue
 fault_response fault = record { status = status_of fault; kind = Json; allow = allow_of fault; body = compact_text (fault_body fault) }
 
+-- a resource that is there
 abbrev pub found : MediaType → Text → ResponseValue
 found kind body = record { status = 200; kind = kind; allow = None; body = body }
 
+-- nothing is there
 abbrev pub not_found : ResponseValue
 not_found = fault_response faults.NotFound
 
+-- a page, where its collection is there
 abbrev pub found_page : Text → Text → QueryValue → Option PageValue → ResponseValue
 found_page root name q None = not_found
 found_page root name q (Some p) = found GeoJson (compact_text (page_data root name q p))
 
+-- a feature, where it is there
 abbrev pub found_feature : Text → Text → Option FeatureValue → ResponseValue
 found_feature root name None = not_found
 found_feature root name (Some f) = found GeoJson (compact_text (linked_feature_data root name f))
 
+-- a collection, where it is there
 abbrev pub found_collection : Text → Option SummaryValue → ResponseValue
 found_collection root None = not_found
 found_collection root (Some s) = found Json (compact_text (collection_data root s))
@@ -108,9 +113,11 @@ state_in s _ = s
 abbrev pub closes_with : Bool → ResponseValue → Bool
 closes_with asked p = asked || (p.status == 500 || p.status == 503)
 
+-- the head of an answer
 abbrev pub head_of : Bool → ResponseValue → AnswerHead
 head_of closes p = record { status = p.status; kind = p.kind; len = length p.body; allow = p.allow; closes = closes }
 
+-- the body that is sent: none where the answer is bare
 abbrev pub body_of : Bool → Text → Text
 body_of bare body = if bare then [] else body
 

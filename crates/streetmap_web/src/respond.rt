@@ -4,6 +4,7 @@ ghost use Rattle.std.specs.Option.{option_map};
 ghost use Rattle.serde_json.specs.Written.{compact_text};
 ghost use Rattle.streetmap_query.specs.Views.{query_value};
 ghost use Rattle.streetmap_batch.specs.BatchValue.{BatchValue};
+ghost use Rattle.streetmap_batch.specs.Text.{Text};
 ghost use Rattle.streetmap_batch.specs.BatchView.{batch_value};
 ghost use Rattle.streetmap_ledger.specs.Keep.{LeavesOnly};
 ghost use Rattle.streetmap_ledger.specs.State.{State};
@@ -114,20 +115,18 @@ fn replied(body: String, batch: &Batch, reply: Reply) -> Response
     }
 }
 
-/// Applies a batch. Once it was applied no memory is taken.
+/// Applies a batch. Once it was applied no memory is taken: what the keeper replied is the answer.
 fn respond_batch<K: Keeper>(
     alloc: Global,
     keeper: &mut K,
-    root: &str,
     batch: &Batch,
 ) -> Result<Response, Fault>
     ensures told { BatchResponds (batch_value batch.now).key result (λ r. K.applies keeper.old (batch_value batch.now) r keeper.new) (keeper.new ≡ keeper.old) }
     ensures began_clean { K.is_clean keeper.new → K.is_clean keeper.old }
-    ensures responds { K.is_clean keeper.new → (s : State) → K.stands keeper.old s → RespondsIn root.now s (spec.batch (batch_value batch.now)) result (K.stands keeper.new) (K.cause keeper.new) }
-    ensures shut { (why : Cause) → K.cause keeper.old ≡ Some why → RespondsShut root.now (spec.batch (batch_value batch.now)) result × (K.cause keeper.new ≡ Some why) × LeavesNoMore (K.may_leave keeper.old) (K.may_leave keeper.new) }
+    ensures responds { K.is_clean keeper.new → (s : State) → K.stands keeper.old s → (root : Text) → RespondsIn root s (spec.batch (batch_value batch.now)) result (K.stands keeper.new) (K.cause keeper.new) }
+    ensures shut { (why : Cause) → K.cause keeper.old ≡ Some why → ((root : Text) → RespondsShut root (spec.batch (batch_value batch.now)) result) × (K.cause keeper.new ≡ Some why) × LeavesNoMore (K.may_leave keeper.old) (K.may_leave keeper.new) }
     ensures leaves { K.is_clean keeper.new → (s : State) → K.stands keeper.old s → LeavesOnly (K.may_leave keeper.old) (Some s) → RespondLeaves s (spec.batch (batch_value batch.now)) result (K.may_leave keeper.new) }
 {
-    let _ = root;
     let Ok(body) = String::with_capacity(alloc, BODY_ROOM) else {
         return Err(Fault::Memory);
     };
@@ -320,6 +319,6 @@ pub(crate) fn respond_to<K: Keeper>(
         Ask::Feature(name, id) => {
             respond_feature(alloc, keeper, root, name.as_str(), id.as_str())
         }
-        Ask::Batch(batch) => respond_batch(alloc, keeper, root, batch),
+        Ask::Batch(batch) => respond_batch(alloc, keeper, batch),
     }
 }

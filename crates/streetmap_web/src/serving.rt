@@ -1,4 +1,4 @@
-//! A stream of requests, answered in order.
+//! A stream of requests, answered in order: a turn reads one and answers it.
 ghost use Rattle.std.specs.Prelude.{◌≡◌, ◌<◌, ◌+◌, ◌-◌, ◌^◌, Option, IfOk, if◌then◌else◌, length};
 ghost use Rattle.std.specs.Io.KnownBytes.{Consumes, IsAtEnd};
 ghost use Rattle.streetmap_http.specs.Head.{IsHead};
@@ -62,6 +62,7 @@ pub struct Served {
     pub end: End,
 }
 
+/// The turn of an answer that was sent so.
 fn turn_after(sent: Sent, closes: bool) -> Turn
     ensures { result ≡ turn_after sent closes }
 {
@@ -71,6 +72,7 @@ fn turn_after(sent: Sent, closes: bool) -> Turn
     }
 }
 
+/// How serving ends with a turn.
 fn end_of(turn: Turn) -> End
     ensures { result ≡ end_of turn }
 {
@@ -202,8 +204,12 @@ fn take_turn<K: Keeper, R: Read, W: Write>(
     }
 }
 
-/// Serves a stream of requests over a keeper: reads them from the reader, and writes their answers to the
-/// writer, in order, up to the first that closes the connection.
+/// Serves a stream of requests over a keeper: reads them from the reader, and writes their answers to
+/// the writer, in order, up to the first that closes the connection.
+///
+/// It ends where an answer closed the connection or the input ended (`Ended`), where the input ended
+/// within a request (`Truncated`), or where a read or a write failed; of a request that did not come
+/// whole nothing is applied.
 pub fn serve<K: Keeper, R: BufRead, W: Write>(
     alloc: Global,
     keeper: &mut K,
@@ -211,9 +217,15 @@ pub fn serve<K: Keeper, R: BufRead, W: Write>(
     reader: &mut R,
     writer: &mut W,
 ) -> Served
-    ensures began_clean { K.is_clean keeper.new → K.is_clean keeper.old }
+    // Where the store was clean: for what the keeper stood for there is a list of requests with their answers,
+    // each of which leaves the connection open, and a last turn. The reader lost exactly the bytes of the requests,
+    // the writer got exactly the answers, and the keeper stands for the state after their batches. The last turn
+    // says how serving ends, and nothing was applied or written in one without an answer; so many answers are told
+    // as were begun. Where a stop could leave only the state before, it may leave only the state afterwards, or
+    // where the device failed at the last request that state or the one before it.
     ensures serves { K.is_clean keeper.new → (x : Standing) → Stands (K.stands keeper.old) (K.cause keeper.old) x →
         Serves (root_of base.now) result.end result.answers x (record { old_left = R.remaining reader.old; new_left = R.remaining reader.new; old_held = W.contents writer.old; new_held = W.contents writer.new; stands = Stands (K.stands keeper.new) (K.cause keeper.new); known = IsKnown x (K.may_leave keeper.old); old_leaves = K.may_leave keeper.old; new_leaves = K.may_leave keeper.new }) }
+    ensures began_clean { K.is_clean keeper.new → K.is_clean keeper.old }
 {
     let mut buf = [0u8; HEAD_LIMIT];
     for answers in 0..u64::MAX {

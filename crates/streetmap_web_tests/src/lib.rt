@@ -15,6 +15,8 @@ mod large;
 #[cfg(test)]
 mod pages;
 #[cfg(test)]
+mod refused_memory;
+#[cfg(test)]
 mod requests;
 #[cfg(test)]
 mod streams;

@@ -2,10 +2,10 @@ use Rattle.std.proofs.Common.{refl, lit≤}
 use Rattle.json.specs.Print.{escape_byte}
 use Rattle.streetmap.proofs.answer.unknown_command_text.Goals as goal
 
-pub error_text-requires-clause-plain_code : goal.error_text-requires-clause-plain_code
+pub push_error-requires-clause-plain_code : goal.push_error-requires-clause-plain_code
 unfolding escape_byte
-error_text-requires-clause-plain_code c = (refl, lit≤ tt)
+push_error-requires-clause-plain_code c = (refl, lit≤ tt)
 
-pub error_text-requires-clause-plain_description : goal.error_text-requires-clause-plain_description
+pub push_error-requires-clause-plain_description : goal.push_error-requires-clause-plain_description
 unfolding escape_byte
-error_text-requires-clause-plain_description c = (refl, lit≤ tt)
+push_error-requires-clause-plain_description c = (refl, lit≤ tt)
