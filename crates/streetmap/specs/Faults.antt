@@ -1,5 +1,7 @@
 -- What the program prints and answers when it is not done.
-use Rattle.std.specs.Prelude.{ℕ, List, codes, ⊤}
+use Rattle.std.specs.Prelude.{ℕ, List, codes}
+use Rattle.streetmap_lines.specs.declared.fault.LinesFault.{LinesFault}
+use Rattle.streetmap_lines.specs.declared.fault.LinesFault.TheVariants as lines
 use Rattle.streetmap.specs.declared.command.CommandFault.{CommandFault}
 use Rattle.streetmap.specs.declared.command.CommandFault.TheVariants as command
 use Rattle.streetmap.specs.declared.fault.ProgramFault.{ProgramFault}
@@ -26,26 +28,9 @@ abbrev pub fault_of_command : CommandFault → ProgramFault
 fault_of_command command.Usage = Usage
 fault_of_command command.Memory = Memory
 
--- what may come of a write: memory is refused, or the write fails
-abbrev pub IsWriteFault : ProgramFault → Type 0
-IsWriteFault Usage = ⊥
-IsWriteFault LineTooLong = ⊥
-IsWriteFault ReadFailed = ⊥
-IsWriteFault WriteFailed = ⊤
-IsWriteFault Memory = ⊤
-
--- what may come of a read: memory is refused, or the read fails
-abbrev pub IsReadFault : ProgramFault → Type 0
-IsReadFault Usage = ⊥
-IsReadFault LineTooLong = ⊥
-IsReadFault ReadFailed = ⊤
-IsReadFault WriteFailed = ⊥
-IsReadFault Memory = ⊤
-
--- what may come of reading a line: it is too long, memory is refused, or the read fails
-abbrev pub IsLineFault : ProgramFault → Type 0
-IsLineFault Usage = ⊥
-IsLineFault LineTooLong = ⊤
-IsLineFault ReadFailed = ⊤
-IsLineFault WriteFailed = ⊥
-IsLineFault Memory = ⊤
+-- what the program ends with where lines are not answered to their end
+abbrev pub fault_of_lines : LinesFault → ProgramFault
+fault_of_lines lines.LineTooLong = LineTooLong
+fault_of_lines lines.ReadFailed = ReadFailed
+fault_of_lines lines.WriteFailed = WriteFailed
+fault_of_lines lines.Memory = Memory

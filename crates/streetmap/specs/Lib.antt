@@ -1,9 +1,3 @@
-pub mod AnswerView
-pub mod Answers
 pub mod CommandView
 pub mod Faults
-pub mod Lines
 pub mod Program
-pub mod Reading
-pub mod Request
-pub mod RequestView

@@ -1,7 +1,7 @@
 -- The command line, as `clap` reads it.
 use Rattle.std.specs.Prelude.{codes, List, Option, Some, None, option_and_then, if◌then◌else◌}
 use Rattle.std.specs.Str.{bytes_eq}
-use Rattle.clap.specs.Words.{App, Row, Text, new_app, with_subcommand}
+use Rattle.clap.specs.Words.{App, Row, Text, new_app, with_subcommand, takes, subcommand_of}
 
 abbrev pub lines : App
 lines = new_app (codes "lines")
@@ -20,3 +20,7 @@ command_named name = if bytes_eq name (codes "lines") then Some lines_command el
 
 abbrev pub command_by : Option (Text × List Row) → Option CommandValue
 command_by found = option_and_then (λ p. command_named p.0) found
+
+-- what the words ask for, of which the first is the program's name: nothing where `clap` does not take them, or where they name no command
+abbrev pub asked_by : List Text → Option CommandValue
+asked_by words = if takes program words then command_by (subcommand_of program words) else None

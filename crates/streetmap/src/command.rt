@@ -1,7 +1,7 @@
 //! The command line.
-ghost use Rattle.std.specs.Prelude.{◌≡◌, ◌≢◌, true, map, IfOk, IfErr, Some, string_bytes, IsSome, option_map};
-ghost use Rattle.clap.specs.Words.{app_of, takes, subcommand_of, subcommand_rows_of, kind_of};
-ghost use Rattle.streetmap.specs.Program.{program, command_by};
+ghost use Rattle.std.specs.Prelude.{◌≡◌, ◌≢◌, [], map, IfOk, IfErr, Some, string_bytes, IsSome, option_map};
+ghost use Rattle.clap.specs.Words.{app_of, fault_of as fault_of_words, subcommand_of, subcommand_rows_of, kind_of};
+ghost use Rattle.streetmap.specs.Program.{program, command_by, asked_by};
 ghost use Rattle.streetmap.specs.CommandView.{command_value};
 
 use clap::error::ErrorKind;
@@ -59,10 +59,11 @@ fn fault_of(error: &Error) -> CommandFault
 ///
 /// `Usage` where `clap` does not take the words, and `Memory` where memory was refused.
 pub fn read_command(alloc: Global, words: &[String]) -> Result<Command, CommandFault>
-    // What is read is what the words ask for.
+    // What is read is what the words ask for, and `clap` finds no fault in them.
     ensures found { IfOk result (λ c. Some (command_value c) ≡ command_by (subcommand_of program (map string_bytes words.now))) }
-    // Words that the program takes are refused for memory alone.
-    ensures taken { IfErr result (λ e. takes program (map string_bytes words.now) ≡ true → IsSome (command_by (subcommand_of program (map string_bytes words.now))) → e ≡ CommandFault.Memory) }
+    ensures faultless { IfOk result (λ _. fault_of_words program (map string_bytes words.now) ≡ []) }
+    // Words that ask for a command are refused for memory alone.
+    ensures asked { IfErr result (λ e. IsSome (asked_by (map string_bytes words.now)) → e ≡ CommandFault.Memory) }
 {
     let parser = match make_parser(alloc) {
         Ok(parser) => parser,

@@ -1,11 +1,12 @@
 //! What the program ends with when it is not done.
 ghost use Rattle.std.specs.Prelude.{◌≡◌, ◌≢◌};
 ghost use Rattle.std.specs.IoError.{error_kind};
-ghost use Rattle.streetmap.specs.Faults.{code_of, status_of, fault_of_command, IsReadFault, IsWriteFault};
+ghost use Rattle.streetmap.specs.Faults.{code_of, status_of, fault_of_command, fault_of_lines};
 
 use crate::command::CommandFault;
 use std::alloc::AllocError;
 use std::io::{Error, ErrorKind};
+use streetmap_lines::LinesFault;
 
 /// Why the program ends before it is done.
 #[derive(Clone, Copy, Debug, PartialEq, Eq)]
@@ -48,29 +49,15 @@ impl ProgramFault {
         }
     }
 
-    /// The fault of a read that failed. A buffer that finds no memory fails so too.
-    pub(crate) fn of_read(error: &Error) -> ProgramFault
+    /// The fault of words that cannot be had: one of them is no UTF-8, or memory is refused.
+    pub(crate) fn of_words(error: &Error) -> ProgramFault
         ensures memory { error_kind error.now ≡ ErrorKind.OutOfMemory → result ≡ ProgramFault.Memory }
-        ensures other { error_kind error.now ≢ ErrorKind.OutOfMemory → result ≡ ProgramFault.ReadFailed }
-        ensures fault { IsReadFault result }
+        ensures other { error_kind error.now ≢ ErrorKind.OutOfMemory → result ≡ ProgramFault.Usage }
     {
         if error.kind() == ErrorKind::OutOfMemory {
             ProgramFault::Memory
         } else {
-            ProgramFault::ReadFailed
-        }
-    }
-
-    /// The fault of a write that failed.
-    pub(crate) fn of_write(error: &Error) -> ProgramFault
-        ensures memory { error_kind error.now ≡ ErrorKind.OutOfMemory → result ≡ ProgramFault.Memory }
-        ensures other { error_kind error.now ≢ ErrorKind.OutOfMemory → result ≡ ProgramFault.WriteFailed }
-        ensures fault { IsWriteFault result }
-    {
-        if error.kind() == ErrorKind::OutOfMemory {
-            ProgramFault::Memory
-        } else {
-            ProgramFault::WriteFailed
+            ProgramFault::Usage
         }
     }
 }
@@ -92,6 +79,19 @@ impl From<CommandFault> for ProgramFault {
         match fault {
             CommandFault::Usage => ProgramFault::Usage,
             CommandFault::Memory => ProgramFault::Memory,
+        }
+    }
+}
+
+impl From<LinesFault> for ProgramFault {
+    ghost from_gives = { λ given fault. fault ≡ fault_of_lines given };
+
+    fn from(fault: LinesFault) -> ProgramFault {
+        match fault {
+            LinesFault::LineTooLong => ProgramFault::LineTooLong,
+            LinesFault::ReadFailed => ProgramFault::ReadFailed,
+            LinesFault::WriteFailed => ProgramFault::WriteFailed,
+            LinesFault::Memory => ProgramFault::Memory,
         }
     }
 }

@@ -15,8 +15,8 @@ use Rattle.serde_json.specs.declared.value.Value.{Value}
 use Rattle.serde_json.proofs.Views.{get_member-put, get_member-put_other}
 use Rattle.streetmap_json.specs.Values.{value_at, members_at, whole}
 use Rattle.streetmap_json.specs.Reads.{Fails}
-use Rattle.streetmap_json.specs.declared.fault.JsonFault.{JsonFault}
-use Rattle.streetmap_json.specs.declared.fault.JsonFault.TheVariants.{Memory, NotJson}
+use Rattle.streetmap_json.specs.declared.fault.ParseFault.{ParseFault}
+use Rattle.streetmap_json.specs.declared.fault.ParseFault.TheVariants.{Memory, NotJson}
 use Rattle.streetmap_json.specs.JsonText.{utf8_value}
 use Rattle.streetmap_json.proofs.Fronts.{whole_value, more_than_a_value, no_value, no_object, empty_front}
 use Rattle.streetmap_batch.specs.Text.{Text}
@@ -133,7 +133,7 @@ without_members all e = no_batch _ (no_value (value 127 all) e)
 pub with_more_behind : (all rest : List Token) (d : Data) (t : Token) → value_at 127 all ≡ Some (d, t ∷ rest) → batch_in (whole (value 127 all)) ≡ Err (BadBatch None)
 with_more_behind all rest d t e = no_batch _ (more_than_a_value (value 127 all) d t rest e)
 
-pub fault_of_members : (all ts : List Token) (fault : JsonFault) → value_at 127 all ≡ parse_map object (members_at 126 ts) → Fails fault (members_at 126 ts) → IsWholeRead (whole (value 127 all)) (Err fault)
+pub fault_of_members : (all ts : List Token) (fault : ParseFault) → value_at 127 all ≡ parse_map object (members_at 126 ts) → Fails fault (members_at 126 ts) → IsWholeRead (whole (value 127 all)) (Err fault)
 fault_of_members all ts Memory opened h = tt
 fault_of_members all ts NotJson opened h = without_members all (opened ∙ ap (parse_map object) h)
 

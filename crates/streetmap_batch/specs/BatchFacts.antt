@@ -2,7 +2,7 @@
 use Rattle.std.specs.Prelude.{◌≤◌, Option, None, Some, length, All, IsTrue}
 use Rattle.std.specs.Str.{is_utf8}
 use Rattle.streetmap_geojson.specs.Id.{is_id}
-use Rattle.streetmap_geojson.specs.Kept.{IsFeature}
+use Rattle.streetmap_geojson.specs.FeatureInvariant.{IsFeature}
 use Rattle.streetmap_batch.specs.Text.{Text}
 use Rattle.streetmap_batch.specs.Names.{is_key, is_collection_id, is_title, is_time_property}
 use Rattle.streetmap_batch.specs.BatchReading.{most_edits}

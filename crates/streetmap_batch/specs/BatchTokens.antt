@@ -6,8 +6,8 @@ use Rattle.serde_json.specs.Data.{Data, object, Items, Members}
 use Rattle.serde_json.specs.Find.{as_array, get_member}
 use Rattle.serde_json.specs.View.{view}
 use Rattle.streetmap_json.specs.Reads.{Fails}
-use Rattle.streetmap_json.specs.declared.fault.JsonFault.{JsonFault}
-use Rattle.streetmap_json.specs.declared.fault.JsonFault.TheVariants.{Memory, NotJson}
+use Rattle.streetmap_json.specs.declared.fault.ParseFault.{ParseFault}
+use Rattle.streetmap_json.specs.declared.fault.ParseFault.TheVariants.{Memory, NotJson}
 use Rattle.streetmap_geojson.specs.declared.fault.Fault.TheVariants as faults
 use Rattle.streetmap_batch.specs.BatchFaults.{Gives}
 use Rattle.streetmap_batch.specs.BatchReading.{◌>>=◌, unless, most_edits, may_have, names_pass, list_of, array_at, edits_after, as_whole, batch}
@@ -20,7 +20,7 @@ use Rattle.streetmap_batch.specs.declared.edit.Edit.{Edit}
 use Rattle.streetmap_batch.specs.declared.format.Format.TheVariants as formats
 
 -- what was answered stands for what is at the front, and these tokens are left, unless memory ran out
-abbrev pub Takes : {X Y : Type 0} → (Y → X → Type 0) → Result X JsonFault → List Token → Option (Y × List Token) → Type 0
+abbrev pub Takes : {X Y : Type 0} → (Y → X → Type 0) → Result X ParseFault → List Token → Option (Y × List Token) → Type 0
 Takes {X} {Y} R (Ok x) left front = (y : Y) × (front ≡ Some (y, left)) × R y x
 Takes R (Err fault) left front = Fails fault front
 
@@ -50,7 +50,7 @@ abbrev pub batch_in : Option Data → Result BatchValue BatchFault
 batch_in value = as_whole (ok_or value faults.NotJson) >>= batch
 
 -- the members of the text's value are those read; else it is no batch
-abbrev pub IsWholeRead : Option Data → Result Parts JsonFault → Type 0
+abbrev pub IsWholeRead : Option Data → Result Parts ParseFault → Type 0
 IsWholeRead value (Ok parts) = (ms : Members) × (value ≡ Some (object ms)) × AreRead ms parts
 IsWholeRead value (Err NotJson) = batch_in value ≡ Err (BadBatch None)
 IsWholeRead value (Err Memory) = Unit {0}

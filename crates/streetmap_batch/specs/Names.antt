@@ -2,7 +2,7 @@
 use Rattle.std.specs.Prelude.{ℕ, Bool, false, ◌&&◌, ◌||◌, ◌==◌, [], ◌∷◌, codes, length, nat_le, Option, None, Some, if◌then◌else◌}
 use Rattle.std.specs.List.{list_all, list_any}
 use Rattle.std.specs.Char.{is_ascii_alphanumeric}
-use Rattle.streetmap_geojson.specs.Id.{is_plain}
+use Rattle.streetmap_geojson.specs.Id.{has_no_controls}
 use Rattle.streetmap_batch.specs.Text.{Text}
 
 -- from so many bytes to so many
@@ -31,7 +31,7 @@ is_collection_id text = is_long 1 64 text && (begins_alphanumeric text && list_a
 
 -- at most 256 bytes without control characters
 unfoldable pub is_title : Text → Bool
-is_title text = nat_le (length text) 256 && is_plain text
+is_title text = nat_le (length text) 256 && has_no_controls text
 
 -- the name of a member of properties: 1 to 128 bytes
 unfoldable pub is_time_property : Text → Bool

@@ -22,7 +22,7 @@ use crate::names::is_key;
 use json::{Reader, Scratch, Token};
 use serde_json::Value;
 use std::alloc::Global;
-use streetmap_json::{JsonFault, plain_text, read_value};
+use streetmap_json::{ParseFault, with_whole_numbers, read_value};
 
 /// How deep the members of a whole text may nest.
 const MEMBER_DEPTH: usize = 126;
@@ -54,7 +54,7 @@ impl Parts {
         alloc: Global,
         name: &str,
         reader: &mut Reader<'_>,
-    ) -> Result<(), JsonFault>
+    ) -> Result<(), ParseFault>
         ensures takes { (ms : Members) → AreRead ms self.old
             → Takes (λ d u. AreRead (put name.now d ms) self.new) result reader.new (value_at 126 reader.old) }
         ensures shorter { OnOk result (length reader.new < length reader.old) }
@@ -72,7 +72,7 @@ impl Parts {
 }
 
 /// The members of an object whose opening brace was read.
-fn read_members(alloc: Global, reader: &mut Reader<'_>) -> Result<Parts, JsonFault>
+fn read_members(alloc: Global, reader: &mut Reader<'_>) -> Result<Parts, ParseFault>
     ensures { Takes AreRead result reader.new (members_at 126 reader.old) }
 {
     let mut parts = Parts::new();
@@ -90,18 +90,18 @@ fn opens_object(token: &Token<'_>) -> bool
 }
 
 /// The members of the object that the tokens are.
-fn read_whole(alloc: Global, reader: &mut Reader<'_>) -> Result<Parts, JsonFault>
+fn read_whole(alloc: Global, reader: &mut Reader<'_>) -> Result<Parts, ParseFault>
     ensures { IsWholeRead (whole (value 127 reader.old)) result }
 {
     let Some(token) = reader.next() else {
-        return Err(JsonFault::NotJson);
+        return Err(ParseFault::NotJson);
     };
     if !opens_object(&token) {
-        return Err(JsonFault::NotJson);
+        return Err(ParseFault::NotJson);
     }
     let parts = read_members(alloc, reader)?;
     match reader.next() {
-        Some(_) => Err(JsonFault::NotJson),
+        Some(_) => Err(ParseFault::NotJson),
         None => Ok(parts),
     }
 }
@@ -142,8 +142,8 @@ fn read_text(alloc: Global, text: &str) -> Result<Batch, BatchFault>
     let mut reader = Reader::new(text, &mut scratch)?;
     match read_whole(alloc, &mut reader) {
         Ok(parts) => batch_of_parts(alloc, parts),
-        Err(JsonFault::Memory) => Err(BatchFault::Memory),
-        Err(JsonFault::NotJson) => Err(BatchFault::BadBatch { place: None }),
+        Err(ParseFault::Memory) => Err(BatchFault::Memory),
+        Err(ParseFault::NotJson) => Err(BatchFault::BadBatch { place: None }),
     }
 }
 
@@ -160,7 +160,7 @@ fn read_plain(alloc: Global, bytes: &[u8]) -> Result<Batch, BatchFault>
 fn read_bytes(alloc: Global, bytes: &[u8]) -> Result<Batch, BatchFault>
     ensures { Gives batch_value result (batch_of bytes.now) }
 {
-    match plain_text(alloc, bytes)? {
+    match with_whole_numbers(alloc, bytes)? {
         Some(plain) => read_plain(alloc, &plain),
         None => read_plain(alloc, bytes),
     }

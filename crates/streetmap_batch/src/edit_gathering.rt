@@ -16,7 +16,7 @@ use crate::edit_reading::read_edit;
 use json::{Reader, Token};
 use serde_json::Value;
 use std::alloc::Global;
-use streetmap_json::{JsonFault, read_token, read_value};
+use streetmap_json::{ParseFault, read_token, read_value};
 
 /// The edits of an array, or why a batch with them is refused.
 pub(crate) type Edits = Result<Vec<Edit>, BatchFault>;
@@ -36,7 +36,7 @@ fn with_next(alloc: Global, edits: Edits, value: &Value, place: u64) -> Edits
 }
 
 /// The edits of an array whose opening bracket was read.
-fn read_items(alloc: Global, reader: &mut Reader<'_>, depth: usize) -> Result<Edits, JsonFault>
+fn read_items(alloc: Global, reader: &mut Reader<'_>, depth: usize) -> Result<Edits, ParseFault>
     ensures takes { Takes AreItemsRead result reader.new (items_at depth reader.old) }
     ensures shorter { OnOk result (length reader.new < length reader.old) }
 {
@@ -67,13 +67,13 @@ pub(crate) fn read_array(
     alloc: Global,
     reader: &mut Reader<'_>,
     depth: usize,
-) -> Result<Option<Edits>, JsonFault>
+) -> Result<Option<Edits>, ParseFault>
     requires { 0 < depth }
     ensures takes { Takes IsArrayRead result reader.new (value_at depth reader.old) }
     ensures shorter { OnOk result (length reader.new < length reader.old) }
 {
     let Some(token) = reader.next() else {
-        return Err(JsonFault::NotJson);
+        return Err(ParseFault::NotJson);
     };
     if opens_array(&token) {
         Ok(Some(read_items(alloc, reader, depth - 1)?))

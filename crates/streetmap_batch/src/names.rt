@@ -3,7 +3,7 @@ ghost use Rattle.std.specs.Prelude.{◌≡◌};
 ghost use Rattle.std.specs.List.{list_all};
 ghost use Rattle.streetmap_batch.specs.Names.{is_long, is_id_byte, is_key_byte, is_key, begins_alphanumeric, is_collection_id, is_title, is_time_property};
 
-use streetmap_geojson::is_plain;
+use streetmap_geojson::has_no_controls;
 
 fn is_id_byte(byte: u8) -> bool
     ensures { result ≡ is_id_byte byte }
@@ -67,7 +67,7 @@ pub fn is_collection_id(text: &str) -> bool
 pub fn is_title(text: &str) -> bool
     ensures { result ≡ is_title text.now }
 {
-    text.len() <= 256 && is_plain(text)
+    text.len() <= 256 && has_no_controls(text)
 }
 
 /// Whether a text may name the time property of a collection: 1 to 128 bytes.

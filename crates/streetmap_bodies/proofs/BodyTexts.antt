@@ -12,7 +12,7 @@ use Rattle.streetmap_batch.specs.Text.{Text}
 use Rattle.streetmap_ledger.specs.Summaries.{SummaryValue}
 use Rattle.streetmap_bodies.specs.Bodies.{page_data, page_links, self_href, next_href, extent_text, extent_data, collection_data, collection_links, collections_data, self_link, linked_feature_data}
 use Rattle.serde_json.specs.Written.{has_float}
-use Rattle.streetmap_geojson.specs.Kept.{IsFeature}
+use Rattle.streetmap_geojson.specs.FeatureInvariant.{IsFeature}
 use Rattle.streetmap_feature_text.proofs.Again.{no_float_feature}
 
 -- a page, one part after another

@@ -18,7 +18,7 @@ use Rattle.streetmap_geojson.specs.declared.kind.Kind.TheVariants.{Simple}
 use Rattle.streetmap_geojson.specs.declared.kind.SimpleKind.{SimpleKind}
 use Rattle.streetmap_geojson.specs.declared.kind.SimpleKind.TheVariants as kinds
 use Rattle.streetmap_geojson.specs.FeatureValue.{FeatureValue, untimed}
-use Rattle.streetmap_geojson.specs.Kept.{IsGeometryIf, is_oriented_if, IsFeature}
+use Rattle.streetmap_geojson.specs.FeatureInvariant.{IsGeometryIf, is_oriented_if, IsFeature}
 use Rattle.streetmap_geojson.specs.Reading.{list_of, kind_at, somes, collection_of}
 use Rattle.streetmap_geojson.specs.Meaning.{ReadsAsCoordinate, ArePosition, IsArray, AreEach, AreLine, AreRing, ArePolygon, AreSimple, AreCoordinates, ReadsAsSimple, ReadsAsMember, ReadsAsGeometry}
 use Rattle.streetmap_geojson.specs.FeatureMeaning.{ReadsAs, ReadsAt}

@@ -15,7 +15,7 @@ use Rattle.streetmap_grid.specs.Values as values
 use Rattle.streetmap_grid.specs.Values.{PositionValue, SimpleValue, GeometryValue}
 use Rattle.streetmap_grid.specs.WellFormed.{IsInGrid, IsLine, IsRing, IsPolygon, IsSimple}
 use Rattle.streetmap_geojson.specs.FeatureValue.{FeatureValue}
-use Rattle.streetmap_geojson.specs.Kept.{IsGeometryIf, IsFeature}
+use Rattle.streetmap_geojson.specs.FeatureInvariant.{IsGeometryIf, IsFeature}
 use Rattle.streetmap_json.specs.ExactData.{is_exact, are_exact}
 use Rattle.streetmap_feature_text.specs.Written.{number_data, position_elements, position_data, line_data, polygon_data, coordinates_of, name_of, typed_data, simple_data, geometry_member, feature_data, collection_data}
 

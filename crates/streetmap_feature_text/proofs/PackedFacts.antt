@@ -9,7 +9,7 @@ use Rattle.streetmap_geojson.specs.Fault.{◌>>=◌}
 use Rattle.streetmap_geojson.specs.FeatureValue.{FeatureValue, untimed, retimed}
 use Rattle.streetmap_geojson.specs.FeatureReading.{feature}
 use Rattle.streetmap_feature_text.specs.Ends.{end_at, time_between}
-use Rattle.streetmap_geojson.specs.Kept.{IsFeature, IsIntervalIf}
+use Rattle.streetmap_geojson.specs.FeatureInvariant.{IsFeature, IsIntervalIf}
 use Rattle.streetmap_feature_text.specs.Packed.{feature_in_text, or_nothing, unpacked, IsPacked}
 use Rattle.streetmap_feature_text.specs.declared.packed.Part.{Part}
 use Rattle.streetmap_feature_text.specs.declared.packed_interval.PackedInterval.{PackedInterval}

@@ -6,7 +6,7 @@ use Rattle.serde_json.specs.Read.{max_depth}
 use Rattle.serde_json.specs.View.{items_of}
 use Rattle.serde_json.specs.Written.{compact_text}
 use Rattle.streetmap_geojson.specs.FeatureValue.{FeatureValue, untimed}
-use Rattle.streetmap_geojson.specs.Kept.{IsFeature}
+use Rattle.streetmap_geojson.specs.FeatureInvariant.{IsFeature}
 use Rattle.streetmap_geojson.specs.Collection.{AreAfter, AreFeatures}
 use Rattle.streetmap_geojson.specs.JsonText.{json_of}
 use Rattle.streetmap_geojson.specs.Reading.{list_of}

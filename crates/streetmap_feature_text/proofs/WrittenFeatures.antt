@@ -4,7 +4,7 @@ use Rattle.serde_json.specs.Data.{depth}
 use Rattle.serde_json.specs.Read.{read, max_depth}
 use Rattle.serde_json.specs.Written.{compact_text}
 use Rattle.streetmap_geojson.specs.FeatureValue.{FeatureValue}
-use Rattle.streetmap_geojson.specs.Kept.{IsFeature}
+use Rattle.streetmap_geojson.specs.FeatureInvariant.{IsFeature}
 use Rattle.streetmap_geojson.specs.JsonText.{json_of}
 use Rattle.streetmap_feature_text.specs.Written.{feature_data}
 use Rattle.streetmap_feature_text.proofs.Again.{depth_feature}

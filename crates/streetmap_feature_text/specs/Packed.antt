@@ -11,7 +11,7 @@ use Rattle.streetmap_geojson.specs.Fault.{◌>>=◌}
 use Rattle.streetmap_geojson.specs.FeatureValue.{FeatureValue, retimed}
 use Rattle.streetmap_geojson.specs.FeatureReading.{feature}
 use Rattle.streetmap_geojson.specs.JsonText.{json_of}
-use Rattle.streetmap_geojson.specs.Kept.{IsFeature}
+use Rattle.streetmap_geojson.specs.FeatureInvariant.{IsFeature}
 use Rattle.streetmap_feature_text.specs.Written.{feature_data}
 
 -- the feature that a JSON text reads as, without a time

@@ -7,7 +7,7 @@ ghost use Rattle.streetmap_geojson.specs.FeatureValue.{FeatureValue, untimed};
 ghost use Rattle.streetmap_geojson.specs.FeatureMeaning.{ReadsAs};
 ghost use Rattle.streetmap_geojson.specs.Collection.{AreFeatures};
 ghost use Rattle.streetmap_geojson.specs.JsonText.{json_of};
-ghost use Rattle.streetmap_geojson.specs.Kept.{IsFeature};
+ghost use Rattle.streetmap_geojson.specs.FeatureInvariant.{IsFeature};
 ghost use Rattle.streetmap_feature_text.specs.Written.{feature_data, collection_data};
 
 /// A value reads as one feature at most under a time property, and what is written for a feature

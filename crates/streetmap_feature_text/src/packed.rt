@@ -7,7 +7,7 @@ ghost use Rattle.streetmap_moment.specs.Views.{interval_value};
 ghost use Rattle.streetmap_geojson.specs.Fault.{Gives};
 ghost use Rattle.streetmap_geojson.specs.FeatureValue.{retimed};
 ghost use Rattle.streetmap_geojson.specs.FeatureView.{feature_value};
-ghost use Rattle.streetmap_geojson.specs.Kept.{IsFeature};
+ghost use Rattle.streetmap_geojson.specs.FeatureInvariant.{IsFeature};
 ghost use Rattle.streetmap_feature_text.specs.Written.{feature_data};
 ghost use Rattle.streetmap_feature_text.specs.Outlines.{outline_of};
 ghost use Rattle.streetmap_feature_text.specs.Packed.{feature_in_text, StandsAt};
@@ -32,7 +32,7 @@ struct Part {
 /// What is kept of a feature: its compact text, its extent and its time, and where its id stands in
 /// the text, if it stands there as it is.
 #[derive(Drop)]
-struct Kept {
+struct Packing {
     text: Bytes,
     extent: Option<GridBox>,
     time: PackedInterval,
@@ -44,7 +44,7 @@ struct Kept {
 /// Clauses see it as a `FeatureValue`.
 #[derive(Drop)]
 pub struct PackedFeature {
-    kept: Box<Kept>,
+    kept: Box<Packing>,
 }
 
 impl Model for PackedFeature {
@@ -104,7 +104,7 @@ impl PackedFeature {
     {
         feature.facts();
         let id = id_in(text.as_slice(), feature.id().as_bytes());
-        let kept = Kept {
+        let kept = Packing {
             text,
             extent: feature.extent(),
             time: PackedInterval::new(time),
@@ -147,7 +147,7 @@ impl PackedFeature {
 
     /// The bytes of the id, which stand so in the text. None where they do not, since one of them is
     /// written as an escape: the feature has then to be read.
-    pub fn plain_id(&self) -> Option<&[u8]>
+    pub fn unescaped_id(&self) -> Option<&[u8]>
         ensures { IfSome result (λ id. id.now ≡ self.now.id) }
     {
         match self.kept.id {

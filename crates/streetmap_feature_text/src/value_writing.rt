@@ -6,7 +6,7 @@ ghost use Rattle.streetmap_grid.specs.Views.{position_value, positions_value, li
 ghost use Rattle.streetmap_geojson.specs.FeatureValue.{untimed};
 ghost use Rattle.streetmap_geojson.specs.FeatureView.{feature_value};
 ghost use Rattle.streetmap_geojson.specs.FeatureMeaning.{ReadsAs};
-ghost use Rattle.streetmap_geojson.specs.Kept.{IsFeature};
+ghost use Rattle.streetmap_geojson.specs.FeatureInvariant.{IsFeature};
 ghost use Rattle.streetmap_geojson.specs.Collection.{AreFeatures};
 ghost use Rattle.streetmap_geojson.specs.JsonText.{json_of};
 ghost use Rattle.streetmap_feature_text.specs.Written.{position_data, line_data, polygon_data, array_of, simple_data, geometry_data, geometry_member, feature_data, collection_data};

@@ -11,7 +11,7 @@ use Rattle.streetmap_geojson.specs.declared.kind.SimpleKind.{SimpleKind}
 use Rattle.streetmap_geojson.specs.declared.kind.SimpleKind.TheVariants as kinds
 use Rattle.streetmap_geojson.specs.Reading.{list_of, somes, collection_of, single_of}
 use Rattle.streetmap_geojson.specs.Meaning.{IsArray, AreEach, ArePolygon, AreSimple, AreCoordinates, ReadsAsMember, ReadsAsGeometry}
-use Rattle.streetmap_geojson.specs.Kept.{is_oriented_if}
+use Rattle.streetmap_geojson.specs.FeatureInvariant.{is_oriented_if}
 
 polygon_right : (ds : List Data) (rs : List (List PositionValue)) → ArePolygon ds rs → IsTrue (is_oriented_polygon rs)
 polygon_right ds rs h = subst (λ (w : List (List PositionValue)). IsTrue (is_oriented_polygon w)) (sym h.3) (oriented_right h.0)

@@ -10,7 +10,7 @@ use Rattle.streetmap_moment.specs.Views.{interval_value}
 use Rattle.streetmap_moment.proofs.IntervalFacts.{interval_facts}
 use Rattle.streetmap_geojson.specs.FeatureValue.{FeatureValue, retimed}
 use Rattle.streetmap_geojson.specs.Id.{is_id}
-use Rattle.streetmap_geojson.specs.Kept.{IsGeometryIf, IsIntervalIf, IsFeature, KeepsRules}
+use Rattle.streetmap_geojson.specs.FeatureInvariant.{IsGeometryIf, IsIntervalIf, IsFeature, KeepsRules}
 
 pub geometry_made : (o : Option Geometry) → IsGeometryIf (option_map geometry_value o)
 geometry_made None = tt

@@ -15,7 +15,7 @@ use Rattle.streetmap_geojson.specs.declared.kind.SimpleKind.TheVariants as kinds
 use Rattle.streetmap_geojson.specs.Fault.{Gives}
 use Rattle.streetmap_geojson.specs.Reading.{Read, list_of, under, each, coordinates_as, unless_empty, array_at, kind_at, simple_as, member_as, member_of_collection, somes, collection_of, members, collection, single_of, geometry_as, geometry, max_positions}
 use Rattle.streetmap_geojson.specs.Meaning.{AreEach, AreSimple, AreCoordinates, IsArrayAt, ReadsAsSimple, ReadsAsMember, ReadsAsCollection, ReadsAsGeometry, counts, simple_count, position_count, count_if}
-use Rattle.streetmap_geojson.specs.Kept.{is_oriented_if}
+use Rattle.streetmap_geojson.specs.FeatureInvariant.{is_oriented_if}
 use Rattle.streetmap_geojson.proofs.Directions.{geometry_oriented}
 use Rattle.streetmap_geojson.proofs.Steps.{bind_ok, ok_is}
 use Rattle.streetmap_geojson.proofs.Takes.{Takes, position_takes, positions_take, line_takes, lines_take, polygon_takes, polygons_take, each_takes}

@@ -10,7 +10,7 @@ use Rattle.std.proofs.lemmas.Bool.{le-leb, ltb-true, ltb-false, lt-ltb}
 use Rattle.std.proofs.lemmas.Bool.Decides.{nat_tests}
 use Rattle.std.proofs.lemmas.Fmt.{decimal_is_IsNumeral_wide, length-decimal-le_wide, IsAscii-from_digits}
 use Rattle.std.proofs.lemmas.Str.{chars-IsAscii}
-use Rattle.streetmap_geojson.specs.Id.{is_id, is_plain}
+use Rattle.streetmap_geojson.specs.Id.{is_id, has_no_controls}
 
 -- from 0 to 9
 abbrev pub IsDigit : ℕ → Type 0
@@ -40,14 +40,14 @@ digits_printing (b ∷ s) h =
     let d = digit_of b s h in
     rw (printing b (omega (arith, d.0)) (omega (arith, d.1)), digits_printing s h.1) refl
 
-plain_ascii : (s : List ℕ) → IsAscii s → list_all (λ c. not (is_control c)) s ≡ true → IsTrue (is_plain s)
+plain_ascii : (s : List ℕ) → IsAscii s → list_all (λ c. not (is_control c)) s ≡ true → IsTrue (has_no_controls s)
 plain_ascii s ascii printing = rw (chars-IsAscii s ascii) printing
 
 ascii-cons : (b : ℕ) (s : List ℕ) → b < 128 → IsAscii s → IsAscii (b ∷ s)
 ascii-cons b s low ascii zero = low
 ascii-cons b s low ascii (suc i) = ascii i
 
-is_id_by : (s : List ℕ) → 0 < length s → length s ≤ 128 → IsTrue (is_plain s) → IsTrue (is_id s)
+is_id_by : (s : List ℕ) → 0 < length s → length s ≤ 128 → IsTrue (has_no_controls s) → IsTrue (is_id s)
 is_id_by s some short plain = rw (lt-ltb 0 (length s) some, le-leb (length s) 128 short) plain
 
 abbrev pub magnitude : ℤ → ℕ

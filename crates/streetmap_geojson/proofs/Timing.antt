@@ -6,7 +6,7 @@ use Rattle.streetmap_moment.specs.declared.faults.TimeFault.{TimeFault}
 use Rattle.streetmap_moment.specs.IntervalValue.{IntervalValue}
 use Rattle.streetmap_moment.specs.Intervals.{property_of}
 use Rattle.streetmap_moment.proofs.PropertyFacts.{property_text_of, property_of_text}
-use Rattle.streetmap_geojson.specs.Kept.{IsIntervalIf}
+use Rattle.streetmap_geojson.specs.FeatureInvariant.{IsIntervalIf}
 use Rattle.streetmap_geojson.specs.Times.{there, time_from, time_of, as_fault, IsTimeFrom, IsTimeOf}
 
 fault_ok : {A : Type 0} (r : Result A TimeFault) (a : A) → as_fault r ≡ Ok a → r ≡ Ok a

@@ -10,12 +10,12 @@ use Rattle.streetmap_geojson.specs.declared.fault.Fault.{Fault}
 use Rattle.streetmap_geojson.specs.declared.fault.Fault.TheVariants.{BadId, Fraction}
 
 -- no control characters, U+0000 to U+001F and U+007F to U+009F
-abbrev pub is_plain : List ℕ → Bool
-is_plain text = list_all (λ c. not (is_control c)) (chars text)
+abbrev pub has_no_controls : List ℕ → Bool
+has_no_controls text = list_all (λ c. not (is_control c)) (chars text)
 
 -- 1 to 128 bytes without control characters
 abbrev pub is_id : List ℕ → Bool
-is_id text = nat_lt 0 (length text) && (nat_le (length text) 128 && is_plain text)
+is_id text = nat_lt 0 (length text) && (nat_le (length text) 128 && has_no_controls text)
 
 abbrev pub text_id : List ℕ → Result (List ℕ) Fault
 text_id s = if is_id s then Ok s else Err BadId

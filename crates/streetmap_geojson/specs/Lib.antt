@@ -9,7 +9,7 @@ pub mod Reading
 pub mod Meaning
 pub mod FeatureReading
 pub mod FeatureMeaning
-pub mod Kept
+pub mod FeatureInvariant
 pub mod FeatureView
 pub mod Collection
 pub mod Stored

@@ -34,7 +34,7 @@ impl Model for Feature {
     ghost use Rattle.streetmap_grid.specs.Views.{geometry_value};
     ghost use Rattle.streetmap_moment.specs.Views.{interval_value};
     ghost use Rattle.streetmap_geojson.specs.FeatureValue.{FeatureValue};
-    ghost use Rattle.streetmap_geojson.specs.Kept.{KeepsRules};
+    ghost use Rattle.streetmap_geojson.specs.FeatureInvariant.{KeepsRules};
     ghost use Rattle.streetmap_geojson.specs.Stored.{coded_feature};
 
     ghost Value = { FeatureValue };
@@ -48,7 +48,7 @@ impl Model for Feature {
 
 impl Feature {
     ghost use Rattle.streetmap_geojson.specs.FeatureValue.{retimed};
-    ghost use Rattle.streetmap_geojson.specs.Kept.{IsFeature};
+    ghost use Rattle.streetmap_geojson.specs.FeatureInvariant.{IsFeature};
     ghost use Rattle.streetmap_geojson.specs.Times.{time_of, timed};
     ghost use Rattle.std.specs.Prelude.{Ok, Err, IfOk, IfErr, OnErr};
 

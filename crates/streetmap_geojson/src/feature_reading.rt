@@ -9,7 +9,7 @@ ghost use Rattle.streetmap_moment.specs.Views.{interval_value};
 ghost use Rattle.streetmap_geojson.specs.Fault.{Gives};
 ghost use Rattle.streetmap_geojson.specs.Reading.{geometry, value_of, max_positions};
 ghost use Rattle.streetmap_geojson.specs.Meaning.{count_if, position_count};
-ghost use Rattle.streetmap_geojson.specs.Kept.{is_oriented_if};
+ghost use Rattle.streetmap_geojson.specs.FeatureInvariant.{is_oriented_if};
 ghost use Rattle.streetmap_geojson.specs.Id.{id_of};
 ghost use Rattle.streetmap_geojson.specs.IdView.{id_value};
 ghost use Rattle.streetmap_geojson.specs.Times.{time_of, as_fault};

@@ -62,8 +62,8 @@ impl Id {
 }
 
 /// Whether a text has no control characters (U+0000 to U+001F, U+007F to U+009F).
-pub fn is_plain(text: &str) -> bool
-    ensures { result ≡ ids.is_plain text.now }
+pub fn has_no_controls(text: &str) -> bool
+    ensures { result ≡ ids.has_no_controls text.now }
 {
     text.chars().all(|c| !c.is_control())
 }
@@ -72,7 +72,7 @@ pub fn is_plain(text: &str) -> bool
 pub fn is_id(text: &str) -> bool
     ensures { result ≡ ids.is_id text.now }
 {
-    !text.is_empty() && text.len() <= 128 && is_plain(text)
+    !text.is_empty() && text.len() <= 128 && has_no_controls(text)
 }
 
 fn read_text(alloc: Global, text: &str) -> Result<Id, JsonFault>

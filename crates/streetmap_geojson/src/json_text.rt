@@ -28,7 +28,7 @@ pub fn read_json(alloc: Global, bytes: &[u8]) -> Result<Value, JsonFault>
 {
     match streetmap_json::read_json(alloc, bytes) {
         Ok(value) => Ok(value),
-        Err(streetmap_json::JsonFault::Memory) => Err(JsonFault::Memory),
-        Err(streetmap_json::JsonFault::NotJson) => Err(JsonFault::Fault(Fault::NotJson)),
+        Err(streetmap_json::ParseFault::Memory) => Err(JsonFault::Memory),
+        Err(streetmap_json::ParseFault::NotJson) => Err(JsonFault::Fault(Fault::NotJson)),
     }
 }

@@ -4,7 +4,7 @@ use Rattle.std.proofs.Common.{sym, ap, ◌∙◌, arith}
 use Rattle.std.proofs.lemmas.Int.{ints, by_lt_z}
 use lib.IntN.{*ℤ_comm}
 use Rattle.streetmap_grid.specs.Meeting.{IsWithinAt}
-use Rattle.streetmap_grid.specs.Span.{IsReachedAt, AreBothReached}
+use Rattle.streetmap_grid.specs.Slab.{IsReachedAt, AreBothReached}
 use Rattle.streetmap_grid.proofs.Whole.{mul-add, mul-neg, mul-assoc, mul_nonneg, mul_mono, mul_mono-right, mul_cancel}
 
 -- ---- from a segment to one that starts at 0 and does not fall

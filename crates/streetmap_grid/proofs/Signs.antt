@@ -11,7 +11,7 @@ use Rattle.streetmap_grid.specs.Values.{PositionValue, BoxValue}
 use Rattle.streetmap_grid.specs.Some.{SomeOf}
 use Rattle.streetmap_grid.specs.Crossing.{side}
 use Rattle.streetmap_grid.specs.Meeting.{IsWithinAt, SegmentMeets, segment_meets, reaches, corners}
-use Rattle.streetmap_grid.specs.Span.{IsReachedAt, AreBothReached}
+use Rattle.streetmap_grid.specs.Slab.{IsReachedAt, AreBothReached}
 use Rattle.streetmap_grid.proofs.Whole.{mul_mono, mul-neg}
 use Rattle.streetmap_grid.proofs.Fractions.{IsCrossed, reach-in, reach-out, rising-in, rising-out, falling-in, falling-out, neg_right}
 use Rattle.streetmap_grid.proofs.Booleans.{le_true, true_le}

@@ -9,7 +9,7 @@ pub mod PositionViews
 pub mod Range
 pub mod Ring
 pub mod Some
-pub mod Span
+pub mod Slab
 pub mod Values
 pub mod Views
 pub mod WellFormed

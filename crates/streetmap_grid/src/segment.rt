@@ -1,7 +1,7 @@
 ghost use Rattle.std.specs.Prelude.{◌≡◌, ℤ, pos, negsuc, ◌≤ℤ◌, ◌*ℤ◌, ◌↔◌, IsTrue};
 ghost use Rattle.streetmap_grid.specs.Range.{IsCoordinate, IsBound};
 ghost use Rattle.streetmap_grid.specs.Views.{position_value, box_value};
-ghost use Rattle.streetmap_grid.specs.Span.{IsReachedAt, AreBothReached};
+ghost use Rattle.streetmap_grid.specs.Slab.{IsReachedAt, AreBothReached};
 ghost use Rattle.streetmap_grid.specs.Meeting.{IsWithinAt, SegmentMeets};
 
 use crate::grid_box::GridBox;
@@ -10,7 +10,7 @@ use crate::position::Position;
 /// One axis of a segment, reflected so that it starts at 0 and does not fall, and the box beside
 /// it, in millimetres.
 #[derive(Clone, Copy)]
-struct Span {
+struct Slab {
     near: i64,
     far: i64,
     along: i64,
@@ -22,7 +22,7 @@ struct Span {
 }
 
 /// The span of an axis from one end of a segment to the other, beside a box from `low` to `high`.
-fn span_of(from: i64, to: i64, low: i64, high: i64) -> Span
+fn slab_of(from: i64, to: i64, low: i64, high: i64) -> Slab
     requires from_in { IsCoordinate from }
     requires to_in { IsCoordinate to }
     requires low_in { IsBound low }
@@ -32,13 +32,13 @@ fn span_of(from: i64, to: i64, low: i64, high: i64) -> Span
     ensures within { (p q : ℤ) → IsReachedAt p q result.near result.far result.along → IsWithinAt p q from to low high }
 {
     if from <= to {
-        return Span {
+        return Slab {
             near: low - from,
             far: high - from,
             along: to - from,
         };
     }
-    Span {
+    Slab {
         near: from - high,
         far: from - low,
         along: from - to,
@@ -58,7 +58,7 @@ pub fn product(width: i64, along: i64) -> i64
 
 /// Whether the ends reach into the box on both axes, and two of its corners lie on the two sides of
 /// the line.
-fn are_both_reached(a: Span, b: Span) -> bool
+fn are_both_reached(a: Slab, b: Slab) -> bool
     ensures { IsTrue result ↔ AreBothReached a.near a.far a.along b.near b.far b.along }
 {
     if a.far < 0 || a.along < a.near || b.far < 0 || b.along < b.near {
@@ -74,7 +74,7 @@ fn are_both_reached(a: Span, b: Span) -> bool
 pub fn segment_meets(a: &Position, b: &Position, area: &GridBox) -> bool
     ensures { IsTrue result ↔ SegmentMeets (position_value a.now) (position_value b.now) (box_value area.now) }
 {
-    let across = span_of(a.x, b.x, area.x0, area.x1);
-    let up = span_of(a.y, b.y, area.y0, area.y1);
+    let across = slab_of(a.x, b.x, area.x0, area.x1);
+    let up = slab_of(a.y, b.y, area.y0, area.y1);
     are_both_reached(across, up)
 }

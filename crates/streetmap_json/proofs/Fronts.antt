@@ -11,8 +11,8 @@ use Rattle.serde_json.specs.View.{view, items_view}
 use Rattle.serde_json.specs.declared.value.Value.{Value}
 use Rattle.streetmap_json.specs.Values.{value_at, items_at, members_at, whole}
 use Rattle.streetmap_json.specs.Reads.{Fails}
-use Rattle.streetmap_json.specs.declared.fault.JsonFault.{JsonFault}
-use Rattle.streetmap_json.specs.declared.fault.JsonFault.TheVariants.{Memory, NotJson}
+use Rattle.streetmap_json.specs.declared.fault.ParseFault.{ParseFault}
+use Rattle.streetmap_json.specs.declared.fault.ParseFault.TheVariants.{Memory, NotJson}
 
 -- ---- under a conversion
 
@@ -148,7 +148,7 @@ none_before (Some p) = refl
 -- ---- what was answered
 
 -- a fault that was answered is handed on, where nothing follows from nothing
-pub handed_on : {Y W : Type 0} (fault : JsonFault) (front : Option (Y × List Token)) (of : Option (W × List Token)) → (front ≡ None → of ≡ None) → Fails fault front → Fails fault of
+pub handed_on : {Y W : Type 0} (fault : ParseFault) (front : Option (Y × List Token)) (of : Option (W × List Token)) → (front ≡ None → of ≡ None) → Fails fault front → Fails fault of
 handed_on Memory front of none h = tt
 handed_on NotJson front of none h = none h
 

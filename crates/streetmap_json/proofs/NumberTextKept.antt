@@ -14,15 +14,15 @@ use Rattle.json.specs.Print.{token_text, escape_byte, escape_letter, escape, quo
 use Rattle.serde_json.specs.Data.{Num, unsigned, negative, float, Data, null, boolean, number, string, array, object, Items, no_items, item, Members, no_members, member}
 use Rattle.serde_json.specs.Written.{number_text, compact_text, comma_if, items_text, members_text}
 use Rattle.streetmap_json.specs.ExactData.{is_whole, is_before, is_exact, are_exact, are_exact_members}
-use Rattle.streetmap_json.specs.NumberText.{is_dot, are_signed_digits, without_fraction, whole_text, is_in_number, starts_number, outside, within, tokens_from, plain_text}
+use Rattle.streetmap_json.specs.NumberText.{is_dot, are_signed_digits, without_fraction, whole_text, is_in_number, starts_number, outside, within, tokens_from, with_whole_numbers}
 use Rattle.streetmap_json.proofs.NumberTextTokens.{onto_all, onto_all-cons, no_quote, take-one_more}
 
 -- a text is left as it is before that rest
 abbrev Kept : List ℕ → List ℕ → Type 0
-Kept s rest = plain_text (s ++ rest) ≡ s ++ plain_text rest
+Kept s rest = with_whole_numbers (s ++ rest) ≡ s ++ with_whole_numbers rest
 
 then_kept : (s t rest : List ℕ) → Kept s (t ++ rest) → Kept t rest → Kept (s ++ t) rest
-then_kept s t rest p q = rw (append_assoc s t rest, p, q, append_assoc s t (plain_text rest)) refl
+then_kept s t rest p q = rw (append_assoc s t rest, p, q, append_assoc s t (with_whole_numbers rest)) refl
 
 -- a text that is one token, and that stays
 token_kept : (s rest : List ℕ) → tokens_from outside (s ++ rest) ≡ s ∷ tokens_from outside rest → whole_text s ≡ s → Kept s rest
@@ -60,7 +60,7 @@ other_stays_at b false e h =
     not_zero true = refl
     not_zero false = refl
 
-pub other_kept : (b : ℕ) (rest : List ℕ) → is_in_number b ≡ false → eqb b 34 ≡ false → plain_text (b ∷ rest) ≡ b ∷ plain_text rest
+pub other_kept : (b : ℕ) (rest : List ℕ) → is_in_number b ≡ false → eqb b 34 ≡ false → with_whole_numbers (b ∷ rest) ≡ b ∷ with_whole_numbers rest
 unfolding tokens_from
 other_kept b rest p q = token_kept (b ∷ []) rest (rw (q, p) refl) (other_stays_at b (is_dot b) refl p)
 
@@ -281,6 +281,6 @@ mutual
       (then_kept (compact_text d) (members_text true ms) rest (value_kept d _ r.0 (members_stop ms rest)) (members_kept true ms rest r.1))))
 
 -- the text of exact data is left as it is
-pub text_kept : (d : Data) → is_exact d ≡ true → plain_text (compact_text d) ≡ compact_text d
+pub text_kept : (d : Data) → is_exact d ≡ true → with_whole_numbers (compact_text d) ≡ compact_text d
 unfolding tokens_from
-text_kept d h = ap plain_text (sym (append-nil (compact_text d))) ∙ value_kept d [] h refl ∙ append-nil (compact_text d)
+text_kept d h = ap with_whole_numbers (sym (append-nil (compact_text d))) ∙ value_kept d [] h refl ∙ append-nil (compact_text d)

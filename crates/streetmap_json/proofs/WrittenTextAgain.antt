@@ -6,9 +6,9 @@ use Rattle.serde_json.specs.Written.{compact_text}
 use Rattle.serde_json.specs.declared.value.Value.{Value}
 use Rattle.streetmap_json.specs.ExactData.{is_exact}
 use Rattle.streetmap_json.specs.JsonText.{utf8_value, json_value}
-use Rattle.streetmap_json.specs.NumberText.{plain_text}
+use Rattle.streetmap_json.specs.NumberText.{with_whole_numbers}
 use Rattle.streetmap_json.specs.Reads.{Reads}
-use Rattle.streetmap_json.specs.declared.fault.JsonFault.{JsonFault}
+use Rattle.streetmap_json.specs.declared.fault.ParseFault.{ParseFault}
 use Rattle.streetmap_json.proofs.NumberTextKept.{text_kept}
 use Rattle.streetmap_json.proofs.WrittenTextReads.{text_reads}
 use Rattle.streetmap_json.proofs.WrittenTextUtf8.{text_utf8}
@@ -17,7 +17,7 @@ pub text_again : (d : Data) → is_exact d ≡ true → depth d ≤ max_depth �
 text_again d h shallow = rw (text_kept d h, text_utf8 d h, text_reads d h shallow) refl
 
 -- an answer on the changed bytes, where the bytes are such a text
-pub reads_again : (answer : Result Value JsonFault) (bytes plain : List ℕ) → Reads answer (utf8_value plain) → plain ≡ plain_text bytes
+pub reads_again : (answer : Result Value ParseFault) (bytes plain : List ℕ) → Reads answer (utf8_value plain) → plain ≡ with_whole_numbers bytes
     → (d : Data) → is_exact d ≡ true → depth d ≤ max_depth → bytes ≡ compact_text d → Reads answer (Some d)
 reads_again answer bytes plain given changed d h shallow is =
     let value : utf8_value plain ≡ Some d = ap utf8_value changed ∙ ap json_value is ∙ text_again d h shallow in

@@ -77,8 +77,8 @@ tokens_from side [] = []
 tokens_from side (b ∷ bs) = put_before (is_joined (side_after side b) b bs) b (tokens_from (side_after side b) bs)
 
 -- the text with its number texts as they are read
-abbrev pub plain_text : List ℕ → List ℕ
-plain_text text = flat_map whole_text (tokens_from outside text)
+abbrev pub with_whole_numbers : List ℕ → List ℕ
+with_whole_numbers text = flat_map whole_text (tokens_from outside text)
 
 -- ---- by grammar
 

@@ -5,7 +5,7 @@ use Rattle.json.specs.Json as json
 use Rattle.json.specs.Json.{value, items, members, if_last}
 use Rattle.serde_json.specs.Data.{Data, Items, Members, no_members}
 use Rattle.serde_json.specs.Read.{of_json, of_items, of_members, converted}
-use Rattle.streetmap_json.specs.declared.fault.JsonFault.{JsonFault}
+use Rattle.streetmap_json.specs.declared.fault.ParseFault.{ParseFault}
 use Rattle.streetmap_json.specs.Reads.{Fails}
 
 -- the first value, nested no deeper than this, and the tokens behind it
@@ -25,6 +25,6 @@ abbrev pub whole : Option (json.Json × List Token) → Option Data
 whole front = option_and_then of_json (option_and_then (λ p. if_last p.0 p.1) front)
 
 -- what was answered, seen by view, is at the front, and these tokens are left, unless memory ran out
-abbrev pub Takes : {X Y : Type 0} → (X → Y) → Result X JsonFault → List Token → Option (Y × List Token) → Type 0
+abbrev pub Takes : {X Y : Type 0} → (X → Y) → Result X ParseFault → List Token → Option (Y × List Token) → Type 0
 Takes view (Ok x) left front = front ≡ Some (view x, left)
 Takes view (Err fault) left front = Fails fault front

@@ -6,39 +6,39 @@ use std::alloc::{AllocError, AllocFailed};
 
 /// Why no value was answered for the bytes of a JSON text.
 #[derive(Clone, Copy, Debug, PartialEq, Eq, Drop)]
-pub enum JsonFault {
+pub enum ParseFault {
     /// Memory was refused; the call may be made again.
     Memory,
     /// The bytes have no value as a JSON text.
     NotJson,
 }
 
-impl From<AllocError> for JsonFault {
-    ghost use Rattle.streetmap_json.specs.declared.fault.JsonFault.TheVariants.{Memory};
+impl From<AllocError> for ParseFault {
+    ghost use Rattle.streetmap_json.specs.declared.fault.ParseFault.TheVariants.{Memory};
 
     ghost from_gives = { λ _ e. e ≡ Memory };
 
-    fn from(_: AllocError) -> JsonFault {
-        JsonFault::Memory
+    fn from(_: AllocError) -> ParseFault {
+        ParseFault::Memory
     }
 }
 
-impl<T: Drop> From<AllocFailed<T>> for JsonFault {
-    ghost use Rattle.streetmap_json.specs.declared.fault.JsonFault.TheVariants.{Memory};
+impl<T: Drop> From<AllocFailed<T>> for ParseFault {
+    ghost use Rattle.streetmap_json.specs.declared.fault.ParseFault.TheVariants.{Memory};
 
     ghost from_gives = { λ _ e. e ≡ Memory };
 
-    fn from(_: AllocFailed<T>) -> JsonFault {
-        JsonFault::Memory
+    fn from(_: AllocFailed<T>) -> ParseFault {
+        ParseFault::Memory
     }
 }
 
-impl From<Invalid> for JsonFault {
-    ghost use Rattle.streetmap_json.specs.declared.fault.JsonFault.TheVariants.{NotJson};
+impl From<Invalid> for ParseFault {
+    ghost use Rattle.streetmap_json.specs.declared.fault.ParseFault.TheVariants.{NotJson};
 
     ghost from_gives = { λ _ e. e ≡ NotJson };
 
-    fn from(_: Invalid) -> JsonFault {
-        JsonFault::NotJson
+    fn from(_: Invalid) -> ParseFault {
+        ParseFault::NotJson
     }
 }

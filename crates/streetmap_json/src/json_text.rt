@@ -7,8 +7,8 @@ ghost use Rattle.streetmap_json.specs.ExactData.{is_exact};
 ghost use Rattle.streetmap_json.specs.JsonText.{utf8_value, json_value};
 ghost use Rattle.streetmap_json.specs.Reads.{Reads};
 
-use crate::fault::JsonFault;
-use crate::number_text::plain_text;
+use crate::fault::ParseFault;
+use crate::number_text::with_whole_numbers;
 use serde_json::Value;
 use std::alloc::Global;
 
@@ -19,27 +19,27 @@ use std::alloc::Global;
 ///
 /// `NotJson` where the bytes have no value: they are no UTF-8 or no JSON, nest deeper than 127 levels,
 /// or have a number too large for a float.
-pub fn read_json(alloc: Global, bytes: &[u8]) -> Result<Value, JsonFault>
+pub fn read_json(alloc: Global, bytes: &[u8]) -> Result<Value, ParseFault>
     ensures exact { Reads result (json_value bytes.now) }
     // What was written for a value reads as that value, and is refused for memory alone.
     ensures again { (d : Data) → IsTrue (is_exact d) → depth d ≤ max_depth
         → bytes.now ≡ compact_text d → Reads result (Some d) }
 {
-    match plain_text(alloc, bytes)? {
+    match with_whole_numbers(alloc, bytes)? {
         Some(plain) => read_plain(alloc, &plain),
         None => read_plain(alloc, bytes),
     }
 }
 
-fn read_plain(alloc: Global, bytes: &[u8]) -> Result<Value, JsonFault>
+fn read_plain(alloc: Global, bytes: &[u8]) -> Result<Value, ParseFault>
     ensures { Reads result (utf8_value bytes.now) }
 {
     match Value::from_slice(alloc, bytes) {
         Ok(value) => Ok(value),
         Err(error) => Err(if error.is_memory() {
-            JsonFault::Memory
+            ParseFault::Memory
         } else {
-            JsonFault::NotJson
+            ParseFault::NotJson
         }),
     }
 }

@@ -7,14 +7,14 @@ ghost use Rattle.serde_json.specs.Read.{read, max_depth};
 ghost use Rattle.serde_json.specs.Written.{compact_text};
 ghost use Rattle.streetmap_json.specs.ExactData.{is_exact};
 ghost use Rattle.streetmap_json.specs.JsonText.{json_value};
-ghost use Rattle.streetmap_json.specs.NumberText.{are_signed_digits, are_zeros, unsigned_zero, whole_text, is_in_number, starts_number, plain_text, IsStringBody};
+ghost use Rattle.streetmap_json.specs.NumberText.{are_signed_digits, are_zeros, unsigned_zero, whole_text, is_in_number, starts_number, with_whole_numbers, IsStringBody};
 
 /// The compact text of exact data, at most 127 levels deep, reads as that data, and the change of numbers
 /// leaves it as it is.
 pub fn written_text_reads_again()
     ensures reads { (d : Data) → IsTrue (is_exact d) → depth d ≤ max_depth
         → read (compact_text d) ≡ Some d }
-    ensures kept { (d : Data) → IsTrue (is_exact d) → plain_text (compact_text d) ≡ compact_text d }
+    ensures kept { (d : Data) → IsTrue (is_exact d) → with_whole_numbers (compact_text d) ≡ compact_text d }
     ensures again { (d : Data) → IsTrue (is_exact d) → depth d ≤ max_depth
         → json_value (compact_text d) ≡ Some d }
 {}
@@ -32,14 +32,14 @@ pub fn number_text_is_read_whole()
 /// with an end or without, and all other bytes stay as they are.
 pub fn text_is_changed_by_token()
     ensures number { (s rest : List ℕ) → 0 < length s → IsTrue (list_all is_in_number s)
-        → starts_number rest ≡ false → plain_text (s ++ rest) ≡ whole_text s ++ plain_text rest }
-    ensures string { (s rest : List ℕ) → IsStringBody s → plain_text (ascii.quote ∷ s ++ ascii.quote ∷ rest)
-        ≡ ascii.quote ∷ s ++ ascii.quote ∷ plain_text rest }
+        → starts_number rest ≡ false → with_whole_numbers (s ++ rest) ≡ whole_text s ++ with_whole_numbers rest }
+    ensures string { (s rest : List ℕ) → IsStringBody s → with_whole_numbers (ascii.quote ∷ s ++ ascii.quote ∷ rest)
+        ≡ ascii.quote ∷ s ++ ascii.quote ∷ with_whole_numbers rest }
     ensures unended { (s : List ℕ) → IsStringBody s
-        → plain_text (ascii.quote ∷ s) ≡ ascii.quote ∷ s }
+        → with_whole_numbers (ascii.quote ∷ s) ≡ ascii.quote ∷ s }
     ensures escaping { (s : List ℕ) → IsStringBody s
-        → plain_text (ascii.quote ∷ s ++ ascii.backslash ∷ []) ≡ ascii.quote ∷ s ++ ascii.backslash ∷ [] }
+        → with_whole_numbers (ascii.quote ∷ s ++ ascii.backslash ∷ []) ≡ ascii.quote ∷ s ++ ascii.backslash ∷ [] }
     ensures other { (b : ℕ) (rest : List ℕ) → is_in_number b ≡ false → (b == ascii.quote) ≡ false
-        → plain_text (b ∷ rest) ≡ b ∷ plain_text rest }
-    ensures none { plain_text [] ≡ [] }
+        → with_whole_numbers (b ∷ rest) ≡ b ∷ with_whole_numbers rest }
+    ensures none { with_whole_numbers [] ≡ [] }
 {}

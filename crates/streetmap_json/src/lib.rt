@@ -2,7 +2,7 @@
 //!
 //! Usual exporters write the whole number 1200 as `1200.0`, and 0 as `-0`. `read_json` reads the value
 //! of the bytes after each such number text was changed to the whole number; the change alone is
-//! `plain_text`. `specs/NumberText` says what becomes of a number text and where the tokens of a text
+//! `with_whole_numbers`. `specs/NumberText` says what becomes of a number text and where the tokens of a text
 //! end, `specs/JsonText` what the value of bytes is. The laws tell that the compact text of exact
 //! data (`specs/ExactData`: whole numbers, UTF-8 texts, members in order) reads as that data.
 //!
@@ -19,7 +19,7 @@ mod number;
 mod number_text;
 mod value;
 
-pub use fault::JsonFault;
+pub use fault::ParseFault;
 pub use json_text::read_json;
-pub use number_text::plain_text;
+pub use number_text::with_whole_numbers;
 pub use value::{read_token, read_value};

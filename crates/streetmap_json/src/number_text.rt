@@ -1,7 +1,7 @@
 // Number texts whose fraction is zeros alone, in the bytes of a JSON text.
 ghost use Rattle.std.specs.Prelude.{◌≡◌, ◌∷◌, ℕ, IfOk, MatchOption, ◌<◌, ◌≤◌, length, take, drop};
 ghost use Rattle.std.specs.List.{prefix_len, position_or_len, onto_first};
-ghost use Rattle.streetmap_json.specs.NumberText.{is_in_number, is_dot, are_digits, are_signed_digits, are_zeros, without_fraction, whole_text, outside, within, tokens_from, plain_text};
+ghost use Rattle.streetmap_json.specs.NumberText.{is_in_number, is_dot, are_digits, are_signed_digits, are_zeros, without_fraction, whole_text, outside, within, tokens_from, with_whole_numbers};
 
 use std::alloc::{AllocError, Global};
 
@@ -138,9 +138,9 @@ fn token_len(text: &[u8]) -> usize
 /// # Errors
 ///
 /// `AllocError` where memory was refused; the call may be made again.
-pub fn plain_text(alloc: Global, text: &[u8]) -> Result<Option<Vec<u8>>, AllocError>
-    ensures { IfOk result (λ o. MatchOption o (plain_text text.now ≡ text.now)
-        (λ v. v.items ≡ plain_text text.now)) }
+pub fn with_whole_numbers(alloc: Global, text: &[u8]) -> Result<Option<Vec<u8>>, AllocError>
+    ensures { IfOk result (λ o. MatchOption o (with_whole_numbers text.now ≡ text.now)
+        (λ v. v.items ≡ with_whole_numbers text.now)) }
 {
     let mut plain = Vec::new(alloc);
     let mut copied = 0;

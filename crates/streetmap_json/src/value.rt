@@ -4,7 +4,7 @@ ghost use Rattle.json.specs.Reads.{token_of};
 ghost use Rattle.serde_json.specs.View.{view, items_view, members_view};
 ghost use Rattle.streetmap_json.specs.Values.{value_at, items_at, members_at, Takes};
 
-use crate::fault::JsonFault;
+use crate::fault::ParseFault;
 use crate::number::read_number;
 use json::{Reader, Token};
 use serde_json::{Map, Value};
@@ -16,13 +16,13 @@ use std::alloc::Global;
 ///
 /// `NotJson` where no value comes next, it nests deeper, or it has a number too large for a float.
 #[cycle(read_value)]
-pub fn read_value(alloc: Global, reader: &mut Reader<'_>, depth: usize) -> Result<Value, JsonFault>
+pub fn read_value(alloc: Global, reader: &mut Reader<'_>, depth: usize) -> Result<Value, ParseFault>
     ensures takes { Takes view result reader.new (value_at depth reader.old) }
     ensures shorter { OnOk result (length reader.new < length reader.old) }
 {
     match reader.next() {
         Some(token) => read_token(alloc, token, reader, depth),
-        None => Err(JsonFault::NotJson),
+        None => Err(ParseFault::NotJson),
     }
 }
 
@@ -37,7 +37,7 @@ pub fn read_token(
     token: Token<'_>,
     reader: &mut Reader<'_>,
     depth: usize,
-) -> Result<Value, JsonFault>
+) -> Result<Value, ParseFault>
     ensures takes { Takes view result reader.new (value_at depth (token_of token.entry ∷ reader.old)) }
     ensures shorter { OnOk result (length reader.new ≤ length reader.old) }
 {
@@ -45,31 +45,31 @@ pub fn read_token(
         Token::String(text) => Ok(Value::String(String::from_str(alloc, text)?)),
         Token::Number(text) => match read_number(text) {
             Some(number) => Ok(Value::Number(number)),
-            None => Err(JsonFault::NotJson),
+            None => Err(ParseFault::NotJson),
         },
         Token::Bool(truth) => Ok(Value::Bool(truth)),
         Token::Null => Ok(Value::Null),
         Token::BeginArray => {
             if depth == 0 {
-                return Err(JsonFault::NotJson);
+                return Err(ParseFault::NotJson);
             }
             Ok(Value::Array(read_items(alloc, reader, depth - 1)?))
         }
         Token::BeginObject => {
             if depth == 0 {
-                return Err(JsonFault::NotJson);
+                return Err(ParseFault::NotJson);
             }
             Ok(Value::Object(read_members(alloc, reader, depth - 1)?))
         }
         Token::EndObject | Token::EndArray | Token::Key(_) | Token::Bad => {
-            Err(JsonFault::NotJson)
+            Err(ParseFault::NotJson)
         }
     }
 }
 
 /// The elements of an array whose opening bracket was read.
 #[cycle(read_value)]
-fn read_items(alloc: Global, reader: &mut Reader<'_>, depth: usize) -> Result<Vec<Value>, JsonFault>
+fn read_items(alloc: Global, reader: &mut Reader<'_>, depth: usize) -> Result<Vec<Value>, ParseFault>
     ensures takes { Takes (λ v. items_view v.items) result reader.new (items_at depth reader.old) }
     ensures shorter { OnOk result (length reader.new < length reader.old) }
 {
@@ -87,7 +87,7 @@ fn read_members(
     alloc: Global,
     reader: &mut Reader<'_>,
     depth: usize,
-) -> Result<Map<String, Value>, JsonFault>
+) -> Result<Map<String, Value>, ParseFault>
     ensures takes { Takes (λ m. members_view m.entries) result reader.new (members_at depth reader.old) }
     ensures shorter { OnOk result (length reader.new < length reader.old) }
 {

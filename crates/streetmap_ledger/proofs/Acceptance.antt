@@ -4,7 +4,7 @@ use Rattle.std.specs.Cmp.Lexicographic.{pointwise}
 use Rattle.std.specs.FinMap.{get, len}
 use Rattle.streetmap_batch.specs.BatchValue.{BatchValue}
 use Rattle.streetmap_batch.specs.BatchText.{batch_text}
-use Rattle.streetmap_ledger.specs.State.{State, Kept}
+use Rattle.streetmap_ledger.specs.State.{State, AcceptedBatch}
 use Rattle.streetmap_ledger.specs.Batches.{Outcome, edited, fresh, by_key, act, after_all, most_batches}
 use Rattle.streetmap_ledger.specs.Laws.{is_accepted, accepted_of, AcceptedAreEnough, RefusedChangesNothing}
 use Rattle.streetmap_ledger.specs.declared.reply.Refusal.{Refusal}
@@ -19,7 +19,7 @@ fresh_stays : (s : State) (b : BatchValue) (serial : ℕ) (r : Result State (ℕ
 fresh_stays s b serial (Ok t) fails = cc
 fresh_stays s b serial (Err e) fails = refl
 
-by_key_stays : (s : State) (b : BatchValue) (o : Option Kept) → Stays s (by_key s b o)
+by_key_stays : (s : State) (b : BatchValue) (o : Option AcceptedBatch) → Stays s (by_key s b o)
 by_key_stays s b (Some kept) = either (Stays s) (pointwise nat_eq kept.text (batch_text b)) _ _ (λ fails. refl) (λ fails. refl)
 by_key_stays s b None = either (Stays s) (nat_lt (len s.keys) most_batches) _ _ (fresh_stays s b (len s.keys + 1) (edited 1 s b.edits)) (λ fails. refl)
 
@@ -59,10 +59,10 @@ no_place place n e f = cc
 refused_place : (x y : Refusal) (p q : Option ℕ) → Refused x p ≡ Refused y q → p ≡ q
 refused_place x y p q e = cc
 
-repeated_refused : {A : Type 0} (s : State) (kept : Kept) (why : Refusal) (place : Option ℕ) → Repeated kept.counts kept.serial ≡ Refused why place → A
+repeated_refused : {A : Type 0} (s : State) (kept : AcceptedBatch) (why : Refusal) (place : Option ℕ) → Repeated kept.counts kept.serial ≡ Refused why place → A
 repeated_refused s kept why place e = cc
 
-by_key_left : (s : State) (b : BatchValue) (o : Option Kept) → get s.keys b.key ≡ o → Left s b (by_key s b o)
+by_key_left : (s : State) (b : BatchValue) (o : Option AcceptedBatch) → get s.keys b.key ≡ o → Left s b (by_key s b o)
 by_key_left s b (Some kept) is = either (Left s b) (pointwise nat_eq kept.text (batch_text b)) _ _
     (λ why place e. repeated_refused s kept why place e)
     (λ why place e. (refl, λ n f. no_place place n (refused_place _ why None place e) f))

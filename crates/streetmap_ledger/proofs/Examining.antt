@@ -13,12 +13,12 @@ use Rattle.streetmap_moment.specs.IntervalValue.{IntervalValue}
 use Rattle.streetmap_moment.specs.Meeting.{meets, seconds_overlap}
 use Rattle.streetmap_moment.proofs.IntervalFacts.{interval_facts, meets-seconds_overlap}
 use Rattle.streetmap_geojson.specs.FeatureValue.{FeatureValue}
-use Rattle.streetmap_geojson.specs.Kept.{IsGeometryIf, IsIntervalIf, IsFeature}
+use Rattle.streetmap_geojson.specs.FeatureInvariant.{IsGeometryIf, IsIntervalIf, IsFeature}
 use Rattle.streetmap_query.specs.QueryValue.{QueryValue, DatetimeValue}
 use Rattle.streetmap_query.specs.Views.{query_value, datetime_value}
 use Rattle.streetmap_query.specs.declared.datetimes.Datetime.{Datetime}
 use Rattle.streetmap_query.specs.declared.queries.Query.{Query}
-use Rattle.streetmap_ledger.specs.Pages.{PageValue, passes, selects, selected, extent_overlaps, is_candidate, candidates, behind, last_id, told, page_of}
+use Rattle.streetmap_ledger.specs.Pages.{PageValue, passes, selects, selected, extent_overlaps, is_candidate, candidates, behind, last_id, saturated, page_of}
 use Rattle.streetmap_ledger.specs.Folds.{Holds, HoldsCandidates}
 use Rattle.streetmap_ledger.specs.Laws.{SelectedAreCandidates}
 use Rattle.streetmap_ledger.specs.declared.fold.PageFold.{PageFold}
@@ -77,9 +77,9 @@ taken v fold fs f e whole held =
 unfoldable paged : QueryValue → ℕ → List FeatureValue → PageValue
 paged q n shown = record {
   features = take q.limit (behind q.after shown);
-  matched = told (length shown);
+  matched = saturated (length shown);
   next = if nat_lt q.limit (length (behind q.after shown)) then last_id (take q.limit (behind q.after shown)) else None;
-  examined = told n;
+  examined = saturated n;
 }
 
 pub same_page : (q : QueryValue) (n : ℕ) (cs fs : List FeatureValue) → selected q cs ≡ selected q fs → page_of q n cs ≡ page_of q n fs

@@ -10,7 +10,7 @@ use Rattle.streetmap_batch.specs.Text.{Text, text_cmp}
 use Rattle.streetmap_batch.specs.BatchValue as edit
 use Rattle.streetmap_batch.specs.BatchValue.{EditValue, BatchValue}
 use Rattle.streetmap_batch.specs.BatchText.{batch_text}
-use Rattle.streetmap_ledger.specs.State.{State, Kept, step, absent, timed, ◌>>=◌}
+use Rattle.streetmap_ledger.specs.State.{State, AcceptedBatch, step, absent, timed, ◌>>=◌}
 use Rattle.streetmap_ledger.specs.Batches.{Outcome, placed, edited, fresh, by_key, kept_for, act, after_all, most_batches}
 use Rattle.streetmap_ledger.specs.Laws.{IsAcknowledged, RepeatActsOnce}
 use Rattle.streetmap_ledger.specs.declared.reply.Refusal.{Refusal}
@@ -51,7 +51,7 @@ none_some : {A : Type 0} {B : Type 0} (x : A) → None ≡ Some x → B
 none_some x e = cc
 
 -- a key that is there stays there, whatever is accepted
-fresh_keeps : (s : State) (b : BatchValue) (k : Text) (kept : Kept) (serial : ℕ) → get s.keys k ≡ Some kept → get s.keys b.key ≡ None → (r : Result State (ℕ × Refusal)) → IfOk r (λ t. t.keys ≡ s.keys) → get (fresh s b serial r).state.keys k ≡ Some kept
+fresh_keeps : (s : State) (b : BatchValue) (k : Text) (kept : AcceptedBatch) (serial : ℕ) → get s.keys k ≡ Some kept → get s.keys b.key ≡ None → (r : Result State (ℕ × Refusal)) → IfOk r (λ t. t.keys ≡ s.keys) → get (fresh s b serial r).state.keys k ≡ Some kept
 fresh_keeps s b k kept serial h none (Err e) same = h
 fresh_keeps s b k kept serial h none (Ok t) same = get-insert nat_list_cmp_total t.keys b.key (kept_for b serial) k ∙ other (text_cmp k b.key) refl where
   here : get t.keys k ≡ Some kept
@@ -62,20 +62,20 @@ fresh_keeps s b k kept serial h none (Ok t) same = get-insert nat_list_cmp_total
   other Greater e = here
   other Equal e = none_some kept (sym none ∙ (get_tied nat_list_cmp_total s.keys k b.key e ∙ h))
 
-by_key_keeps : (s : State) (b : BatchValue) (k : Text) (kept : Kept) → get s.keys k ≡ Some kept → (o : Option Kept) → get s.keys b.key ≡ o → get (by_key s b o).state.keys k ≡ Some kept
+by_key_keeps : (s : State) (b : BatchValue) (k : Text) (kept : AcceptedBatch) → get s.keys k ≡ Some kept → (o : Option AcceptedBatch) → get s.keys b.key ≡ o → get (by_key s b o).state.keys k ≡ Some kept
 by_key_keeps s b k kept h (Some old) e = either (λ (o : Outcome). get o.state.keys k ≡ Some kept) (pointwise nat_eq old.text (batch_text b)) _ _ h h
 by_key_keeps s b k kept h None e = either (λ (o : Outcome). get o.state.keys k ≡ Some kept) (nat_lt (len s.keys) most_batches) _ _ (fresh_keeps s b k kept _ h e (edited 1 s b.edits) (edited_keys 1 s b.edits)) h
 
-pub act_keeps : (s : State) (b : BatchValue) (k : Text) (kept : Kept) → get s.keys k ≡ Some kept → get (act s b).state.keys k ≡ Some kept
+pub act_keeps : (s : State) (b : BatchValue) (k : Text) (kept : AcceptedBatch) → get s.keys k ≡ Some kept → get (act s b).state.keys k ≡ Some kept
 act_keeps s b k kept h = by_key_keeps s b k kept h (get s.keys b.key) refl
 
-pub all_keep : (s : State) (bs : List BatchValue) (k : Text) (kept : Kept) → get s.keys k ≡ Some kept → get (after_all s bs).keys k ≡ Some kept
+pub all_keep : (s : State) (bs : List BatchValue) (k : Text) (kept : AcceptedBatch) → get s.keys k ≡ Some kept → get (after_all s bs).keys k ≡ Some kept
 all_keep s [] k kept h = h
 all_keep s (b ∷ bs) k kept h = all_keep (act s b).state bs k kept (act_keeps s b k kept h)
 
 -- the batch is there under its key, with its text
 abbrev pub IsThere : State → BatchValue → Type 0
-IsThere s b = (kept : Kept) × (get s.keys b.key ≡ Some kept) × (pointwise nat_eq kept.text (batch_text b) ≡ true)
+IsThere s b = (kept : AcceptedBatch) × (get s.keys b.key ≡ Some kept) × (pointwise nat_eq kept.text (batch_text b) ≡ true)
 
 fresh_there : (s : State) (b : BatchValue) (serial : ℕ) (r : Result State (ℕ × Refusal)) → IsAcknowledged (fresh s b serial r).reply → IsThere (fresh s b serial r).state b
 fresh_there s b serial (Err e) h = absurd h
@@ -86,7 +86,7 @@ chosen : (s : State) (b : BatchValue) (t : Bool) (x y : Outcome) → (t ≡ true
 chosen s b true x y f g h = f refl h
 chosen s b false x y f g h = g h
 
-by_key_there : (s : State) (b : BatchValue) (o : Option Kept) → get s.keys b.key ≡ o → IsAcknowledged (by_key s b o).reply → IsThere (by_key s b o).state b
+by_key_there : (s : State) (b : BatchValue) (o : Option AcceptedBatch) → get s.keys b.key ≡ o → IsAcknowledged (by_key s b o).reply → IsThere (by_key s b o).state b
 by_key_there s b (Some old) e h = chosen s b (pointwise nat_eq old.text (batch_text b)) _ _ (λ same ack. (old, e, same)) (λ no. absurd no) h
 by_key_there s b None e h = chosen s b (nat_lt (len s.keys) most_batches) _ _ (λ less ack. fresh_there s b _ (edited 1 s b.edits) ack) (λ no. absurd no) h
 

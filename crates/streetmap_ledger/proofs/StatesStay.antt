@@ -11,7 +11,7 @@ use Rattle.std.specs.FinMap.{FinMap, get, insert, remove, empty, len, get-insert
 use Rattle.streetmap_moment.specs.IntervalValue.{IntervalValue}
 use Rattle.streetmap_moment.specs.declared.faults.TimeFault.{TimeFault}
 use Rattle.streetmap_geojson.specs.FeatureValue.{FeatureValue}
-use Rattle.streetmap_geojson.specs.Kept.{IsFeature}
+use Rattle.streetmap_geojson.specs.FeatureInvariant.{IsFeature}
 use Rattle.streetmap_geojson.specs.Times.{time_of, with_time}
 use Rattle.streetmap_geojson.proofs.Facts.{retimed_is}
 use Rattle.streetmap_geojson.proofs.Timing.{time_is}
@@ -22,7 +22,7 @@ use Rattle.streetmap_batch.specs.BatchFacts.{IsTimePropertyIf, IsTitle, IsSoundE
 use Rattle.streetmap_batch.specs.BatchReading.{most_edits}
 use Rattle.streetmap_batch.specs.Names.{is_key, is_collection_id}
 use Rattle.streetmap_batch.specs.BatchText.{batch_text}
-use Rattle.streetmap_ledger.specs.State.{State, Collection, Kept, opening_state, step, ◌>>=◌, absent, or_bad_time, timed}
+use Rattle.streetmap_ledger.specs.State.{State, Collection, AcceptedBatch, opening_state, step, ◌>>=◌, absent, or_bad_time, timed}
 use Rattle.streetmap_ledger.specs.Batches.{Outcome, placed, edited, counted, counted_all, counts_of, fresh, by_key, kept_for, act, most_batches}
 use Rattle.streetmap_ledger.specs.WellFormed.{IsPlaced, HoldsFeatures, IsCollection, AreCounts, IsState, StaysWellFormed}
 use Rattle.streetmap_ledger.specs.declared.reply.Counts.{Counts}
@@ -136,11 +136,11 @@ are_counts es few =
 
 -- ---- keys
 -- one more key under the next serial
-one_more_key : (s t : State) (key : Text) (k : Kept) → IsTrue (is_key key) → IsState s → AllMade t → t.keys ≡ s.keys → get s.keys key ≡ None → len s.keys < most_batches → k.serial ≡ len s.keys + 1 → AreCounts k.counts → IsState (record t { keys = insert t.keys key k })
+one_more_key : (s t : State) (key : Text) (k : AcceptedBatch) → IsTrue (is_key key) → IsState s → AllMade t → t.keys ≡ s.keys → get s.keys key ≡ None → len s.keys < most_batches → k.serial ≡ len s.keys + 1 → AreCounts k.counts → IsState (record t { keys = insert t.keys key k })
 one_more_key s t key k named sound all same new room serial counts =
     let keys = insert s.keys key k in
-    let count : len keys ≡ len s.keys + 1 = len-insert nat_list_cmp_total s.keys key k ∙ ap (λ (o : Option Kept). cond (is_some o) (len s.keys) (len s.keys + 1)) new in
-    let here = λ (q : Text) (l : Kept) (e : get keys q ≡ Some l). put_or_there s.keys key k q l e in
+    let count : len keys ≡ len s.keys + 1 = len-insert nat_list_cmp_total s.keys key k ∙ ap (λ (o : Option AcceptedBatch). cond (is_some o) (len s.keys) (len s.keys + 1)) new in
+    let here = λ (q : Text) (l : AcceptedBatch) (e : get keys q ≡ Some l). put_or_there s.keys key k q l e in
     subst (λ m. IsState (record { collections = t.collections; keys = insert m key k })) (sym same) (record {
       made = all;
       keyed = λ q l e. elim (here q l e) [
@@ -148,11 +148,11 @@ one_more_key s t key k named sound all same new room serial counts =
         | inr h ↦ sound.keyed q l h
       ];
       from_one = λ q l e. elim (here q l e) [
-        | inl p ↦ let is : l.serial ≡ k.serial = ap (λ (x : Kept). x.serial) p.1 in omega arith
+        | inl p ↦ let is : l.serial ≡ k.serial = ap (λ (x : AcceptedBatch). x.serial) p.1 in omega arith
         | inr h ↦ sound.from_one q l h
       ];
       to_count = λ q l e. elim (here q l e) [
-        | inl p ↦ let is : l.serial ≡ k.serial = ap (λ (x : Kept). x.serial) p.1 in omega arith
+        | inl p ↦ let is : l.serial ≡ k.serial = ap (λ (x : AcceptedBatch). x.serial) p.1 in omega arith
         | inr h ↦ let is : l.serial ≤ len s.keys = sound.to_count q l h in omega arith
       ];
       one_each = λ q r l m e f is. elim (here q l e) [
@@ -160,19 +160,19 @@ one_more_key s t key k named sound all same new room serial counts =
           | inl o ↦ p.0 ∙ sym o.0
           | inr h ↦
               let old : m.serial ≤ len s.keys = sound.to_count r m h in
-              let is_new : l.serial ≡ k.serial = ap (λ (x : Kept). x.serial) p.1 in
+              let is_new : l.serial ≡ k.serial = ap (λ (x : AcceptedBatch). x.serial) p.1 in
               absurd (omega arith)
         ]
         | inr h ↦ elim (here r m f) [
           | inl o ↦
               let old : l.serial ≤ len s.keys = sound.to_count q l h in
-              let is_new : m.serial ≡ k.serial = ap (λ (x : Kept). x.serial) o.1 in
+              let is_new : m.serial ≡ k.serial = ap (λ (x : AcceptedBatch). x.serial) o.1 in
               absurd (omega arith)
           | inr i ↦ sound.one_each q r l m h i is
         ]
       ];
       counted = λ q l e. elim (here q l e) [
-        | inl p ↦ subst (λ (x : Kept). AreCounts x.counts) (sym p.1) counts
+        | inl p ↦ subst (λ (x : AcceptedBatch). AreCounts x.counts) (sym p.1) counts
         | inr h ↦ sound.counted q l h
       ];
       not_too_many = omega arith;
@@ -190,13 +190,13 @@ chosen : (t : Bool) (x y : Outcome) → (t ≡ true → IsState x.state) → IsS
 chosen true x y f g = f refl
 chosen false x y f g = g
 
-by_key_sound : (s : State) (b : BatchValue) → IsState s → IsSoundBatch b → (o : Option Kept) → get s.keys b.key ≡ o → IsState (by_key s b o).state
+by_key_sound : (s : State) (b : BatchValue) → IsState s → IsSoundBatch b → (o : Option AcceptedBatch) → get s.keys b.key ≡ o → IsState (by_key s b o).state
 by_key_sound s b sound batch (Some kept) e = either (λ (o : Outcome). IsState o.state) (pointwise nat_eq kept.text (batch_text b)) _ _ sound sound
 by_key_sound s b sound batch None e = chosen (nat_lt (len s.keys) most_batches) _ _ (λ room. fresh_sound s b sound batch e (less_than _ _ room) (edited 1 s b.edits) (edited_made 1 s b.edits batch.made sound.made) (edited_keys 1 s b.edits)) sound
 
 pub opening_sound : IsState opening_state
 opening_sound =
-    let none = λ (q : Text) (k : Kept) (e : get (empty {X = Kept} {R = text_cmp}) q ≡ Some k). sym (get-empty text_cmp q) ∙ e in
+    let none = λ (q : Text) (k : AcceptedBatch) (e : get (empty {X = AcceptedBatch} {R = text_cmp}) q ≡ Some k). sym (get-empty text_cmp q) ∙ e in
     record {
       made = λ name c e. none_some c (sym (get-empty text_cmp name) ∙ e);
       keyed = λ q k e. none_some k (none q k e);
@@ -204,7 +204,7 @@ opening_sound =
       to_count = λ q k e. none_some k (none q k e);
       one_each = λ q r k l e f is. none_some k (none q k e);
       counted = λ q k e. none_some k (none q k e);
-      not_too_many = omega (arith, len-empty text_cmp Kept);
+      not_too_many = omega (arith, len-empty text_cmp AcceptedBatch);
     }
 
 pub act_sound : (s : State) (b : BatchValue) → IsState s → IsSoundBatch b → IsState (act s b).state

@@ -17,7 +17,7 @@ use Rattle.streetmap_geojson.specs.FeatureValue.{FeatureValue}
 use Rattle.streetmap_query.specs.QueryValue.{QueryValue}
 use Rattle.streetmap_batch.specs.Text.{Text, text_cmp}
 use Rattle.streetmap_ledger.specs.State.{Features}
-use Rattle.streetmap_ledger.specs.Pages.{PageValue, selects, selected, comes_after, behind, last_id, told}
+use Rattle.streetmap_ledger.specs.Pages.{PageValue, selects, selected, comes_after, behind, last_id, saturated}
 use Rattle.streetmap_ledger.specs.Walks.{page_behind, IsWalk, ends, goes_on, shown, WalksShowAll}
 use Rattle.streetmap_ledger.proofs.TextMaps.{one_text}
 use Rattle.streetmap_ledger.proofs.TextMaps.{first, second, none_below}
@@ -187,7 +187,7 @@ has_next (suc n) (f ∷ fs) one h = ((end_of f (take n fs)).id, last_is f (take 
 -- ---- walks
 module _ (q : QueryValue) (fs : List FeatureValue) (some : 1 ≤ q.limit) (up : Ascends (selected q fs)) where
   abbrev Tells : PageValue → Type 0
-  Tells p = p.matched ≡ told (length (selected q fs))
+  Tells p = p.matched ≡ saturated (length (selected q fs))
 
   walk_shows : (after : Option Text) (pages : List PageValue) → IsWalk q fs after pages → (shown pages ≡ behind after (selected q fs)) × All Tells pages
   walk_shows _ _ (ends after none) = (

@@ -5,7 +5,7 @@ use Rattle.std.specs.FinMap.{get, insert, len}
 use Rattle.streetmap_batch.specs.BatchValue as edit
 use Rattle.streetmap_batch.specs.BatchValue.{EditValue, BatchValue}
 use Rattle.streetmap_batch.specs.BatchText.{batch_text}
-use Rattle.streetmap_ledger.specs.State.{State, Kept, step, ◌>>=◌}
+use Rattle.streetmap_ledger.specs.State.{State, AcceptedBatch, step, ◌>>=◌}
 use Rattle.streetmap_ledger.specs.declared.reply.Counts.{Counts}
 use Rattle.streetmap_ledger.specs.declared.reply.Refusal.{Refusal}
 use Rattle.streetmap_ledger.specs.declared.reply.Refusal.TheVariants.{KeyUsed, Full}
@@ -44,7 +44,7 @@ pub record Outcome : Type 0 where
   pub state : State
 
 -- what is kept for a batch that was accepted with this serial
-abbrev pub kept_for : BatchValue → ℕ → Kept
+abbrev pub kept_for : BatchValue → ℕ → AcceptedBatch
 kept_for b serial = record { text = batch_text b; counts = counts_of b.edits; serial = serial }
 
 -- a batch whose key is not there, by what its edits came to: accepted with this serial, or refused whole
@@ -57,7 +57,7 @@ abbrev pub most_batches : ℕ
 most_batches = 2 ^ 63 - 1
 
 -- a batch by what is kept for its key: a repeat where the texts are one, a key that was used, or a new key
-abbrev pub by_key : State → BatchValue → Option Kept → Outcome
+abbrev pub by_key : State → BatchValue → Option AcceptedBatch → Outcome
 by_key s b (Some kept) =
     if pointwise nat_eq kept.text (batch_text b) then record { reply = Repeated kept.counts kept.serial; state = s }
     else record { reply = Refused KeyUsed None; state = s }

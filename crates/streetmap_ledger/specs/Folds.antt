@@ -3,16 +3,16 @@ use Rattle.std.specs.Prelude.{◌≡◌, ◌≤◌, List, length, take, nat_lt}
 use Rattle.streetmap_geojson.specs.FeatureValue.{FeatureValue}
 use Rattle.streetmap_query.specs.QueryValue.{QueryValue}
 use Rattle.streetmap_query.specs.Views.{query_value}
-use Rattle.streetmap_ledger.specs.Pages.{selected, candidates, rest_of, told}
+use Rattle.streetmap_ledger.specs.Pages.{selected, candidates, rest_of, saturated}
 use Rattle.streetmap_ledger.specs.declared.fold.PageFold.{PageFold}
 
 -- the page of these features, as far as it is known
 pub record Holds (q : QueryValue) (fold : PageFold) (fs : List FeatureValue) : Type 0 where
   pub asks : query_value fold.query.now ≡ q
   pub shown : fold.features.items ≡ take q.limit (rest_of q fs)
-  pub matched : fold.matched ≡ told (length (selected q fs))
+  pub matched : fold.matched ≡ saturated (length (selected q fs))
   pub more : fold.more ≡ nat_lt q.limit (length (rest_of q fs))
-  pub examined : fold.examined ≡ told (length fs)
+  pub examined : fold.examined ≡ saturated (length fs)
 
 -- the page of the candidates among these features, of which no selected one is left out
 pub record HoldsCandidates (q : QueryValue) (fold : PageFold) (fs : List FeatureValue) : Type 0 where

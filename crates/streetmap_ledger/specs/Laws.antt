@@ -2,7 +2,7 @@
 use Rattle.std.specs.Prelude.{◌≡◌, ℕ, Bool, true, false, List, [], ◌∷◌, ◌++◌, Option, None, Some, if◌then◌else◌, All}
 use Rattle.std.specs.FinMap.{get}
 use Rattle.streetmap_geojson.specs.FeatureValue.{FeatureValue}
-use Rattle.streetmap_geojson.specs.Kept.{IsFeature}
+use Rattle.streetmap_geojson.specs.FeatureInvariant.{IsFeature}
 use Rattle.streetmap_query.specs.Views.{query_value}
 use Rattle.streetmap_query.specs.declared.queries.Query.{Query}
 use Rattle.streetmap_batch.specs.BatchValue.{BatchValue}

@@ -67,9 +67,9 @@ rest_of q fs = behind q.after (selected q fs)
 abbrev pub last_id : List FeatureValue → Option Text
 last_id fs = option_map (λ (f : FeatureValue). f.id) (slice_get fs (length fs - 1))
 
--- a count, as far as it can be told
-abbrev pub told : ℕ → ℕ
-told n = min n (2 ^ 64 - 1)
+-- a count, as far as it can be saturated
+abbrev pub saturated : ℕ → ℕ
+saturated n = min n (2 ^ 64 - 1)
 
 -- the page of features that stand in order of ids, of which this many were examined
 abbrev pub page_of : QueryValue → ℕ → List FeatureValue → PageValue
@@ -77,9 +77,9 @@ page_of q examined fs =
     let rest = rest_of q fs in
     record {
       features = take q.limit rest;
-      matched = told (length (selected q fs));
+      matched = saturated (length (selected q fs));
       next = if nat_lt q.limit (length rest) then last_id (take q.limit rest) else None;
-      examined = told examined;
+      examined = saturated examined;
     }
 
 -- the page of a collection

@@ -22,7 +22,7 @@ pub record Collection : Type 0 where
   pub features : Features
 
 -- what is kept for an accepted key: the text of its batch, how many edits of each kind it had, and its serial
-pub record Kept : Type 0 where
+pub record AcceptedBatch : Type 0 where
   pub text : Text
   pub counts : Counts
   pub serial : ℕ
@@ -30,7 +30,7 @@ pub record Kept : Type 0 where
 -- collections by id, and what is kept for each accepted key
 pub record State : Type 0 where
   pub collections : FinMap text_cmp Collection
-  pub keys : FinMap text_cmp Kept
+  pub keys : FinMap text_cmp AcceptedBatch
 
 -- no collection and no key
 abbrev pub opening_state : State

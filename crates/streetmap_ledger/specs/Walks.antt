@@ -7,7 +7,7 @@ use Rattle.streetmap_query.specs.QueryValue.{QueryValue}
 use Rattle.streetmap_batch.specs.Text.{Text}
 use Rattle.streetmap_ledger.specs.State.{State, Collection}
 use Rattle.streetmap_ledger.specs.WellFormed.{IsState}
-use Rattle.streetmap_ledger.specs.Pages.{PageValue, selected, page_over, told}
+use Rattle.streetmap_ledger.specs.Pages.{PageValue, selected, page_over, saturated}
 
 -- the query from behind this id on
 abbrev pub from_behind : QueryValue → Option Text → QueryValue
@@ -29,7 +29,7 @@ shown pages = flat_map (λ (p : PageValue). p.features) pages
 -- a walk shows the selected features, each once and in order of ids, and each of its pages tells their number
 pub record ShowsAll (q : QueryValue) (fs : List FeatureValue) (pages : List PageValue) : Type 0 where
   pub whole : shown pages ≡ selected q fs
-  pub matched : All (λ (p : PageValue). p.matched ≡ told (length (selected q fs))) pages
+  pub matched : All (λ (p : PageValue). p.matched ≡ saturated (length (selected q fs))) pages
 
 -- in a well-formed state, each walk over a collection shows all that is selected, and there is one
 abbrev pub WalksShowAll : Type 0

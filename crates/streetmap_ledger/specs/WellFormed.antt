@@ -2,14 +2,14 @@
 use Rattle.std.specs.Prelude.{◌≡◌, ◌≤◌, ℕ, Option, Some, Ok, IsTrue}
 use Rattle.std.specs.FinMap.{get, len}
 use Rattle.streetmap_geojson.specs.FeatureValue.{FeatureValue}
-use Rattle.streetmap_geojson.specs.Kept.{IsFeature}
+use Rattle.streetmap_geojson.specs.FeatureInvariant.{IsFeature}
 use Rattle.streetmap_geojson.specs.Times.{time_of}
 use Rattle.streetmap_batch.specs.Text.{Text}
 use Rattle.streetmap_batch.specs.BatchFacts.{IsTitle, IsTimePropertyIf, IsSoundBatch}
 use Rattle.streetmap_batch.specs.BatchReading.{most_edits}
 use Rattle.streetmap_batch.specs.BatchValue.{BatchValue}
 use Rattle.streetmap_batch.specs.Names.{is_key, is_collection_id}
-use Rattle.streetmap_ledger.specs.State.{State, Collection, Kept, opening_state}
+use Rattle.streetmap_ledger.specs.State.{State, Collection, AcceptedBatch, opening_state}
 use Rattle.streetmap_ledger.specs.Batches.{act, most_batches}
 use Rattle.streetmap_ledger.specs.declared.reply.Counts.{Counts}
 
@@ -40,11 +40,11 @@ pub record AreCounts (n : Counts) : Type 0 where
 -- collections and keys are as the rules ask; the n keys have the serials 1 to n, one each, and each the counts of a batch
 pub record IsState (s : State) : Type 0 where
   pub made : (name : Text) (c : Collection) → get s.collections name ≡ Some c → IsCollection name c
-  pub keyed : (key : Text) (k : Kept) → get s.keys key ≡ Some k → IsTrue (is_key key)
-  pub from_one : (key : Text) (k : Kept) → get s.keys key ≡ Some k → 1 ≤ k.serial
-  pub to_count : (key : Text) (k : Kept) → get s.keys key ≡ Some k → k.serial ≤ len s.keys
-  pub one_each : (key other : Text) (k l : Kept) → get s.keys key ≡ Some k → get s.keys other ≡ Some l → k.serial ≡ l.serial → key ≡ other
-  pub counted : (key : Text) (k : Kept) → get s.keys key ≡ Some k → AreCounts k.counts
+  pub keyed : (key : Text) (k : AcceptedBatch) → get s.keys key ≡ Some k → IsTrue (is_key key)
+  pub from_one : (key : Text) (k : AcceptedBatch) → get s.keys key ≡ Some k → 1 ≤ k.serial
+  pub to_count : (key : Text) (k : AcceptedBatch) → get s.keys key ≡ Some k → k.serial ≤ len s.keys
+  pub one_each : (key other : Text) (k l : AcceptedBatch) → get s.keys key ≡ Some k → get s.keys other ≡ Some l → k.serial ≡ l.serial → key ≡ other
+  pub counted : (key : Text) (k : AcceptedBatch) → get s.keys key ≡ Some k → AreCounts k.counts
   pub not_too_many : len s.keys ≤ most_batches
 
 -- the opening state is well-formed, and a batch that the type of batches can hold keeps a state so

@@ -25,11 +25,11 @@ pub struct PageFold<'a> {
 impl<'a> PageFold<'a> {
     ghost use Rattle.std.specs.Prelude.{List, [], ◌∷◌, ◌++◌, ◌+◌, ◌↔◌, OnOk, OnErr, IfSome, IsTrue, Bool, true, false, if◌then◌else◌};
     ghost use Rattle.streetmap_geojson.specs.FeatureValue.{FeatureValue};
-    ghost use Rattle.streetmap_geojson.specs.Kept.{IsFeature};
+    ghost use Rattle.streetmap_geojson.specs.FeatureInvariant.{IsFeature};
     ghost use Rattle.streetmap_feature_text.specs.Outlines.{outline_of};
     ghost use Rattle.streetmap_query.specs.QueryValue.{QueryValue};
     ghost use Rattle.streetmap_query.specs.Views.{query_value};
-    ghost use Rattle.streetmap_ledger.specs.Pages.{page_of, told, selects as selects_of, comes_after as comes_after_of, is_candidate as is_candidate_of};
+    ghost use Rattle.streetmap_ledger.specs.Pages.{page_of, saturated, selects as selects_of, comes_after as comes_after_of, is_candidate as is_candidate_of};
     ghost use Rattle.streetmap_ledger.specs.PageView.{page_value};
     ghost use Rattle.streetmap_ledger.specs.Folds.{Holds, HoldsCandidates, IsFull};
 
@@ -48,8 +48,8 @@ impl<'a> PageFold<'a> {
 
     /// Counts one feature more.
     fn count(&mut self, is_selected: bool)
-        ensures matched { self.new.matched ≡ (if is_selected then told (self.old.matched + 1) else self.old.matched) }
-        ensures examined { self.new.examined ≡ told (self.old.examined + 1) }
+        ensures matched { self.new.matched ≡ (if is_selected then saturated (self.old.matched + 1) else self.old.matched) }
+        ensures examined { self.new.examined ≡ saturated (self.old.examined + 1) }
         ensures shown { (self.new.query ≡ self.old.query) × (self.new.features ≡ self.old.features) × (self.new.more ≡ self.old.more) }
     {
         if is_selected {
@@ -79,14 +79,14 @@ impl<'a> PageFold<'a> {
         ensures room { result ≡ false → length self.old.features.items < self.old.query.now.limit }
     {
         if !selects(self.query, feature) {
-            self.leave();
+            self.skip_unselected();
             return true;
         }
         let behind = comes_after(self.query, feature);
         if behind && !self.is_full() {
             return false;
         }
-        self.pass(behind);
+        self.count_hidden(behind);
         true
     }
 
@@ -110,7 +110,7 @@ impl<'a> PageFold<'a> {
 
     /// Counts the feature that comes next, which is selected and not shown: either it is `behind`
     /// the id asked, and the page is full, or it does not come after that id.
-    pub fn pass(&mut self, behind: bool)
+    pub fn count_hidden(&mut self, behind: bool)
         ensures { (q : QueryValue) (fs : List FeatureValue) (f : FeatureValue) → Holds q self.old fs → selects_of q f ≡ true → comes_after_of q.after f ≡ behind → (IsTrue behind → IsFull self.old) → Holds q self.new (fs ++ f ∷ []) }
     {
         if behind {
@@ -120,7 +120,7 @@ impl<'a> PageFold<'a> {
     }
 
     /// Counts the feature that comes next, which is not selected.
-    pub fn leave(&mut self)
+    pub fn skip_unselected(&mut self)
         ensures { (q : QueryValue) (fs : List FeatureValue) (f : FeatureValue) → Holds q self.old fs → selects_of q f ≡ false → Holds q self.new (fs ++ f ∷ []) }
     {
         self.count(false);
@@ -134,12 +134,12 @@ impl<'a> PageFold<'a> {
     {
         match selects_unread(self.query, outline) {
             Some(false) => {
-                self.leave();
+                self.skip_unselected();
                 true
             }
             Some(true) => match comes_after_unread(self.query, id) {
                 Some(behind) if !behind || self.is_full() => {
-                    self.pass(behind);
+                    self.count_hidden(behind);
                     true
                 }
                 _ => false,

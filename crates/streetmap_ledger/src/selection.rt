@@ -4,7 +4,7 @@ ghost use Rattle.streetmap_grid.specs.Meeting.{geometry_meets};
 ghost use Rattle.streetmap_moment.specs.Views.{interval_value};
 ghost use Rattle.streetmap_moment.specs.Meeting.{meets, seconds_overlap};
 ghost use Rattle.streetmap_geojson.specs.FeatureValue.{FeatureValue};
-ghost use Rattle.streetmap_geojson.specs.Kept.{IsFeature, IsGeometryIf};
+ghost use Rattle.streetmap_geojson.specs.FeatureInvariant.{IsFeature, IsGeometryIf};
 ghost use Rattle.streetmap_feature_text.specs.Outlines.{outline_of};
 ghost use Rattle.streetmap_query.specs.Views.{query_value};
 ghost use Rattle.streetmap_ledger.specs.Pages.{passes, interval_asked, selects as selects_of, comes_after as comes_after_of, extent_overlaps, is_candidate as is_candidate_of};

@@ -13,7 +13,7 @@ use Rattle.streetmap_grid.specs.Meeting.{Holds}
 use Rattle.streetmap_grid.specs.Extent.{IsExtent, vertices, extent_of, positions_extent}
 use Rattle.streetmap_grid.specs.Bounds.{AreBounds, IsLeast, IsGreatest}
 use Rattle.streetmap_grid.proofs.Growing.{same_extent, positions_extent_is, extent_is}
-use Rattle.streetmap_geojson.specs.Kept.{IsGeometryIf}
+use Rattle.streetmap_geojson.specs.FeatureInvariant.{IsGeometryIf}
 use Rattle.streetmap_ledger.specs.Summaries.{SummaryValue, extent_if}
 
 some_left : (P Q : PositionValue → Type 0) → ((p : PositionValue) → P p → Q p) → (ps qs : List PositionValue) → SomeOf P ps → SomeOf Q (ps ++ qs)

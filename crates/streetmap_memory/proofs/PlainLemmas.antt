@@ -11,15 +11,15 @@ use Rattle.streetmap_memory.specs.Does.{Keys, state_of}
 use Rattle.streetmap_memory.proofs.SlotLemmas.{get_collection, get_live}
 use Rattle.streetmap_batch.specs.BatchValue.{BatchValue}
 use Rattle.streetmap_batch.specs.BatchText.{batch_text}
-use Rattle.streetmap_ledger.specs.State.{State, Collection, Kept}
+use Rattle.streetmap_ledger.specs.State.{State, Collection, AcceptedBatch}
 use Rattle.streetmap_ledger.specs.Batches.{Outcome, act, by_key, fresh, edited, most_batches}
 use Rattle.streetmap_ledger.specs.declared.reply.Reply.TheVariants.{Repeated, Refused}
 use Rattle.streetmap_ledger.specs.declared.reply.Refusal.TheVariants.{KeyUsed, Full}
 
-pub repeats : (s : State) (b : BatchValue) (kept : Kept) → get s.keys b.key ≡ Some kept → pointwise nat_eq kept.text (batch_text b) ≡ true → act s b ≡ record { reply = Repeated kept.counts kept.serial; state = s }
+pub repeats : (s : State) (b : BatchValue) (kept : AcceptedBatch) → get s.keys b.key ≡ Some kept → pointwise nat_eq kept.text (batch_text b) ≡ true → act s b ≡ record { reply = Repeated kept.counts kept.serial; state = s }
 repeats s b kept e same = ap (by_key s b) e ∙ ap (λ t. cond {A = Outcome} t (record { reply = Repeated kept.counts kept.serial; state = s }) (record { reply = Refused KeyUsed None; state = s })) same
 
-pub key_used : (s : State) (b : BatchValue) (kept : Kept) → get s.keys b.key ≡ Some kept → pointwise nat_eq kept.text (batch_text b) ≡ false → act s b ≡ record { reply = Refused KeyUsed None; state = s }
+pub key_used : (s : State) (b : BatchValue) (kept : AcceptedBatch) → get s.keys b.key ≡ Some kept → pointwise nat_eq kept.text (batch_text b) ≡ false → act s b ≡ record { reply = Refused KeyUsed None; state = s }
 key_used s b kept e same = ap (by_key s b) e ∙ ap (λ t. cond {A = Outcome} t (record { reply = Repeated kept.counts kept.serial; state = s }) (record { reply = Refused KeyUsed None; state = s })) same
 
 less_true : (a b : ℕ) → a < b → nat_lt a b ≡ true

@@ -3,7 +3,7 @@ use Rattle.std.specs.Prelude.{◌≡◌, ℕ, List, Option, Some, None, Ok, Err}
 use Rattle.std.specs.FinMap.{FinMap}
 use Rattle.streetmap_batch.specs.Text.{text_cmp}
 use Rattle.streetmap_batch.specs.BatchValue.{EditValue}
-use Rattle.streetmap_ledger.specs.State.{State, Kept, step}
+use Rattle.streetmap_ledger.specs.State.{State, AcceptedBatch, step}
 use Rattle.streetmap_ledger.specs.Batches.{edited}
 use Rattle.streetmap_memory.specs.Slots.{SlotCollections, collections_of}
 use Rattle.streetmap_memory.specs.Undo.{undone}
@@ -13,7 +13,7 @@ use Rattle.streetmap_ledger.specs.declared.reply.Refusal.{Refusal}
 
 -- what is kept for each accepted key
 abbrev pub Keys : Type 0
-Keys = FinMap text_cmp Kept
+Keys = FinMap text_cmp AcceptedBatch
 
 -- the state of these collections and keys
 abbrev pub state_of : SlotCollections → Keys → State

@@ -5,7 +5,7 @@ use Rattle.std.proofs.Common.{sym, ap, ◌∙◌}
 use Rattle.std.specs.BTreeMap.{BTreeMap}
 use Rattle.std.specs.declared.alloc.Global.{Global}
 use Rattle.streetmap_batch.specs.BatchValue.{BatchValue}
-use Rattle.streetmap_ledger.specs.State.{State, Kept}
+use Rattle.streetmap_ledger.specs.State.{State, AcceptedBatch}
 use Rattle.streetmap_ledger.specs.Batches.{Outcome, fresh, edited}
 use Rattle.streetmap_ledger.specs.WellFormed.{IsState}
 use Rattle.streetmap_memory.specs.Slots.{SlotCollection, map_of}
@@ -19,13 +19,13 @@ abbrev pub plain_state : PlainKeeper → State
 plain_state k = state_of (map_of k.collections.entries) (map_of k.keys.entries)
 
 -- what a batch whose key is not there comes to
-abbrev pub outcome_of : BTreeMap (String Global) SlotCollection → BTreeMap (String Global) Kept → BatchValue → ℕ → Outcome
+abbrev pub outcome_of : BTreeMap (String Global) SlotCollection → BTreeMap (String Global) AcceptedBatch → BatchValue → ℕ → Outcome
 outcome_of collections keys b serial =
     let s = state_of (map_of collections.entries) (map_of keys.entries) in
     fresh s b serial (edited 1 s b.edits)
 
 -- the reply is the outcome's, and the maps are those of its state
-abbrev pub IsOutcome : Outcome → Reply → BTreeMap (String Global) SlotCollection → BTreeMap (String Global) Kept → Type 0
+abbrev pub IsOutcome : Outcome → Reply → BTreeMap (String Global) SlotCollection → BTreeMap (String Global) AcceptedBatch → Type 0
 IsOutcome o reply collections keys = (reply ≡ o.reply) × (state_of (map_of collections.entries) (map_of keys.entries) ≡ o.state)
 
 -- nothing shut a keeper that has no cause

@@ -271,7 +271,7 @@ fn examine(
     ensures { (q : QueryValue) (fs : List FeatureValue) → HoldsCandidates q fold.old fs → OnOk result (HoldsCandidates q fold.new (fs ++ feature.now ∷ [])) }
 {
     feature.facts();
-    if fold.take_unread(&feature.outline(), feature.plain_id()) {
+    if fold.take_unread(&feature.outline(), feature.unescaped_id()) {
         return Ok(());
     }
     take_unpacked(alloc, fold, feature)

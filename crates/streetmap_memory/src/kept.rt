@@ -14,9 +14,9 @@ pub struct KeptBatch {
 }
 
 impl Model for KeptBatch {
-    ghost use Rattle.streetmap_ledger.specs.State.{Kept};
+    ghost use Rattle.streetmap_ledger.specs.State.{AcceptedBatch};
 
-    ghost Value = { Kept };
+    ghost Value = { AcceptedBatch };
 
     ghost view = { λ k. record { text = k.text; counts = k.counts; serial = k.serial } };
 }

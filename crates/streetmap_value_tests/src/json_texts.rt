@@ -2,7 +2,7 @@
 use std::alloc::Global;
 use std::process::Abort;
 use std::test::Fail;
-use streetmap_json::{JsonFault, plain_text, read_json};
+use streetmap_json::{ParseFault, with_whole_numbers, read_json};
 
 // The text is read, and the value is written as `compact`.
 fn reads(rt: &impl Abort, alloc: Global, text: &str, compact: &str) -> Result<(), Fail> {
@@ -12,7 +12,7 @@ fn reads(rt: &impl Abort, alloc: Global, text: &str, compact: &str) -> Result<()
 }
 
 fn is_not_json(alloc: Global, bytes: &[u8]) -> bool {
-    matches!(read_json(alloc, bytes), Err(JsonFault::NotJson))
+    matches!(read_json(alloc, bytes), Err(ParseFault::NotJson))
 }
 
 #[test]

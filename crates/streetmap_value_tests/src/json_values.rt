@@ -3,10 +3,10 @@ use json::{Reader, Scratch};
 use std::alloc::Global;
 use std::process::Abort;
 use std::test::Fail;
-use streetmap_json::{JsonFault, read_json, read_value};
+use streetmap_json::{ParseFault, read_json, read_value};
 
 // The values that begin the text, written one behind the other.
-fn values(alloc: Global, text: &str, depth: usize, count: u8) -> Result<String, JsonFault> {
+fn values(alloc: Global, text: &str, depth: usize, count: u8) -> Result<String, ParseFault> {
     let mut scratch = Scratch::new(alloc);
     let mut reader = Reader::new(text, &mut scratch)?;
     let mut written = String::new(alloc);
@@ -18,7 +18,7 @@ fn values(alloc: Global, text: &str, depth: usize, count: u8) -> Result<String, 
 }
 
 fn is_no_value(alloc: Global, text: &str, depth: usize) -> bool {
-    matches!(values(alloc, text, depth, 1), Err(JsonFault::NotJson))
+    matches!(values(alloc, text, depth, 1), Err(ParseFault::NotJson))
 }
 
 const TEXTS: &[&str] = &[

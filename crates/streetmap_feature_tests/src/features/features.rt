@@ -1,6 +1,6 @@
 // The type, ids, properties and other members of a feature; copies.
 use crate::features::{answer, are_answered, feature, has_extent, repeated, written};
-use streetmap_geojson::{Fault, Id, is_id, is_plain};
+use streetmap_geojson::{Fault, Id, is_id, has_no_controls};
 use std::alloc::{AllocError, Global};
 use std::test::Fail;
 
@@ -85,9 +85,9 @@ fn ids_are_made_of_texts(rt: HostRuntime) -> Result<(), Fail> {
     assert_eq!(rt; id.copy()?.as_str(), "L1");
     let refused = Id::new(String::from_str(alloc, "a\tb")?);
     assert_eq!(rt; refused.err(), Some(Fault::BadId));
-    assert!(rt; is_plain("") && !is_id(""));
-    assert!(rt; is_plain(" ~\u{a0}") && is_id(" ~\u{a0}"));
-    assert!(rt; !is_plain("a\u{1f}") && !is_plain("\u{80}"));
+    assert!(rt; has_no_controls("") && !is_id(""));
+    assert!(rt; has_no_controls(" ~\u{a0}") && is_id(" ~\u{a0}"));
+    assert!(rt; !has_no_controls("a\u{1f}") && !has_no_controls("\u{80}"));
     Ok(())
 }
 

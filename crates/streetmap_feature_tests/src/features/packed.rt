@@ -37,7 +37,7 @@ fn ids_without_escapes_are_told_unread(rt: HostRuntime) -> Result<(), Fail> {
     let alloc = rt.alloc();
     for row in IDS {
         let packed = packed(alloc, row.0)?;
-        match packed.plain_id() {
+        match packed.unescaped_id() {
             Some(id) => {
                 assert!(rt; row.2, "at {}", row.0);
                 assert!(rt; id == row.1.as_bytes(), "at {}", row.0);

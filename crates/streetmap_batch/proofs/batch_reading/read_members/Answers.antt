@@ -3,7 +3,7 @@ use Rattle.json.specs.Json.{value, read_key}
 use Rattle.json.proofs.Grammar.{read_key-shorter}
 use Rattle.serde_json.specs.Data.{put}
 use Rattle.streetmap_json.specs.Values.{members_at}
-use Rattle.streetmap_json.specs.declared.fault.JsonFault.TheVariants.{NotJson}
+use Rattle.streetmap_json.specs.declared.fault.ParseFault.TheVariants.{NotJson}
 use Rattle.streetmap_json.proofs.Fronts.{next_member, no_member, no_name, members_done, handed_on}
 use Rattle.streetmap_batch.specs.BatchTokens.{Takes, AreRead}
 use Rattle.streetmap_batch.proofs.batch_reading.read_members.Goals as goal

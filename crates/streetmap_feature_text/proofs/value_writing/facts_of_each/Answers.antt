@@ -3,7 +3,7 @@ use Rattle.std.proofs.lemmas.List.{take_all}
 use Rattle.std.proofs.lemmas.List.Elements.{All-more, All-same}
 use Rattle.streetmap_geojson.specs.FeatureValue.{FeatureValue}
 use Rattle.streetmap_geojson.specs.FeatureView.{feature_value}
-use Rattle.streetmap_geojson.specs.Kept.{IsFeature}
+use Rattle.streetmap_geojson.specs.FeatureInvariant.{IsFeature}
 use Rattle.streetmap_feature_text.proofs.value_writing.facts_of_each.Goals as goal
 
 pub loop-feature-preserved : goal.loop-feature-preserved

@@ -7,7 +7,7 @@ use Rattle.streetmap_geojson.specs.FeatureValue.{untimed}
 use Rattle.streetmap_geojson.specs.FeatureView.{feature_value}
 use Rattle.streetmap_geojson.specs.Collection.{AreFeatures}
 use Rattle.streetmap_geojson.specs.JsonText.{json_of}
-use Rattle.streetmap_geojson.specs.Kept.{IsFeature}
+use Rattle.streetmap_geojson.specs.FeatureInvariant.{IsFeature}
 use Rattle.streetmap_feature_text.proofs.WrittenCollections.{collection_again, collection_is_json}
 use Rattle.streetmap_feature_text.proofs.value_writing.write_collection.Goals as goal
 

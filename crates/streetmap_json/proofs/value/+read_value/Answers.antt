@@ -11,7 +11,7 @@ use Rattle.serde_json.specs.declared.value.Value.{Value, String, Number, Bool, N
 use Rattle.serde_json.proofs.Views.{view-Array, view-Object, members_view-insert_entry}
 use Rattle.streetmap_json.specs.Values.{value_at, items_at, members_at, Takes}
 use Rattle.streetmap_json.proofs.Fronts.{array_opens, object_opens, next_item, no_item, items_done, next_member, no_member, no_name, members_done, before, one_more_front, before_none, handed_on}
-use Rattle.streetmap_json.specs.declared.fault.JsonFault.TheVariants.{NotJson}
+use Rattle.streetmap_json.specs.declared.fault.ParseFault.TheVariants.{NotJson}
 use Rattle.streetmap_json.proofs.value.+read_value.Goals as goal
 
 pub read_value-returns-in-None-clause-takes : goal.read_value-returns-in-None-clause-takes

@@ -6,7 +6,7 @@ use Rattle.streetmap_ledger.proofs.Examining.{passed_on}
 use Rattle.streetmap_memory.proofs.collection.examine.Goals as goal
 
 pub returns-then-take_unread : goal.returns-then-take_unread
-returns-then-take_unread c = λ q fs held. c.take_unread.ensures.taken c.if-take_unread.true q fs c.args.feature.now c.outline.ensures c.facts.ensures c.plain_id.ensures held
+returns-then-take_unread c = λ q fs held. c.take_unread.ensures.taken c.if-take_unread.true q fs c.args.feature.now c.outline.ensures c.facts.ensures c.unescaped_id.ensures held
 
 pub returns : goal.returns
 returns c = λ q fs held.

@@ -1,5 +1,5 @@
 use Rattle.std.proofs.Common.{subst, sym, ◌∙◌}
-use Rattle.streetmap_geojson.specs.Kept.{IsFeature}
+use Rattle.streetmap_geojson.specs.FeatureInvariant.{IsFeature}
 use Rattle.streetmap_feature_text.proofs.PackedFacts.{packed_view, packed_interval_made}
 use Rattle.streetmap_geojson.proofs.Facts.{retimed_is}
 use Rattle.streetmap_feature_text.proofs.packed.PackedFeature.facts.Goals as goal

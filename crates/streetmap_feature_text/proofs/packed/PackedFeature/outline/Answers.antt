@@ -6,7 +6,7 @@ use Rattle.streetmap_moment.specs.IntervalValue.{IntervalValue}
 use Rattle.streetmap_geojson.specs.FeatureValue.{FeatureValue}
 use Rattle.streetmap_feature_text.specs.Outlines.{OutlineValue, outline_of}
 use Rattle.streetmap_feature_text.specs.PackedIntervalView.{packed_interval_value}
-use Rattle.streetmap_feature_text.specs.declared.packed.Kept.{Kept}
+use Rattle.streetmap_feature_text.specs.declared.packed.Packing.{Packing}
 use Rattle.streetmap_feature_text.proofs.PackedFacts.{packed_view}
 use Rattle.streetmap_feature_text.proofs.packed.PackedFeature.outline.Goals as goal
 
@@ -18,5 +18,5 @@ returns c =
     let h = c.self.invariant in
     let is = sym (packed_view _ _ _ _ h) ∙ c.self.view_is in
     same_outline _ _ _ _
-    (ap (λ (k : Kept). option_map box_value k.extent) c.deref.ensures ∙ (h.reaches ∙ ap (λ (f : FeatureValue). option_map extent_of f.geometry) is))
-    (ap (λ (k : Kept). packed_interval_value k.time) c.deref-2.ensures ∙ ap (λ (f : FeatureValue). f.time) is)
+    (ap (λ (k : Packing). option_map box_value k.extent) c.deref.ensures ∙ (h.reaches ∙ ap (λ (f : FeatureValue). option_map extent_of f.geometry) is))
+    (ap (λ (k : Packing). packed_interval_value k.time) c.deref-2.ensures ∙ ap (λ (f : FeatureValue). f.time) is)

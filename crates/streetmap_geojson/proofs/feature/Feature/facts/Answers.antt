@@ -1,5 +1,5 @@
 use Rattle.std.proofs.Common.{subst}
-use Rattle.streetmap_geojson.specs.Kept.{IsFeature}
+use Rattle.streetmap_geojson.specs.FeatureInvariant.{IsFeature}
 use Rattle.streetmap_geojson.proofs.Facts.{feature_made, geometry_made, interval_made}
 use Rattle.streetmap_geojson.proofs.feature.Feature.facts.Goals as goal
 

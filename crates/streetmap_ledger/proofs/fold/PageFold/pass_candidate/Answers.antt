@@ -12,10 +12,10 @@ returns-in-Some-clause-passed c = λ _ q fs f is made named held.
       | else-not-behind w ↦ w.is_full.ensures.0 (cc (w.value-is))
     ] in
     let known = sym (c.in-Some-true.ensures f is made) ∙ c.in-Some-true.field-0-test in
-    c.pass.ensures q fs f held (ap (λ (v : QueryValue). selects v f) (sym held.asks) ∙ known)
+    c.count_hidden.ensures q fs f held (ap (λ (v : QueryValue). selects v f) (sym held.asks) ∙ known)
     (ap (λ (v : QueryValue). comes_after v.after f) (sym held.asks) ∙ sym (c.in-Some.ensures f named)) full
 
 pub returns-in-Some-false-clause-passed : goal.returns-in-Some-false-clause-passed
 returns-in-Some-false-clause-passed c = λ _ q fs f is made named held.
     let known = sym (c.in-Some-false.ensures f is made) ∙ c.in-Some-false.field-0-test in
-    c.leave.ensures q fs f held (ap (λ (v : QueryValue). selects v f) (sym held.asks) ∙ known)
+    c.skip_unselected.ensures q fs f held (ap (λ (v : QueryValue). selects v f) (sym held.asks) ∙ known)

@@ -7,7 +7,7 @@ use Rattle.streetmap_ledger.proofs.fold.PageFold.pass_hidden.Goals.{else-behind-
 
 pub returns-then-not-selects-clause-passed : goal.returns-then-not-selects-clause-passed
 returns-then-not-selects-clause-passed c = λ _ q fs held.
-    c.leave.ensures q fs c.args.feature.now held (ap (λ (v : QueryValue). selects v c.args.feature.now) (sym held.asks) ∙ (sym c.selects.ensures ∙ c.if-not-selects.true))
+    c.skip_unselected.ensures q fs c.args.feature.now held (ap (λ (v : QueryValue). selects v c.args.feature.now) (sym held.asks) ∙ (sym c.selects.ensures ∙ c.if-not-selects.true))
 
 pub returns-clause-passed : goal.returns-clause-passed
 returns-clause-passed c = λ _ q fs held.
@@ -15,5 +15,5 @@ returns-clause-passed c = λ _ q fs held.
       | else-behind-via-then-behind+else-not-is_full w ↦ w.is_full.ensures.0 w.if-not-is_full.false
       | else-behind-via-else-behind w ↦ cc (behind, w.if-behind.false)
     ] in
-    c.pass.ensures q fs c.args.feature.now held (ap (λ (v : QueryValue). selects v c.args.feature.now) (sym held.asks) ∙ (sym c.selects.ensures ∙ c.if-not-selects.false))
+    c.count_hidden.ensures q fs c.args.feature.now held (ap (λ (v : QueryValue). selects v c.args.feature.now) (sym held.asks) ∙ (sym c.selects.ensures ∙ c.if-not-selects.false))
     (ap (λ (v : QueryValue). comes_after v.after c.args.feature.now) (sym held.asks) ∙ sym c.comes_after-behind.ensures) full

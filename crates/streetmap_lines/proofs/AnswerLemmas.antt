@@ -1,0 +1,248 @@
+-- What is written for lines.
+use Rattle.std.proofs.Common.{◌≡◌, ℕ, ◌+◌, ◌≤◌, List, [], ◌∷◌, ◌++◌, length, take, drop, refl, sym, ap, subst, ◌∙◌, arith, append_assoc, append-nil, length-append, length-drop, take_all, ◌-◌, take-append-drop, Option, Some, None, option_map, IfSome, OnSome, IsSomeAnd, Result, Ok, Err, OnErr, OnOk, ◌≢◌, String, string_bytes, Global}
+use Rattle.std.proofs.Math.Seq.{take-append_seam, take-append-add, take-length}
+use Rattle.std.proofs.lemmas.List.{take-append-le}
+use Rattle.std.proofs.KnownBytes.{Appends-nil, Appends-trans, Appends-kept}
+use Rattle.std.proofs.Transfers.{starts_with_length}
+use Rattle.std.specs.Io.{StartsWith}
+use Rattle.std.specs.Io.KnownBytes.{Appends, Keeps, IsAtEnd}
+use Rattle.std.specs.Str.Lines.{lines}
+use Rattle.streetmap_ledger.specs.State.{State, opening_state}
+use Rattle.serde_json.specs.Data.{Data}
+use Rattle.serde_json.specs.Written.{compact_text}
+use Rattle.streetmap_memory.specs.Plain.{IsPlain, plain_state}
+use Rattle.streetmap_memory.specs.declared.plain.PlainKeeper.{PlainKeeper}
+use Rattle.std.specs.declared.alloc.AllocError.{AllocError}
+use Rattle.streetmap_lines.specs.AnswerView.{LineSays}
+use Rattle.streetmap_lines.specs.Answers.{answer_to}
+use Rattle.streetmap_lines.specs.Request.{request_in}
+use Rattle.streetmap_lines.specs.Lines.{line_answer, state_after, answer_text, answers_of, first_too_long, AppendsFirst, AnswersFirst}
+use Rattle.streetmap_lines.specs.Reading.{IsFirstLine, WhereKnown}
+
+-- ---- beginnings
+
+pub on_ok : {T E : Type 0} (r : Result T E) (P : Type 0) → P → OnOk r P
+on_ok (Ok x) P h = h
+on_ok (Err e) P h = tt
+
+pub on_err : {T E : Type 0} (r : Result T E) (P : Type 0) → P → OnErr r P
+on_err (Ok x) P h = tt
+on_err (Err e) P h = h
+
+starts-longer : (xs ys first : List ℕ) → StartsWith xs first → StartsWith (xs ++ ys) first
+starts-longer xs ys first h =
+    let within : length first ≤ length xs = starts_with_length xs first h in
+    take-append-le (length first) xs ys within ∙ h
+
+starts-behind : (xs ys first : List ℕ) → StartsWith ys first → StartsWith (xs ++ ys) (xs ++ first)
+starts-behind xs ys first h =
+    ap (λ n. take n (xs ++ ys)) (length-append xs first) ∙ take-append-add xs ys (length first) ∙ ap (λ l. xs ++ l) h
+
+pub first_longer : (a b : Option (List ℕ)) (xs ys : List ℕ) → AppendsFirst a b xs → AppendsFirst a b (xs ++ ys)
+first_longer a b xs ys h = (h.0, starts-longer xs ys h.0 h.1, h.2)
+
+pub first_behind : (a b c : Option (List ℕ)) (xs ys : List ℕ) → Appends a b xs → AppendsFirst b c ys → AppendsFirst a c (xs ++ ys)
+first_behind a b c xs ys p h = (xs ++ h.0, starts-behind xs ys h.0 h.1, Appends-trans a b c xs h.0 p h.2)
+
+pub first_all : (a b : Option (List ℕ)) (xs : List ℕ) → Appends a b xs → AppendsFirst a b xs
+first_all a b xs h = (xs, take-length xs, h)
+
+-- ---- bytes that are written in part
+
+pub record IsPartWritten (a b : Option (List ℕ)) (bytes rest : List ℕ) : Type 0 where
+  pub front : List ℕ
+  pub whole : bytes ≡ front ++ rest
+  pub written : Appends a b front
+
+pub part_none : (a : Option (List ℕ)) (bytes : List ℕ) → IsPartWritten a a bytes bytes
+part_none a bytes = record { front = []; whole = refl; written = Appends-nil a }
+
+pub part_more : (a b c : Option (List ℕ)) (bytes rest : List ℕ) (n : ℕ) → IsPartWritten a b bytes rest → Appends b c (take n rest) → IsPartWritten a c bytes (drop n rest)
+part_more a b c bytes rest n p h = record {
+  front = p.front ++ take n rest;
+  whole = p.whole ∙ ap (λ l. p.front ++ l) (sym (take-append-drop n rest)) ∙ sym (append_assoc p.front (take n rest) (drop n rest));
+  written = Appends-trans a b c p.front (take n rest) p.written h;
+}
+
+-- the rest as a slice: what stands from n on, up to the end
+pub part_sliced : (a b c : Option (List ℕ)) (bytes rest : List ℕ) (n : ℕ) → IsPartWritten a b bytes rest → Appends b c (take n rest)
+    → IsPartWritten a c bytes (take (length rest - n) (drop n rest))
+part_sliced a b c bytes rest n p h =
+    let whole : take (length rest - n) (drop n rest) ≡ drop n rest = take_all (length rest - n) (drop n rest) (omega (arith, length-drop n rest)) in
+    subst (IsPartWritten a c bytes) (sym whole) (part_more a b c bytes rest n p h)
+
+pub part_kept : (a b c : Option (List ℕ)) (bytes rest : List ℕ) → IsPartWritten a b bytes rest → Keeps b c → IsPartWritten a c bytes rest
+part_kept a b c bytes rest p h = record { front = p.front; whole = p.whole; written = Appends-kept a b c p.front p.written h }
+
+pub part_all : (a b : Option (List ℕ)) (bytes rest : List ℕ) → IsPartWritten a b bytes rest → rest ≡ [] → Appends a b bytes
+part_all a b bytes rest p none =
+    subst (Appends a b) (sym (p.whole ∙ ap (λ l. p.front ++ l) none ∙ append-nil p.front)) p.written
+
+pub part_first : (a b : Option (List ℕ)) (bytes rest : List ℕ) → IsPartWritten a b bytes rest → AppendsFirst a b bytes
+part_first a b bytes rest p = (p.front, ap (take (length p.front)) p.whole ∙ take-append_seam p.front rest, p.written)
+
+-- ---- answers
+
+-- the text of an answer, where there is one, and the state that the keeper stands for after it
+pub record IsLineAnswer (s : State) (line : List ℕ) (text : Option (String Global)) (keeper : PlainKeeper) : Type 0 where
+  pub said : option_map string_bytes text ≡ option_map compact_text (line_answer s line)
+  pub state : IsPlain keeper (state_after s line)
+
+empty-answer : (s : State) (keeper : PlainKeeper) (o : Option (String Global)) → None ≡ o → IsPlain keeper s → IsLineAnswer s [] o keeper
+empty-answer s keeper None h stands = record { said = refl; state = stands }
+empty-answer s keeper (Some text) h stands = cc
+
+some-answer : (s : State) (keeper : PlainKeeper) (b : ℕ) (bs : List ℕ) (o : Option (String Global)) → LineSays s (answer_to s (request_in (b ∷ bs))) (Ok o) keeper → IsLineAnswer s (b ∷ bs) o keeper
+some-answer s keeper b bs None h = absurd h
+some-answer s keeper b bs (Some text) h = record { said = ap Some h.0; state = h.1 }
+
+-- what is answered without a text
+none-text : (o : Option (String Global)) → ◌≡◌ {A = Result (Option (String Global)) AllocError} (Ok o) (Ok None) → None ≡ o
+none-text o e = cc
+
+pub line_answered : (s : State) (old keeper : PlainKeeper) (line : List ℕ) (o : Option (String Global)) → IsPlain old s
+    → (line ≢ [] → LineSays s (answer_to s (request_in line)) (Ok o) keeper)
+    → (line ≡ [] → (◌≡◌ {A = Result (Option (String Global)) AllocError} (Ok o) (Ok None)) × ((t : State) → IsPlain old t → IsPlain keeper t)) → IsLineAnswer s line o keeper
+line_answered s old keeper [] o stands h k = empty-answer s keeper o (none-text o (k refl).0) ((k refl).1 s stands)
+line_answered s old keeper (b ∷ bs) o stands h k = some-answer s keeper b bs o (h (λ e. cc))
+
+-- a keeper that stands for a state stands for that of its maps
+pub stands_for_own : (keeper : PlainKeeper) (s : State) → IsPlain keeper s → IsPlain keeper (plain_state keeper)
+stands_for_own keeper s h = subst (IsPlain keeper) (sym h.is) h
+
+-- an answer with its line feed, or nothing
+pub said_text : (body : Option Data) (text : List ℕ) → Some text ≡ option_map compact_text body → text ++ 10 ∷ [] ≡ answer_text body
+said_text None text e = cc
+said_text (Some body) text e = let same : text ≡ compact_text body = cc in ap (λ l. l ++ 10 ∷ []) same
+
+pub said_none : (body : Option Data) → None ≡ option_map compact_text body → [] ≡ answer_text body
+said_none None e = refl
+said_none (Some body) e = cc
+
+abbrev pub state_after_all : State → List (List ℕ) → State
+state_after_all s [] = s
+state_after_all s (line ∷ more) = state_after_all (state_after s line) more
+
+answers_of-append : (s : State) (xs ys : List (List ℕ)) → answers_of s (xs ++ ys) ≡ answers_of s xs ++ answers_of (state_after_all s xs) ys
+answers_of-append s [] ys = refl
+answers_of-append s (x ∷ xs) ys =
+    let first = answer_text (line_answer s x) in
+    ap (λ l. first ++ l) (answers_of-append (state_after s x) xs ys) ∙ sym (append_assoc first (answers_of (state_after s x) xs) (answers_of (state_after_all (state_after s x) xs) ys))
+
+state_after_all-push : (s : State) (xs : List (List ℕ)) (x : List ℕ) → state_after_all s (xs ++ x ∷ []) ≡ state_after (state_after_all s xs) x
+state_after_all-push s [] x = refl
+state_after_all-push s (y ∷ ys) x = state_after_all-push (state_after s y) ys x
+
+-- the first lines of the input are answered
+pub record IsAnswered (input rest : List ℕ) (old new : Option (List ℕ)) (s : State) : Type 0 where
+  pub done : List (List ℕ)
+  pub all : lines input ≡ done ++ lines rest
+  pub short : first_too_long input ≡ option_map (λ n. length done + n) (first_too_long rest)
+  pub state : s ≡ state_after_all opening_state done
+  pub written : Appends old new (answers_of opening_state done)
+
+none-done : (o : Option ℕ) → o ≡ option_map (λ n. 0 + n) o
+none-done None = refl
+none-done (Some n) = let e : n ≡ 0 + n = omega arith in ap Some e
+
+pub answered_none : (a w : Option (List ℕ)) (s : State) → s ≡ opening_state → WhereKnown a a (λ input rest. IsAnswered input rest w w s)
+answered_none None w s e = tt
+answered_none (Some input) w s e = record { done = []; all = refl; short = none-done (first_too_long input); state = e; written = Appends-nil w }
+
+more-done : (m : ℕ) (o : Option ℕ) → option_map (λ n. m + n) (option_map (λ n. 1 + n) o) ≡ option_map (λ n. (m + 1) + n) o
+more-done m None = refl
+more-done m (Some n) = let e : m + (1 + n) ≡ (m + 1) + n = omega arith in ap Some e
+
+line-done : (input rest later line : List ℕ) (old w1 w2 : Option (List ℕ)) (s t : State) → IsAnswered input rest old w1 s → IsFirstLine rest line later
+    → Appends w1 w2 (answer_text (line_answer s line)) → t ≡ state_after s line → IsAnswered input later old w2 t
+line-done input rest later line old w1 w2 s t h f w e =
+    let done = h.done ++ line ∷ [] in
+    let before = answers_of opening_state h.done in
+    let this = answer_text (line_answer s line) in
+    let here : before ++ this ≡ answers_of opening_state done =
+    ap (λ x. before ++ answer_text (line_answer x line)) h.state
+    ∙ ap (λ l. before ++ l) (sym (append-nil (answer_text (line_answer (state_after_all opening_state h.done) line))))
+    ∙ sym (answers_of-append opening_state h.done (line ∷ [])) in
+    let counted : length done ≡ length h.done + 1 = length-append h.done (line ∷ []) in
+    record {
+      done = done;
+      all = h.all ∙ ap (λ l. h.done ++ l) f.first ∙ sym (append_assoc h.done (line ∷ []) (lines later));
+      short = h.short ∙ ap (option_map (λ n. length h.done + n)) f.short ∙ more-done (length h.done) (first_too_long later)
+          ∙ ap (λ m. option_map (λ n. m + n) (first_too_long later)) (sym counted);
+      state = e ∙ ap (λ x. state_after x line) h.state ∙ sym (state_after_all-push opening_state h.done line);
+      written = subst (Appends old w2) here (Appends-trans old w1 w2 before this h.written w);
+    }
+
+-- one more line is answered
+pub answered_more : (a b c old w1 w2 : Option (List ℕ)) (line : List ℕ) (s t : State) → WhereKnown a b (λ input rest. IsAnswered input rest old w1 s)
+    → WhereKnown b c (λ input rest. IsFirstLine input line rest) → Appends w1 w2 (answer_text (line_answer s line)) → t ≡ state_after s line
+    → WhereKnown a c (λ input rest. IsAnswered input rest old w2 t)
+answered_more None b c old w1 w2 line s t h f w e = tt
+answered_more (Some input) None c old w1 w2 line s t h f w e = absurd h
+answered_more (Some input) (Some rest) None old w1 w2 line s t h f w e = absurd f
+answered_more (Some input) (Some rest) (Some later) old w1 w2 line s t h f w e = line-done input rest later line old w1 w2 s t h f w e
+
+-- nothing is left to be answered
+pub answered_all : (a b old w : Option (List ℕ)) (s : State) → WhereKnown a b (λ input rest. IsAnswered input rest old w s) → IsAtEnd b
+    → IfSome a (λ input. Appends old w (answers_of opening_state (lines input)))
+answered_all None b old w s h end = tt
+answered_all (Some input) None old w s h end = absurd h
+answered_all (Some input) (Some rest) old w s h end =
+    subst (λ ls. Appends old w (answers_of opening_state ls)) (sym (h.all ∙ ap (λ r. h.done ++ lines r) end ∙ append-nil h.done)) h.written
+
+pub answered_short : (a b old w : Option (List ℕ)) (s : State) → WhereKnown a b (λ input rest. IsAnswered input rest old w s) → IsAtEnd b
+    → IfSome a (λ input. first_too_long input ≡ None)
+answered_short None b old w s h end = tt
+answered_short (Some input) None old w s h end = absurd h
+answered_short (Some input) (Some rest) old w s h end = h.short ∙ ap (λ r. option_map (λ n. length h.done + n) (first_too_long r)) end
+
+pub answered_whole : (a b c old w : Option (List ℕ)) (s : State) → WhereKnown a b (λ input rest. IsAnswered input rest old w s) → Keeps b c → IsAtEnd b
+    → OnSome a (IsAtEnd c)
+answered_whole None b c old w s h k end = tt
+answered_whole (Some input) None c old w s h k end = absurd h
+answered_whole (Some input) (Some rest) None old w s h k end = absurd k
+answered_whole (Some input) (Some rest) (Some later) old w s h k end = k ∙ end
+
+-- the answers so far, and no more
+pub answered_first : (a b old w : Option (List ℕ)) (s : State) → WhereKnown a b (λ input rest. IsAnswered input rest old w s)
+    → IfSome a (λ input. AnswersFirst old w opening_state (lines input))
+answered_first None b old w s h = tt
+answered_first (Some input) None old w s h = absurd h
+answered_first (Some input) (Some rest) old w s h =
+    (length h.done, subst (λ ls. Appends old w (answers_of opening_state ls)) (sym (ap (take (length h.done)) h.all ∙ take-append_seam h.done (lines rest))) h.written)
+
+pub answered_too_long : (a b old w : Option (List ℕ)) (s : State) → WhereKnown a b (λ input rest. IsAnswered input rest old w s)
+    → IfSome b (λ rest. first_too_long rest ≡ Some 0)
+    → IfSome a (λ input. IsSomeAnd (first_too_long input) (λ count. Appends old w (answers_of opening_state (take count (lines input)))))
+answered_too_long None b old w s h long = tt
+answered_too_long (Some input) None old w s h long = absurd h
+answered_too_long (Some input) (Some rest) old w s h long =
+    let count : length h.done + 0 ≡ length h.done = omega arith in
+    let found : first_too_long input ≡ Some (length h.done) = h.short ∙ ap (option_map (λ n. length h.done + n)) long ∙ ap Some count in
+    subst (λ o. IsSomeAnd o (λ count. Appends old w (answers_of opening_state (take count (lines input))))) (sym found)
+    (subst (λ ls. Appends old w (answers_of opening_state ls)) (sym (ap (take (length h.done)) h.all ∙ take-append_seam h.done (lines rest))) h.written)
+
+rest-written : (input rest : List ℕ) (old w v : Option (List ℕ)) (s : State) → IsAnswered input rest old w s → AppendsFirst w v (answers_of s (lines rest))
+    → AppendsFirst old v (answers_of opening_state (lines input))
+rest-written input rest old w v s h f =
+    subst (AppendsFirst old v)
+    (ap (λ x. answers_of opening_state h.done ++ answers_of x (lines rest)) h.state ∙ sym (answers_of-append opening_state h.done (lines rest)) ∙ ap (answers_of opening_state) (sym h.all))
+    (first_behind old w v (answers_of opening_state h.done) (answers_of s (lines rest)) h.written f)
+
+-- what was written is the beginning of the answers
+pub answered_begun : (a b old w : Option (List ℕ)) (s : State) → WhereKnown a b (λ input rest. IsAnswered input rest old w s)
+    → IfSome a (λ input. AppendsFirst old w (answers_of opening_state (lines input)))
+answered_begun None b old w s h = tt
+answered_begun (Some input) None old w s h = absurd h
+answered_begun (Some input) (Some rest) old w s h = rest-written input rest old w w s h ([], refl, Appends-nil w)
+
+-- so is what was written where the answer to a line was written in part
+pub answered_partly : (a b c old w v : Option (List ℕ)) (line : List ℕ) (s : State) → WhereKnown a b (λ input rest. IsAnswered input rest old w s)
+    → WhereKnown b c (λ input rest. IsFirstLine input line rest) → AppendsFirst w v (answer_text (line_answer s line))
+    → IfSome a (λ input. AppendsFirst old v (answers_of opening_state (lines input)))
+answered_partly None b c old w v line s h f p = tt
+answered_partly (Some input) None c old w v line s h f p = absurd h
+answered_partly (Some input) (Some rest) None old w v line s h f p = absurd f
+answered_partly (Some input) (Some rest) (Some later) old w v line s h f p =
+    rest-written input rest old w v s h
+    (subst (λ ls. AppendsFirst w v (answers_of s ls)) (sym f.first) (first_longer w v (answer_text (line_answer s line)) (answers_of (state_after s line) (lines later)) p))

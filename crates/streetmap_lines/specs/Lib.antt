@@ -1,0 +1,7 @@
+pub mod AnswerView
+pub mod Answers
+pub mod Lines
+pub mod Reading
+pub mod Request
+pub mod RequestView
+pub mod Faults

@@ -1,0 +1,56 @@
+-- The lines of the input, and what is written for them.
+use Rattle.std.specs.Prelude.{ℕ, Bool, List, [], ◌∷◌, ◌++◌, Option, None, Some, length, nat_lt, take, ◌==◌}
+use Rattle.std.specs.List.{slice_split, position}
+use Rattle.std.specs.Io.{StartsWith}
+use Rattle.std.specs.Io.KnownBytes.{Appends}
+use Rattle.serde_json.specs.Data.{Data}
+use Rattle.serde_json.specs.Written.{compact_text}
+use Rattle.streetmap_ledger.specs.State.{State}
+use Rattle.streetmap_lines.specs.Answers.{answer_to}
+use Rattle.streetmap_lines.specs.Request.{request_in}
+
+-- ---- answers
+
+-- what a line is answered in this state; an empty line is passed over
+abbrev pub line_answer : State → List ℕ → Option Data
+line_answer s [] = None
+line_answer s (b ∷ bs) = Some (answer_to s (request_in (b ∷ bs))).body
+
+-- the state after a line
+abbrev pub state_after : State → List ℕ → State
+state_after s [] = s
+state_after s (b ∷ bs) = (answer_to s (request_in (b ∷ bs))).state
+
+-- how an answer is written: its compact JSON text, and a line feed
+abbrev pub answer_text : Option Data → List ℕ
+answer_text None = []
+answer_text (Some body) = compact_text body ++ 10 ∷ []
+
+-- the answers to lines, in order: each line is answered in the state after the ones before it
+abbrev pub answers_of : State → List (List ℕ) → List ℕ
+answers_of s [] = []
+answers_of s (line ∷ lines) = answer_text (line_answer s line) ++ answers_of (state_after s line) lines
+
+-- ---- too long lines
+
+-- what stands between the line feeds: the lines, with their carriage returns
+abbrev pub raw_lines : List ℕ → List (List ℕ)
+raw_lines input = slice_split (λ b. b == 10) input
+
+-- a line of more than 8,388,608 bytes, its line feed not counted
+abbrev pub is_too_long : List ℕ → Bool
+is_too_long line = nat_lt 8388608 (length line)
+
+-- how many lines stand before the first that is too long, where there is one
+abbrev pub first_too_long : List ℕ → Option ℕ
+first_too_long input = position is_too_long (raw_lines input)
+
+-- ---- writing that ends early
+
+-- the first of these bytes were written, and nothing else
+abbrev pub AppendsFirst : Option (List ℕ) → Option (List ℕ) → List ℕ → Type 0
+AppendsFirst old new bytes = (first : List ℕ) × StartsWith bytes first × Appends old new first
+
+-- the answers to the first of these lines were written, and nothing else
+abbrev pub AnswersFirst : Option (List ℕ) → Option (List ℕ) → State → List (List ℕ) → Type 0
+AnswersFirst old new s lines = (count : ℕ) × Appends old new (answers_of s (take count lines))

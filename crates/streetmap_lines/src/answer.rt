@@ -1,0 +1,159 @@
+//! Lines, answered over a ledger in memory.
+ghost use Rattle.std.specs.Prelude.{◌≡◌, ◌≢◌, ◌≤◌, ◌+◌, ◌++◌, IfOk, Ok, None, option_map, string_bytes, string_len, string_capacity, []};
+ghost use Rattle.std.specs.Option.{option_copied};
+ghost use Rattle.serde_json.specs.Written.{compact_text};
+ghost use Rattle.streetmap_query.specs.Query.{query_of};
+ghost use Rattle.streetmap_batch.specs.BatchReading.{batch_of};
+ghost use Rattle.streetmap_batch.specs.BatchView.{batch_value};
+ghost use Rattle.streetmap_ledger.specs.State.{State};
+ghost use Rattle.streetmap_memory.specs.Plain.{IsPlain as IsPlainState};
+ghost use Rattle.streetmap_ledger.specs.Pages.{feature_in};
+ghost use Rattle.streetmap_bodies.specs.RequestFaults.{fault_body};
+ghost use Rattle.streetmap_lines.specs.Answers.{answer_to, batch_answer, page_body, found_feature, unknown_command};
+ghost use Rattle.streetmap_lines.specs.AnswerView.{SaysOr, LineSays, ActsOr};
+ghost use Rattle.streetmap_lines.specs.Request.{request_in, Text};
+ghost use Rattle.streetmap_lines.specs.RequestView.{request_value};
+
+use crate::request::{Request, read_request};
+use std::alloc::{AllocError, Global};
+use streetmap_ledger::{Batch, BatchFault, Fault, Keeper, Reply, read_batch};
+use streetmap_memory::PlainKeeper;
+use streetmap_query::{QueryFault, read_query};
+use streetmap_bodies::{
+    RequestFault, line_feature_text, line_page_text, push_error, push_fault, push_reply_body,
+};
+
+/// The room that is taken for an answer to a batch before the batch is applied, in bytes.
+const ROOM: usize = 1024;
+
+/// An empty text with room for an answer that takes no more memory.
+fn room(alloc: Global) -> Result<String, AllocError>
+    ensures empty { IfOk result (λ text. string_bytes text ≡ []) }
+    ensures wide { IfOk result (λ text. string_len text + 1024 ≤ string_capacity text) }
+{
+    String::with_capacity(alloc, ROOM)
+}
+
+/// The text of an error.
+fn fault_text(alloc: Global, fault: RequestFault) -> Result<String, AllocError>
+    ensures { IfOk result (λ text. string_bytes text ≡ compact_text (fault_body fault)) }
+{
+    let mut answer = room(alloc)?;
+    push_fault(&mut answer, &fault);
+    Ok(answer)
+}
+
+fn unknown_command_text(alloc: Global) -> Result<String, AllocError>
+    ensures { IfOk result (λ text. string_bytes text ≡ compact_text unknown_command) }
+{
+    let mut answer = room(alloc)?;
+    push_error(&mut answer, "bad_command", "The command is not known.", None, None);
+    Ok(answer)
+}
+
+/// Applies a batch. In memory nothing but memory can be wanting.
+fn apply(keeper: &mut PlainKeeper, batch: &Batch) -> Result<Reply, AllocError>
+    ensures { (s : State) → IsPlainState keeper.old s → ActsOr s (batch_value batch.now) result keeper.new }
+{
+    match keeper.apply(batch) {
+        Ok(reply) => Ok(reply),
+        Err(_) => Err(AllocError),
+    }
+}
+
+/// The answer to a batch, in room that was taken before it is applied.
+fn answer_batch(alloc: Global, keeper: &mut PlainKeeper, text: &str) -> Result<String, AllocError>
+    ensures { (s : State) → IsPlainState keeper.old s → SaysOr s (batch_answer s (batch_of text.now)) result keeper.new }
+{
+    let mut answer = room(alloc)?;
+    match read_batch(alloc, text.as_bytes()) {
+        Ok(batch) => {
+            let reply = apply(keeper, &batch)?;
+            push_reply_body(&mut answer, &batch, reply);
+            Ok(answer)
+        }
+        Err(BatchFault::Memory) => Err(AllocError),
+        Err(fault) => {
+            push_fault(&mut answer, &RequestFault::Batch(fault));
+            Ok(answer)
+        }
+    }
+}
+
+/// The answer to a page.
+fn answer_page(
+    alloc: Global,
+    keeper: &mut PlainKeeper,
+    collection: &str,
+    query: Option<&str>,
+) -> Result<String, AllocError>
+    ensures { (s : State) → IsPlainState keeper.old s → SaysOr s (record { body = page_body s collection.now (query_of (option_copied query.entry)); state = s }) result keeper.new }
+{
+    match read_query(alloc, query) {
+        Ok(query) => match keeper.page(collection, &query) {
+            Ok(Some(page)) => line_page_text(alloc, &page),
+            Ok(None) => fault_text(alloc, RequestFault::NotFound),
+            Err(_) => Err(AllocError),
+        },
+        Err(QueryFault::Memory) => Err(AllocError),
+        Err(fault) => fault_text(alloc, RequestFault::Query(fault)),
+    }
+}
+
+/// The answer to a look-up of a feature.
+fn answer_feature(
+    alloc: Global,
+    keeper: &mut PlainKeeper,
+    collection: &str,
+    id: &str,
+) -> Result<String, AllocError>
+    ensures { (s : State) → IsPlainState keeper.old s → SaysOr s (record { body = found_feature (feature_in s collection.now id.now); state = s }) result keeper.new }
+{
+    match keeper.feature(collection, id) {
+        Ok(Some(feature)) => line_feature_text(alloc, &feature),
+        Ok(None) => fault_text(alloc, RequestFault::NotFound),
+        Err(_) => Err(AllocError),
+    }
+}
+
+/// The answer to a request, or to a line that asks for nothing.
+#[tactic(auto, unfolding(crate::specs::Answers::answer_to))]
+fn answer_request(
+    alloc: Global,
+    keeper: &mut PlainKeeper,
+    request: Option<Request<'_>>,
+) -> Result<String, AllocError>
+    ensures { (s : State) → IsPlainState keeper.old s → SaysOr s (answer_to s (option_map request_value request.entry)) result keeper.new }
+{
+    match request {
+        Some(Request::Batch { text }) => answer_batch(alloc, keeper, text),
+        Some(Request::Page { collection, query }) => answer_page(alloc, keeper, collection, query),
+        Some(Request::Feature { collection, id }) => answer_feature(alloc, keeper, collection, id),
+        None => unknown_command_text(alloc),
+    }
+}
+
+/// Answers a line, without its line feed: the reply to a batch, a page, a feature or an error, as
+/// compact JSON. An empty line is not answered.
+///
+/// # Errors
+///
+/// Want of memory. The ledger is then as it was, and the line may be answered again. Once a batch
+/// was applied no memory is taken, so it is always answered.
+pub fn answer_line(
+    alloc: Global,
+    keeper: &mut PlainKeeper,
+    line: &[u8],
+) -> Result<Option<String>, AllocError>
+    // The text and the state afterwards are those of what the line asks for, in the state before;
+    // after want of memory the state is the one before.
+    ensures answered { (s : State) → IsPlainState keeper.old s → line.now ≢ [] → LineSays s (answer_to s (request_in line.now)) result keeper.new }
+    // An empty line is passed over.
+    ensures empty { line.now ≡ [] → (result ≡ Ok None) × ((s : State) → IsPlainState keeper.old s → IsPlainState keeper.new s) }
+{
+    if line.is_empty() {
+        return Ok(None);
+    }
+    let request = read_request(line);
+    Ok(Some(answer_request(alloc, keeper, request)?))
+}
