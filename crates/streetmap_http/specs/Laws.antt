@@ -1,12 +1,23 @@
 -- What holds of heads and streams, whatever the code does.
-use Rattle.std.specs.Prelude.{◌≡◌, ℕ, ◌+◌, ◌-◌, ◌<◌, ◌≤◌, List, ◌++◌, length, ◌⊎◌}
+use Rattle.std.specs.Prelude.{◌≡◌, ℕ, ◌+◌, ◌-◌, ◌<◌, ◌≤◌, List, ◌++◌, length, ◌⊎◌, ◌↔◌}
 use Rattle.streetmap_http.specs.Head.{IsHead}
+use Rattle.streetmap_http.specs.HeadByLines.{IsLinesOfHead}
+use Rattle.streetmap_http.specs.Lines.{field_lines}
+use Rattle.streetmap_http.specs.declared.limits.TheConstants.{HEAD_LIMIT}
 use Rattle.streetmap_http.specs.Framing.{Framing, Frames}
 use Rattle.streetmap_http.specs.Streams as streams
 use Rattle.streetmap_http.specs.Streams.{StreamEnd, Front, IsFront, BeginsWithAll, IsCut}
 use Rattle.streetmap_http.specs.Arrivals.{HasScanned, HoldsOf}
 use Rattle.streetmap_http.specs.declared.arrival.HeadScan.{HeadScan}
 use Rattle.streetmap_http.specs.declared.arrival.Arrival.TheVariants.{Request, Body}
+
+-- the bytes of a head are empty lines, one or more lines that are not, and an empty line
+abbrev pub HeadsAreLines : Type 0
+HeadsAreLines = (bytes : List ℕ) → IsHead bytes ↔ ((length bytes ≤ HEAD_LIMIT) × ((lines : List (List ℕ)) × IsLinesOfHead bytes lines))
+
+-- the field lines of a head are its lines but the request line
+abbrev pub FieldLinesAreLines : Type 0
+FieldLinesAreLines = (bytes : List ℕ) (lines : List (List ℕ)) → IsLinesOfHead bytes lines → length lines ≡ 1 + field_lines bytes
 
 -- a stream begins with at most one head, whatever follows
 abbrev pub BeginsWithOneHead : Type 0
