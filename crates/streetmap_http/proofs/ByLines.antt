@@ -295,7 +295,7 @@ ends_there StartCr b h e = on_byte (λ c. step StartCr c ≡ Done → EndsThere 
 ends_there Done b h e = absurd (h refl)
 
 -- bytes that are not empty, by their last
-by_last : (bytes : List ℕ) → 0 < length bytes → bytes ≡ take (length bytes - 1) bytes ++ get_or bytes (length bytes - 1) 0 ∷ []
+pub by_last : (bytes : List ℕ) → 0 < length bytes → bytes ≡ take (length bytes - 1) bytes ++ get_or bytes (length bytes - 1) 0 ∷ []
 by_last bytes some =
     let all : take (length bytes - 1 + 1) bytes ≡ bytes = take_all (length bytes - 1 + 1) bytes (omega arith) in
     sym all ∙ take_more bytes (length bytes - 1) 0 (omega arith)
