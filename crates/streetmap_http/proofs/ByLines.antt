@@ -11,7 +11,6 @@ use Rattle.streetmap_http.specs.declared.head.HeadProgress.TheVariants.{Blank, B
 use Rattle.streetmap_http.specs.Head.{step, progress_after, IsHead}
 use Rattle.streetmap_http.specs.HeadByLines.{HasNoLineFeed, IsEmptyText, nothing, carriage_return, IsLineText, lines_of, IsLinesOfHead}
 use Rattle.streetmap_http.specs.Lines.{ends_text, text_lines, field_lines}
-use Rattle.streetmap_http.proofs.FieldLines.{lines_append}
 use Rattle.streetmap_http.proofs.Heads.{progress_append, done_stays, progress_after_more, front_of_more}
 
 -- a byte is a line feed, a carriage return, or another
@@ -24,7 +23,7 @@ on_byte P feed return other b = elim (cases_order b 10) [
   ]
 ]
 
-other_than : (b n : ℕ) → b ≢ n → (b == n) ≡ false
+pub other_than : (b n : ℕ) → b ≢ n → (b == n) ≡ false
 other_than b n h = grind (arith, common_steps)
 
 -- ---- from the lines to the bytes
@@ -195,7 +194,7 @@ not_empty b text k (nothing e) = cc
 not_empty b text k (carriage_return e) = k (same_head b 13 text [] e)
 
 -- a line whose text begins with another byte than a carriage return, or with two bytes
-full_by_first : (b : ℕ) (text : List ℕ) → b ≢ 10 → b ≢ 13 → HasNoLineFeed text → IsLineText (b ∷ text)
+pub full_by_first : (b : ℕ) (text : List ℕ) → b ≢ 10 → b ≢ 13 → HasNoLineFeed text → IsLineText (b ∷ text)
 full_by_first b text h k one_line = record { one_line = All-cons (λ x. x ≢ 10) b text h one_line; not_empty = not_empty b text k }
 
 not_empty_two : (b : ℕ) (text : List ℕ) → IsEmptyText (13 ∷ (b ∷ text)) → ⊥
@@ -333,6 +332,10 @@ pub heads_are_lines : (bytes : List ℕ) → IsHead bytes ↔ ((length bytes ≤
 heads_are_lines bytes = (λ h. (h.short, lines_of_head bytes h), λ (short, (lines, h)). head_of_lines bytes lines short h)
 
 -- ---- how many field lines there are
+
+lines_append : (p : HeadProgress) (xs ys : List ℕ) → text_lines p (xs ++ ys) ≡ text_lines p xs + text_lines (progress_after p xs) ys
+lines_append p [] ys = omega arith
+lines_append p (x ∷ xs) ys = omega (arith, lines_append (step p x) xs ys)
 
 none_ends : (p : HeadProgress) (b : ℕ) → b ≢ 10 → ends_text p b ≡ 0
 none_ends Blank b h = refl

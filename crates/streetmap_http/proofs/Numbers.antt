@@ -1,8 +1,7 @@
 -- Numbers of any length are the same where their digits behind the zeros at the front are.
-use Rattle.std.proofs.Common.{◌≡◌, ◌≢◌, ℕ, ◌+◌, ◌*◌, ◌-◌, ◌<◌, ◌≤◌, ◌∙◌, List, [], ◌∷◌, ◌++◌, length, take, get_or, Bool, true, false, refl, sym, ap, subst, arith, suc, zero, length-append, inl, inr, ◌↔◌}
+use Rattle.std.proofs.Common.{◌≡◌, ◌≢◌, ℕ, ◌+◌, ◌*◌, ◌-◌, ◌<◌, ◌≤◌, ◌∙◌, List, [], ◌∷◌, ◌++◌, length, take, get_or, Bool, true, false, refl, sym, ap, subst, arith, suc, zero, length-append, inl, inr}
 use Rattle.std.proofs.lemmas.Bool.{cases_order}
-use Rattle.std.proofs.lemmas.Bool.Decides.{nat_tests}
-use Rattle.std.proofs.lemmas.Grind.{common_steps}
+use Rattle.std.proofs.lemmas.Bool.Decides.{nat_tests, same_from_decides}
 use Rattle.std.proofs.lemmas.Int.Digits.{digits_value_push}
 use Rattle.std.proofs.lemmas.List.{get_or_append_left}
 use Rattle.std.proofs.lemmas.Slice.Eq.{bytes_eq-Decides}
@@ -12,7 +11,7 @@ use Rattle.std.specs.Str.{all_ascii_digits, bytes_eq}
 use Rattle.std.specs.Str.Parse.{digits_value}
 use Rattle.streetmap_http.specs.Lengths.{is_number, number_of, behind_zeros, is_same_number}
 use Rattle.streetmap_http.proofs.Digits.{digit_counts}
-use Rattle.streetmap_http.proofs.ByLines.{by_last}
+use Rattle.streetmap_http.proofs.ByLines.{by_last, other_than}
 
 abbrev AreDigits : List ℕ → Type 0
 AreDigits text = all_ascii_digits text ≡ true
@@ -98,26 +97,17 @@ pub record Stripped (text : List ℕ) : Type 0 where
   pub begins : BeginsAboveZero (behind_zeros text)
   pub same : digits_value 10 (behind_zeros text) ≡ digits_value 10 text
 
-other_than : (b n : ℕ) → b ≢ n → (b == n) ≡ false
-other_than b n h = grind (arith, common_steps)
-
 stripped : (text : List ℕ) → AreDigits text → Stripped text
 unfolding behind_zeros
 stripped [] all = record { digits = refl; begins = λ some. absurd (omega arith); same = refl }
 stripped (x ∷ xs) all = elim (cases_order x 48) [
   | inl zero_first ↦ subst (λ c. Stripped (c ∷ xs)) (sym zero_first)
-    (let s = stripped xs (both_true (is_ascii_digit x) (all_ascii_digits xs) all).1 in record { digits = s.digits; begins = s.begins; same = s.same })
+      (let s = stripped xs (both_true (is_ascii_digit x) (all_ascii_digits xs) all).1 in record { digits = s.digits; begins = s.begins; same = s.same })
   | inr apart ↦
-    let h : x ≢ 48 = λ e. elim apart [ inl k ↦ omega (arith, e) | inr k ↦ omega (arith, e) ] in
-    let kept : behind_zeros (x ∷ xs) ≡ x ∷ xs = rw (other_than x 48 h) refl in
-    record { digits = subst AreDigits (sym kept) all; begins = subst BeginsAboveZero (sym kept) (λ some e. h e); same = ap (digits_value 10) kept }
+      let h : x ≢ 48 = λ e. elim apart [ inl k ↦ omega (arith, e) | inr k ↦ omega (arith, e) ] in
+      let kept : behind_zeros (x ∷ xs) ≡ x ∷ xs = rw (other_than x 48 h) refl in
+      record { digits = subst AreDigits (sym kept) all; begins = subst BeginsAboveZero (sym kept) (λ some e. h e); same = ap (digits_value 10) kept }
 ]
-
-decided : (r s : Bool) (P : Type 0) → (IsTrue r ↔ P) → (IsTrue s ↔ P) → r ≡ s
-decided true true P a b = refl
-decided false false P a b = refl
-decided true false P a b = sym (b.1 (a.0 refl))
-decided false true P a b = a.1 (b.0 refl)
 
 equal_test : (m n : ℕ) → IsTrue (m == n) → m ≡ n
 equal_test m n h = grind (arith, nat_tests)
@@ -129,10 +119,9 @@ compared : (a b : List ℕ) → AreDigits a → AreDigits b → bytes_eq (behind
 compared a b da db =
     let sa = stripped a da in
     let sb = stripped b db in
-    let P : Type 0 = behind_zeros a ≡ behind_zeros b in
-    decided (bytes_eq (behind_zeros a) (behind_zeros b)) (number_of a == number_of b) P (bytes_eq-Decides (behind_zeros a) (behind_zeros b)) (
+    same_from_decides (bytes_eq (behind_zeros a) (behind_zeros b)) (number_of a == number_of b) (bytes_eq-Decides (behind_zeros a) (behind_zeros b)) (
       λ t. same_digits (length (behind_zeros a)) (behind_zeros a) (behind_zeros b) (omega arith) sa.digits sb.digits sa.begins sb.begins
-        (sa.same ∙ equal_test (number_of a) (number_of b) t ∙ sym sb.same),
+          (sa.same ∙ equal_test (number_of a) (number_of b) t ∙ sym sb.same),
       λ e. test_equal (number_of a) (number_of b) (sym sa.same ∙ ap (digits_value 10) e ∙ sb.same),
     )
 
