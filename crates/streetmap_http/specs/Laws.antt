@@ -1,12 +1,31 @@
 -- What holds of heads and streams, whatever the code does.
-use Rattle.std.specs.Prelude.{◌≡◌, ℕ, ◌+◌, ◌-◌, ◌<◌, ◌≤◌, List, ◌++◌, length, ◌⊎◌}
-use Rattle.streetmap_http.specs.Head.{IsHead}
-use Rattle.streetmap_http.specs.Framing.{Framing, Frames}
+use Rattle.std.specs.Prelude.{◌≡◌, Bool, false, Option, Some, None, IfSome, take, ℕ, ◌+◌, ◌-◌, ◌<◌, ◌≤◌, List, ◌++◌, length, ◌⊎◌, ◌↔◌}
+use Rattle.streetmap_http.specs.Head.{IsHead, HeadSays}
+use Rattle.streetmap_http.specs.HeadByLines.{IsLinesOfHead}
+use Rattle.streetmap_http.specs.Lines.{field_lines}
+use Rattle.streetmap_http.specs.declared.limits.TheConstants.{HEAD_LIMIT}
+use Rattle.streetmap_http.specs.Framing.{HeadValue, Framing, Frames, sized}
+use Rattle.streetmap_http.specs.Body.{BodySays}
 use Rattle.streetmap_http.specs.Streams as streams
-use Rattle.streetmap_http.specs.Streams.{StreamEnd, Front, IsFront, BeginsWithAll, IsCut}
+use Rattle.streetmap_http.specs.Streams.{StreamEnd, refused, ended, truncated, EndsAs, Front, request, stops, IsFront, BeginsWithAll, IsCut}
 use Rattle.streetmap_http.specs.Arrivals.{HasScanned, HoldsOf}
 use Rattle.streetmap_http.specs.declared.arrival.HeadScan.{HeadScan}
-use Rattle.streetmap_http.specs.declared.arrival.Arrival.TheVariants.{Request, Body}
+use Rattle.streetmap_http.specs.declared.arrival.Arrival.{Arrival}
+use Rattle.streetmap_http.specs.declared.arrival.Arrival.TheVariants.{Request, Head, Body}
+use Rattle.streetmap_http.specs.declared.fault.FramingFault.{FramingFault}
+use Rattle.streetmap_http.specs.declared.fault.FramingFault.TheVariants.{HeadTooLarge}
+use Rattle.streetmap_http.specs.declared.head.HeadEnd.{HeadEnd}
+use Rattle.streetmap_http.specs.declared.head.HeadEnd.TheVariants.{Whole, TooLarge, Ended, Truncated, Failed}
+use Rattle.streetmap_http.specs.declared.body.BodyEnd.{BodyEnd}
+use Rattle.streetmap_http.specs.declared.body.BodyEnd.TheVariants as bodies
+
+-- the bytes of a head are empty lines, one or more lines that are not, and an empty line
+abbrev pub HeadsAreLines : Type 0
+HeadsAreLines = (bytes : List ℕ) → IsHead bytes ↔ ((length bytes ≤ HEAD_LIMIT) × ((lines : List (List ℕ)) × IsLinesOfHead bytes lines))
+
+-- the field lines of a head are its lines but the request line
+abbrev pub FieldLinesAreLines : Type 0
+FieldLinesAreLines = (bytes : List ℕ) (lines : List (List ℕ)) → IsLinesOfHead bytes lines → length lines ≡ 1 + field_lines bytes
 
 -- a stream begins with at most one head, whatever follows
 abbrev pub BeginsWithOneHead : Type 0
@@ -44,3 +63,39 @@ abbrev pub BodiesFill : Type 0
 BodiesFill =
     (bytes more : List ℕ) (missing : ℕ) → HoldsOf (Body missing) bytes →
     (length more < missing → HoldsOf (Body (missing - length more)) (bytes ++ more)) × (missing ≤ length more → HoldsOf (Request (length bytes + missing)) (bytes ++ more))
+
+-- how a stream goes on by how the reading of a head ended that took these bytes, where that tells
+abbrev pub end_by : HeadEnd → List ℕ → Option StreamEnd
+end_by Whole bytes = None
+end_by TooLarge bytes = Some (refused bytes false HeadTooLarge)
+end_by Ended bytes = Some ended
+end_by Truncated bytes = Some truncated
+end_by Failed bytes = None
+
+-- a reading that ends without a head tells how the stream goes on
+abbrev pub HeadsReadAreFronts : Type 0
+HeadsReadAreFronts =
+    (stream bytes left : List ℕ) (end : HeadEnd) → stream ≡ bytes ++ left → HeadSays end bytes (Some left) → IfSome (end_by end bytes) (EndsAs stream)
+
+-- the front of a stream by how the reading of a body ended
+abbrev pub front_by : BodyEnd → HeadValue → List ℕ → List ℕ → Option Front
+front_by bodies.Whole h head body = Some (request (record { bytes = head ++ body; head = h; body = body }))
+front_by bodies.Truncated h head body = Some (stops truncated)
+front_by bodies.Failed h head body = None
+
+-- a head and then a reading of its body tell the front of the stream: the request, or one without its end
+abbrev pub BodiesReadAreFronts : Type 0
+BodiesReadAreFronts =
+    (stream head came left : List ℕ) (h : HeadValue) (end : BodyEnd) → stream ≡ head ++ (came ++ left) → IsHead head → Frames head (sized h) →
+    BodySays end (length came) h.len (Some left) → IfSome (front_by end h head came) (IsFront stream)
+
+-- the front is what came: the first n bytes, or an end where more may come
+abbrev pub IsOfArrival : Arrival → List ℕ → Front → Type 0
+IsOfArrival (Request n) bytes (request r) = r.bytes ≡ take n bytes
+IsOfArrival (Request n) bytes (stops end) = (bare : Bool) × (fault : FramingFault) × (end ≡ refused (take n bytes) bare fault)
+IsOfArrival Head bytes front = (front ≡ stops ended) ⊎ (front ≡ stops truncated)
+IsOfArrival (Body missing) bytes front = front ≡ stops truncated
+
+-- what came is the front that a reader finds of the same bytes
+abbrev pub ArrivalsAreFronts : Type 0
+ArrivalsAreFronts = (bytes : List ℕ) (arrival : Arrival) → HoldsOf arrival bytes → (front : Front) × IsFront bytes front × IsOfArrival arrival bytes front

@@ -41,12 +41,14 @@ pub data IsUnfinished (bytes : List ℕ) : Type 0 where
   in_head : length bytes < HEAD_LIMIT → HasNoHead bytes → progress_after Blank bytes ≢ Blank → IsUnfinished bytes
   in_body : (missing : ℕ) → 0 < missing → LacksOfBody missing bytes → IsUnfinished bytes
 
--- how a stream goes on where no further request is: bytes that break a rule of framing (with whether the answer has no body), its end, or a request without its end
+-- how a stream goes on where no further request is: bytes that break a rule of framing (with whether the answer has no
+-- body), its end, or a request without its end
 pub data StreamEnd : Type 0 where
   refused : List ℕ → Bool → FramingFault → StreamEnd
   ended : StreamEnd
   truncated : StreamEnd
 
+-- the stream goes on so
 abbrev pub EndsAs : List ℕ → StreamEnd → Type 0
 EndsAs stream (refused bytes bare fault) = Breaks bytes bare fault × BeginsWith stream bytes
 EndsAs stream ended = IsBlank stream
@@ -57,6 +59,7 @@ pub data Front : Type 0 where
   request : Request → Front
   stops : StreamEnd → Front
 
+-- the stream begins with this request, or goes on so
 abbrev pub IsFront : List ℕ → Front → Type 0
 IsFront stream (request r) = IsWhole r × BeginsWith stream r.bytes
 IsFront stream (stops end) = EndsAs stream end

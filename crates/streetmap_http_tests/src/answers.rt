@@ -46,6 +46,7 @@ fn answers_are_sent_until_a_writer_stops(rt: HostRuntime) {
                 taken: Vec::new(rt.alloc()),
                 room,
                 fails,
+                again: false,
             };
             let want = if room < 8 {
                 Sent::Part(room > 0)

@@ -43,16 +43,22 @@ impl Read for Interrupted<'_> {
     }
 }
 
-/// Takes two bytes at a write, and none behind `room`; then it fails, or takes no byte.
+/// Is interrupted before each write, takes two bytes at a write, and none behind `room`; then it
+/// fails, or takes no byte.
 #[derive(Drop)]
 pub(crate) struct Sink {
     pub(crate) taken: Vec<u8>,
     pub(crate) room: usize,
     pub(crate) fails: bool,
+    pub(crate) again: bool,
 }
 
 impl Write for Sink {
     fn write(&mut self, buf: &[u8]) -> io::Result<usize> {
+        self.again = !self.again;
+        if self.again {
+            return Err(io::Error::from(ErrorKind::Interrupted));
+        }
         if self.room == 0 && self.fails {
             return Err(io::Error::from(ErrorKind::BrokenPipe));
         }

@@ -1,7 +1,8 @@
 //! Heads and bodies from readers that give a byte at a time, are interrupted, or fail.
 
 use crate::fakes::{Interrupted, Stream};
-use streetmap_http::{BodyEnd, HEAD_LIMIT, HeadEnd, read_body, read_head};
+use std::test::Fail;
+use streetmap_http::{BODY_LIMIT, BodyEnd, HEAD_LIMIT, HeadEnd, read_body, read_head};
 
 const STREAM: &[u8] = b"\r\nPOST / HTTP/1.1\r\nHost: a\r\nContent-Length: 5\r\n\r\nabcde";
 
@@ -75,4 +76,20 @@ fn empty_lines_alone_are_an_end(rt: HostRuntime) {
         let mut reader = stream.as_bytes();
         assert_eq!(rt; read_head(&mut reader, &mut head), want, "{stream:?}");
     }
+}
+
+#[test]
+fn a_body_of_as_many_bytes_as_may_be_is_read(rt: HostRuntime) -> Result<(), Fail> {
+    let (mut sent, mut body) = (Vec::new(rt.alloc()), Vec::new(rt.alloc()));
+    sent.resize(BODY_LIMIT, b'x')?;
+    body.resize(BODY_LIMIT, 0u8)?;
+    let mut reader = Stream {
+        rest: sent.as_slice(),
+        step: 1000,
+        reads: 10_000,
+    };
+    let end = read_body(&mut reader, body.as_mut_slice());
+    assert_eq!(rt; end, (BodyEnd::Whole, BODY_LIMIT));
+    assert!(rt; sent.as_slice() == body.as_slice());
+    Ok(())
 }
