@@ -2,7 +2,11 @@
 SHELL := /bin/bash
 PROGRAM := crates/streetmap/out/streetmap
 
-.PHONY: demo build test rows refusals bench
+.PHONY: try demo build test rows refusals bench
+
+# Runs the program on the sample input with no proof: about a minute.
+try: toolchain
+	@cd crates/streetmap && rt try -- lines < ../../examples/first.lines
 
 # Proves and builds the program, and runs it on the sample input.
 demo: build
@@ -16,7 +20,7 @@ demo: build
 # Leaves the proved program, and prints where it is.
 build: toolchain
 	@echo "Proving and building the program: some 15 minutes the first time on four cores, seconds once it is built."
-	@cd crates/streetmap && rt run -- lines < /dev/null > out.log 2>&1 || { cat out.log; rm -f out.log; exit 1; }
+	@set -o pipefail; cd crates/streetmap && rt run -- lines < /dev/null 2>&1 | tee out.log | { grep --line-buffered -E '^(so far|library)' || true; } || { cat out.log; rm -f out.log; exit 1; }
 	@rm -f crates/streetmap/out.log
 	@echo "The program: $(PROGRAM)"
 
@@ -36,17 +40,17 @@ refusals: build
 	@echo "The program on examples/three.lines:"
 	@$(REFUSED) PART examples/three.lines $(PROGRAM) lines
 	@echo "Proving and building the tests: some minutes the first time."
-	@for crate in streetmap_geojson streetmap_batch streetmap_ledger streetmap; do \
+	@for crate in streetmap_feature_tests streetmap_ledger_tests; do \
 	    (cd crates/$$crate && rt test > out.log 2>&1 || { cat out.log; rm -f out.log; exit 1; }; rm -f out.log) || exit 1; done
 	@echo "A collection of ten features:"
-	@$(REFUSED) WHOLE /dev/null crates/streetmap_geojson/out/streetmap_geojson_tests tests::refused_memory::memory_or_the_same_is_told
+	@$(REFUSED) WHOLE /dev/null crates/streetmap_feature_tests/out/streetmap_feature_tests_tests features::refused_memory::memory_or_the_same_is_told
 	@echo "A batch read and written:"
-	@$(REFUSED) WHOLE /dev/null crates/streetmap_batch/out/streetmap_batch_tests tests::refused_memory_changes_no_answer
+	@$(REFUSED) WHOLE /dev/null crates/streetmap_feature_tests/out/streetmap_feature_tests_tests batches::refused_memory_changes_no_answer
 	@echo "Batches, pages and look-ups of a ledger:"
 	@for test in changes_nothing ends_a_run changes_no_look_up; do \
-	    $(REFUSED) WHOLE /dev/null crates/streetmap_ledger/out/streetmap_ledger_tests tests::memory::refused_memory_$$test || exit 1; done
+	    $(REFUSED) WHOLE /dev/null crates/streetmap_ledger_tests/out/streetmap_ledger_tests_tests ledger::memory::refused_memory_$$test || exit 1; done
 	@echo "Lines, each answered again:"
-	@$(REFUSED) WHOLE /dev/null $(PROGRAM)_tests answer::tests::a_line_refused_for_memory_is_answered_again
+	@$(REFUSED) WHOLE /dev/null crates/streetmap_ledger_tests/out/streetmap_ledger_tests_tests answers::a_line_refused_for_memory_is_answered_again
 
 # Speed and memory beside plain Python and Rust programs, on this machine.
 bench: build
