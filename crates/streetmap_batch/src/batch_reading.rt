@@ -22,7 +22,7 @@ use crate::names::is_key;
 use json::{Reader, Scratch, Token};
 use serde_json::Value;
 use std::alloc::Global;
-use streetmap_json::{ParseFault, with_whole_numbers, read_value};
+use streetmap_json::{ParseFault, read_value, with_whole_numbers};
 
 /// How deep the members of a whole text may nest.
 const MEMBER_DEPTH: usize = 126;

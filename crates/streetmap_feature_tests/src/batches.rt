@@ -1,10 +1,13 @@
 //! Batches by the rows of their format: which refusal comes first, the text of a batch, edits and
 //! batches made from parts, and the edges of the names' rules.
 
-use streetmap_batch::{Batch, BatchFault, CollectionId, Edit, TimeProperty, Title, is_collection_id, is_key, is_time_property, is_title, read_batch};
 use std::alloc::{AllocError, Global};
 use std::process::Abort;
 use std::test::Fail;
+use streetmap_batch::{
+    Batch, BatchFault, CollectionId, Edit, TimeProperty, Title, is_collection_id, is_key,
+    is_time_property, is_title, read_batch,
+};
 use streetmap_geojson::{Fault, Feature, Id, read_feature, read_json};
 
 /// The batch of the key `b1` and edits that are written as JSON, with commas between them.

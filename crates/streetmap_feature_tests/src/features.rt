@@ -1,9 +1,9 @@
 //! What no clause says: rows of features and of their first faults, and the texts that are written.
-use streetmap_feature_text::write_feature;
-use streetmap_geojson::{Feature, JsonFault, read_feature, read_json};
 use std::alloc::{AllocError, Global};
 use std::process::Abort;
 use std::test::Fail;
+use streetmap_feature_text::write_feature;
+use streetmap_geojson::{Feature, JsonFault, read_feature, read_json};
 
 mod collections;
 mod faults;

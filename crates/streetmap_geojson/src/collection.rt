@@ -10,8 +10,8 @@ ghost use Rattle.streetmap_geojson.specs.Collection.{GivesAt, at_place, features
 
 use crate::fault::{CollectionFault, Fault, JsonFault};
 use crate::feature::Feature;
-use crate::geometry::array_in;
 use crate::feature_reading::read_at;
+use crate::geometry::array_in;
 use serde_json::Value;
 use std::alloc::Global;
 

@@ -32,5 +32,5 @@ pub use collection::read_collection;
 pub use fault::{CollectionFault, Fault, JsonFault};
 pub use feature::Feature;
 pub use feature_reading::read_feature;
-pub use id::{Id, is_id, has_no_controls, read_id};
+pub use id::{Id, has_no_controls, is_id, read_id};
 pub use json_text::read_json;

@@ -69,7 +69,11 @@ pub fn read_token(
 
 /// The elements of an array whose opening bracket was read.
 #[cycle(read_value)]
-fn read_items(alloc: Global, reader: &mut Reader<'_>, depth: usize) -> Result<Vec<Value>, ParseFault>
+fn read_items(
+    alloc: Global,
+    reader: &mut Reader<'_>,
+    depth: usize,
+) -> Result<Vec<Value>, ParseFault>
     ensures takes { Takes (λ v. items_view v.items) result reader.new (items_at depth reader.old) }
     ensures shorter { OnOk result (length reader.new < length reader.old) }
 {

@@ -1,9 +1,9 @@
 //! What no clause says: worked rows over a plain keeper, what is answered where memory is refused,
 //! and a large collection.
-use streetmap_ledger::{Keeper, Page, read_batch};
-use streetmap_memory::PlainKeeper;
 use std::alloc::Global;
 use std::test::Fail;
+use streetmap_ledger::{Keeper, Page, read_batch};
+use streetmap_memory::PlainKeeper;
 use streetmap_query::read_query;
 
 mod batches;

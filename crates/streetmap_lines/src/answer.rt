@@ -16,12 +16,12 @@ ghost use Rattle.streetmap_lines.specs.RequestView.{request_value};
 
 use crate::request::{Request, read_request};
 use std::alloc::{AllocError, Global};
-use streetmap_ledger::{Batch, BatchFault, Fault, Keeper, Reply, read_batch};
-use streetmap_memory::PlainKeeper;
-use streetmap_query::{QueryFault, read_query};
 use streetmap_bodies::{
     RequestFault, line_feature_text, line_page_text, push_error, push_fault, push_reply_body,
 };
+use streetmap_ledger::{Batch, BatchFault, Fault, Keeper, Reply, read_batch};
+use streetmap_memory::PlainKeeper;
+use streetmap_query::{QueryFault, read_query};
 
 /// The room that is taken for an answer to a batch before the batch is applied, in bytes.
 const ROOM: usize = 1024;
@@ -47,7 +47,13 @@ fn unknown_command_text(alloc: Global) -> Result<String, AllocError>
     ensures { IfOk result (λ text. string_bytes text ≡ compact_text unknown_command) }
 {
     let mut answer = room(alloc)?;
-    push_error(&mut answer, "bad_command", "The command is not known.", None, None);
+    push_error(
+        &mut answer,
+        "bad_command",
+        "The command is not known.",
+        None,
+        None,
+    );
     Ok(answer)
 }
 

@@ -1,6 +1,6 @@
 //! What became of an edit.
-use streetmap_ledger::Refusal;
 use crate::undo::Undo;
+use streetmap_ledger::Refusal;
 
 #[derive(Drop)]
 pub enum Acted<'a> {

@@ -12,7 +12,6 @@ ghost use Rattle.streetmap_memory.specs.Slots.{summary_at};
 ghost use Rattle.streetmap_memory.specs.Undo.{undone, rewound, timed_in, swept_by, all_swept};
 ghost use Rattle.streetmap_ledger.specs.SummaryView.{summary_values};
 
-use streetmap_ledger::Summary;
 use crate::collection::{PlainCollection, owned};
 use crate::undo::Undo;
 use bytes::Bytes;
@@ -20,6 +19,7 @@ use std::alloc::{AllocError, Global};
 use std::collections::BTreeMap;
 use streetmap_feature_text::PackedFeature;
 use streetmap_geojson::Feature;
+use streetmap_ledger::Summary;
 
 /// Takes a slot out of a collection.
 fn cut(collections: &mut BTreeMap<String, PlainCollection>, name: &str, id: &str)

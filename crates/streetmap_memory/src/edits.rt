@@ -7,7 +7,6 @@ ghost use Rattle.streetmap_batch.specs.BatchView.{edit_value};
 ghost use Rattle.streetmap_memory.specs.Undo.{found_in};
 ghost use Rattle.streetmap_memory.specs.Does.{DoesOne, DoesAll};
 
-use streetmap_ledger::Refusal;
 use crate::acted::Acted;
 use crate::collection::PlainCollection;
 use crate::collections::{note, open, packed, put, reset, rewind, sweep};
@@ -18,6 +17,7 @@ use std::alloc::{AllocError, Global};
 use std::collections::BTreeMap;
 use streetmap_batch::{Edit, TimeProperty};
 use streetmap_geojson::Feature;
+use streetmap_ledger::Refusal;
 
 /// Whether a feature and its collection are there.
 #[derive(Clone, Copy)]

@@ -1,9 +1,9 @@
 //! What is kept for an accepted key.
 ghost use Rattle.std.specs.Prelude.{◌≡◌};
 
-use streetmap_ledger::Counts;
 use bytes::Bytes;
 use std::marker::Model;
+use streetmap_ledger::Counts;
 
 /// The batch text, the counts and the serial of an accepted batch.
 #[derive(Drop)]

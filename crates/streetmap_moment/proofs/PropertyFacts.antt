@@ -98,10 +98,10 @@ ordered_in (Some j) i e =
           let same : j ≡ i = cc (rw fine at e) in
           subst (λ (x : IntervalValue). IsInOrder x.start x.end) same (not_after j.start j.end fine)
     ] where
-  not_after : (start end : Option ℤ) → starts_after start end ≡ false → IsInOrder start end
-  not_after None end h = tt
-  not_after (Some s) None h = tt
-  not_after (Some s) (Some e) h = omega (arith, ints)
+      not_after : (start end : Option ℤ) → starts_after start end ≡ false → IsInOrder start end
+      not_after None end h = tt
+      not_after (Some s) None h = tt
+      not_after (Some s) (Some e) h = omega (arith, ints)
 
 interval_text_of : (text : List ℕ) (i : IntervalValue) → interval_of text ≡ Ok i → IsIntervalText text i × IsInterval i
 interval_text_of text i e =

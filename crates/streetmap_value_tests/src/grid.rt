@@ -1,10 +1,12 @@
 //! What no clause says: worked rows, and a plain program by fractions beside `meets`.
 ghost use Rattle.std.specs.Prelude.{◌≡◌};
 
-use streetmap_grid::{Geometry, GridBox, GridFault, Line, NonEmpty, Polygon, Position, Ring, SimpleGeometry};
 use std::alloc::Global;
 use std::process::Abort;
 use std::test::Fail;
+use streetmap_grid::{
+    Geometry, GridBox, GridFault, Line, NonEmpty, Polygon, Position, Ring, SimpleGeometry,
+};
 
 mod fractions;
 mod random;

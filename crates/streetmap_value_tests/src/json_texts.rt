@@ -2,7 +2,7 @@
 use std::alloc::Global;
 use std::process::Abort;
 use std::test::Fail;
-use streetmap_json::{ParseFault, with_whole_numbers, read_json};
+use streetmap_json::{ParseFault, read_json, with_whole_numbers};
 
 // The text is read, and the value is written as `compact`.
 fn reads(rt: &impl Abort, alloc: Global, text: &str, compact: &str) -> Result<(), Fail> {

@@ -1,9 +1,9 @@
 //! Rows of the calendar, of offsets, fractions and open ends, and a comparison with the reader of
 //! `jiff`.
 
-use streetmap_moment::{Interval, Moment, TimeFault, read_interval, read_moment, read_property};
 use jiff::Timestamp;
 use std::test::Fail;
+use streetmap_moment::{Interval, Moment, TimeFault, read_interval, read_moment, read_property};
 
 fn ends(interval: Interval) -> (Option<i128>, Option<i128>) {
     (

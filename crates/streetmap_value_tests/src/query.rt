@@ -1,7 +1,7 @@
-use streetmap_query::{QueryFault, has_parameter, next_query, read_query, self_query};
 use std::alloc::{AllocError, Global};
 use std::test::Fail;
 use streetmap_geojson::is_id;
+use streetmap_query::{QueryFault, has_parameter, next_query, read_query, self_query};
 
 fn fault(alloc: Global, text: &str) -> Option<QueryFault> {
     match read_query(alloc, Some(text)) {

@@ -3,13 +3,17 @@ use crate::requests::{FIRST, FIRST_REPLY, answer, check, check_behind, get, post
 use std::test::Fail;
 use streetmap_web::End;
 
-const CONFORMANCE: &str = "HTTP/1.1 200 OK\r\nContent-Type: application/json\r\nContent-Length: 64\r\n\r\n{\"conformsTo\":[\"tag:streetmap.invalid,2024:conf/grid-features\"]}";
+const CONFORMANCE: &str =
+    "HTTP/1.1 200 OK\r\nContent-Type: application/json\r\nContent-Length: 64\r\n\r\n{\"conformsTo\":[\"tag:streetmap.invalid,2024:conf/grid-features\"]}";
 
-const NO_PATH: &str = "HTTP/1.1 404 Not Found\r\nContent-Type: application/json\r\nContent-Length: 67\r\n\r\n";
+const NO_PATH: &str =
+    "HTTP/1.1 404 Not Found\r\nContent-Type: application/json\r\nContent-Length: 67\r\n\r\n";
 
-const NO_METHOD: &str = "HTTP/1.1 405 Method Not Allowed\r\nContent-Type: application/json\r\nContent-Length: 77\r\nAllow: GET, HEAD\r\n\r\n{\"code\":\"method_not_allowed\",\"description\":\"The method is not allowed here.\"}";
+const NO_METHOD: &str =
+    "HTTP/1.1 405 Method Not Allowed\r\nContent-Type: application/json\r\nContent-Length: 77\r\nAllow: GET, HEAD\r\n\r\n{\"code\":\"method_not_allowed\",\"description\":\"The method is not allowed here.\"}";
 
-const POST_ALONE: &str = "HTTP/1.1 405 Method Not Allowed\r\nContent-Type: application/json\r\nContent-Length: 77\r\nAllow: POST\r\n\r\n{\"code\":\"method_not_allowed\",\"description\":\"The method is not allowed here.\"}";
+const POST_ALONE: &str =
+    "HTTP/1.1 405 Method Not Allowed\r\nContent-Type: application/json\r\nContent-Length: 77\r\nAllow: POST\r\n\r\n{\"code\":\"method_not_allowed\",\"description\":\"The method is not allowed here.\"}";
 
 const LANDING: &str =
     r#"{"description":"Street assets on a local grid of whole millimetres.","links":[{"href":"http://localhost/","rel":"self","type":"application/json"},{"href":"http://localhost/api","rel":"service-doc","type":"text/html"},{"href":"http://localhost/conformance","rel":"conformance","type":"application/json"},{"href":"http://localhost/collections","rel":"data","type":"application/json"}],"title":"Street map"}"#;
@@ -26,7 +30,14 @@ pub(crate) const LAMP: &str =
 #[test]
 fn conformance_is_answered(rt: HostRuntime) -> Result<(), Fail> {
     let request = get(rt.alloc(), "/conformance")?;
-    check(&rt, rt.alloc(), request.as_str(), 1, End::Ended, CONFORMANCE)
+    check(
+        &rt,
+        rt.alloc(),
+        request.as_str(),
+        1,
+        End::Ended,
+        CONFORMANCE,
+    )
 }
 
 #[test]
@@ -47,10 +58,24 @@ fn other_methods_are_told_which_are_allowed(rt: HostRuntime) -> Result<(), Fail>
 fn the_landing_page_and_the_description_are_fixed(rt: HostRuntime) -> Result<(), Fail> {
     let request = get(rt.alloc(), "/")?;
     let wanted = answer(rt.alloc(), "200 OK", "application/json", LANDING)?;
-    check(&rt, rt.alloc(), request.as_str(), 1, End::Ended, wanted.as_str())?;
+    check(
+        &rt,
+        rt.alloc(),
+        request.as_str(),
+        1,
+        End::Ended,
+        wanted.as_str(),
+    )?;
     let request = get(rt.alloc(), "/api")?;
     let wanted = answer(rt.alloc(), "200 OK", "text/html", API)?;
-    check(&rt, rt.alloc(), request.as_str(), 1, End::Ended, wanted.as_str())
+    check(
+        &rt,
+        rt.alloc(),
+        request.as_str(),
+        1,
+        End::Ended,
+        wanted.as_str(),
+    )
 }
 
 #[test]
@@ -58,7 +83,14 @@ fn no_parameter_is_known_but_by_pages(rt: HostRuntime) -> Result<(), Fail> {
     let request = get(rt.alloc(), "/collections?f=json")?;
     let body = r#"{"code":"unknown_parameter","description":"A parameter is not known here."}"#;
     let wanted = answer(rt.alloc(), "400 Bad Request", "application/json", body)?;
-    check(&rt, rt.alloc(), request.as_str(), 1, End::Ended, wanted.as_str())
+    check(
+        &rt,
+        rt.alloc(),
+        request.as_str(),
+        1,
+        End::Ended,
+        wanted.as_str(),
+    )
 }
 
 #[test]
@@ -69,13 +101,22 @@ fn a_batch_a_feature_and_a_collection_in_one_stream(rt: HostRuntime) -> Result<(
     let mut wanted = answer(rt.alloc(), "200 OK", "application/json", FIRST_REPLY)?;
     wanted.push_str(answer(rt.alloc(), "200 OK", "application/geo+json", LAMP)?.as_str())?;
     wanted.push_str(answer(rt.alloc(), "200 OK", "application/json", LAMPS)?.as_str())?;
-    check(&rt, rt.alloc(), input.as_str(), 3, End::Ended, wanted.as_str())
+    check(
+        &rt,
+        rt.alloc(),
+        input.as_str(),
+        3,
+        End::Ended,
+        wanted.as_str(),
+    )
 }
 
 #[test]
 fn collections_are_listed(rt: HostRuntime) -> Result<(), Fail> {
     let request = get(rt.alloc(), "/collections")?;
-    let body = format!(in rt.alloc(); "{{\"collections\":[{LAMPS}],\"links\":[{{\"href\":\"http://localhost/collections\",\"rel\":\"self\",\"type\":\"application/json\"}}]}}")?;
+    let body = format!(in rt.alloc();
+        "{{\"collections\":[{LAMPS}],\"links\":[{{\"href\":\"http://localhost/collections\",\"rel\":\"self\",\"type\":\"application/json\"}}]}}"
+    )?;
     let wanted = answer(rt.alloc(), "200 OK", "application/json", body.as_str())?;
     check_behind(&rt, rt.alloc(), FIRST, request.as_str(), wanted.as_str())
 }

@@ -5,8 +5,7 @@ use std::process::Abort;
 use std::test::Fail;
 use streetmap_web::End;
 
-const CONFORMANCE: &str =
-    r#"{"conformsTo":["tag:streetmap.invalid,2024:conf/grid-features"]}"#;
+const CONFORMANCE: &str = r#"{"conformsTo":["tag:streetmap.invalid,2024:conf/grid-features"]}"#;
 
 const LANDING: &str =
     r#"{"description":"Street assets on a local grid of whole millimetres.","links":[{"href":"http://localhost/","rel":"self","type":"application/json"},{"href":"http://localhost/api","rel":"service-doc","type":"text/html"},{"href":"http://localhost/conformance","rel":"conformance","type":"application/json"},{"href":"http://localhost/collections","rel":"data","type":"application/json"}],"title":"Street map"}"#;
@@ -64,7 +63,14 @@ fn a_head_has_a_limit(rt: HostRuntime) -> Result<(), Fail> {
     let room = 16_384 - fixed as usize;
     let wanted = answer(rt.alloc(), "200 OK", "application/json", CONFORMANCE)?;
     let request = padded(rt.alloc(), room)?;
-    check(&rt, rt.alloc(), request.as_str(), 1, End::Ended, wanted.as_str())?;
+    check(
+        &rt,
+        rt.alloc(),
+        request.as_str(),
+        1,
+        End::Ended,
+        wanted.as_str(),
+    )?;
     let request = padded(rt.alloc(), room + 1)?;
     check_closing(
         &rt,
@@ -79,7 +85,14 @@ fn a_head_has_a_limit(rt: HostRuntime) -> Result<(), Fail> {
 fn field_lines_have_a_limit(rt: HostRuntime) -> Result<(), Fail> {
     let wanted = answer(rt.alloc(), "200 OK", "application/json", CONFORMANCE)?;
     let request = with_fields(rt.alloc(), 63)?;
-    check(&rt, rt.alloc(), request.as_str(), 1, End::Ended, wanted.as_str())?;
+    check(
+        &rt,
+        rt.alloc(),
+        request.as_str(),
+        1,
+        End::Ended,
+        wanted.as_str(),
+    )?;
     let request = with_fields(rt.alloc(), 64)?;
     check_closing(
         &rt,
@@ -97,11 +110,19 @@ fn lengths_are_digits_and_agree(rt: HostRuntime) -> Result<(), Fail> {
         "Content-Length: 5, 5",
         "Content-Length: 0\r\nContent-Length: 1",
     ] {
-        let request =
-            format!(in rt.alloc(); "GET /conformance HTTP/1.1\r\nHost: localhost\r\n{fields}\r\n\r\n")?;
-        check_closing(&rt, rt.alloc(), request.as_str(), "400 Bad Request", BAD_LENGTH)?;
+        let request = format!(in rt.alloc();
+            "GET /conformance HTTP/1.1\r\nHost: localhost\r\n{fields}\r\n\r\n"
+        )?;
+        check_closing(
+            &rt,
+            rt.alloc(),
+            request.as_str(),
+            "400 Bad Request",
+            BAD_LENGTH,
+        )?;
     }
-    let request = "GET /conformance HTTP/1.1\r\nHost: localhost\r\nContent-Length: 0\r\nContent-Length: 0\r\n\r\n";
+    let request =
+        "GET /conformance HTTP/1.1\r\nHost: localhost\r\nContent-Length: 0\r\nContent-Length: 0\r\n\r\n";
     let wanted = answer(rt.alloc(), "200 OK", "application/json", CONFORMANCE)?;
     check(&rt, rt.alloc(), request, 1, End::Ended, wanted.as_str())
 }
@@ -147,7 +168,8 @@ fn a_host_is_needed_from_http_1_1_on(rt: HostRuntime) -> Result<(), Fail> {
 
 #[test]
 fn a_connection_closes_where_it_is_asked_to(rt: HostRuntime) -> Result<(), Fail> {
-    let request = "GET /conformance HTTP/1.1\r\nHost: localhost\r\nConnection: keep-alive, CLOSE\r\n\r\nGET / HTTP/1.0\r\n\r\n";
+    let request =
+        "GET /conformance HTTP/1.1\r\nHost: localhost\r\nConnection: keep-alive, CLOSE\r\n\r\nGET / HTTP/1.0\r\n\r\n";
     let wanted = closing(rt.alloc(), "200 OK", CONFORMANCE)?;
     check(&rt, rt.alloc(), request, 1, End::Ended, wanted.as_str())
 }
@@ -157,12 +179,20 @@ fn a_target_begins_with_a_slash(rt: HostRuntime) -> Result<(), Fail> {
     let request = get(rt.alloc(), "*")?;
     let body = r#"{"code":"bad_target","description":"The target must begin with a slash."}"#;
     let wanted = answer(rt.alloc(), "400 Bad Request", "application/json", body)?;
-    check(&rt, rt.alloc(), request.as_str(), 1, End::Ended, wanted.as_str())
+    check(
+        &rt,
+        rt.alloc(),
+        request.as_str(),
+        1,
+        End::Ended,
+        wanted.as_str(),
+    )
 }
 
 #[test]
 fn a_body_is_read_whatever_is_asked(rt: HostRuntime) -> Result<(), Fail> {
-    let request = "POST /nothing HTTP/1.1\r\nHost: localhost\r\nContent-Length: 5\r\n\r\nabcdeGET / HTTP/1.1\r\nHost: localhost\r\n\r\n";
+    let request =
+        "POST /nothing HTTP/1.1\r\nHost: localhost\r\nContent-Length: 5\r\n\r\nabcdeGET / HTTP/1.1\r\nHost: localhost\r\n\r\n";
     let absent = r#"{"code":"not_found","description":"There is nothing at this path."}"#;
     let mut wanted = answer(rt.alloc(), "404 Not Found", "application/json", absent)?;
     wanted.push_str(answer(rt.alloc(), "200 OK", "application/json", LANDING)?.as_str())?;
@@ -174,7 +204,14 @@ fn a_segment_that_is_no_text_is_no_path(rt: HostRuntime) -> Result<(), Fail> {
     let request = get(rt.alloc(), "/collections/%FF")?;
     let absent = r#"{"code":"not_found","description":"There is nothing at this path."}"#;
     let wanted = answer(rt.alloc(), "404 Not Found", "application/json", absent)?;
-    check(&rt, rt.alloc(), request.as_str(), 1, End::Ended, wanted.as_str())
+    check(
+        &rt,
+        rt.alloc(),
+        request.as_str(),
+        1,
+        End::Ended,
+        wanted.as_str(),
+    )
 }
 
 #[test]

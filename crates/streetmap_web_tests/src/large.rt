@@ -12,7 +12,9 @@ const LAMPS: &str = r#"{"key":"b0","edits":[{"op":"open","collection":"lamps"}]}
 
 /// A posted body of so many spaces.
 fn spaces(alloc: Global, len: usize) -> Result<Vec<u8>, Fail> {
-    let head = format!(in alloc; "POST /batches HTTP/1.1\r\nHost: localhost\r\nContent-Length: {len}\r\n\r\n")?;
+    let head = format!(in alloc;
+        "POST /batches HTTP/1.1\r\nHost: localhost\r\nContent-Length: {len}\r\n\r\n"
+    )?;
     let mut body: Vec<u8> = Vec::new(alloc);
     body.resize(len, b' ')?;
     let mut input = Vec::new(alloc);
@@ -41,12 +43,20 @@ fn in_turn(alloc: Global, count: usize) -> Result<String, Fail> {
 #[test]
 fn a_body_at_the_limit_is_read(rt: HostRuntime) -> Result<(), Fail> {
     let mut keeper = PlainKeeper::new(rt.alloc());
-    let (served, written) = serve_over(rt.alloc(), &mut keeper, spaces(rt.alloc(), LIMIT)?.as_slice())?;
+    let (served, written) = serve_over(
+        rt.alloc(),
+        &mut keeper,
+        spaces(rt.alloc(), LIMIT)?.as_slice(),
+    )?;
     let body = r#"{"code":"bad_batch","description":"The batch cannot be read."}"#;
     let wanted = answer(rt.alloc(), "400 Bad Request", "application/json", body)?;
     assert_eq!(rt; written, wanted);
     assert_eq!(rt; served.end, End::Ended);
-    let (served, written) = serve_over(rt.alloc(), &mut keeper, spaces(rt.alloc(), LIMIT + 1)?.as_slice())?;
+    let (served, written) = serve_over(
+        rt.alloc(),
+        &mut keeper,
+        spaces(rt.alloc(), LIMIT + 1)?.as_slice(),
+    )?;
     let body = r#"{"code":"body_too_large","description":"The body is too large."}"#;
     let wanted = closing(rt.alloc(), "413 Payload Too Large", body)?;
     assert_eq!(rt; written, wanted);

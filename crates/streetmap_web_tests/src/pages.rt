@@ -87,7 +87,13 @@ fn a_page_shows_what_meets_the_interval(rt: HostRuntime) -> Result<(), Fail> {
 
 #[test]
 fn a_feature_without_a_geometry_meets_no_box(rt: HostRuntime) -> Result<(), Fail> {
-    check_page(&rt, rt.alloc(), NOWHERE, "/collections/lamps/items", BOTH_NOWHERE)?;
+    check_page(
+        &rt,
+        rt.alloc(),
+        NOWHERE,
+        "/collections/lamps/items",
+        BOTH_NOWHERE,
+    )?;
     let target = "/collections/lamps/items?bbox=-9,-9,9,9";
     check_page(&rt, rt.alloc(), NOWHERE, target, NONE_IN_A_BOX)
 }
@@ -95,12 +101,36 @@ fn a_feature_without_a_geometry_meets_no_box(rt: HostRuntime) -> Result<(), Fail
 #[test]
 fn a_query_is_refused_by_its_first_fault(rt: HostRuntime) -> Result<(), Fail> {
     for (query, code, description) in [
-        ("datetime=../..", "bad_datetime", "The date-time or interval cannot be read."),
-        ("limit=0", "bad_limit", "The limit must be a whole number from 1."),
-        ("bbox=1,2,3", "bad_bbox", "The box must be four whole numbers in order."),
-        ("bbox=2000000001,0,2000000001,0", "bad_bbox", "The box must be four whole numbers in order."),
-        ("f=json", "unknown_parameter", "A parameter is not known here."),
-        ("limit=1&limit=2", "repeated_parameter", "A parameter stands twice."),
+        (
+            "datetime=../..",
+            "bad_datetime",
+            "The date-time or interval cannot be read.",
+        ),
+        (
+            "limit=0",
+            "bad_limit",
+            "The limit must be a whole number from 1.",
+        ),
+        (
+            "bbox=1,2,3",
+            "bad_bbox",
+            "The box must be four whole numbers in order.",
+        ),
+        (
+            "bbox=2000000001,0,2000000001,0",
+            "bad_bbox",
+            "The box must be four whole numbers in order.",
+        ),
+        (
+            "f=json",
+            "unknown_parameter",
+            "A parameter is not known here.",
+        ),
+        (
+            "limit=1&limit=2",
+            "repeated_parameter",
+            "A parameter stands twice.",
+        ),
     ] {
         check_refused(&rt, rt.alloc(), query, code, description)?;
     }
@@ -110,7 +140,13 @@ fn a_query_is_refused_by_its_first_fault(rt: HostRuntime) -> Result<(), Fail> {
 
 #[test]
 fn ids_are_decoded_behind_the_route(rt: HostRuntime) -> Result<(), Fail> {
-    check_page(&rt, rt.alloc(), WAY, "/collections/lamps/items/way%2F12", THE_WAY)?;
+    check_page(
+        &rt,
+        rt.alloc(),
+        WAY,
+        "/collections/lamps/items/way%2F12",
+        THE_WAY,
+    )?;
     let request = get(rt.alloc(), "/collections/lamps/items/way/12")?;
     let wanted = answer(rt.alloc(), "404 Not Found", "application/json", NOTHING)?;
     check_behind(&rt, rt.alloc(), WAY, request.as_str(), wanted.as_str())

@@ -2,22 +2,26 @@
 //!
 //! Run with ample memory this wants the answers; `rt try --test --fail-alloc N` refuses the Nth growth.
 use std::io;
-use std::test::Fail;
 use std::io::Write;
+use std::test::Fail;
 use streetmap_memory::PlainKeeper;
 use streetmap_routes::Base;
 use streetmap_web::serve;
 
 /// A batch and a page of it.
-const STREAM: &[u8] = b"POST /batches HTTP/1.1\r\nHost: localhost\r\nContent-Length: 57\r\n\r\n{\"key\":\"b1\",\"edits\":[{\"op\":\"open\",\"collection\":\"lamps\"}]}GET /collections/lamps/items HTTP/1.1\r\nHost: localhost\r\n\r\n";
+const STREAM: &[u8] =
+    b"POST /batches HTTP/1.1\r\nHost: localhost\r\nContent-Length: 57\r\n\r\n{\"key\":\"b1\",\"edits\":[{\"op\":\"open\",\"collection\":\"lamps\"}]}GET /collections/lamps/items HTTP/1.1\r\nHost: localhost\r\n\r\n";
 
 /// Their answers.
-const REPLY: &[u8] = b"HTTP/1.1 200 OK\r\nContent-Type: application/json\r\nContent-Length: 72\r\n\r\n{\"deleted\":0,\"inserted\":0,\"key\":\"b1\",\"opened\":1,\"replaced\":0,\"serial\":1}";
+const REPLY: &[u8] =
+    b"HTTP/1.1 200 OK\r\nContent-Type: application/json\r\nContent-Length: 72\r\n\r\n{\"deleted\":0,\"inserted\":0,\"key\":\"b1\",\"opened\":1,\"replaced\":0,\"serial\":1}";
 
-const PAGE: &[u8] = b"HTTP/1.1 200 OK\r\nContent-Type: application/geo+json\r\nContent-Length: 193\r\n\r\n{\"features\":[],\"links\":[{\"href\":\"http://localhost/collections/lamps/items?limit=10\",\"rel\":\"self\",\"type\":\"application/geo+json\"}],\"numberMatched\":0,\"numberReturned\":0,\"type\":\"FeatureCollection\"}";
+const PAGE: &[u8] =
+    b"HTTP/1.1 200 OK\r\nContent-Type: application/geo+json\r\nContent-Length: 193\r\n\r\n{\"features\":[],\"links\":[{\"href\":\"http://localhost/collections/lamps/items?limit=10\",\"rel\":\"self\",\"type\":\"application/geo+json\"}],\"numberMatched\":0,\"numberReturned\":0,\"type\":\"FeatureCollection\"}";
 
 /// The answer where memory is refused.
-const STARVED: &[u8] = b"HTTP/1.1 503 Service Unavailable\r\nContent-Type: application/json\r\nContent-Length: 81\r\nConnection: close\r\n\r\n{\"code\":\"memory\",\"description\":\"Memory was refused; the call may be made again.\"}";
+const STARVED: &[u8] =
+    b"HTTP/1.1 503 Service Unavailable\r\nContent-Type: application/json\r\nContent-Length: 81\r\nConnection: close\r\n\r\n{\"code\":\"memory\",\"description\":\"Memory was refused; the call may be made again.\"}";
 
 /// A writer that takes no memory.
 #[derive(Drop)]

@@ -22,19 +22,25 @@ pub(crate) fn get(alloc: Global, target: &str) -> Result<String, Fail> {
 /// A batch that is posted.
 pub(crate) fn post(alloc: Global, batch: &str) -> Result<String, Fail> {
     let len = batch.len();
-    Ok(format!(in alloc; "POST /batches HTTP/1.1\r\nHost: localhost\r\nContent-Length: {len}\r\n\r\n{batch}")?)
+    Ok(format!(in alloc;
+        "POST /batches HTTP/1.1\r\nHost: localhost\r\nContent-Length: {len}\r\n\r\n{batch}"
+    )?)
 }
 
 /// An answer that leaves the connection open.
 pub(crate) fn answer(alloc: Global, status: &str, kind: &str, body: &str) -> Result<String, Fail> {
     let len = body.len();
-    Ok(format!(in alloc; "HTTP/1.1 {status}\r\nContent-Type: {kind}\r\nContent-Length: {len}\r\n\r\n{body}")?)
+    Ok(format!(in alloc;
+        "HTTP/1.1 {status}\r\nContent-Type: {kind}\r\nContent-Length: {len}\r\n\r\n{body}"
+    )?)
 }
 
 /// An error that closes the connection.
 pub(crate) fn closing(alloc: Global, status: &str, body: &str) -> Result<String, Fail> {
     let len = body.len();
-    Ok(format!(in alloc; "HTTP/1.1 {status}\r\nContent-Type: application/json\r\nContent-Length: {len}\r\nConnection: close\r\n\r\n{body}")?)
+    Ok(format!(in alloc;
+        "HTTP/1.1 {status}\r\nContent-Type: application/json\r\nContent-Length: {len}\r\nConnection: close\r\n\r\n{body}"
+    )?)
 }
 
 /// Serves a stream over this keeper. Answers what was served and what was written.

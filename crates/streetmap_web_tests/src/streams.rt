@@ -74,7 +74,11 @@ impl Stream {
                 begins = whole;
             }
         }
-        let end = if begins == len as u64 { End::Ended } else { End::Truncated };
+        let end = if begins == len as u64 {
+            End::Ended
+        } else {
+            End::Truncated
+        };
         Ok((Served { answers, end }, written))
     }
 }
@@ -126,10 +130,22 @@ fn a_byte_at_a_time_is_answered_as_all_at_once(rt: HostRuntime) -> Result<(), Fa
     let mut written: Vec<u8> = Vec::new(rt.alloc());
     let served = serve(rt.alloc(), &mut keeper, &base, &mut reader, &mut written);
     assert_eq!(rt; written.as_slice(), wanted.as_bytes());
-    assert_eq!(rt; served, Served { answers: 3, end: End::Ended });
+    assert_eq!(rt;
+        served,
+        Served {
+            answers: 3,
+            end: End::Ended
+        }
+    );
     let mut keeper = PlainKeeper::new(rt.alloc());
     let (served, written) = serve_over(rt.alloc(), &mut keeper, input.as_bytes())?;
     assert_eq!(rt; written, wanted);
-    assert_eq!(rt; served, Served { answers: 3, end: End::Ended });
+    assert_eq!(rt;
+        served,
+        Served {
+            answers: 3,
+            end: End::Ended
+        }
+    );
     Ok(())
 }

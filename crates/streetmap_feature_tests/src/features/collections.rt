@@ -1,9 +1,9 @@
 // Collections: their order, ids by place, the place of a fault, and the texts of usual exporters.
-use streetmap_feature_text::write_collection;
-use streetmap_geojson::{CollectionFault, Fault, read_collection, read_json};
 use std::alloc::Global;
 use std::process::Abort;
 use std::test::Fail;
+use streetmap_feature_text::write_collection;
+use streetmap_geojson::{CollectionFault, Fault, read_collection, read_json};
 
 // The compact text of the collection that a text reads as.
 fn collection_answer(alloc: Global, text: &str) -> Result<String, Fail> {

@@ -1,8 +1,8 @@
 // The type, ids, properties and other members of a feature; copies.
 use crate::features::{answer, are_answered, feature, has_extent, repeated, written};
-use streetmap_geojson::{Fault, Id, is_id, has_no_controls};
 use std::alloc::{AllocError, Global};
 use std::test::Fail;
+use streetmap_geojson::{Fault, Id, has_no_controls, is_id};
 
 const IDS: &[(&str, &str)] = &[
     (

@@ -1,9 +1,9 @@
 //! Features packed as their texts.
 use crate::features::feature;
-use streetmap_feature_text::{PackedFeature, push_feature};
 use bytes::Bytes;
 use std::alloc::Global;
 use std::test::Fail;
+use streetmap_feature_text::{PackedFeature, push_feature};
 
 /// The feature that a JSON text reads as, packed with the time of its property `when`.
 fn packed(alloc: Global, text: &str) -> Result<PackedFeature, Fail> {

@@ -1,8 +1,8 @@
 // Times that features take from a property.
-use streetmap_geojson::Feature;
 use crate::features::{are_answered, feature, written};
 use std::alloc::Global;
 use std::test::Fail;
+use streetmap_geojson::Feature;
 use streetmap_moment::TimeFault;
 
 // The answer to a feature does not show its time.

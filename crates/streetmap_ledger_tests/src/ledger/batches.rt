@@ -1,10 +1,10 @@
 //! Replies to batches, one by one and by `run`.
 use super::{are_named, page};
-use streetmap_ledger::{Batch, Counts, Fault, Keeper, Refusal, Reply, read_batch, run};
-use streetmap_memory::PlainKeeper;
 use std::alloc::Global;
 use std::process::Abort;
 use std::test::Fail;
+use streetmap_ledger::{Batch, Counts, Fault, Keeper, Refusal, Reply, read_batch, run};
+use streetmap_memory::PlainKeeper;
 
 /// A batch, what it comes to, and the ids that the collection `lamps` has then.
 struct Step {

@@ -1,12 +1,12 @@
 //! Pages made feature by feature.
 use super::walks::SEVEN;
 use super::{is_followed_from, keeper_after, page};
-use streetmap_ledger::{Page, PageFold};
-use streetmap_memory::PlainKeeper;
 use std::alloc::Global;
 use std::process::Abort;
 use std::test::Fail;
 use streetmap_geojson::Feature;
+use streetmap_ledger::{Page, PageFold};
+use streetmap_memory::PlainKeeper;
 use streetmap_query::read_query;
 
 /// The page of features that are taken in order.

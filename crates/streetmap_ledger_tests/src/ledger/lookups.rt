@@ -1,11 +1,11 @@
 //! Features, and what is told of collections.
 use super::keeper_after;
-use streetmap_ledger::{Keeper, Summary};
-use streetmap_memory::PlainKeeper;
 use std::alloc::Global;
 use std::process::Abort;
 use std::test::Fail;
 use streetmap_feature_text::write_feature;
+use streetmap_ledger::{Keeper, Summary};
+use streetmap_memory::PlainKeeper;
 
 /// Points, and a square whose exterior ring is clockwise.
 const LAMPS: &str = r#"{"key":"lamps","edits":[

@@ -1,10 +1,10 @@
 //! Large collections, in batches made by code.
 use super::{Told, page, tells};
-use streetmap_ledger::{Counts, Keeper, Reply, read_batch};
-use streetmap_memory::PlainKeeper;
 use std::alloc::Global;
 use std::process::Abort;
 use std::test::Fail;
+use streetmap_ledger::{Counts, Keeper, Reply, read_batch};
+use streetmap_memory::PlainKeeper;
 
 /// The text of a batch that inserts so many points into `many`, the first with this number. The
 /// points of a thousand numbers stand in a row, a millimetre apart.

@@ -1,11 +1,13 @@
 //! What is answered where memory is refused, once: that, or what is answered otherwise. Nothing has
 //! changed then, and the call is answered when it is made again.
 use super::{Told, tells};
-use streetmap_ledger::{Batch, BatchFault, Counts, Fault, Keeper, Page, Refusal, Reply, Summary, read_batch, run};
-use streetmap_memory::PlainKeeper;
 use std::alloc::Global;
 use std::process::Abort;
 use streetmap_geojson::Feature;
+use streetmap_ledger::{
+    Batch, BatchFault, Counts, Fault, Keeper, Page, Refusal, Reply, Summary, read_batch, run,
+};
+use streetmap_memory::PlainKeeper;
 use streetmap_query::{Query, read_query};
 
 /// What is there before.

@@ -1,10 +1,10 @@
 //! Walks over the pages of a collection.
 use super::{keeper_after, page};
-use streetmap_ledger::Page;
-use streetmap_memory::PlainKeeper;
 use std::alloc::Global;
 use std::process::Abort;
 use std::test::Fail;
+use streetmap_ledger::Page;
+use streetmap_memory::PlainKeeper;
 
 /// Seven features, of which five meet the box 0,0,5,5.
 pub const SEVEN: &str = r#"{"key":"seven","edits":[

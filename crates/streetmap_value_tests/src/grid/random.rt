@@ -3,10 +3,10 @@ ghost use Rattle.std.specs.Prelude.{◌<◌};
 
 use super::fractions::{edge_meets, is_odd};
 use super::{meets, two_rings};
-use streetmap_grid::{GridBox, Position};
 use std::alloc::Global;
 use std::process::Abort;
 use std::test::Fail;
+use streetmap_grid::{GridBox, Position};
 
 /// A source of numbers that look random (Knuth's linear congruence of 64 bits).
 #[derive(Drop)]

@@ -1,7 +1,7 @@
 //! Worked rows.
 use super::{collection, extent, line, meets, polygon, positions, ring, two_rings};
-use streetmap_grid::{GridBox, GridFault, Line, Polygon, Position, Ring, SimpleGeometry};
 use std::test::Fail;
+use streetmap_grid::{GridBox, GridFault, Line, Polygon, Position, Ring, SimpleGeometry};
 
 #[test]
 fn lines_meet_at_a_fraction(rt: HostRuntime) -> Result<(), Fail> {
