@@ -87,11 +87,7 @@ fn add_collection(
 /// # Errors
 ///
 /// Want of memory alone.
-pub fn collection_text(
-    alloc: Global,
-    root: &str,
-    summary: &Summary,
-) -> Result<String, AllocError>
+pub fn collection_text(alloc: Global, root: &str, summary: &Summary) -> Result<String, AllocError>
     ensures { IfOk result (λ text. string_bytes text ≡ compact_text (spec.collection_data root.now (summary_value summary.now))) }
 {
     let mut out = String::new(alloc);

@@ -161,7 +161,10 @@ fn try_answer<K: Keeper>(
     match respond_to(alloc, keeper, base.root(), &ask) {
         Ok(response) => {
             let closes = request.closes || closes(response.status);
-            Ok((finish(room, response, closes, is_bare(request.method)), closes))
+            Ok((
+                finish(room, response, closes, is_bare(request.method)),
+                closes,
+            ))
         }
         Err(fault) => Err(fault),
     }

@@ -116,11 +116,7 @@ fn replied(body: String, batch: &Batch, reply: Reply) -> Response
 }
 
 /// Applies a batch. Once it was applied no memory is taken: what the keeper replied is the answer.
-fn respond_batch<K: Keeper>(
-    alloc: Global,
-    keeper: &mut K,
-    batch: &Batch,
-) -> Result<Response, Fault>
+fn respond_batch<K: Keeper>(alloc: Global, keeper: &mut K, batch: &Batch) -> Result<Response, Fault>
     ensures told { BatchResponds (batch_value batch.now).key result (λ r. K.applies keeper.old (batch_value batch.now) r keeper.new) (keeper.new ≡ keeper.old) }
     ensures began_clean { K.is_clean keeper.new → K.is_clean keeper.old }
     ensures responds { K.is_clean keeper.new → (s : State) → K.stands keeper.old s → (root : Text) → RespondsIn root s (spec.batch (batch_value batch.now)) result (K.stands keeper.new) (K.cause keeper.new) }
@@ -244,7 +240,11 @@ fn respond_collection<K: Keeper>(
 }
 
 /// The answer with all collections.
-fn found_collections(alloc: Global, root: &str, summaries: &[Summary]) -> Result<Response, AllocError>
+fn found_collections(
+    alloc: Global,
+    root: &str,
+    summaries: &[Summary],
+) -> Result<Response, AllocError>
     ensures { IfOk result (λ b. response_value b ≡ spec_response.found Json (compact_text (spec_bodies.collections_data root.now (summary_values summaries.now)))) }
 {
     let body = collections_text(alloc, root, summaries)?;
@@ -252,7 +252,11 @@ fn found_collections(alloc: Global, root: &str, summaries: &[Summary]) -> Result
 }
 
 /// Looks all collections up.
-fn respond_collections<K: Keeper>(alloc: Global, keeper: &mut K, root: &str) -> Result<Response, Fault>
+fn respond_collections<K: Keeper>(
+    alloc: Global,
+    keeper: &mut K,
+    root: &str,
+) -> Result<Response, Fault>
     ensures began_clean { K.is_clean keeper.new → K.is_clean keeper.old }
     ensures responds { K.is_clean keeper.new → (s : State) → K.stands keeper.old s → RespondsIn root.now s spec.all_collections result (K.stands keeper.new) (K.cause keeper.new) }
     ensures shut { (why : Cause) → K.cause keeper.old ≡ Some why → RespondsShut root.now spec.all_collections result × (K.cause keeper.new ≡ Some why) × LeavesNoMore (K.may_leave keeper.old) (K.may_leave keeper.new) }
