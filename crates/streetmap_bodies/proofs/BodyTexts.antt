@@ -1,5 +1,5 @@
 -- What is added part by part is the text of a body.
-use Rattle.std.proofs.Common.{◌≡◌, List, ℕ, ◌++◌, false, refl, ap, ◌∙◌, append_assoc, codes, length, Option, Some, None}
+use Rattle.std.proofs.Common.{◌≡◌, List, ℕ, ◌++◌, false, refl, ap, append_assoc, codes, length, Option, Some, None}
 use Rattle.std.specs.Prelude.{decimal, option_map}
 use Rattle.json.specs.Print.{escape_byte}
 use Rattle.serde_json.specs.Data.{string}

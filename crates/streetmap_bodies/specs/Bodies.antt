@@ -1,5 +1,5 @@
 -- The bodies of answers (RFC 8288 for links; OGC 17-069, sections 7.2 to 7.16).
-use Rattle.std.specs.Prelude.{ℕ, List, [], ◌∷◌, ◌++◌, Option, None, Some, option_map, codes, map, length}
+use Rattle.std.specs.Prelude.{List, [], ◌∷◌, ◌++◌, Option, None, Some, option_map, codes, length}
 use Rattle.serde_json.specs.Data.{Data, number, unsigned, string, array, object, Items, item, no_items, Members, member, no_members}
 use Rattle.serde_json.specs.View.{items_of}
 use Rattle.serde_json.specs.Written.{compact_text}

@@ -1,5 +1,5 @@
 -- Why a request is answered by an error: names, sentences, statuses, places and causes.
-use Rattle.std.specs.Prelude.{ℕ, List, Option, None, Some, option_map, codes}
+use Rattle.std.specs.Prelude.{ℕ, Option, None, Some, option_map, codes}
 use Rattle.streetmap_http.specs.Faults as framing
 use Rattle.streetmap_http.specs.declared.answer_head.Methods.{Methods}
 use Rattle.streetmap_query.specs.Faults as query

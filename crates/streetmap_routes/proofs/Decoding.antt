@@ -1,5 +1,5 @@
 -- A part of a path, percent-decoded.
-use Rattle.std.proofs.Common.{◌≡◌, List, ℕ, Bool, true, false, refl, sym, ap, subst, ◌∙◌, Some, None, Result, Ok, Err, String, Global, IfOk}
+use Rattle.std.proofs.Common.{◌≡◌, List, ℕ, Bool, true, false, refl, sym, ap, subst, ◌∙◌, Some, None, String, Global}
 use Rattle.std.specs.Prelude.{Option, MatchOption, IsUtf8, option_map, string_bytes, if◌then◌else◌}
 use Rattle.std.specs.Str.{is_utf8}
 use Rattle.std.proofs.lemmas.Str.{IsUtf8-from_is_utf8, is_utf8-from_IsUtf8, IsUtf8-string_bytes}

@@ -1,5 +1,5 @@
 -- The text of a base without its last slash.
-use Rattle.std.proofs.Common.{◌≡◌, ◌++◌, ◌-◌, ◌+◌, ℕ, List, [], ◌∷◌, take, length, length-append, sym, ap, ◌∙◌, arith, codes, append_assoc, Option, None}
+use Rattle.std.proofs.Common.{◌≡◌, ◌++◌, ◌-◌, ℕ, List, [], ◌∷◌, take, length, length-append, sym, ap, ◌∙◌, arith, codes, append_assoc, Option, None}
 use Rattle.std.specs.Prelude.{is_some, unwrap_or, option_map, decimal, not, if◌then◌else◌}
 use Rattle.std.proofs.Math.Seq.{take-append_seam}
 use Rattle.std.specs.List.{concat}

@@ -1,5 +1,5 @@
 -- What a request asks for, before the state is asked. OGC 17-069, section 7.
-use Rattle.std.specs.Prelude.{ℕ, List, [], ◌∷◌, Bool, true, false, ◌||◌, Option, None, Some, option_map, option_and_then, Result, Ok, Err, codes, if◌then◌else◌, ◌==◌, bytes_eq, slice_get, nat_lt, length}
+use Rattle.std.specs.Prelude.{ℕ, [], ◌∷◌, Bool, false, ◌||◌, Option, None, Some, option_map, option_and_then, Result, Ok, Err, codes, if◌then◌else◌, ◌==◌, bytes_eq, slice_get, nat_lt, length}
 use Rattle.std.specs.List.{before_first, after_first, position_or_len, slice_split}
 use Rattle.std.specs.Str.{is_utf8}
 use Rattle.percent_encoding.specs.Percent.{percent_decode}

@@ -1,6 +1,6 @@
 -- Exchanges, one after the other.
-use Rattle.std.proofs.Common.{◌≡◌, ℕ, ◌++◌, List, [], ◌∷◌, Bool, true, false, refl, sym, subst, ap, ◌∙◌, Some, append_assoc, append-nil}
-use Rattle.std.specs.Prelude.{Option, ◌||◌, ◌==◌}
+use Rattle.std.proofs.Common.{◌≡◌, ◌++◌, List, [], ◌∷◌, Bool, true, false, refl, sym, subst, ap, ◌∙◌, Some, append_assoc, append-nil}
+use Rattle.std.specs.Prelude.{Option}
 use Rattle.streetmap_batch.specs.Text.{Text}
 use Rattle.streetmap_batch.specs.BatchValue.{BatchValue}
 use Rattle.streetmap_ledger.specs.State.{State}
@@ -9,10 +9,9 @@ use Rattle.streetmap_ledger.specs.Keep.{LeavesOnly}
 use Rattle.streetmap_ledger.specs.declared.reply.Cause.{Cause}
 use Rattle.streetmap_ledger.specs.declared.reply.Fault.TheVariants.{Memory, Device}
 use Rattle.streetmap_routes.specs.Ask.{AskValue, faulty, landing_page, api_text, conformance_classes, all_collections, one_collection, page, feature, batch}
-use Rattle.streetmap_web.specs.Response.{closes_with, fault_response, state_in}
-use Rattle.streetmap_web.specs.Standing.{Standing, Outcome, of_state, shut, told, starved, failed, answer_by, after, CanBe, Leaves, LeavesNoMore, Stays, IsKnown}
+use Rattle.streetmap_web.specs.Response.{closes_with, state_in}
+use Rattle.streetmap_web.specs.Standing.{Standing, Outcome, of_state, shut, told, starved, failed, answer_by, after, Leaves, LeavesNoMore, IsKnown}
 use Rattle.streetmap_web.specs.Exchanges.{Exchange, IsExchange, GoOn, closes, standing_after, standing_after_all, all_requests, all_answers, answer_bytes, batches_of, with_batch, with_answered, after_batches}
-use Rattle.streetmap_bodies.specs.declared.request_fault.RequestFault.TheVariants.{Keeper}
 use Rattle.streetmap_web.proofs.Standings.{fault_closes}
 
 pub GoOn-more : (root : Text) (x : Standing) (es : List Exchange) (e : Exchange) → GoOn root x es → IsExchange (standing_after_all x es) e

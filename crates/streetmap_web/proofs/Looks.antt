@@ -1,5 +1,5 @@
 -- What a stop may leave behind a look.
-use Rattle.std.proofs.Common.{◌≡◌, sym, ap, subst, ◌∙◌, Some, Ok, Err, inl, IfOk, OnErr}
+use Rattle.std.proofs.Common.{◌≡◌, sym, subst, ◌∙◌, Some, Ok, Err, inl, IfOk, OnErr}
 use Rattle.std.specs.Prelude.{Option, Result}
 use Rattle.std.specs.declared.alloc.AllocError.{AllocError}
 use Rattle.streetmap_batch.specs.Text.{Text}

@@ -1,5 +1,5 @@
 -- The bytes of one request, answered.
-use Rattle.std.proofs.Common.{◌≡◌, ◌++◌, List, [], Bool, true, refl, sym, ap, subst, ◌∙◌, inl, inr, append-nil}
+use Rattle.std.proofs.Common.{◌≡◌, [], Bool, true, refl, sym, ap, subst, ◌∙◌, inl, inr, append-nil}
 use Rattle.std.specs.Prelude.{Option}
 use Rattle.streetmap_http.specs.Framing.{HeadValue, Breaks, IsRequest, is_bare}
 use Rattle.streetmap_http.specs.Arrivals.{SplitsAs}
@@ -10,11 +10,10 @@ use Rattle.streetmap_http.specs.declared.fault.FramingFault.{FramingFault}
 use Rattle.streetmap_http.proofs.Fronts.{front_unique}
 use Rattle.streetmap_batch.specs.Text.{Text}
 use Rattle.streetmap_ledger.specs.State.{State}
-use Rattle.streetmap_ledger.specs.declared.reply.Fault.TheVariants.{Memory}
 use Rattle.streetmap_routes.specs.Ask.{ask_of, faulty}
-use Rattle.streetmap_bodies.specs.declared.request_fault.RequestFault.TheVariants.{Keeper, Framing}
+use Rattle.streetmap_bodies.specs.declared.request_fault.RequestFault.TheVariants.{Framing}
 use Rattle.streetmap_web.specs.Response.{fault_response, response_text}
-use Rattle.streetmap_web.specs.Standing.{Standing, told, starved, IsKnown}
+use Rattle.streetmap_web.specs.Standing.{Standing, told, starved}
 use Rattle.streetmap_web.specs.Responds.{Answers, RefusesBy}
 use Rattle.streetmap_web.specs.Exchanges.{Exchange, Answered, request_of, broken_request, whole, broken, response}
 use Rattle.streetmap_web.proofs.Turning.{faulty_after, faulty_response, faulty_leaves, can_told, starved_after, starved_response, starved_leaves, can_starve}

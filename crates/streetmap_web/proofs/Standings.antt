@@ -1,6 +1,6 @@
 -- Answers over a keeper that stands for a state, and over a shut one.
-use Rattle.std.proofs.Common.{◌≡◌, List, Bool, true, false, refl, sym, subst, ap, ◌∙◌, Some, Ok, Err}
-use Rattle.std.specs.Prelude.{Option, Result, ◌||◌, ◌==◌}
+use Rattle.std.proofs.Common.{◌≡◌, Bool, true, false, refl, sym, ap, ◌∙◌, Some, Ok, Err}
+use Rattle.std.specs.Prelude.{Option, ◌||◌}
 use Rattle.streetmap_batch.specs.Text.{Text}
 use Rattle.streetmap_ledger.specs.State.{State}
 use Rattle.streetmap_ledger.specs.Keep.{LeavesOnly}
@@ -8,7 +8,7 @@ use Rattle.streetmap_ledger.specs.declared.reply.Cause.{Cause}
 use Rattle.streetmap_ledger.specs.declared.reply.Fault.{Fault}
 use Rattle.streetmap_ledger.specs.declared.reply.Fault.TheVariants as faults
 use Rattle.streetmap_routes.specs.Ask.{AskValue}
-use Rattle.streetmap_web.specs.Response.{ResponseValue, fault_response, closes_with, response_text, response_shut}
+use Rattle.streetmap_web.specs.Response.{fault_response, closes_with, response_text}
 use Rattle.streetmap_web.specs.Standing.{Standing, Stands, of_state, shut, told, starved, failed, LeavesNoMore}
 use Rattle.streetmap_web.specs.Responds.{answer_text, Answers, TriesIn, TriesShut, TryLeaves}
 use Rattle.streetmap_web.specs.declared.answer.Answer.{Answer}

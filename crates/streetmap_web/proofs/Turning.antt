@@ -1,7 +1,7 @@
 -- From what was read, answered and sent to what a turn did.
-use Rattle.std.proofs.Common.{◌≡◌, ℕ, ◌<◌, ◌+◌, ◌-◌, arith, ◌++◌, List, [], length, Bool, true, false, refl, sym, subst, ap, ◌∙◌, Some, inl, inr}
+use Rattle.std.proofs.Common.{◌≡◌, ◌<◌, ◌+◌, ◌-◌, arith, ◌++◌, length, Bool, true, false, refl, sym, subst, ap, ◌∙◌, inl, inr}
 use Rattle.std.specs.Prelude.{Option}
-use Rattle.std.specs.Io.KnownBytes.{Consumes, Keeps, IsAtEnd}
+use Rattle.std.specs.Io.KnownBytes.{Consumes, IsAtEnd}
 use Rattle.std.proofs.KnownBytes.{Keeps-refl}
 use Rattle.streetmap_http.specs.Head.{IsHead}
 use Rattle.streetmap_http.specs.Streams.{IsBlank, IsUnfinished, in_body}
@@ -16,10 +16,10 @@ use Rattle.streetmap_ledger.specs.declared.reply.Cause.{Cause}
 use Rattle.streetmap_ledger.specs.declared.reply.Fault.TheVariants.{Memory}
 use Rattle.streetmap_routes.specs.Ask.{AskValue, ask_of, faulty}
 use Rattle.streetmap_web.specs.Response.{fault_response, response_text, closes_with}
-use Rattle.streetmap_web.specs.Standing.{Standing, of_state, shut, told, starved, failed, answer_by, after, Outcome, CanBe, Leaves, LeavesNoMore, Stays, IsKnown}
+use Rattle.streetmap_web.specs.Standing.{Standing, of_state, shut, told, starved, answer_by, after, Outcome, CanBe, Leaves, LeavesNoMore, Stays, IsKnown}
 use Rattle.streetmap_web.specs.Responds.{Answers}
 use Rattle.streetmap_web.specs.Turns.{turn_after, RefuseSays}
-use Rattle.streetmap_web.specs.Exchanges.{Exchange, RequestValue, request_of, broken_request, Asks, whole, broken, no_room, closes, answer_bytes, response, Around, Acted, Rested, TurnSays}
+use Rattle.streetmap_web.specs.Exchanges.{Exchange, RequestValue, request_of, broken_request, Asks, whole, broken, closes, answer_bytes, response, Around, Acted, Rested, TurnSays}
 use Rattle.streetmap_web.specs.declared.serving.Turn.{Turn}
 use Rattle.streetmap_web.specs.declared.serving.Turn.TheVariants.{Open, Closed, Ended, Truncated, ReadFailed, WriteFailed}
 use Rattle.streetmap_bodies.specs.declared.request_fault.RequestFault.TheVariants.{Keeper, Framing}

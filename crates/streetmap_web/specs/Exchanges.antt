@@ -1,5 +1,5 @@
 -- Requests of a stream with their answers.
-use Rattle.std.specs.Prelude.{◌≡◌, ◌≢◌, ℕ, ◌<◌, ◌+◌, ◌++◌, List, [], ◌∷◌, Bool, true, false, length, take, Option, Some, nat_lt, if◌then◌else◌, ⊤}
+use Rattle.std.specs.Prelude.{◌≡◌, ◌≢◌, ℕ, ◌<◌, ◌+◌, ◌++◌, List, [], ◌∷◌, Bool, true, false, length, take, Option, nat_lt, if◌then◌else◌, ⊤}
 use Rattle.std.specs.Io.KnownBytes.{Consumes, Appends, Keeps, IsAtEnd}
 use Rattle.streetmap_http.specs.Head.{IsHead}
 use Rattle.streetmap_http.specs.Streams.{IsBlank, IsUnfinished}
@@ -9,7 +9,7 @@ use Rattle.streetmap_batch.specs.Text.{Text}
 use Rattle.streetmap_batch.specs.BatchValue.{BatchValue}
 use Rattle.streetmap_ledger.specs.State.{State}
 use Rattle.streetmap_ledger.specs.Batches.{after_all}
-use Rattle.streetmap_routes.specs.Ask.{AskValue, faulty, landing_page, api_text, conformance_classes, all_collections, one_collection, page, feature, batch, ask_of}
+use Rattle.streetmap_routes.specs.Ask.{AskValue, faulty, batch, ask_of}
 use Rattle.streetmap_web.specs.Response.{ResponseValue, closes_with, response_text}
 use Rattle.streetmap_web.specs.Standing.{Standing, Outcome, told, starved, failed, CanBe, answer_by, after, Leaves, Stays, IsKnown, of_state, shut}
 use Rattle.streetmap_web.specs.Turns.{begun_in, end_of}

@@ -1,5 +1,5 @@
 -- What the functions that answer say of their results.
-use Rattle.std.specs.Prelude.{◌≡◌, ◌⊎◌, Bool, true, List, Option, None, Some, Result, Ok, Err, string_bytes, ◌++◌, ⊤}
+use Rattle.std.specs.Prelude.{◌≡◌, ◌⊎◌, Bool, true, Option, Some, Result, Ok, Err, string_bytes, ◌++◌, ⊤}
 use Rattle.streetmap_batch.specs.Text.{Text}
 use Rattle.streetmap_ledger.specs.State.{State}
 use Rattle.streetmap_ledger.specs.Keep.{LeavesOnly, LeavesEither}
@@ -8,7 +8,6 @@ use Rattle.streetmap_ledger.specs.declared.reply.Cause.TheVariants as causes
 use Rattle.streetmap_ledger.specs.declared.reply.Fault.{Fault}
 use Rattle.streetmap_ledger.specs.declared.reply.Fault.TheVariants as faults
 use Rattle.streetmap_ledger.specs.declared.reply.Reply.{Reply}
-use Rattle.streetmap_batch.specs.BatchValue.{BatchValue}
 use Rattle.streetmap_routes.specs.Ask.{AskValue}
 use Rattle.streetmap_web.specs.Response.{ResponseValue, response_in, response_shut, state_in, asks_state, fault_response, closes_with, response_text, replied}
 use Rattle.streetmap_web.specs.Standing.{Standing, Outcome, answer_by, after, CanBe, Leaves, IsKnown}

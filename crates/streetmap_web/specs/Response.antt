@@ -1,6 +1,5 @@
 -- What a request is answered, and the state after it.
-use Rattle.std.specs.Prelude.{◌≡◌, ℕ, ◌++◌, List, [], Bool, true, false, ◌||◌, Option, None, Some, codes, if◌then◌else◌, length, ◌==◌}
-use Rattle.serde_json.specs.Data.{Data}
+use Rattle.std.specs.Prelude.{ℕ, ◌++◌, [], Bool, true, false, ◌||◌, Option, None, Some, if◌then◌else◌, length, ◌==◌}
 use Rattle.serde_json.specs.Written.{compact_text}
 use Rattle.streetmap_http.specs.AnswerHead.{head_text}
 use Rattle.streetmap_http.specs.declared.answer_head.AnswerHead.{AnswerHead}

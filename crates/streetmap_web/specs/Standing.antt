@@ -1,5 +1,5 @@
 -- What a keeper stands for, what becomes of it, and what a stop may leave.
-use Rattle.std.specs.Prelude.{◌≡◌, Bool, true, List, Option, None, Some, ⊤}
+use Rattle.std.specs.Prelude.{◌≡◌, true, Option, Some, ⊤}
 use Rattle.streetmap_batch.specs.Text.{Text}
 use Rattle.streetmap_ledger.specs.State.{State}
 use Rattle.streetmap_ledger.specs.Keep.{LeavesOnly, LeavesEither}

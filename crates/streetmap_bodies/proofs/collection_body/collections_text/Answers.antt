@@ -1,4 +1,4 @@
-use Rattle.std.proofs.Common.{◌≡◌, ◌++◌, ap, ◌∙◌, string_bytes, codes, rules}
+use Rattle.std.proofs.Common.{◌≡◌, ◌++◌, string_bytes, codes, rules}
 use Rattle.serde_json.specs.Written.{compact_text}
 use Rattle.streetmap_feature_text.specs.Written.{array_of}
 use Rattle.streetmap_ledger.specs.SummaryView.{summary_values}

@@ -1,4 +1,4 @@
-use Rattle.std.proofs.Common.{◌≡◌, ap, ◌∙◌}
+use Rattle.std.proofs.Common.{ap, ◌∙◌}
 use Rattle.serde_json.specs.Written.{has_float, compact_text}
 use Rattle.streetmap_geojson.specs.FeatureView.{feature_value}
 use Rattle.streetmap_bodies.proofs.BodyTexts.{no_float_linked}

@@ -1,4 +1,4 @@
-use Rattle.std.proofs.Common.{◌≡◌, ℕ, List, Ok, Err, OnOk, Result, ◌⊎◌, inl, inr}
+use Rattle.std.proofs.Common.{◌≡◌, Ok, Err, OnOk, Result}
 use Rattle.matchit.specs.Rows.{RowsOf}
 use Rattle.matchit.specs.Route.{Scan, parse_route}
 use Rattle.matchit.specs.Router.{RouteOf, InsertsRead}

@@ -1,4 +1,4 @@
-use Rattle.std.proofs.Common.{◌≡◌, ◌∙◌, ap, codes}
+use Rattle.std.proofs.Common.{◌∙◌, ap, codes}
 use Rattle.streetmap_routes.specs.Routes.{the_rows, put}
 use Rattle.streetmap_routes.specs.declared.routes.Route.TheVariants.{Landing, Api, Conformance, Collections, Collection, Items, Item, Batches}
 use Rattle.streetmap_routes.proofs.routes.make_router.Goals as goal

@@ -1,6 +1,5 @@
-use Rattle.std.proofs.Common.{◌≡◌, true, sym, ap, ◌∙◌}
-use Rattle.streetmap_http.specs.AnswerHead.{head_text}
-use Rattle.streetmap_web.specs.Response.{fault_response, head_of}
+use Rattle.std.proofs.Common.{sym, ap, ◌∙◌}
+use Rattle.streetmap_web.specs.Response.{fault_response}
 use Rattle.streetmap_bodies.specs.declared.request_fault.RequestFault.TheVariants.{Keeper}
 use Rattle.streetmap_web.proofs.FaultAnswers.{memory_body, device_body, damaged_body, reopen_body}
 use Rattle.streetmap_web.proofs.answer.fixed_body.Goals as goal

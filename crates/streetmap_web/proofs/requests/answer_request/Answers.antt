@@ -1,10 +1,8 @@
 use Rattle.std.proofs.Common.{◌≡◌}
-use Rattle.streetmap_http.specs.Arrivals.{SplitsAs}
-use Rattle.streetmap_http.specs.Framing.{HeadValue, IsRequest, is_bare}
-use Rattle.streetmap_http.specs.FramingView.{framing_value, head_value}
+use Rattle.streetmap_http.specs.Framing.{is_bare}
+use Rattle.streetmap_http.specs.FramingView.{head_value}
 use Rattle.streetmap_http.specs.declared.framing.Framed.TheVariants.{Broken, Request}
 use Rattle.streetmap_batch.specs.BatchValue.{BatchValue}
-use Rattle.streetmap_batch.specs.Text.{Text}
 use Rattle.streetmap_routes.specs.Ask.{ask_of, batch}
 use Rattle.streetmap_routes.specs.BaseView.{root_of}
 use Rattle.streetmap_web.specs.Responds.{answer_text, BatchAnswers}

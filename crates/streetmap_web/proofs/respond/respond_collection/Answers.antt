@@ -1,7 +1,6 @@
-use Rattle.std.proofs.Common.{refl, Err, ap}
+use Rattle.std.proofs.Common.{refl, Err}
 use Rattle.streetmap_routes.specs.Ask.{one_collection}
-use Rattle.streetmap_web.specs.Response.{found_feature}
-use Rattle.streetmap_web.proofs.Looks.{look_leaves, found_responds}
+use Rattle.streetmap_web.proofs.Looks.{look_leaves}
 use Rattle.streetmap_web.proofs.respond.respond_collection.Goals as goal
 
 pub returns-in-Ok-clause-leaves : goal.returns-in-Ok-clause-leaves

@@ -1,8 +1,7 @@
-use Rattle.std.proofs.Common.{refl, Err, ap}
+use Rattle.std.proofs.Common.{refl, Err}
 use Rattle.streetmap_query.specs.Views.{query_value}
 use Rattle.streetmap_routes.specs.Ask.{page}
-use Rattle.streetmap_web.specs.Response.{found_feature}
-use Rattle.streetmap_web.proofs.Looks.{look_leaves, found_responds}
+use Rattle.streetmap_web.proofs.Looks.{look_leaves}
 use Rattle.streetmap_web.proofs.respond.respond_page.Goals as goal
 
 pub returns-in-Ok-clause-leaves : goal.returns-in-Ok-clause-leaves

@@ -1,4 +1,4 @@
-use Rattle.std.proofs.Common.{◌≡◌, ap, sym, subst}
+use Rattle.std.proofs.Common.{ap, sym, subst}
 use Rattle.streetmap_routes.specs.AskView.{ask_value}
 use Rattle.streetmap_web.specs.Responds.{RespondsIn, RespondsShut}
 use Rattle.streetmap_web.proofs.respond.respond_to.Goals as goal
