@@ -57,6 +57,7 @@ bench: build
 	python3 bench/lines.py $(PROGRAM)
 	@cd crates/streetmap_bench && rt run < stdin > /dev/null 2>&1
 	python3 bench/collections.py crates/streetmap_bench/out/streetmap_bench
+	python3 bench/serving.py crates/streetmap_bench/out/streetmap_bench
 	@echo "Geometry::meets, the proved program and then plain Rust with the same signs, in nanoseconds an edge or point:"
 	@crates/streetmap_bench/out/streetmap_bench time | grep -E "^(jagged|long|points).*ns"
 	@mkdir -p bench/out && rustc -O -o bench/out/meets bench/meets.rs && bench/out/meets

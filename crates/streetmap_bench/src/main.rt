@@ -3,12 +3,14 @@
 //! time of five rounds, in nanoseconds an edge or a point. `bench/meets.rs` does the same in Rust.
 //!
 //! With the name of a task (`collections`) it times that on the collection of standard input, and
-//! without arguments it prints how many features that has.
+//! without arguments it prints how many features that has. With `serve` it serves the HTTP requests of
+//! standard input over a keeper in memory (`serving`).
 #![tactic(auto)]
 
 ghost use Rattle.std.specs.Prelude.{◌≤◌};
 
 use collections::{Task, read_features, read_input, time_task};
+use serving::time_serving;
 use shapes::{beside, boxes, diagonals, jagged, middle, points};
 use std::rt::Clock;
 use std::time::Instant;
@@ -16,6 +18,7 @@ use std::{env, io};
 use streetmap_grid::{Geometry, GridBox};
 
 mod collections;
+mod serving;
 mod shapes;
 
 /// How many boxes the geometry meets.
@@ -104,6 +107,14 @@ fn main(rt: HostRuntime) -> anyhow::Result<()> {
         return meet(&rt, true);
     }
     let text = read_input(&rt, rt.alloc())?;
+    if name == "serve" {
+        let timed = time_serving(&rt, rt.alloc(), text.as_slice())?;
+        println!(rt;
+            "{} answers, {} bytes, {} microseconds",
+            timed.answers, timed.written, timed.microseconds
+        )?;
+        return Ok(());
+    }
     match Task::of(name) {
         Some(task) => {
             let best = time_task(&rt, rt.alloc(), task, text.as_slice())?;
