@@ -84,10 +84,6 @@ abbrev nodes_of : List Part → List Node
 nodes_of [] = []
 nodes_of (p ∷ ps) = step p (nodes_of ps)
 
-boolean_back : (b : Bool) → of_data (boolean (cond b 1 0 == 1)) ≡ of_data (boolean b)
-boolean_back true = refl
-boolean_back false = refl
-
 mutual
   data_back : (d : Data) (rest : List Part) → nodes_of (data_parts d rest) ≡ of_data d ∷ nodes_of rest
   data_back null rest = refl

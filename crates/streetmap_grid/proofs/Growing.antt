@@ -39,16 +39,6 @@ extent_push ps g h p x w s e n =
       north = bound (λ v. v.y) g.y1 h.y1 ps p n.2 x.north;
     }
 
-pub extent_one : (g : BoxValue) (p : PositionValue) → g.x0 ≡ p.x → g.y0 ≡ p.y → g.x1 ≡ p.x → g.y1 ≡ p.y → IsExtent (p ∷ []) g
-extent_one g p a b c d =
-    record {
-      holds = All-cons (λ v. Holds g v.x v.y) p [] (omega (arith, ints, a), omega (arith, ints, c), omega (arith, ints, b), omega (arith, ints, d)) (All-nil (λ v. Holds g v.x v.y));
-      west = inl (sym a);
-      south = inl (sym b);
-      east = inl (sym c);
-      north = inl (sym d);
-    }
-
 pub least_in : (r a b : ℤ) → IsBound a → IsCoordinate b → IsLeast r a b → IsBound r
 least_in r a b ha hb (l, k, inl e) = omega (arith, ints, ha, e)
 least_in r a b ha hb (l, k, inr e) = omega (arith, ints, hb, e)
@@ -56,9 +46,6 @@ least_in r a b ha hb (l, k, inr e) = omega (arith, ints, hb, e)
 pub greatest_in : (r a b : ℤ) → IsBound a → IsCoordinate b → IsGreatest r a b → IsBound r
 greatest_in r a b ha hb (l, k, inl e) = omega (arith, ints, ha, e)
 greatest_in r a b ha hb (l, k, inr e) = omega (arith, ints, hb, e)
-
-pub first_position : (ps : List PositionValue) (p : PositionValue) (g : BoxValue) → ps ≡ [] → IsExtent (p ∷ []) g → IsExtent (ps ++ p ∷ []) g
-first_position ps p g e h = let P : List PositionValue → Type 0 = λ xs. IsExtent (xs ++ p ∷ []) g in subst P (sym e) h
 
 -- ---- a loop that adds what each element has
 pub bounds_more : {X : Type 0} (f : X → List PositionValue) (xs : List X) (ps : List PositionValue) (i : ℕ) (x : X) (o : Option GridBox) → i < length xs → x ≡ get_or xs i x → AreBounds ((ps ++ flat_map f (take i xs)) ++ f x) o → AreBounds (ps ++ flat_map f (take (i + 1) xs)) o

@@ -74,13 +74,6 @@ part_sliced a b c bytes rest n p h =
 pub part_kept : (a b c : Option (List ℕ)) (bytes rest : List ℕ) → IsPartWritten a b bytes rest → Keeps b c → IsPartWritten a c bytes rest
 part_kept a b c bytes rest p h = record { front = p.front; whole = p.whole; written = Appends-kept a b c p.front p.written h }
 
-pub part_all : (a b : Option (List ℕ)) (bytes rest : List ℕ) → IsPartWritten a b bytes rest → rest ≡ [] → Appends a b bytes
-part_all a b bytes rest p none =
-    subst (Appends a b) (sym (p.whole ∙ ap (λ l. p.front ++ l) none ∙ append-nil p.front)) p.written
-
-pub part_first : (a b : Option (List ℕ)) (bytes rest : List ℕ) → IsPartWritten a b bytes rest → AppendsFirst a b bytes
-part_first a b bytes rest p = (p.front, ap (take (length p.front)) p.whole ∙ take-append_seam p.front rest, p.written)
-
 -- ---- answers
 
 -- the text of an answer, where there is one, and the state that the keeper stands for after it

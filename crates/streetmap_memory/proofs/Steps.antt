@@ -114,9 +114,6 @@ does t u v e undo acts is back = (λ keys. acts keys ∙ ap (λ w. Ok (state_of 
 pub edited_more : (s t : State) (place : ℕ) (e : EditValue) (es : List EditValue) → step s e ≡ Ok t → edited place s (e ∷ es) ≡ edited (place + 1) t es
 edited_more s t place e es is = ap (λ r. placed place r >>= λ u. edited (place + 1) u es) is
 
-pub edited_stops : (s : State) (place : ℕ) (e : EditValue) (es : List EditValue) (why : Refusal) → step s e ≡ Err why → edited place s (e ∷ es) ≡ Err (place, why)
-edited_stops s place e es why is = ap (λ r. placed place r >>= λ u. edited (place + 1) u es) is
-
 -- the time changes no id
 id_stays : (f g : FeatureValue) (q : Result (Option IntervalValue) TimeFault) → result_ok (or_bad_time (with_time f q)) ≡ Some g → g.id ≡ f.id
 id_stays f g (Ok time) e =
