@@ -61,19 +61,22 @@ impl Stream {
 
     /// What is served of so many of its bytes, and what is written.
     pub(crate) fn served_of(&self, alloc: Global, len: usize) -> Result<(Served, String), Fail> {
-        let mut whole = 0;
-        let mut begins = 0;
+        let mut left = len;
         let mut written = String::new(alloc);
         let mut answers = 0;
         for (request, answer) in self.requests.iter().zip(self.answers.iter()) {
-            whole += request.len() as u64;
-            if whole <= len as u64 {
-                written.push_str(answer.as_str())?;
-                answers += 1;
-                begins = whole;
+            if request.len() > left {
+                break;
             }
+            left -= request.len();
+            written.push_str(answer.as_str())?;
+            answers += 1;
         }
-        let end = if begins == len as u64 { End::Ended } else { End::Truncated };
+        let end = if left == 0 {
+            End::Ended
+        } else {
+            End::Truncated
+        };
         Ok((Served { answers, end }, written))
     }
 }
