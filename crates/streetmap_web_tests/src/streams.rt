@@ -4,8 +4,7 @@ use crate::requests::{FIRST, FIRST_REPLY, answer, get, post, serve_over};
 use std::alloc::Global;
 use std::io::{self, BufReader, Read};
 use std::test::Fail;
-use streetmap_ledger::Keeper;
-use streetmap_memory::PlainKeeper;
+use streetmap_ledger::{Keeper, PlainKeeper};
 use streetmap_routes::Base;
 use streetmap_web::{End, Served, serve};
 
@@ -62,19 +61,18 @@ impl Stream {
 
     /// What is served of so many of its bytes, and what is written.
     pub(crate) fn served_of(&self, alloc: Global, len: usize) -> Result<(Served, String), Fail> {
-        let mut whole = 0;
-        let mut begins = 0;
+        let mut left = len;
         let mut written = String::new(alloc);
         let mut answers = 0;
         for (request, answer) in self.requests.iter().zip(self.answers.iter()) {
-            whole += request.len() as u64;
-            if whole <= len as u64 {
-                written.push_str(answer.as_str())?;
-                answers += 1;
-                begins = whole;
+            if request.len() > left {
+                break;
             }
+            left -= request.len();
+            written.push_str(answer.as_str())?;
+            answers += 1;
         }
-        let end = if begins == len as u64 {
+        let end = if left == 0 {
             End::Ended
         } else {
             End::Truncated
@@ -130,22 +128,10 @@ fn a_byte_at_a_time_is_answered_as_all_at_once(rt: HostRuntime) -> Result<(), Fa
     let mut written: Vec<u8> = Vec::new(rt.alloc());
     let served = serve(rt.alloc(), &mut keeper, &base, &mut reader, &mut written);
     assert_eq!(rt; written.as_slice(), wanted.as_bytes());
-    assert_eq!(rt;
-        served,
-        Served {
-            answers: 3,
-            end: End::Ended
-        }
-    );
+    assert_eq!(rt; served, Served { answers: 3, end: End::Ended });
     let mut keeper = PlainKeeper::new(rt.alloc());
     let (served, written) = serve_over(rt.alloc(), &mut keeper, input.as_bytes())?;
     assert_eq!(rt; written, wanted);
-    assert_eq!(rt;
-        served,
-        Served {
-            answers: 3,
-            end: End::Ended
-        }
-    );
+    assert_eq!(rt; served, Served { answers: 3, end: End::Ended });
     Ok(())
 }
