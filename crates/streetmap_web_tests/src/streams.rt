@@ -4,7 +4,8 @@ use crate::requests::{FIRST, FIRST_REPLY, answer, get, post, serve_over};
 use std::alloc::Global;
 use std::io::{self, BufReader, Read};
 use std::test::Fail;
-use streetmap_ledger::{Keeper, PlainKeeper};
+use streetmap_ledger::Keeper;
+use streetmap_memory::PlainKeeper;
 use streetmap_routes::Base;
 use streetmap_web::{End, Served, serve};
 
@@ -128,10 +129,22 @@ fn a_byte_at_a_time_is_answered_as_all_at_once(rt: HostRuntime) -> Result<(), Fa
     let mut written: Vec<u8> = Vec::new(rt.alloc());
     let served = serve(rt.alloc(), &mut keeper, &base, &mut reader, &mut written);
     assert_eq!(rt; written.as_slice(), wanted.as_bytes());
-    assert_eq!(rt; served, Served { answers: 3, end: End::Ended });
+    assert_eq!(rt;
+        served,
+        Served {
+            answers: 3,
+            end: End::Ended
+        }
+    );
     let mut keeper = PlainKeeper::new(rt.alloc());
     let (served, written) = serve_over(rt.alloc(), &mut keeper, input.as_bytes())?;
     assert_eq!(rt; written, wanted);
-    assert_eq!(rt; served, Served { answers: 3, end: End::Ended });
+    assert_eq!(rt;
+        served,
+        Served {
+            answers: 3,
+            end: End::Ended
+        }
+    );
     Ok(())
 }
