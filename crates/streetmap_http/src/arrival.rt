@@ -24,7 +24,7 @@ pub enum Arrival {
 }
 
 /// How far bytes were looked through for the end of a head, so that none is looked at again when
-/// more come behind them.
+/// more come behind them. Once a request was taken off their front, a new one begins.
 #[derive(Clone, Copy, Debug, PartialEq, Eq)]
 pub struct HeadScan {
     scanned: usize,
@@ -101,7 +101,8 @@ fn arrival_by(bytes: &[u8], head: Option<usize>) -> Arrival
     }
 }
 
-/// What bytes hold of a request, where their front was looked through before.
+/// What bytes hold of a request, where their front was looked through before. While bytes of the body
+/// are missing, each call reads the head again: it is best made when so many came.
 pub fn arrival_after(scan: &mut HeadScan, bytes: &[u8]) -> Arrival
     requires { HasScanned scan.old bytes.now }
     ensures holds { HoldsOf result bytes.now }
@@ -112,7 +113,7 @@ pub fn arrival_after(scan: &mut HeadScan, bytes: &[u8]) -> Arrival
     arrival_by(bytes, head)
 }
 
-/// What bytes hold of a request.
+/// What bytes hold of a request; no other `Arrival` holds of them.
 pub fn arrival_of(bytes: &[u8]) -> Arrival
     ensures holds { HoldsOf result bytes.now }
     ensures only { (other : Arrival) → HoldsOf other bytes.now → other ≡ result }
@@ -121,7 +122,7 @@ pub fn arrival_of(bytes: &[u8]) -> Arrival
 }
 
 /// What the bytes of one request say, as `arrival_of` finds them, and its body (nothing where they
-/// break a rule of framing).
+/// break a rule of framing). The spans are working memory, as for `frame_of`.
 pub fn split_request<'a>(bytes: &'a [u8], headers: &mut [HeaderSpan]) -> (Framed<'a>, &'a [u8])
     requires room { length headers.old ≡ FIELD_LIMIT }
     requires answered { IsAnswered bytes.now }
