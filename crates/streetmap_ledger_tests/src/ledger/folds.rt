@@ -14,7 +14,7 @@ pub fn folded(alloc: Global, features: &[Feature], asked: &str) -> Result<Page, 
     let query = read_query(alloc, Some(asked))?;
     let mut fold = PageFold::new(alloc, &query);
     for feature in features {
-        fold.take(alloc, feature)?;
+        fold.take(feature.copy(alloc)?)?;
     }
     Ok(fold.end(alloc)?)
 }
