@@ -8,6 +8,7 @@ use streetmap_routes::Base;
 use streetmap_web::serve;
 
 /// What the serving of a stream came to.
+#[derive(Clone, Copy, Drop)]
 pub struct Timed {
     /// How many answers were begun.
     pub answers: u64,
