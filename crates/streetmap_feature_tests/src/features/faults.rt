@@ -19,6 +19,10 @@ const BEFORE_GEOMETRY: &[(&str, &str)] = &[
 const WITHIN_GEOMETRY: &[(&str, &str)] = &[
     (
         r#"{"type":"Feature","id":1,"geometry":{"type":"GeometryCollection","geometries":[{"type":"GeometryCollection"},{"type":"Point","coordinates":[0.5,0]}]}}"#,
+        "bad_geometry",
+    ),
+    (
+        r#"{"type":"Feature","id":1,"geometry":{"type":"GeometryCollection","geometries":[{"type":"GeometryCollection","geometries":[]},{"type":"Point","coordinates":[0.5,0]}]}}"#,
         "nested_collection",
     ),
     (
