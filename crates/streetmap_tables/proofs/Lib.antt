@@ -1,0 +1,15 @@
+pub mod Keys
+pub mod Holding
+pub mod Adding
+pub mod Cutting
+pub mod Resolving
+pub mod Casts
+pub mod Parts
+pub mod Refusing
+pub mod Inserting
+pub mod Running
+pub mod Choosing
+pub mod Told
+pub mod Committing
+pub mod Finding
+pub mod Schemas

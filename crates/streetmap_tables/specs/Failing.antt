@@ -1,0 +1,11 @@
+-- Why a statement that no rule stands against may fail.
+use Rattle.std.specs.Prelude.{◌≡◌, ◌⊎◌}
+use Rattle.sqlite.specs.State.{store_error}
+use Rattle.sqlite.specs.declared.error.Error.{Error}
+use Rattle.sqlite.specs.declared.error.Error.TheVariants.{SqliteFailure}
+use Rattle.sqlite.specs.declared.error.ErrorCode.TheVariants.{NoRowid}
+use Rattle.sqlite_trees.specs.declared.error.StoreError.{StoreError}
+
+-- there is no rowid left, or the store failed or had no room or memory
+abbrev pub IsOfStore : Error → Type 0
+IsOfStore e = (e ≡ SqliteFailure NoRowid) ⊎ ((cause : StoreError) × (e ≡ store_error cause))

@@ -1,0 +1,4 @@
+pub mod Holds
+pub mod Shapes
+pub mod Queries
+pub mod Failing

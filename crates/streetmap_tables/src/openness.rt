@@ -1,0 +1,24 @@
+//! Whether a connection is still open.
+ghost use Rattle.std.specs.Prelude.{◌≡◌, false, IfErr, OnOk};
+ghost use Rattle.sqlite.specs.Held.{state};
+ghost use Rattle.sqlite.specs.State.{HasCleanDisk, IsUnchanged, KeepsCommit, Survives};
+ghost use Rattle.streetmap_tables.specs.Failing.{IsOfStore};
+
+use sqlite::{Alter, Connection, Error};
+
+/// Tells whether the connection is still open: a text that is only prepared shows it, and nothing
+/// changes. The error is why it is not, or that memory was refused.
+pub fn probe<S: Alter>(conn: &mut Connection<S>) -> Result<(), Error>
+    requires { conn.old.in_transaction ≡ false }
+    ensures idle { conn.new.in_transaction ≡ false }
+    ensures survives { Survives (state S.Store conn.old) (state S.Store conn.new) (λ _. ⊥) }
+    ensures unchanged { HasCleanDisk (state S.Store conn.new) → OnOk result (IsUnchanged (state S.Store conn.old) (state S.Store conn.new)) }
+    ensures failed { HasCleanDisk (state S.Store conn.new) → IfErr result IsOfStore }
+    ensures kept { HasCleanDisk (state S.Store conn.new) → KeepsCommit (state S.Store conn.old) (state S.Store conn.new) }
+{
+    match conn.prepare("COMMIT") {
+        Ok(_) => {}
+        Err(error) => return Err(error),
+    }
+    Ok(())
+}
