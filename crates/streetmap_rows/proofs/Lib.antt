@@ -1,0 +1,13 @@
+pub mod Compiles
+pub mod Placing
+pub mod PutCollection
+pub mod PutBatch
+pub mod PutFeature
+pub mod Unique
+pub mod Leaving
+pub mod Readable
+pub mod Bound
+pub mod Deleting
+pub mod DeleteRuns
+pub mod Writing
+pub mod Looking

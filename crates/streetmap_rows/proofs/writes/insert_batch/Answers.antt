@@ -1,0 +1,34 @@
+use Rattle.std.proofs.Common.{rules, ◌≡◌, pos, Ok, Err, sym, subst}
+use Rattle.sqlite.specs.Held.{state}
+use Rattle.sqlite_value.specs.Value.{owned}
+use Rattle.sqlite.specs.State.{ExecutesInside}
+use Rattle.sqlite.specs.declared.types.Value.TheVariants.{Int}
+use Rattle.streetmap_rows.specs.Stands.{StandsFor}
+use Rattle.streetmap_rows.specs.Statements.{insert_batch}
+use Rattle.streetmap_rows.proofs.Writing.{keep_stands, keep_told}
+use Rattle.streetmap_rows.proofs.Bound.{seven}
+use Rattle.streetmap_rows.proofs.writes.insert_batch.Goals as goal
+
+pub returns-in-Ok-clause-writes : goal.returns-in-Ok-clause-writes
+returns-in-Ok-clause-writes g c clean inside limit s t stands leads =
+    let old = state g.S.Store c.args.tx.now.conn.now in
+    let new = state g.S.Store c.execute.new.self.conn.now in
+    let e3 : owned c.params-to_sql-3.result ≡ Int (pos c.args.counts.opened) = search rules in
+    let e4 : owned c.params-to_sql-4.result ≡ Int (pos c.args.counts.inserted) = search rules in
+    let e5 : owned c.params-to_sql-5.result ≡ Int (pos c.args.counts.replaced) = search rules in
+    let e6 : owned c.params-to_sql-6.result ≡ Int (pos c.args.counts.deleted) = search rules in
+    let e7 : owned c.params-to_sql-7.result ≡ Int (pos c.args.serial) = search rules in
+    let ran = subst (λ row. ExecutesInside 0 insert_batch row old new (Ok c.in-Ok.field-0)) (seven c.params-to_sql.ensures c.params-to_sql-2.ensures e3 e4 e5 e6 e7) (c.in-Ok.ensures.runs clean inside) in
+    subst (λ x. StandsFor x new.now) (sym leads.is) (keep_stands old new s stands limit c.args.key.now (record { text = c.args.text.now; counts = c.args.counts; serial = c.args.serial }) leads.absent leads.next leads.counted _ ran.0)
+
+pub returns-in-Err-clause-writes : goal.returns-in-Err-clause-writes
+returns-in-Err-clause-writes g c clean inside limit s t stands leads =
+    let old = state g.S.Store c.args.tx.now.conn.now in
+    let new = state g.S.Store c.execute.new.self.conn.now in
+    let e3 : owned c.params-to_sql-3.result ≡ Int (pos c.args.counts.opened) = search rules in
+    let e4 : owned c.params-to_sql-4.result ≡ Int (pos c.args.counts.inserted) = search rules in
+    let e5 : owned c.params-to_sql-5.result ≡ Int (pos c.args.counts.replaced) = search rules in
+    let e6 : owned c.params-to_sql-6.result ≡ Int (pos c.args.counts.deleted) = search rules in
+    let e7 : owned c.params-to_sql-7.result ≡ Int (pos c.args.serial) = search rules in
+    let ran = subst (λ row. ExecutesInside 0 insert_batch row old new (Err c.in-Err.error)) (seven c.params-to_sql.ensures c.params-to_sql-2.ensures e3 e4 e5 e6 e7) (c.in-Err.ensures.runs clean inside) in
+    keep_told old new s stands limit c.args.key.now (record { text = c.args.text.now; counts = c.args.counts; serial = c.args.serial }) leads.absent leads.next leads.counted _ ran

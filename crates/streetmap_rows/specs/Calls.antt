@@ -1,0 +1,61 @@
+-- What a statement does, on a connection whose database is that of a state.
+use Rattle.std.specs.Prelude.{◌≡◌, ℤ, ◌+◌, ◌≤◌, List, Vec, Option, None, Some, Result, MatchResult, IfSome, IsUtf8}
+use Rattle.std.specs.FinMap.{get, insert, remove, len}
+use Rattle.std.specs.declared.alloc.Global.{Global}
+use Rattle.sqlite.specs.declared.error.Error.{Error}
+use Rattle.sqlite.specs.Order.{Row}
+use Rattle.sqlite.specs.State.{State as Seen, IsUnchanged, KeepsCommit}
+use Rattle.streetmap_grid.specs.Values.{BoxValue}
+use Rattle.streetmap_geojson.specs.FeatureValue.{FeatureValue}
+use Rattle.streetmap_geojson.specs.FeatureInvariant.{IsFeature}
+use Rattle.streetmap_batch.specs.Text.{Text}
+use Rattle.streetmap_ledger.specs.State.{State, Collection, AcceptedBatch, with_features, opened}
+use Rattle.streetmap_rows.specs.Rows.{feature_text, extent_in, seconds_in}
+use Rattle.streetmap_rows.specs.Stands.{StandsFor}
+use Rattle.streetmap_tables.specs.Failing.{IsOfStore}
+use Rattle.streetmap_tables.specs.Holds.{KeyPair}
+
+-- the rows of a look, which leaves the database
+abbrev pub LooksAll : (State → List Row) → Seen → Seen → Result (Vec Row Global) Error → Type 0
+LooksAll f old new r = old.step_limit ≡ None → (s : State) → StandsFor s old.now → MatchResult r (λ rows. (rows.items ≡ f s) × IsUnchanged old new) (λ e. IsOfStore e × KeepsCommit old new)
+
+-- a write that leads from a state to another: the database becomes the other's, or the store has no room or fails
+abbrev pub Writes : (State → State → Type 0) → Seen → Seen → Result (Unit {0}) Error → Type 0
+Writes Leads old new r = old.step_limit ≡ None → (s t : State) → StandsFor s old.now → Leads s t → MatchResult r (λ _. StandsFor t new.now) IsOfStore
+
+-- a collection that is not there is opened
+pub record OpensCollection (name title : Text) (time : Option Text) (s t : State) : Type 0 where
+  pub absent : get s.collections name ≡ None
+  pub id : IsUtf8 name
+  pub words : IsUtf8 title
+  pub property : IfSome time IsUtf8
+  pub is : t ≡ opened s name title time
+
+-- this is written for the feature
+pub record IsWritten (f : FeatureValue) (text : Text) (extent : Option BoxValue) (seconds : Option (ℤ × ℤ)) : Type 0 where
+  pub text_is : text ≡ feature_text f
+  pub extent_is : extent ≡ extent_in f
+  pub seconds_are : seconds ≡ seconds_in f
+
+-- a feature that is not there is put into its collection
+pub record PutsFeature (p : KeyPair) (f : FeatureValue) (s t : State) : Type 0 where
+  pub collection : Collection
+  pub there : get s.collections p.0 ≡ Some collection
+  pub absent : get collection.features p.1 ≡ None
+  pub fine : IsFeature f
+  pub is : t ≡ with_features s p.0 collection (insert collection.features p.1 f)
+
+-- a feature that is there is taken out
+pub record CutsFeature (p : KeyPair) (s t : State) : Type 0 where
+  pub collection : Collection
+  pub there : get s.collections p.0 ≡ Some collection
+  pub feature : FeatureValue
+  pub found : get collection.features p.1 ≡ Some feature
+  pub is : t ≡ with_features s p.0 collection (remove collection.features p.1)
+
+-- a batch is kept under a key that is not there, with the next serial
+pub record KeepsBatch (key : Text) (kept : AcceptedBatch) (s t : State) : Type 0 where
+  pub absent : get s.keys key ≡ None
+  pub next : kept.serial ≡ len s.keys + 1
+  pub counted : (q : Text) (k : AcceptedBatch) → get s.keys q ≡ Some k → k.serial ≤ len s.keys
+  pub is : t ≡ record s { keys = insert s.keys key kept }

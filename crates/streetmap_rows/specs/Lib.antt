@@ -1,0 +1,7 @@
+pub mod Tables
+pub mod Rows
+pub mod Stands
+pub mod Keeping
+pub mod Statements
+pub mod Calls
+pub mod Views

@@ -1,0 +1,68 @@
+//! Looks by a key.
+ghost use Rattle.std.specs.Prelude.{◌≡◌, ◌≤◌, false, is_some};
+ghost use Rattle.sqlite.specs.View.{doubt};
+ghost use Rattle.sqlite.specs.Tree.{Trees};
+ghost use Rattle.streetmap_ledger.specs.State.{State};
+ghost use Rattle.sqlite.specs.Held.{state};
+ghost use Rattle.sqlite.specs.State.{HasCleanDisk, Survives};
+ghost use Rattle.streetmap_rows.specs.Rows.{feature_at};
+ghost use Rattle.streetmap_rows.specs.Stands.{StandsFor, Looks};
+ghost use Rattle.streetmap_rows.specs.Calls.{LooksAll};
+ghost use Rattle.streetmap_rows.specs.Views as views;
+
+use sqlite::{Alter, Connection, Error, Row, Transaction, params};
+
+/// What is kept for a key, outside of a transaction: a row of its text, its counts and its serial, or none.
+pub fn kept_rows<S: Alter>(conn: &mut Connection<S>, key: &str) -> Result<Vec<Row>, Error>
+    requires { conn.old.in_transaction ≡ false }
+    ensures idle { conn.new.in_transaction ≡ false }
+    ensures looks { HasCleanDisk (state S.Store conn.new) → LooksAll (views.kept_rows key.now) (state S.Store conn.old) (state S.Store conn.new) result }
+    ensures clean { doubt (state S.Store conn.old).is_clean ≤ doubt (state S.Store conn.new).is_clean }
+    ensures limit { (state S.Store conn.new).step_limit ≡ (state S.Store conn.old).step_limit }
+    ensures crash { HasCleanDisk (state S.Store conn.new) → (s : State) → StandsFor s (state S.Store conn.old).now → (trees : Trees) → (state S.Store conn.new).may_leave trees → (state S.Store conn.old).may_leave trees }
+{
+    match conn.query_all(
+        "SELECT body, opened, inserted, replaced, deleted, serial FROM streetmap_batches WHERE key = ?1",
+        params![key],
+    ) {
+        Ok(rows) => Ok(rows),
+        Err(error) => Err(error),
+    }
+}
+
+/// What is kept of a collection, inside a transaction: a row of its title and its time property, or none.
+pub fn collection_rows<S: Alter>(
+    tx: &mut Transaction<'_, S>,
+    collection: &str,
+) -> Result<Vec<Row>, Error>
+    ensures same_reference { tx.new.conn.ghost_name ≡ tx.old.conn.ghost_name }
+    ensures looks { HasCleanDisk (state S.Store tx.new.conn.now) → LooksAll (views.collection_rows collection.now) (state S.Store tx.old.conn.now) (state S.Store tx.new.conn.now) result }
+    ensures survives { Survives (state S.Store tx.old.conn.now) (state S.Store tx.new.conn.now) (λ _. ⊥) }
+{
+    match tx.query_all(
+        "SELECT title, time FROM streetmap_collections WHERE id = ?1",
+        params![collection],
+    ) {
+        Ok(rows) => Ok(rows),
+        Err(error) => Err(error),
+    }
+}
+
+/// Whether a collection has a feature with this id.
+pub fn has_feature<S: Alter>(
+    tx: &mut Transaction<'_, S>,
+    collection: &str,
+    id: &str,
+) -> Result<bool, Error>
+    ensures same_reference { tx.new.conn.ghost_name ≡ tx.old.conn.ghost_name }
+    ensures looks { HasCleanDisk (state S.Store tx.new.conn.now) → Looks (λ s. is_some (feature_at s (collection.now, id.now))) (state S.Store tx.old.conn.now) (state S.Store tx.new.conn.now) result }
+    ensures survives { Survives (state S.Store tx.old.conn.now) (state S.Store tx.new.conn.now) (λ _. ⊥) }
+{
+    match tx.query_all(
+        "SELECT id FROM streetmap_features WHERE collection = ?1 AND id = ?2",
+        params![collection, id],
+    ) {
+        Ok(rows) => Ok(!rows.is_empty()),
+        Err(error) => Err(error),
+    }
+}
