@@ -1,0 +1,25 @@
+-- Calls inside a transaction, one after the other.
+use Rattle.std.proofs.Common.{◌∙◌, Option, Result, Ok, Err, MatchResult, IsTrue}
+use Rattle.sqlite.specs.declared.error.Error.{Error}
+use Rattle.streetmap_ledger.specs.declared.reply.Refusal.{Refusal}
+use Rattle.streetmap_tables.specs.Failing.{IsOfStore}
+use Rattle.sqlite.specs.State.{State as Seen, KeepsCommit, IsUnchanged}
+use Rattle.streetmap_ledger.specs.State.{State}
+use Rattle.streetmap_rows.specs.Stands.{StandsFor}
+use Rattle.std.proofs.Common.{sym, subst}
+
+pub keeps : (a b : Seen) → IsUnchanged a b → KeepsCommit a b
+keeps a b u = record { was_open = λ _. u.0.was_open; committed = λ _. u.0.committed_is }
+
+pub keeps_then : (a b c : Seen) → KeepsCommit a b → KeepsCommit b c → KeepsCommit a c
+keeps_then a b c p q = record { was_open = λ o. p.was_open (q.was_open o); committed = λ o. q.committed o ∙ p.committed (q.was_open o) }
+
+pub stands_still : (a b : Seen) (s : State) → IsUnchanged a b → StandsFor s a.now → StandsFor s b.now
+stands_still a b s u h = subst (StandsFor s) (sym u.0.now_is) h
+
+-- what a call inside answers, after others that kept the commit
+pub answered_on : (old mid new : Seen) (P Q : Option Refusal → Type 0) (r : Result (Option Refusal) Error) → ((o : Option Refusal) → P o → Q o) → KeepsCommit old mid
+    → MatchResult r (λ o. P o × IsTrue new.in_transaction × KeepsCommit mid new) (λ e. IsOfStore e × KeepsCommit mid new)
+    → MatchResult r (λ o. Q o × IsTrue new.in_transaction × KeepsCommit old new) (λ e. IsOfStore e × KeepsCommit old new)
+answered_on old mid new P Q (Ok o) turn kept h = (turn o h.0, h.1, keeps_then old mid new kept h.2)
+answered_on old mid new P Q (Err e) turn kept h = (h.0, keeps_then old mid new kept h.1)

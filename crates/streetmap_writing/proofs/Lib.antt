@@ -1,0 +1,6 @@
+pub mod Timed
+pub mod Resting
+pub mod Accepting
+pub mod Joining
+pub mod Deciding
+pub mod Editing

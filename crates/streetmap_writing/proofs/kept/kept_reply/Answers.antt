@@ -1,0 +1,38 @@
+use Rattle.std.proofs.Common.{rules, ◌≡◌, refl}
+use Rattle.std.specs.FinMap.{get}
+use Rattle.sqlite.specs.Held.{state}
+use Rattle.streetmap_rows.specs.Views.{kept_view}
+use Rattle.streetmap_writing.specs.Acting.{kept_answer}
+use Rattle.streetmap_writing.proofs.Resting.{rests_still, rests_if_open, the_row, no_row}
+use Rattle.streetmap_writing.proofs.kept.kept_reply.Goals as goal
+
+pub returns-in-Err-clause-looks : goal.returns-in-Err-clause-looks
+returns-in-Err-clause-looks g c clean s rests =
+    let old = state g.S.Store c.args.conn.now in
+    let new = state g.S.Store c.kept_rows.new.conn in
+    let r = c.in-Err.ensures.looks clean rests.unlimited s rests.kept.rows in
+    (r.0, rests_if_open old new s r.1 (c.is_autocommit-idle.ensures.settled (search rules)) c.kept_rows.ensures.limit rests)
+
+pub returns-in-Err-clause-crash : goal.returns-in-Err-clause-crash
+returns-in-Err-clause-crash g c clean s rests trees left = c.in-Err.ensures.crash clean s rests.kept.rows trees left
+
+pub returns-in-Ok-reply_in-clause-looks : goal.returns-in-Ok-reply_in-clause-looks
+returns-in-Ok-reply_in-clause-looks g c clean s rests =
+    let r = c.in-Ok.ensures.looks clean rests.unlimited s rests.kept.rows in
+    let k = the_row kept_view (get s.keys c.args.key.now) c.deref.result.now c.in-Some.row.now (search rules) c.in-Some.ensures.value in
+    let is = c.in-Ok-reply_in.ensures k.0 k.2 in
+    let same : c.in-Ok-reply_in.reply ≡ kept_answer c.args.text.now k.0 = cc in
+    (rw (k.1, same) refl, rests_still (state g.S.Store c.args.conn.now) (state g.S.Store c.kept_rows.new.conn) s r.1 c.kept_rows.ensures.limit rests)
+
+pub returns-in-Some-clause-looks : goal.returns-in-Some-clause-looks
+returns-in-Some-clause-looks g c clean s rests =
+    let r = c.in-Ok.ensures.looks clean rests.unlimited s rests.kept.rows in
+    let k = the_row kept_view (get s.keys c.args.key.now) c.deref.result.now c.in-Some.row.now (search rules) c.in-Some.ensures.value in
+    let is = c.in-Err-reply_in.ensures k.0 k.2 in
+    absurd (cc)
+
+pub returns-clause-looks : goal.returns-clause-looks
+returns-clause-looks g c clean s rests =
+    let r = c.in-Ok.ensures.looks clean rests.unlimited s rests.kept.rows in
+    let none = no_row kept_view (get s.keys c.args.key.now) c.deref.result.now (search rules) c.in-None.ensures.value in
+    (rw none refl, rests_still (state g.S.Store c.args.conn.now) (state g.S.Store c.kept_rows.new.conn) s r.1 c.kept_rows.ensures.limit rests)

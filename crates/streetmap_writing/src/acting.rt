@@ -1,0 +1,41 @@
+//! A batch inside a transaction.
+ghost use Rattle.std.specs.Prelude.{◌≡◌, ◌<◌, ◌^◌, ◌-◌};
+ghost use Rattle.sqlite.specs.Held.{state};
+ghost use Rattle.sqlite.specs.State.{HasCleanDisk, Survives};
+ghost use Rattle.streetmap_batch.specs.BatchText.{batch_text};
+ghost use Rattle.streetmap_batch.specs.BatchView.{batch_value};
+ghost use Rattle.streetmap_writing.specs.Acting.{ActsInside};
+
+use crate::counts::count_edits;
+use crate::edits::edit_each;
+use sqlite::{Alter, Error, Transaction};
+use std::alloc::Global;
+use streetmap_ledger::{Batch, Reply};
+use streetmap_rows::insert_batch;
+
+/// Acts on a batch whose key is new.
+pub fn act_inside<S: Alter>(
+    tx: &mut Transaction<'_, S>,
+    alloc: Global,
+    count: u64,
+    batch: &Batch,
+    text: &str,
+) -> Result<Reply, Error>
+    requires its_text { text.now ≡ batch_text (batch_value batch.now) }
+    requires room { count < 2 ^ 63 - 1 }
+    ensures same_reference { tx.new.conn.ghost_name ≡ tx.old.conn.ghost_name }
+    ensures acts { HasCleanDisk (state S.Store tx.new.conn.now) → ActsInside (batch_value batch.now) count (state S.Store tx.old.conn.now) (state S.Store tx.new.conn.now) result }
+    ensures survives { Survives (state S.Store tx.old.conn.now) (state S.Store tx.new.conn.now) (λ _. ⊥) }
+{
+    batch.facts();
+    match edit_each(tx, alloc, batch.edits()) {
+        Err(error) => return Err(error),
+        Ok(Some((place, why))) => return Ok(Reply::Refused(why, Some(place))),
+        Ok(None) => {}
+    }
+    let counts = count_edits(batch.edits());
+    match insert_batch(tx, batch.key(), text, counts, count + 1) {
+        Ok(()) => Ok(Reply::Accepted(counts, count + 1)),
+        Err(error) => Err(error),
+    }
+}

@@ -1,0 +1,147 @@
+//! A batch, in a transaction of its own.
+ghost use Rattle.std.specs.Prelude.{◌≡◌, ◌≤◌, ◌<◌, ◌^◌, ◌-◌, false};
+ghost use Rattle.std.specs.FinMap.{len};
+ghost use Rattle.sqlite.specs.Held.{state};
+ghost use Rattle.sqlite.specs.State.{HasCleanDisk};
+ghost use Rattle.sqlite.specs.View.{doubt};
+ghost use Rattle.streetmap_ledger.specs.State.{State};
+ghost use Rattle.streetmap_batch.specs.BatchText.{batch_text};
+ghost use Rattle.streetmap_batch.specs.BatchView.{batch_value};
+ghost use Rattle.streetmap_tables.specs.Failing.{IsOfStore};
+ghost use Rattle.streetmap_rows.specs.Keeping.{Rests, MayBecome};
+ghost use Rattle.streetmap_writing.specs.Acting.{Awaits, Applied, Ended};
+ghost use Rattle.streetmap_writing.specs.Told as told;
+
+use crate::acting::act_inside;
+use crate::kept::kept_reply;
+use crate::stop::{Shut, Stop};
+use sqlite::{Alter, Connection, Error, ErrorCode};
+use std::alloc::Global;
+use streetmap_ledger::{Batch, Refusal, Reply};
+use streetmap_tables::probe;
+
+/// How many batches may be accepted.
+const MOST_BATCHES: u64 = 9_223_372_036_854_775_807;
+
+/// Acts on a batch whose key is new, in a transaction of its own.
+fn act_alone<S: Alter>(
+    alloc: Global,
+    conn: &mut Connection<S>,
+    count: u64,
+    batch: &Batch,
+    text: &str,
+) -> Result<Reply, Error>
+    requires idle { conn.old.in_transaction ≡ false }
+    requires its_text { text.now ≡ batch_text (batch_value batch.now) }
+    requires room { count < 2 ^ 63 - 1 }
+    ensures idle { conn.new.in_transaction ≡ false }
+    ensures clean { doubt (state S.Store conn.old).is_clean ≤ doubt (state S.Store conn.new).is_clean }
+    ensures ended { HasCleanDisk (state S.Store conn.new) → (s : State) → Rests (state S.Store conn.old) s → Awaits s (batch_value batch.now) count → Ended s (batch_value batch.now) (state S.Store conn.new) result }
+    ensures crash { HasCleanDisk (state S.Store conn.new) → (s : State) → Rests (state S.Store conn.old) s → Awaits s (batch_value batch.now) count → MayBecome s (batch_value batch.now) (state S.Store conn.old) (state S.Store conn.new) }
+{
+    let mut tx = conn.transaction();
+    match act_inside(&mut tx, alloc, count, batch, text) {
+        Err(error) => {
+            tx.rollback();
+            Err(error)
+        }
+        Ok(Reply::Accepted(counts, serial)) => match tx.commit() {
+            Ok(()) => Ok(Reply::Accepted(counts, serial)),
+            Err(error) => Err(error),
+        },
+        Ok(Reply::Refused(why, place)) => {
+            tx.rollback();
+            Ok(Reply::Refused(why, place))
+        }
+        Ok(Reply::Repeated(counts, serial)) => {
+            tx.rollback();
+            Ok(Reply::Repeated(counts, serial))
+        }
+    }
+}
+
+/// Acts on a batch by what is kept for its key.
+fn act_by_key<S: Alter>(
+    alloc: Global,
+    conn: &mut Connection<S>,
+    count: u64,
+    batch: &Batch,
+    text: &str,
+) -> Result<Reply, Error>
+    requires idle { conn.old.in_transaction ≡ false }
+    requires its_text { text.now ≡ batch_text (batch_value batch.now) }
+    ensures idle { conn.new.in_transaction ≡ false }
+    ensures clean { doubt (state S.Store conn.old).is_clean ≤ doubt (state S.Store conn.new).is_clean }
+    ensures ended { HasCleanDisk (state S.Store conn.new) → (s : State) → Rests (state S.Store conn.old) s → len s.keys ≡ count → Ended s (batch_value batch.now) (state S.Store conn.new) result }
+    ensures crash { HasCleanDisk (state S.Store conn.new) → (s : State) → Rests (state S.Store conn.old) s → len s.keys ≡ count → MayBecome s (batch_value batch.now) (state S.Store conn.old) (state S.Store conn.new) }
+{
+    match kept_reply(conn, batch.key(), text) {
+        Err(error) => Err(error),
+        Ok(Some(reply)) => Ok(reply),
+        Ok(None) => {
+            if count >= MOST_BATCHES {
+                return Ok(Reply::Refused(Refusal::Full, None));
+            }
+            act_alone(alloc, conn, count, batch, text)
+        }
+    }
+}
+
+/// Whether memory was refused.
+fn is_memory(error: Error) -> bool
+    ensures { result ≡ told.is_memory error }
+{
+    matches!(error, Error::SqliteFailure(ErrorCode::OutOfMemory))
+}
+
+/// Tells the cause that an error shuts the keeper for.
+fn cause_of(error: Error) -> Shut
+    ensures { IsOfStore error → result ≡ Shut.Device error }
+{
+    match error {
+        Error::SqliteFailure(
+            ErrorCode::NoRowid
+            | ErrorCode::OutOfMemory
+            | ErrorCode::SystemIoFailure
+            | ErrorCode::DatabaseCorrupt
+            | ErrorCode::DiskFull
+            | ErrorCode::Closed
+            | ErrorCode::TooBig,
+        ) => Shut::Device(error),
+        _ => Shut::Damaged,
+    }
+}
+
+/// Acts on a batch whole or not at all.
+pub fn apply_batch<S: Alter>(
+    alloc: Global,
+    conn: &mut Connection<S>,
+    count: u64,
+    batch: &Batch,
+) -> Result<Reply, Stop>
+    requires { conn.old.in_transaction ≡ false }
+    ensures idle { conn.new.in_transaction ≡ false }
+    ensures clean { doubt (state S.Store conn.old).is_clean ≤ doubt (state S.Store conn.new).is_clean }
+    ensures acts { HasCleanDisk (state S.Store conn.new) → (s : State) → Rests (state S.Store conn.old) s → len s.keys ≡ count → Applied s (batch_value batch.now) (state S.Store conn.new) result }
+    ensures crash { HasCleanDisk (state S.Store conn.new) → (s : State) → Rests (state S.Store conn.old) s → len s.keys ≡ count → MayBecome s (batch_value batch.now) (state S.Store conn.old) (state S.Store conn.new) }
+{
+    let Ok(text) = batch.text(alloc) else {
+        return Err(Stop::Memory);
+    };
+    match act_by_key(alloc, conn, count, batch, text.as_str()) {
+        Ok(Reply::Accepted(counts, serial)) => Ok(Reply::Accepted(counts, serial)),
+        Ok(reply) => match probe(conn) {
+            Ok(()) => Ok(reply),
+            Err(error) => Err(Stop::Closed(cause_of(error))),
+        },
+        Err(error) => {
+            if !is_memory(error) {
+                return Err(Stop::Closed(cause_of(error)));
+            }
+            match probe(conn) {
+                Ok(()) => Err(Stop::Memory),
+                Err(error) => Err(Stop::Closed(cause_of(error))),
+            }
+        }
+    }
+}

@@ -1,0 +1,191 @@
+//! Edits inside a transaction.
+ghost use Rattle.std.specs.Prelude.{◌≡◌, is_some, map};
+ghost use Rattle.std.specs.Option.{option_copied};
+ghost use Rattle.std.specs.FinMap.{get};
+ghost use Rattle.sqlite.specs.Held.{state};
+ghost use Rattle.sqlite.specs.State.{HasCleanDisk, Survives};
+ghost use Rattle.streetmap_batch.specs.BatchValue as edit;
+ghost use Rattle.streetmap_batch.specs.BatchView.{edit_value};
+ghost use Rattle.streetmap_rows.specs.Stands.{Looks, Edits, EditsAll};
+
+use crate::storing::put_feature;
+use crate::timing::{lent, time_property};
+use sqlite::{Alter, Error, Transaction};
+use std::alloc::Global;
+use streetmap_geojson::Feature;
+use streetmap_ledger::{Edit, Refusal, TimeProperty};
+use streetmap_rows::{collection_rows, delete_feature, has_feature, insert_collection};
+
+/// Whether there is a collection with this id.
+fn has_collection<S: Alter>(tx: &mut Transaction<'_, S>, collection: &str) -> Result<bool, Error>
+    ensures same_reference { tx.new.conn.ghost_name ≡ tx.old.conn.ghost_name }
+    ensures looks { HasCleanDisk (state S.Store tx.new.conn.now) → Looks (λ s. is_some (get s.collections collection.now)) (state S.Store tx.old.conn.now) (state S.Store tx.new.conn.now) result }
+    ensures survives { Survives (state S.Store tx.old.conn.now) (state S.Store tx.new.conn.now) (λ _. ⊥) }
+{
+    match collection_rows(tx, collection) {
+        Ok(rows) => Ok(!rows.is_empty()),
+        Err(error) => Err(error),
+    }
+}
+
+/// Opens a collection, or tells that it is there.
+#[tactic(auto, using(crate::proofs::Deciding::is_open))]
+fn open_in<S: Alter>(
+    tx: &mut Transaction<'_, S>,
+    collection: &str,
+    title: &str,
+    time: Option<&str>,
+) -> Result<Option<Refusal>, Error>
+    ensures same_reference { tx.new.conn.ghost_name ≡ tx.old.conn.ghost_name }
+    ensures edits { HasCleanDisk (state S.Store tx.new.conn.now) → Edits (edit.«open» collection.now title.now (option_copied time.entry)) (state S.Store tx.old.conn.now) (state S.Store tx.new.conn.now) result }
+    ensures survives { Survives (state S.Store tx.old.conn.now) (state S.Store tx.new.conn.now) (λ _. ⊥) }
+{
+    match has_collection(tx, collection) {
+        Err(error) => return Err(error),
+        Ok(true) => return Ok(Some(Refusal::CollectionExists)),
+        Ok(false) => {}
+    }
+    match insert_collection(tx, collection, title, time) {
+        Ok(()) => Ok(None),
+        Err(error) => Err(error),
+    }
+}
+
+/// Inserts a feature, or tells why not.
+fn insert_in<S: Alter>(
+    tx: &mut Transaction<'_, S>,
+    alloc: Global,
+    collection: &str,
+    feature: &Feature,
+) -> Result<Option<Refusal>, Error>
+    ensures same_reference { tx.new.conn.ghost_name ≡ tx.old.conn.ghost_name }
+    ensures edits { HasCleanDisk (state S.Store tx.new.conn.now) → Edits (edit.insert collection.now feature.now) (state S.Store tx.old.conn.now) (state S.Store tx.new.conn.now) result }
+    ensures survives { Survives (state S.Store tx.old.conn.now) (state S.Store tx.new.conn.now) (λ _. ⊥) }
+{
+    let property = match time_property(tx, collection) {
+        Err(error) => return Err(error),
+        Ok(None) => return Ok(Some(Refusal::NoCollection)),
+        Ok(Some(property)) => property,
+    };
+    match has_feature(tx, collection, feature.id()) {
+        Err(error) => return Err(error),
+        Ok(true) => return Ok(Some(Refusal::FeatureExists)),
+        Ok(false) => {}
+    }
+    put_feature(tx, alloc, collection, lent(&property), feature)
+}
+
+/// Replaces a feature by another with its id, or tells why not.
+fn replace_in<S: Alter>(
+    tx: &mut Transaction<'_, S>,
+    alloc: Global,
+    collection: &str,
+    feature: &Feature,
+) -> Result<Option<Refusal>, Error>
+    ensures same_reference { tx.new.conn.ghost_name ≡ tx.old.conn.ghost_name }
+    ensures edits { HasCleanDisk (state S.Store tx.new.conn.now) → Edits (edit.replace collection.now feature.now) (state S.Store tx.old.conn.now) (state S.Store tx.new.conn.now) result }
+    ensures survives { Survives (state S.Store tx.old.conn.now) (state S.Store tx.new.conn.now) (λ _. ⊥) }
+{
+    let property = match time_property(tx, collection) {
+        Err(error) => return Err(error),
+        Ok(None) => return Ok(Some(Refusal::NoCollection)),
+        Ok(Some(property)) => property,
+    };
+    match has_feature(tx, collection, feature.id()) {
+        Err(error) => return Err(error),
+        Ok(false) => return Ok(Some(Refusal::NoFeature)),
+        Ok(true) => {}
+    }
+    match delete_feature(tx, collection, feature.id()) {
+        Err(error) => return Err(error),
+        Ok(()) => {}
+    }
+    put_feature(tx, alloc, collection, lent(&property), feature)
+}
+
+/// Deletes a feature, or tells why not.
+#[tactic(auto, using(crate::proofs::Deciding::no_collection, crate::proofs::Deciding::no_feature))]
+fn delete_in<S: Alter>(
+    tx: &mut Transaction<'_, S>,
+    collection: &str,
+    id: &str,
+) -> Result<Option<Refusal>, Error>
+    ensures same_reference { tx.new.conn.ghost_name ≡ tx.old.conn.ghost_name }
+    ensures edits { HasCleanDisk (state S.Store tx.new.conn.now) → Edits (edit.delete collection.now id.now) (state S.Store tx.old.conn.now) (state S.Store tx.new.conn.now) result }
+    ensures survives { Survives (state S.Store tx.old.conn.now) (state S.Store tx.new.conn.now) (λ _. ⊥) }
+{
+    match has_collection(tx, collection) {
+        Err(error) => return Err(error),
+        Ok(false) => return Ok(Some(Refusal::NoCollection)),
+        Ok(true) => {}
+    }
+    match has_feature(tx, collection, id) {
+        Err(error) => return Err(error),
+        Ok(false) => return Ok(Some(Refusal::NoFeature)),
+        Ok(true) => {}
+    }
+    match delete_feature(tx, collection, id) {
+        Ok(()) => Ok(None),
+        Err(error) => Err(error),
+    }
+}
+
+/// The name of a time property, where one is given.
+fn name_of(time: &Option<TimeProperty>) -> Option<&str>
+    ensures { option_copied result ≡ time.now }
+{
+    match time {
+        Some(property) => Some(property.as_str()),
+        None => None,
+    }
+}
+
+/// Makes an edit, or tells why not.
+fn edit_in<S: Alter>(
+    tx: &mut Transaction<'_, S>,
+    alloc: Global,
+    edit: &Edit,
+) -> Result<Option<Refusal>, Error>
+    ensures same_reference { tx.new.conn.ghost_name ≡ tx.old.conn.ghost_name }
+    ensures edits { HasCleanDisk (state S.Store tx.new.conn.now) → Edits (edit_value edit.now) (state S.Store tx.old.conn.now) (state S.Store tx.new.conn.now) result }
+    ensures survives { Survives (state S.Store tx.old.conn.now) (state S.Store tx.new.conn.now) (λ _. ⊥) }
+{
+    match edit {
+        Edit::Open {
+            collection,
+            title,
+            time,
+        } => open_in(tx, collection.as_str(), title.as_str(), name_of(time)),
+        Edit::Insert {
+            collection,
+            feature,
+        } => insert_in(tx, alloc, collection.as_str(), feature),
+        Edit::Replace {
+            collection,
+            feature,
+        } => replace_in(tx, alloc, collection.as_str(), feature),
+        Edit::Delete { collection, id } => delete_in(tx, collection.as_str(), id.as_str()),
+    }
+}
+
+/// Makes edits in order, up to the first that is refused, whose place from 1 it tells.
+pub fn edit_each<S: Alter>(
+    tx: &mut Transaction<'_, S>,
+    alloc: Global,
+    edits: &[Edit],
+) -> Result<Option<(u64, Refusal)>, Error>
+    ensures same_reference { tx.new.conn.ghost_name ≡ tx.old.conn.ghost_name }
+    ensures edits { HasCleanDisk (state S.Store tx.new.conn.now) → EditsAll (map edit_value edits.now) (state S.Store tx.old.conn.now) (state S.Store tx.new.conn.now) result }
+    ensures survives { Survives (state S.Store tx.old.conn.now) (state S.Store tx.new.conn.now) (λ _. ⊥) }
+{
+    let mut place: u64 = 1;
+    'edits: for edit in edits {
+        match edit_in(tx, alloc, edit) {
+            Err(error) => return Err(error),
+            Ok(Some(why)) => return Ok(Some((place, why))),
+            Ok(None) => {}
+        }
+        place += 1;
+    }
+    Ok(None)
+}

@@ -1,0 +1,57 @@
+//! A feature that is put into its collection, inside a transaction.
+ghost use Rattle.std.specs.Prelude.{◌≡◌, IfOk, string_bytes};
+ghost use Rattle.std.specs.Option.{option_copied};
+ghost use Rattle.sqlite.specs.Held.{state};
+ghost use Rattle.sqlite.specs.State.{HasCleanDisk, Survives};
+ghost use Rattle.streetmap_rows.specs.Rows.{feature_text};
+ghost use Rattle.streetmap_writing.specs.Storing.{Puts};
+
+use crate::timing::seconds_under;
+use sqlite::{Alter, Error, ErrorCode, Transaction};
+use std::alloc::{AllocError, Global};
+use streetmap_feature_text::push_feature;
+use streetmap_geojson::Feature;
+use streetmap_ledger::Refusal;
+use streetmap_rows::insert_feature;
+
+/// The text that is kept of a feature.
+#[tactic(auto, unfolding(streetmap_rows::specs::Rows::feature_text))]
+fn text_of(alloc: Global, feature: &Feature) -> Result<String, AllocError>
+    ensures { IfOk result (λ text. string_bytes text ≡ feature_text feature.now) }
+{
+    let mut text = String::new(alloc);
+    push_feature(alloc, &mut text, feature)?;
+    Ok(text)
+}
+
+/// Puts a feature that is not there into a collection that is, with the time that the collection's
+/// property tells; or tells that it tells none that can be read.
+pub fn put_feature<S: Alter>(
+    tx: &mut Transaction<'_, S>,
+    alloc: Global,
+    collection: &str,
+    property: Option<&str>,
+    feature: &Feature,
+) -> Result<Option<Refusal>, Error>
+    ensures same_reference { tx.new.conn.ghost_name ≡ tx.old.conn.ghost_name }
+    ensures puts { HasCleanDisk (state S.Store tx.new.conn.now) → Puts collection.now (option_copied property.entry) feature.now (state S.Store tx.old.conn.now) (state S.Store tx.new.conn.now) result }
+    ensures survives { Survives (state S.Store tx.old.conn.now) (state S.Store tx.new.conn.now) (λ _. ⊥) }
+{
+    let Ok(seconds) = seconds_under(feature, property) else {
+        return Ok(Some(Refusal::BadTime));
+    };
+    let Ok(text) = text_of(alloc, feature) else {
+        return Err(Error::SqliteFailure(ErrorCode::OutOfMemory));
+    };
+    match insert_feature(
+        tx,
+        collection,
+        feature.id(),
+        text.as_str(),
+        feature.extent(),
+        seconds,
+    ) {
+        Ok(()) => Ok(None),
+        Err(error) => Err(error),
+    }
+}

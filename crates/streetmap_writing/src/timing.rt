@@ -1,0 +1,79 @@
+//! The time property of a collection, and what it tells of a feature.
+ghost use Rattle.std.specs.Prelude.{◌≡◌, Ok, Err, IfOk, OnErr, MatchResult, option_map, string_bytes};
+ghost use Rattle.std.specs.Option.{option_copied};
+ghost use Rattle.std.specs.FinMap.{get};
+ghost use Rattle.sqlite.specs.Held.{state};
+ghost use Rattle.sqlite.specs.State.{HasCleanDisk, Survives};
+ghost use Rattle.streetmap_batch.specs.Text.{Text};
+ghost use Rattle.streetmap_ledger.specs.State.{Collection, timed};
+ghost use Rattle.streetmap_ledger.specs.declared.reply.Refusal.TheVariants.{BadTime};
+ghost use Rattle.streetmap_rows.specs.Stands.{Looks, IsReadable};
+ghost use Rattle.streetmap_rows.specs.Views.{collection_view};
+ghost use Rattle.streetmap_writing.specs.Told.{IsMemory};
+ghost use Rattle.streetmap_writing.specs.Storing.{FindsTime, IsTimed};
+
+use sqlite::{Alter, Error, ErrorCode, Row, Transaction};
+use streetmap_geojson::Feature;
+use streetmap_moment::TimeFault;
+use streetmap_rows::collection_rows;
+
+/// The time property in the row of a collection.
+fn property_in(row: &Row) -> Result<Option<String>, Error>
+    ensures { (name : Text) (c : Collection) → row.now ≡ collection_view c → IsReadable name c → MatchResult result (λ time. option_map string_bytes time ≡ c.time) IsMemory }
+{
+    match row.get::<Option<String>>(1) {
+        Ok(time) => Ok(time),
+        Err(Error::SqliteFailure(ErrorCode::OutOfMemory)) => {
+            Err(Error::SqliteFailure(ErrorCode::OutOfMemory))
+        }
+        Err(error) => Err(error),
+    }
+}
+
+/// The time property of a collection, where it has one; none where the collection is not there.
+pub fn time_property<S: Alter>(
+    tx: &mut Transaction<'_, S>,
+    collection: &str,
+) -> Result<Option<Option<String>>, Error>
+    ensures same_reference { tx.new.conn.ghost_name ≡ tx.old.conn.ghost_name }
+    ensures finds { HasCleanDisk (state S.Store tx.new.conn.now) → FindsTime collection.now (state S.Store tx.old.conn.now) (state S.Store tx.new.conn.now) result }
+    ensures survives { Survives (state S.Store tx.old.conn.now) (state S.Store tx.new.conn.now) (λ _. ⊥) }
+{
+    let rows = match collection_rows(tx, collection) {
+        Ok(rows) => rows,
+        Err(error) => return Err(error),
+    };
+    match rows.first() {
+        Some(row) => match property_in(row) {
+            Ok(time) => Ok(Some(time)),
+            Err(error) => Err(error),
+        },
+        None => Ok(None),
+    }
+}
+
+/// The name of a time property, where there is one.
+pub fn lent(property: &Option<String>) -> Option<&str>
+    ensures { option_copied result ≡ option_map string_bytes property.now }
+{
+    match property {
+        Some(name) => Some(name.as_str()),
+        None => None,
+    }
+}
+
+/// The seconds of the time that the property tells of a feature, where it tells one.
+pub fn seconds_under(
+    feature: &Feature,
+    property: Option<&str>,
+) -> Result<Option<(i64, i64)>, TimeFault>
+    ensures told { IfOk result (IsTimed (option_copied property.entry) feature.now) }
+    ensures refused { OnErr result (timed (option_copied property.entry) feature.now ≡ Err BadTime) }
+{
+    feature.facts();
+    match feature.time_under(property) {
+        Ok(Some(time)) => Ok(Some(time.seconds())),
+        Ok(None) => Ok(None),
+        Err(fault) => Err(fault),
+    }
+}
