@@ -1,0 +1,9 @@
+pub mod Choosing
+pub mod Features
+pub mod Listing
+pub mod Looks
+pub mod Pages
+pub mod Reading
+pub mod Rests
+pub mod Shown
+pub mod Told

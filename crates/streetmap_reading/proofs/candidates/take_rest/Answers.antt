@@ -1,0 +1,56 @@
+use Rattle.std.proofs.Common.{◌≡◌, sym, subst, ◌∙◌, ap, refl, inr, ◌∷◌, [], ◌++◌, append-nil, append_assoc}
+use Rattle.std.specs.List.{AllByRecursion}
+use Rattle.std.specs.Option.{option_copied}
+use Rattle.sqlite.specs.Held.{state}
+use Rattle.sqlite.proofs.Callers.{unchanged_then}
+use Rattle.sqlite_trees.specs.declared.error.StoreError.TheVariants.{Unstorable}
+use Rattle.streetmap_ledger.specs.Folds.{Holds}
+use Rattle.streetmap_reading.specs.Candidates.{IsStored}
+use Rattle.streetmap_reading.specs.Taking.{TookNext}
+use Rattle.streetmap_reading.proofs.Rests.{given_open, survives_still, survives_on, shows_still, stopped_on, clean_before}
+use Rattle.streetmap_reading.proofs.candidates.take_rest.Goals as goal
+
+pub rows-init : goal.rows-init
+rows-init g c = (
+  refl,
+  record {
+    mode = λ h. h;
+    survives = survives_still (state g.S.Store c.args.rows.now.conn.now) (λ _. ⊥);
+    took = λ clean sql params q fs limit shows stored given held. record { done = []; rest = fs; are = refl; given = given; held = held; stored = stored; same = given_open g.S.Store sql params c.args.rows.now.conn.now [] given };
+  },
+)
+
+pub rows-preserved : goal.rows-preserved
+rows-preserved g c =
+    let before = c.rows.invariant.1 in (
+      c.take_next.ensures.same_reference ∙ c.rows.invariant.0,
+      record {
+        mode = λ h. c.take_next.ensures.mode (before.mode h);
+        survives = survives_on _ _ _ before.survives c.take_next.ensures.survives;
+        took = λ clean sql params q fs limit shows stored given held.
+            let t = before.took (clean_before _ _ _ c.take_next.ensures.survives clean) sql params q fs limit shows stored given held in
+            let r = c.in-Ok-true.ensures.takes clean sql params q t.done t.rest (before.survives.limit ∙ limit) (shows_still _ _ sql params fs (t.done ++ t.rest) t.same (sym t.are) shows) t.stored t.given t.held in
+            let m = subst (TookNext g.S.Store sql params q t.done t.rest c.take_next.new.rows.conn.now c.take_next.new.fold) c.in-Ok-true.field-0-test r.0 in
+            record { done = t.done ++ m.0 ∷ []; rest = m.1; are = append_assoc t.done (m.0 ∷ []) m.1 ∙ ap (λ l. t.done ++ l) (sym m.2) ∙ t.are; given = m.3; held = m.4; stored = (subst (AllByRecursion (IsStored (option_copied c.args.property))) m.2 t.stored).1; same = unchanged_then _ _ _ t.same r.1 };
+      },
+    )
+
+pub returns-in-Ok-false-clause-takes : goal.returns-in-Ok-false-clause-takes
+returns-in-Ok-false-clause-takes g c clean = λ sql params q fs limit shows stored given held.
+    let before = c.rows.invariant.1 in
+    let t = before.took (clean_before _ _ _ c.take_next.ensures.survives clean) sql params q fs limit shows stored given held in
+    let r = c.in-Ok-false.ensures.takes clean sql params q t.done t.rest (before.survives.limit ∙ limit) (shows_still _ _ sql params fs (t.done ++ t.rest) t.same (sym t.are) shows) t.stored t.given t.held in
+    let m = subst (TookNext g.S.Store sql params q t.done t.rest c.take_next.new.rows.conn.now c.take_next.new.fold) c.in-Ok-false.field-0-test r.0 in
+    let all : t.done ≡ fs = sym (append-nil t.done) ∙ ap (λ l. t.done ++ l) (sym m.0) ∙ t.are in
+    (subst (Holds q c.take_next.new.fold) all m.1, unchanged_then _ _ _ t.same r.1)
+
+pub returns-in-Err-clause-takes : goal.returns-in-Err-clause-takes
+returns-in-Err-clause-takes g c clean = λ sql params q fs limit shows stored given held.
+    let before = c.rows.invariant.1 in
+    let t = before.took (clean_before _ _ _ c.take_next.ensures.survives clean) sql params q fs limit shows stored given held in
+    stopped_on _ _ _ c.in-Err.stop t.same (c.in-Err.ensures.takes clean sql params q t.done t.rest (before.survives.limit ∙ limit) (shows_still _ _ sql params fs (t.done ++ t.rest) t.same (sym t.are) shows) t.stored t.given t.held)
+
+pub returns-clause-takes : goal.returns-clause-takes
+returns-clause-takes g c clean = λ sql params q fs limit shows stored given held.
+    let t = c.rows.invariant.1.took clean sql params q fs limit shows stored given held in
+    (inr (Unstorable, refl), record { was_open = λ _. t.same.0.was_open; committed = λ _. t.same.0.committed_is })

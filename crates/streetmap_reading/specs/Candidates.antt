@@ -1,0 +1,44 @@
+-- The rows that a page reads.
+use Rattle.std.specs.Prelude.{◌≡◌, ◌≤◌, ℕ, List, [], ◌∷◌, ◌++◌, length, Option, None, Ok, Err, Result, false}
+use Rattle.sqlite.specs.declared.types.Value.TheVariants.{Text as Words}
+use Rattle.sqlite.specs.declared.error.Error.{Error}
+use Rattle.sqlite.specs.Order.{Row}
+use Rattle.sqlite.specs.Command.TheVariants.{Select}
+use Rattle.sqlite.specs.Effect.{Database, ReadsFirst, Reads, RefusesQuery}
+use Rattle.sqlite.specs.Given.{IsPlain}
+use Rattle.sqlite.specs.Listing.{understood, reads_listing}
+use Rattle.sqlite.proofs.Callers.{command_of}
+use Rattle.sqlite_schema.specs.declared.program.Program.{Program}
+use Rattle.sqlite_resolve.specs.declared.compiled.Compiled.{Compiled}
+use Rattle.sqlite_resolve.specs.declared.error.CompileError.{CompileError}
+use Rattle.streetmap_geojson.specs.FeatureValue.{FeatureValue}
+use Rattle.streetmap_geojson.specs.FeatureInvariant.{IsFeature}
+use Rattle.streetmap_geojson.specs.Times.{time_of}
+use Rattle.streetmap_batch.specs.Text.{Text}
+use Rattle.streetmap_rows.specs.Rows.{feature_text}
+
+-- a candidate is shown by its text
+abbrev pub candidate_row : FeatureValue → Row
+candidate_row f = Words (feature_text f) ∷ []
+
+-- a feature that a collection with this time property keeps
+pub record IsStored (property : Option Text) (f : FeatureValue) : Type 0 where
+  pub kept : IsFeature f
+  pub timed : time_of property f.properties ≡ Ok f.time
+
+-- the text is one statement, and has so many parameters
+abbrev pub IsWhole : List ℕ → Row → Result Compiled CompileError → Type 0
+IsWhole sql params (Ok c) = (length sql ≤ c.tail) × (length params ≡ length c.names)
+IsWhole sql params (Err e) = ⊥
+
+-- the text is a query of this database that shows these rows, and that no rule refuses
+pub record ShowsOf (sql : List ℕ) (params : Row) (db : Database) (rows : List Row) : Type 0 where
+  pub plain : IsPlain (understood db.schema sql)
+  pub unlisted : reads_listing db.schema sql ≡ false
+  pub program : Program
+  pub names : List (List ℕ)
+  pub is : command_of (understood db.schema sql) ≡ Select program names
+  pub whole : IsWhole sql params (understood db.schema sql)
+  pub starts : (given : List Row) → ReadsFirst (Select program names) db params given → (tail : List Row) × (given ++ tail ≡ rows)
+  pub answers : (given : List Row) → Reads (Select program names) db params given → given ≡ rows
+  pub never : (e : Error) → RefusesQuery None db program params e → ⊥

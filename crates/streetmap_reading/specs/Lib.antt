@@ -1,0 +1,4 @@
+pub mod Candidates
+pub mod Taking
+pub mod Choosing
+pub mod Looking

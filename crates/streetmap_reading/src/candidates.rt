@@ -1,0 +1,114 @@
+//! Candidates of a page, taken row by row.
+ghost use Rattle.std.specs.Prelude.{◌≡◌, Ok, Option, false, OnOk, MatchResult};
+ghost use Rattle.std.specs.Option.{option_copied};
+ghost use Rattle.sqlite.specs.Held.{state};
+ghost use Rattle.sqlite.specs.Given.{IsPlain, HasGiven};
+ghost use Rattle.sqlite.specs.Listing.{understood};
+ghost use Rattle.sqlite.specs.State.{HasCleanDisk, Survives, CommitsShowing};
+ghost use Rattle.sqlite.specs.Values.{bound};
+ghost use Rattle.streetmap_geojson.specs.FeatureValue.{FeatureValue};
+ghost use Rattle.streetmap_geojson.specs.Fault.{Gives};
+ghost use Rattle.streetmap_geojson.specs.FeatureView.{feature_value};
+ghost use Rattle.streetmap_rows.specs.Rows.{feature_text};
+ghost use Rattle.streetmap_reading.specs.Candidates.{candidate_row, IsStored};
+ghost use Rattle.streetmap_reading.specs.Taking.{TakesNext, TakesRest, TakesAll};
+
+use crate::stop::Stop;
+use sqlite::types::ValueRef;
+use sqlite::{Alter, Connection, Error, ErrorCode, Row, Rows};
+use std::alloc::Global;
+use streetmap_geojson::{Feature, JsonFault, read_feature, read_json};
+use streetmap_ledger::PageFold;
+
+/// The feature of a text that is kept of it, under a collection's time property.
+fn read_body(alloc: Global, body: &[u8], property: Option<&str>) -> Result<Feature, JsonFault>
+    ensures { (f : FeatureValue) → body.now ≡ feature_text f → IsStored (option_copied property.entry) f → Gives feature_value result (Ok f) }
+{
+    match read_json(alloc, body) {
+        Ok(value) => read_feature(alloc, &value, property),
+        Err(error) => Err(error),
+    }
+}
+
+/// The feature of a row that shows its text.
+pub fn read_row(alloc: Global, row: &Row, property: Option<&str>) -> Result<Feature, Stop>
+    ensures { (f : FeatureValue) → row.now ≡ candidate_row f → IsStored (option_copied property.entry) f → MatchResult result (λ g. g ≡ f) (λ stop. stop ≡ Stop.Memory) }
+{
+    match row.get_ref(0) {
+        Ok(ValueRef::Text(body)) => match read_body(alloc, body, property) {
+            Ok(feature) => Ok(feature),
+            Err(JsonFault::Memory) => Err(Stop::Memory),
+            Err(JsonFault::Fault(_)) => Err(Stop::Unread),
+        },
+        _ => Err(Stop::Unread),
+    }
+}
+
+/// Takes the next row, if there is one.
+fn take_next<S: Alter>(
+    alloc: Global,
+    rows: &mut Rows<'_, S>,
+    property: Option<&str>,
+    fold: &mut PageFold<'_>,
+) -> Result<bool, Stop>
+    ensures same_reference { rows.new.conn.ghost_name ≡ rows.old.conn.ghost_name }
+    ensures takes { HasCleanDisk (state S.Store rows.new.conn.now) → TakesNext S.Store (option_copied property.entry) rows.old.conn.now rows.new.conn.now fold.old fold.new result }
+    ensures mode { rows.old.conn.now.in_transaction ≡ false → rows.new.conn.now.in_transaction ≡ false }
+    ensures survives { Survives (state S.Store rows.old.conn.now) (state S.Store rows.new.conn.now) (λ _. ⊥) }
+{
+    match rows.advance() {
+        Ok(()) => {}
+        Err(error) => return Err(Stop::Store(error)),
+    }
+    let Some(row) = rows.get() else {
+        return Ok(false);
+    };
+    match read_row(alloc, row, property) {
+        Ok(feature) => match fold.take(feature) {
+            Ok(()) => Ok(true),
+            Err(_) => Err(Stop::Memory),
+        },
+        Err(stop) => Err(stop),
+    }
+}
+
+/// Takes the rows of a query that has begun, up to the last.
+fn take_rest<S: Alter>(
+    alloc: Global,
+    rows: &mut Rows<'_, S>,
+    property: Option<&str>,
+    fold: &mut PageFold<'_>,
+) -> Result<(), Stop>
+    ensures same_reference { rows.new.conn.ghost_name ≡ rows.old.conn.ghost_name }
+    ensures takes { HasCleanDisk (state S.Store rows.new.conn.now) → TakesRest S.Store (option_copied property.entry) rows.old.conn.now rows.new.conn.now fold.old fold.new result }
+    ensures mode { rows.old.conn.now.in_transaction ≡ false → rows.new.conn.now.in_transaction ≡ false }
+    ensures survives { Survives (state S.Store rows.old.conn.now) (state S.Store rows.new.conn.now) (λ _. ⊥) }
+{
+    'rows: for _ in 0..u64::MAX {
+        match take_next(alloc, rows, property, fold) {
+            Ok(true) => {}
+            Ok(false) => return Ok(()),
+            Err(stop) => return Err(stop),
+        }
+    }
+    Err(Stop::Store(Error::SqliteFailure(ErrorCode::TooBig)))
+}
+
+/// Takes all rows of a query, each of which shows the text of a feature.
+pub fn take_rows<S: Alter>(
+    alloc: Global,
+    conn: &mut Connection<S>,
+    sql: &str,
+    params: &[ValueRef<'_>],
+    property: Option<&str>,
+    fold: &mut PageFold<'_>,
+) -> Result<(), Stop>
+    ensures takes { HasCleanDisk (state S.Store conn.new) → TakesAll sql.now (bound params.now) (option_copied property.entry) (state S.Store conn.old) (state S.Store conn.new) fold.old fold.new result }
+    ensures mode { conn.old.in_transaction ≡ false → conn.new.in_transaction ≡ false }
+    ensures survives { Survives (state S.Store conn.old) (state S.Store conn.new) (CommitsShowing sql.now (bound params.now) (state S.Store conn.old)) }
+{
+    match conn.query(sql, params) {
+        Ok(mut rows) => take_rest(alloc, &mut rows, property, fold),
+        Err(error) => Err(Stop::Store(error)),
+    }
+}

@@ -1,0 +1,80 @@
+//! One feature, by its collection and its id.
+ghost use Rattle.std.specs.Prelude.{◌≡◌, false};
+ghost use Rattle.std.specs.Option.{option_copied};
+ghost use Rattle.sqlite.specs.Held.{state};
+ghost use Rattle.sqlite.specs.State.{HasCleanDisk, Survives};
+ghost use Rattle.streetmap_reading.specs.Looking.{LooksInto, Stays, IsTextRow, IsFeatureOf, IsFeatureUnder};
+
+use crate::candidates::read_row;
+use crate::page::{collection_row, lent, time_in};
+use crate::stop::Stop;
+use sqlite::{Alter, Connection, Row, params};
+use std::alloc::Global;
+use streetmap_geojson::Feature;
+
+/// The row that shows the text of a feature; none where it is not there.
+fn text_row<S: Alter>(
+    conn: &mut Connection<S>,
+    collection: &str,
+    id: &str,
+) -> Result<Option<Row>, Stop>
+    ensures finds { HasCleanDisk (state S.Store conn.new) → LooksInto (IsTextRow collection.now id.now) (state S.Store conn.old) (state S.Store conn.new) result }
+    ensures mode { conn.old.in_transaction ≡ false → conn.new.in_transaction ≡ false }
+    ensures survives { Survives (state S.Store conn.old) (state S.Store conn.new) (λ _. Unit {0}) }
+    ensures stays { Stays (state S.Store conn.old) (state S.Store conn.new) }
+{
+    match conn.query_all(
+        "SELECT body FROM streetmap_features WHERE collection = ?1 AND id = ?2",
+        params![collection, id],
+    ) {
+        Ok(mut rows) => Ok(rows.pop()),
+        Err(error) => Err(Stop::Store(error)),
+    }
+}
+
+/// A feature of a collection that is there, whose time property is known.
+fn feature_under<S: Alter>(
+    alloc: Global,
+    conn: &mut Connection<S>,
+    collection: &str,
+    id: &str,
+    property: Option<&str>,
+) -> Result<Option<Feature>, Stop>
+    ensures shows { HasCleanDisk (state S.Store conn.new) → IsFeatureUnder collection.now id.now (option_copied property.entry) (state S.Store conn.old) (state S.Store conn.new) result }
+    ensures mode { conn.old.in_transaction ≡ false → conn.new.in_transaction ≡ false }
+    ensures survives { Survives (state S.Store conn.old) (state S.Store conn.new) (λ _. Unit {0}) }
+    ensures stays { Stays (state S.Store conn.old) (state S.Store conn.new) }
+{
+    match text_row(conn, collection, id) {
+        Ok(Some(row)) => match read_row(alloc, &row, property) {
+            Ok(feature) => Ok(Some(feature)),
+            Err(stop) => Err(stop),
+        },
+        Ok(None) => Ok(None),
+        Err(stop) => Err(stop),
+    }
+}
+
+/// A feature of a collection; `None` where the collection or the feature is not there.
+pub fn feature_of<S: Alter>(
+    alloc: Global,
+    conn: &mut Connection<S>,
+    collection: &str,
+    id: &str,
+) -> Result<Option<Feature>, Stop>
+    ensures shows { HasCleanDisk (state S.Store conn.new) → LooksInto (IsFeatureOf collection.now id.now) (state S.Store conn.old) (state S.Store conn.new) result }
+    ensures mode { conn.old.in_transaction ≡ false → conn.new.in_transaction ≡ false }
+    ensures survives { Survives (state S.Store conn.old) (state S.Store conn.new) (λ _. Unit {0}) }
+    ensures stays { Stays (state S.Store conn.old) (state S.Store conn.new) }
+{
+    let row = match collection_row(conn, collection) {
+        Ok(Some(row)) => row,
+        Ok(None) => return Ok(None),
+        Err(stop) => return Err(stop),
+    };
+    let time = match time_in(&row) {
+        Ok(time) => time,
+        Err(stop) => return Err(stop),
+    };
+    feature_under(alloc, conn, collection, id, lent(&time))
+}

@@ -1,0 +1,22 @@
+//! Pages and features read from the tables of a state, row by row.
+//!
+//! `page_of` answers the page of a collection as the state has it: it reads the rows whose stored
+//! extent and seconds overlap what is asked, by one of four statements, one row at a time and in order
+//! of ids, and hands each feature to `PageFold`. `feature_of` answers one feature as the state has it,
+//! by its collection and its id, with the time that the collection's time property tells. Nothing
+//! changes, and a stop may leave no more than before. Where one gives up it says why: for memory,
+//! because a statement failed, or at a row that is none that this product writes; the last never on
+//! the tables of a state.
+//!
+//! In the order of reading: `stop`, `candidates` (rows of a query, one after the other), `page`,
+//! `feature`.
+#![tactic(auto)]
+
+mod candidates;
+mod feature;
+mod page;
+mod stop;
+
+pub use feature::feature_of;
+pub use page::page_of;
+pub use stop::Stop;

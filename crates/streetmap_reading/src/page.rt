@@ -1,0 +1,250 @@
+//! Pages, through the stored extents and seconds.
+ghost use Rattle.std.specs.Prelude.{◌≡◌, ◌≤◌, [], ◌∷◌, Option, None, Some, Ok, false, IfOk, MatchResult, option_map, string_bytes};
+ghost use Rattle.std.specs.Option.{option_copied};
+ghost use Rattle.std.specs.FinMap.{get};
+ghost use Rattle.sqlite.specs.Held.{state};
+ghost use Rattle.sqlite.specs.State.{HasCleanDisk, Survives};
+ghost use Rattle.sqlite.specs.declared.types.Value.TheVariants.{Int, Text as Words};
+ghost use Rattle.streetmap_grid.specs.Values.{BoxValue};
+ghost use Rattle.streetmap_grid.specs.Views.{box_value};
+ghost use Rattle.streetmap_moment.specs.IntervalValue.{IntervalValue};
+ghost use Rattle.streetmap_moment.specs.Views.{interval_value};
+ghost use Rattle.streetmap_query.specs.Views.{query_value};
+ghost use Rattle.streetmap_ledger.specs.State.{Collection};
+ghost use Rattle.streetmap_ledger.specs.Pages.{interval_asked};
+ghost use Rattle.streetmap_rows.specs.Stands.{IsReadable};
+ghost use Rattle.streetmap_rows.specs.Statements.{select_all, select_in_box, select_in_time, select_in_both, select_collection};
+ghost use Rattle.streetmap_reading.specs.Choosing.{TakesChosen};
+ghost use Rattle.streetmap_reading.specs.Looking.{LooksInto, Stays, IsCollectionRow, IsPageOf, IsPageUnder};
+ghost use Rattle.streetmap_rows.specs.Views.{collection_view};
+
+use crate::candidates::take_rows;
+use crate::stop::Stop;
+use sqlite::{Alter, Connection, Error, ErrorCode, Row, params};
+use std::alloc::Global;
+use streetmap_grid::GridBox;
+use streetmap_ledger::{Page, PageFold};
+use streetmap_moment::Interval;
+use streetmap_query::Query;
+
+/// Takes all features of a collection.
+fn take_all<S: Alter>(
+    alloc: Global,
+    conn: &mut Connection<S>,
+    collection: &str,
+    property: Option<&str>,
+    fold: &mut PageFold<'_>,
+) -> Result<(), Stop>
+    ensures takes { HasCleanDisk (state S.Store conn.new) → TakesChosen None None collection.now (option_copied property.entry) (state S.Store conn.old) (state S.Store conn.new) fold.old fold.new result }
+    ensures mode { conn.old.in_transaction ≡ false → conn.new.in_transaction ≡ false }
+    ensures survives { Survives (state S.Store conn.old) (state S.Store conn.new) (λ _. Unit {0}) }
+    ensures stays { Stays (state S.Store conn.old) (state S.Store conn.new) }
+{
+    take_rows(
+        alloc,
+        conn,
+        "SELECT body FROM streetmap_features WHERE collection = ?1 ORDER BY id",
+        params![collection],
+        property,
+        fold,
+    )
+}
+
+/// Takes the features of a collection whose extents overlap a box.
+fn take_in_box<S: Alter>(
+    alloc: Global,
+    conn: &mut Connection<S>,
+    collection: &str,
+    area: &GridBox,
+    property: Option<&str>,
+    fold: &mut PageFold<'_>,
+) -> Result<(), Stop>
+    ensures takes { HasCleanDisk (state S.Store conn.new) → TakesChosen (Some (box_value area.now)) None collection.now (option_copied property.entry) (state S.Store conn.old) (state S.Store conn.new) fold.old fold.new result }
+    ensures mode { conn.old.in_transaction ≡ false → conn.new.in_transaction ≡ false }
+    ensures survives { Survives (state S.Store conn.old) (state S.Store conn.new) (λ _. Unit {0}) }
+    ensures stays { Stays (state S.Store conn.old) (state S.Store conn.new) }
+{
+    take_rows(
+        alloc,
+        conn,
+        "SELECT body FROM streetmap_features WHERE collection = ?1 AND x0 <= ?2 AND x1 >= ?3 AND y0 <= ?4 AND y1 >= ?5 ORDER BY id",
+        params![collection, area.x1, area.x0, area.y1, area.y0],
+        property,
+        fold,
+    )
+}
+
+/// Takes the features of a collection whose seconds overlap those of an interval.
+fn take_in_time<S: Alter>(
+    alloc: Global,
+    conn: &mut Connection<S>,
+    collection: &str,
+    interval: &Interval,
+    property: Option<&str>,
+    fold: &mut PageFold<'_>,
+) -> Result<(), Stop>
+    ensures takes { HasCleanDisk (state S.Store conn.new) → TakesChosen None (Some (interval_value interval.now)) collection.now (option_copied property.entry) (state S.Store conn.old) (state S.Store conn.new) fold.old fold.new result }
+    ensures mode { conn.old.in_transaction ≡ false → conn.new.in_transaction ≡ false }
+    ensures survives { Survives (state S.Store conn.old) (state S.Store conn.new) (λ _. Unit {0}) }
+    ensures stays { Stays (state S.Store conn.old) (state S.Store conn.new) }
+{
+    let (start, end) = interval.seconds();
+    take_rows(
+        alloc,
+        conn,
+        "SELECT body FROM streetmap_features WHERE collection = ?1 AND s0 <= ?2 AND s1 >= ?3 ORDER BY id",
+        params![collection, end, start],
+        property,
+        fold,
+    )
+}
+
+/// Takes the features of a collection whose extents overlap a box, and whose seconds overlap those of
+/// an interval.
+fn take_in_both<S: Alter>(
+    alloc: Global,
+    conn: &mut Connection<S>,
+    collection: &str,
+    area: &GridBox,
+    interval: &Interval,
+    property: Option<&str>,
+    fold: &mut PageFold<'_>,
+) -> Result<(), Stop>
+    ensures takes { HasCleanDisk (state S.Store conn.new) → TakesChosen (Some (box_value area.now)) (Some (interval_value interval.now)) collection.now (option_copied property.entry) (state S.Store conn.old) (state S.Store conn.new) fold.old fold.new result }
+    ensures mode { conn.old.in_transaction ≡ false → conn.new.in_transaction ≡ false }
+    ensures survives { Survives (state S.Store conn.old) (state S.Store conn.new) (λ _. Unit {0}) }
+    ensures stays { Stays (state S.Store conn.old) (state S.Store conn.new) }
+{
+    let (start, end) = interval.seconds();
+    take_rows(
+        alloc,
+        conn,
+        "SELECT body FROM streetmap_features WHERE collection = ?1 AND x0 <= ?2 AND x1 >= ?3 AND y0 <= ?4 AND y1 >= ?5 AND s0 <= ?6 AND s1 >= ?7 ORDER BY id",
+        params![collection, area.x1, area.x0, area.y1, area.y0, end, start],
+        property,
+        fold,
+    )
+}
+
+/// Takes the candidates of a query.
+fn take_candidates<S: Alter>(
+    alloc: Global,
+    conn: &mut Connection<S>,
+    collection: &str,
+    query: &Query,
+    property: Option<&str>,
+    fold: &mut PageFold<'_>,
+) -> Result<(), Stop>
+    ensures takes { HasCleanDisk (state S.Store conn.new) → TakesChosen (query_value query.now).bbox (interval_asked (query_value query.now)) collection.now (option_copied property.entry) (state S.Store conn.old) (state S.Store conn.new) fold.old fold.new result }
+    ensures mode { conn.old.in_transaction ≡ false → conn.new.in_transaction ≡ false }
+    ensures survives { Survives (state S.Store conn.old) (state S.Store conn.new) (λ _. Unit {0}) }
+    ensures stays { Stays (state S.Store conn.old) (state S.Store conn.new) }
+{
+    match &query.bbox {
+        None => match &query.datetime {
+            None => take_all(alloc, conn, collection, property, fold),
+            Some(datetime) => {
+                take_in_time(alloc, conn, collection, &datetime.interval, property, fold)
+            }
+        },
+        Some(area) => match &query.datetime {
+            None => take_in_box(alloc, conn, collection, area, property, fold),
+            Some(datetime) => take_in_both(
+                alloc,
+                conn,
+                collection,
+                area,
+                &datetime.interval,
+                property,
+                fold,
+            ),
+        },
+    }
+}
+
+/// The row of a collection, its title and its time property; none where it is not there.
+pub fn collection_row<S: Alter>(conn: &mut Connection<S>, id: &str) -> Result<Option<Row>, Stop>
+    ensures finds { HasCleanDisk (state S.Store conn.new) → LooksInto (IsCollectionRow id.now) (state S.Store conn.old) (state S.Store conn.new) result }
+    ensures mode { conn.old.in_transaction ≡ false → conn.new.in_transaction ≡ false }
+    ensures survives { Survives (state S.Store conn.old) (state S.Store conn.new) (λ _. Unit {0}) }
+    ensures stays { Stays (state S.Store conn.old) (state S.Store conn.new) }
+{
+    match conn.query_all(
+        "SELECT title, time FROM streetmap_collections WHERE id = ?1",
+        params![id],
+    ) {
+        Ok(mut rows) => Ok(rows.pop()),
+        Err(error) => Err(Stop::Store(error)),
+    }
+}
+
+/// The time property in the row of a collection.
+pub fn time_in(row: &Row) -> Result<Option<String>, Stop>
+    ensures { (name : _) (c : Collection) → row.now ≡ collection_view c → IsReadable name c → MatchResult result (λ time. option_map string_bytes time ≡ c.time) (λ stop. stop ≡ Stop.Memory) }
+{
+    match row.get::<Option<String>>(1) {
+        Ok(time) => Ok(time),
+        Err(Error::SqliteFailure(ErrorCode::OutOfMemory)) => Err(Stop::Memory),
+        Err(_) => Err(Stop::Unread),
+    }
+}
+
+/// The page of a collection that is there, whose time property is known.
+fn page_under<S: Alter>(
+    alloc: Global,
+    conn: &mut Connection<S>,
+    collection: &str,
+    query: &Query,
+    property: Option<&str>,
+) -> Result<Page, Stop>
+    ensures shows { HasCleanDisk (state S.Store conn.new) → IsPageUnder collection.now (query_value query.now) (option_copied property.entry) (state S.Store conn.old) (state S.Store conn.new) result }
+    ensures mode { conn.old.in_transaction ≡ false → conn.new.in_transaction ≡ false }
+    ensures survives { Survives (state S.Store conn.old) (state S.Store conn.new) (λ _. Unit {0}) }
+    ensures stays { Stays (state S.Store conn.old) (state S.Store conn.new) }
+{
+    let mut fold = PageFold::new(alloc, query);
+    match take_candidates(alloc, conn, collection, query, property, &mut fold) {
+        Ok(()) => match fold.end(alloc) {
+            Ok(page) => Ok(page),
+            Err(_) => Err(Stop::Memory),
+        },
+        Err(stop) => Err(stop),
+    }
+}
+
+/// The text, where there is one.
+pub fn lent(text: &Option<String>) -> Option<&str>
+    ensures { option_copied result ≡ option_map string_bytes text.now }
+{
+    match text {
+        Some(text) => Some(text.as_str()),
+        None => None,
+    }
+}
+
+/// A page of a collection; none where it is not there.
+pub fn page_of<S: Alter>(
+    alloc: Global,
+    conn: &mut Connection<S>,
+    collection: &str,
+    query: &Query,
+) -> Result<Option<Page>, Stop>
+    ensures shows { HasCleanDisk (state S.Store conn.new) → LooksInto (IsPageOf collection.now (query_value query.now)) (state S.Store conn.old) (state S.Store conn.new) result }
+    ensures mode { conn.old.in_transaction ≡ false → conn.new.in_transaction ≡ false }
+    ensures survives { Survives (state S.Store conn.old) (state S.Store conn.new) (λ _. Unit {0}) }
+    ensures stays { Stays (state S.Store conn.old) (state S.Store conn.new) }
+{
+    let row = match collection_row(conn, collection) {
+        Ok(Some(row)) => row,
+        Ok(None) => return Ok(None),
+        Err(stop) => return Err(stop),
+    };
+    let time = match time_in(&row) {
+        Ok(time) => time,
+        Err(stop) => return Err(stop),
+    };
+    match page_under(alloc, conn, collection, query, lent(&time)) {
+        Ok(page) => Ok(Some(page)),
+        Err(stop) => Err(stop),
+    }
+}
