@@ -1,0 +1,10 @@
+pub mod Creating
+pub mod Texts
+pub mod Growing
+pub mod Grown
+pub mod PutFormat
+pub mod Stopping
+pub mod Serials
+pub mod Counting
+pub mod Reading
+pub mod Opened

@@ -1,0 +1,130 @@
+-- The format row goes into tables that were made.
+use Rattle.std.proofs.Common.{◌≡◌, ◌≢◌, ℕ, ◌≤◌, pos, List, [], ◌∷◌, length, codes, Ok, Err, refl, None, Option, true, is_ok, sym, subst, ◌∙◌, arith}
+use Rattle.std.specs.List.{AllByRecursion}
+use Rattle.std.specs.FinMap.{empty, get-empty}
+use Rattle.sqlite.specs.declared.types.Value.TheVariants.{Null, Int, Text as Words}
+use Rattle.sqlite.specs.Order.{Row}
+use Rattle.sqlite.specs.Term.{Term, lit}
+use Rattle.sqlite.specs.Schema.{Schema}
+use Rattle.sqlite.specs.Table.{Table}
+use Rattle.sqlite.specs.Effect.{IsDatabase}
+use Rattle.sqlite.specs.Source.TheVariants.{Values}
+use Rattle.sqlite.specs.Command.TheVariants.{Insert}
+use Rattle.sqlite.specs.State.{State as Seen, Executes}
+use Rattle.sqlite_ast.specs.declared.Expr.TheVariants as expr
+use Rattle.sqlite_ast.specs.declared.Rows.{Rows as Given}
+use Rattle.sqlite_ast.specs.declared.Rows.TheVariants as rows
+use Rattle.sqlite_ast.specs.declared.Statement.TheVariants as written
+use Rattle.sqlite_ast.specs.declared.Conflict.TheVariants as conflict
+use Rattle.sqlite_syntax.specs.declared.statement.Parsed.{Parsed}
+use Rattle.sqlite_resolve.specs.Compile.{first}
+use Rattle.sqlite_resolve.specs.Lowering.{Checked}
+use Rattle.sqlite_tied.specs.Compute.{everything}
+use Rattle.sqlite_trees.specs.Tree.{Trees}
+use Rattle.sqlite_rules.specs.Lists.{Has}
+use Rattle.sqlite_rules.specs.Edit.{next_rowid}
+use Rattle.sqlite_rules.proofs.ListLemmas.{all_has}
+use Rattle.streetmap_ledger.specs.State.{opening_state}
+use Rattle.streetmap_ledger.proofs.StatesStay.{opening_sound}
+use Rattle.streetmap_tables.specs.Holds.{Holds, KeyPair, first_key, is_first, pair_key, has_pair}
+use Rattle.streetmap_tables.proofs.Casts.{cast_null, cast_int}
+use Rattle.streetmap_tables.proofs.Finding.{IsFound}
+use Rattle.streetmap_tables.proofs.Holding.{holds_put}
+use Rattle.streetmap_tables.proofs.Keys.{first_is, first_self}
+use Rattle.streetmap_tables.proofs.Resolving.{Means, means, insert_planned, command_is, is_plain, is_fit}
+use Rattle.streetmap_tables.proofs.Running as run
+use Rattle.streetmap_rows.specs.Tables.{Roots, IsOurs, meta, collections, batches, features, meta_name}
+use Rattle.streetmap_rows.specs.Rows.{feature_at, meta_cells}
+use Rattle.streetmap_rows.specs.Stands.{CanBeRead}
+use Rattle.streetmap_rows.specs.Keeping.{Keeps}
+use Rattle.streetmap_rows.proofs.Placing as placing
+use Rattle.streetmap_opening.specs.Making.{AreMade, format_text}
+
+-- ---- what the text means
+
+abbrev parsed_of : (r : Checked Parsed) → is_ok r ≡ true → Parsed
+parsed_of (Ok p) h = p
+parsed_of (Err e) h = absurd (cc)
+
+was_parsed : (r : Checked Parsed) (h : is_ok r ≡ true) → r ≡ Ok (parsed_of r h)
+was_parsed (Ok p) h = refl
+was_parsed (Err e) h = absurd (cc)
+
+format_reads : is_ok (first format_text) ≡ true
+unfolding everything
+format_reads = refl
+
+abbrev format_parsed : Parsed
+format_parsed = parsed_of (first format_text) format_reads
+
+abbrev format_rows : Given
+format_rows = rows.Values ((expr.Text (codes "format") ∷ expr.Integer (codes "2") ∷ []) ∷ [])
+
+format_says : (format_parsed.statement ≡ written.Insert conflict.Abort meta_name (codes "name" ∷ codes "value" ∷ []) format_rows [] []) × (format_parsed.formats ≡ []) × (length format_text ≤ format_parsed.tail) × (0 ≡ length format_parsed.names)
+unfolding everything
+format_says = (refl, refl, omega arith, refl)
+
+abbrev format_terms : List Term
+format_terms = lit Null ∷ lit (Words (codes "format")) ∷ lit (Int (pos 2)) ∷ []
+
+format_means : (schema : Schema) (tree : ℕ) (found : IsFound schema meta_name (meta tree)) → Means schema format_text 0 (Insert found.at (Values format_terms 3))
+unfolding everything
+format_means schema tree found =
+    means schema format_text format_parsed 0 _ (was_parsed (first format_text) format_reads) format_says.2 format_says.3
+    (insert_planned schema meta_name found.at (meta tree) found.named found.listed format_parsed (codes "name" ∷ codes "value" ∷ []) format_rows (Values format_terms 3) format_says.0 format_says.1 refl refl)
+
+-- ---- tables with no row
+
+holds_none : {K : Type 0} (key : Row → K) (is_at : K → Row → _) (cells : K → Option Row) (rows : List Row) → rows ≡ [] → ((k : K) → cells k ≡ None) → Holds key is_at cells rows
+holds_none key is_at cells rows empty none = subst (Holds key is_at cells) (sym empty) (record { table = tt; keyed = tt; apart = tt; found = λ k. sym (none k) })
+
+no_feature : (p : KeyPair) → feature_at opening_state p ≡ None
+no_feature p = rw (get-empty _ p.0) refl
+
+readable : CanBeRead opening_state
+readable = record {
+  collections = λ name c h. absurd (let e = sym (get-empty _ name) ∙ h in cc);
+  features = λ p f h. absurd (let e = sym (no_feature p) ∙ h in cc);
+}
+
+-- ---- the row
+
+module _ (old new : Seen) (limit : old.step_limit ≡ None) (made : AreMade old.now) (sound : IsDatabase old.now) where
+  abbrev roots : Roots
+  roots = made.roots
+
+  abbrev schema : Schema
+  schema = old.now.schema
+
+  abbrev db : Trees
+  db = old.now.trees
+
+  found : IsFound schema meta_name (meta roots.meta)
+  found = placing.meta_found roots old.now made.ours sound
+
+  abbrev row : Row
+  row = Int (next_rowid (db roots.meta)) ∷ Words (codes "format") ∷ Int (pos 2) ∷ []
+
+  stays : (next : Trees) → AllByRecursion (λ t. t.tree ≢ roots.meta → next t.tree ≡ db t.tree) schema.tables → (t : Table) → Has schema.tables t → t.tree ≢ roots.meta → db t.tree ≡ [] → next t.tree ≡ []
+  stays next all t there other was = all_has (λ (u : Table). u.tree ≢ roots.meta → next u.tree ≡ db u.tree) schema.tables t all there other ∙ was
+
+  pub format_put : (count : ℕ) → Executes format_text [] old new (Ok count) → Keeps opening_state new.now
+  format_put count h =
+      let it = format_means schema roots.meta found in
+      let r = run.inserted _ roots.meta _ _ _ _ _ found.at format_terms 3 format_text [] old new schema row refl limit (command_is schema format_text 0 _ it) (is_plain schema format_text 0 _ it) (is_fit schema format_text 0 _ it refl)
+      refl found.listed (rw (cast_null, cast_int (pos 2)) refl) count h in
+      record {
+        well = opening_sound;
+        rows = record {
+          roots = roots;
+          ours = subst (IsOurs roots) (sym r.same_schema) made.ours;
+          of = record {
+            format = subst (Holds first_key is_first meta_cells) (sym r.step.rows) (holds_put first_key is_first first_is first_self (λ _. None) (db roots.meta) (holds_none first_key is_first (λ _. None) (db roots.meta) made.meta_empty (λ _. refl)) row meta_cells (rw made.meta_empty refl) refl refl (λ q. refl));
+            collections = holds_none first_key is_first _ _ (stays new.now.trees r.step.tables (collections roots.collections) (placing.collections_there roots schema made.ours) (λ e. placing.meta_collections roots schema made.ours (sym e)) made.collections_empty) (λ name. rw (get-empty _ name) refl);
+            batches = holds_none first_key is_first _ _ (stays new.now.trees r.step.tables (batches roots.batches) (placing.batches_there roots schema made.ours) (λ e. placing.meta_batches roots schema made.ours (sym e)) made.batches_empty) (λ key. rw (get-empty _ key) refl);
+            features = holds_none pair_key has_pair _ _ (stays new.now.trees r.step.tables (features roots.features) (placing.features_there roots schema made.ours) (λ e. placing.meta_features roots schema made.ours (sym e)) made.features_empty) (λ p. rw (no_feature p) refl);
+          };
+          readable = readable;
+          sound = r.sound;
+        };
+      }

@@ -1,0 +1,169 @@
+//! Making the tables, in one transaction.
+ghost use Rattle.std.specs.Prelude.{◌≡◌, ◌≤◌, ◌↔◌, IsTrue, OnOk, None, Err, false};
+ghost use Rattle.sqlite.specs.Held.{state};
+ghost use Rattle.sqlite.specs.State.{HasCleanDisk, KeepsCommit, Survives};
+ghost use Rattle.sqlite.specs.View.{doubt};
+ghost use Rattle.sqlite.specs.Does.{lacks_sequence};
+ghost use Rattle.sqlite.specs.Effect.{IsDatabase};
+ghost use Rattle.sqlite.specs.Table.{Table};
+ghost use Rattle.sqlite_catalog.specs.Change.{created, is_used};
+ghost use Rattle.streetmap_ledger.specs.State.{opening_state};
+ghost use Rattle.streetmap_rows.specs.Keeping.{Keeps};
+ghost use Rattle.streetmap_opening.specs.Made.{IsTableText, Created};
+ghost use Rattle.streetmap_opening.specs.Making.{is_taken, HasRoom, IsReady, AreMade, MayOpen, MakesAlone, Makes};
+
+use sqlite::{Alter, Connection, Error, ErrorCode, Transaction};
+use sqlite_schema::schema::Schema;
+use streetmap_tables::probe;
+
+/// Why tables were not made.
+#[derive(Debug, Drop)]
+pub enum MakeFault {
+    /// A table, an index or a view has one of the four names.
+    Taken,
+    /// The store failed, or has no room for the tables: the error that told it.
+    Device(Error),
+    /// Memory was refused.
+    Memory,
+}
+
+/// Whether a table, an index or a view has this name.
+fn is_name_used(schema: &Schema, name: &str) -> bool
+    ensures { result ≡ is_used schema.now name.now }
+{
+    schema.table_named(name.as_bytes()).is_some()
+        || schema.index_named(name.as_bytes()).is_some()
+        || schema.view_named(name.as_bytes()).is_some()
+}
+
+/// Whether one of the four names is used.
+fn is_one_used(schema: &Schema) -> bool
+    ensures { result ≡ is_taken schema.now }
+{
+    is_name_used(schema, "streetmap_meta")
+        || is_name_used(schema, "streetmap_collections")
+        || is_name_used(schema, "streetmap_batches")
+        || is_name_used(schema, "streetmap_features")
+}
+
+/// Makes a table by its text, which is one CREATE TABLE.
+pub fn create_table<S: Alter>(tx: &mut Transaction<'_, S>, sql: &str) -> Result<(), Error>
+    ensures same_reference { tx.new.conn.ghost_name ≡ tx.old.conn.ghost_name }
+    ensures created { HasCleanDisk (state S.Store tx.new.conn.now) → IsTrue (state S.Store tx.old.conn.now).in_transaction → (table : Table) → IsTableText sql.now table → lacks_sequence (created (state S.Store tx.old.conn.now).now.schema table) ≡ false → OnOk result (Created table (state S.Store tx.old.conn.now).now (state S.Store tx.new.conn.now).now) }
+    ensures inside { HasCleanDisk (state S.Store tx.new.conn.now) → IsTrue (state S.Store tx.old.conn.now).in_transaction → OnOk result (IsTrue (state S.Store tx.new.conn.now).in_transaction) }
+    ensures kept { HasCleanDisk (state S.Store tx.new.conn.now) → IsTrue (state S.Store tx.old.conn.now).in_transaction → KeepsCommit (state S.Store tx.old.conn.now) (state S.Store tx.new.conn.now) }
+    ensures survives { Survives (state S.Store tx.old.conn.now) (state S.Store tx.new.conn.now) (λ _. ⊥) }
+{
+    match tx.execute(sql, &[]) {
+        Ok(_) => Ok(()),
+        Err(error) => Err(error),
+    }
+}
+
+/// Writes the row of format 2 into tables that were made.
+fn insert_format<S: Alter>(tx: &mut Transaction<'_, S>) -> Result<(), Error>
+    ensures same_reference { tx.new.conn.ghost_name ≡ tx.old.conn.ghost_name }
+    ensures made { HasCleanDisk (state S.Store tx.new.conn.now) → IsTrue (state S.Store tx.old.conn.now).in_transaction → (state S.Store tx.old.conn.now).step_limit ≡ None → AreMade (state S.Store tx.old.conn.now).now → IsDatabase (state S.Store tx.old.conn.now).now → OnOk result (Keeps opening_state (state S.Store tx.new.conn.now).now) }
+    ensures inside { HasCleanDisk (state S.Store tx.new.conn.now) → IsTrue (state S.Store tx.old.conn.now).in_transaction → OnOk result (IsTrue (state S.Store tx.new.conn.now).in_transaction) }
+    ensures kept { HasCleanDisk (state S.Store tx.new.conn.now) → IsTrue (state S.Store tx.old.conn.now).in_transaction → KeepsCommit (state S.Store tx.old.conn.now) (state S.Store tx.new.conn.now) }
+    ensures survives { Survives (state S.Store tx.old.conn.now) (state S.Store tx.new.conn.now) (λ _. ⊥) }
+{
+    match tx.execute(
+        "INSERT INTO streetmap_meta (name, value) VALUES ('format', 2)",
+        &[],
+    ) {
+        Ok(_) => Ok(()),
+        Err(error) => Err(error),
+    }
+}
+
+/// Makes the four tables and the format row.
+fn make_inside<S: Alter>(tx: &mut Transaction<'_, S>) -> Result<(), Error>
+    ensures same_reference { tx.new.conn.ghost_name ≡ tx.old.conn.ghost_name }
+    ensures made { HasCleanDisk (state S.Store tx.new.conn.now) → IsTrue (state S.Store tx.old.conn.now).in_transaction → (state S.Store tx.old.conn.now).step_limit ≡ None → HasRoom (state S.Store tx.old.conn.now).now.schema → OnOk result (Keeps opening_state (state S.Store tx.new.conn.now).now × IsTrue (state S.Store tx.new.conn.now).in_transaction) }
+    ensures kept { HasCleanDisk (state S.Store tx.new.conn.now) → IsTrue (state S.Store tx.old.conn.now).in_transaction → KeepsCommit (state S.Store tx.old.conn.now) (state S.Store tx.new.conn.now) }
+    ensures survives { Survives (state S.Store tx.old.conn.now) (state S.Store tx.new.conn.now) (λ _. ⊥) }
+{
+    create_table(
+        tx,
+        "CREATE TABLE streetmap_meta (name TEXT PRIMARY KEY, value INTEGER NOT NULL) STRICT",
+    )?;
+    create_table(
+        tx,
+        "CREATE TABLE streetmap_collections (id TEXT PRIMARY KEY, title TEXT NOT NULL, time TEXT) STRICT",
+    )?;
+    create_table(
+        tx,
+        "CREATE TABLE streetmap_batches (key TEXT PRIMARY KEY, body TEXT NOT NULL, opened INTEGER NOT NULL, inserted INTEGER NOT NULL, replaced INTEGER NOT NULL, deleted INTEGER NOT NULL, serial INTEGER NOT NULL UNIQUE) STRICT",
+    )?;
+    create_table(
+        tx,
+        "CREATE TABLE streetmap_features (collection TEXT NOT NULL REFERENCES streetmap_collections(id), id TEXT NOT NULL, body TEXT NOT NULL, x0 INTEGER, y0 INTEGER, x1 INTEGER, y1 INTEGER, s0 INTEGER, s1 INTEGER, PRIMARY KEY (collection, id)) STRICT",
+    )?;
+    insert_format(tx)
+}
+
+/// Makes the four tables in a transaction of its own, which is undone where it fails.
+fn make_alone<S: Alter>(conn: &mut Connection<S>) -> Result<(), Error>
+    requires idle { conn.old.in_transaction ≡ false }
+    ensures idle { conn.new.in_transaction ≡ false }
+    ensures clean { doubt (state S.Store conn.old).is_clean ≤ doubt (state S.Store conn.new).is_clean }
+    ensures made { HasCleanDisk (state S.Store conn.new) → IsReady (state S.Store conn.old) → MakesAlone (state S.Store conn.old) (state S.Store conn.new) result }
+    ensures crash { HasCleanDisk (state S.Store conn.new) → IsReady (state S.Store conn.old) → MayOpen (state S.Store conn.old) (state S.Store conn.new) }
+{
+    let mut tx = conn.transaction();
+    match make_inside(&mut tx) {
+        Ok(()) => match tx.commit() {
+            Ok(()) => Ok(()),
+            Err(error) => Err(error),
+        },
+        Err(error) => {
+            tx.rollback();
+            Err(error)
+        }
+    }
+}
+
+/// Whether memory was refused.
+pub fn is_memory(error: Error) -> bool {
+    matches!(error, Error::SqliteFailure(ErrorCode::OutOfMemory))
+}
+
+/// Makes the four tables with the opening state, in one transaction.
+///
+/// `Taken` is answered exactly where a table, an index or a view of the connection has one of the
+/// four names. The connection is to have no step limit, and none of its tables may refer to the
+/// four. After `Device` it may be shut; where it is open its tables are as they were.
+///
+/// # Errors
+///
+/// `Taken`, `Device` where the store fails or has no room, `Memory`.
+pub fn make_tables<S: Alter>(conn: &mut Connection<S>) -> Result<(), MakeFault>
+    requires { conn.old.in_transaction ≡ false }
+    ensures idle { conn.new.in_transaction ≡ false }
+    ensures clean { doubt (state S.Store conn.old).is_clean ≤ doubt (state S.Store conn.new).is_clean }
+    ensures taken { (result ≡ Err MakeFault.Taken) ↔ IsTrue (is_taken (state S.Store conn.old).now.schema) }
+    ensures untouched { result ≡ Err MakeFault.Taken → conn.new ≡ conn.old }
+    ensures made { HasCleanDisk (state S.Store conn.new) → IsReady (state S.Store conn.old) → Makes (state S.Store conn.old) (state S.Store conn.new) result }
+    ensures crash { HasCleanDisk (state S.Store conn.new) → IsReady (state S.Store conn.old) → MayOpen (state S.Store conn.old) (state S.Store conn.new) }
+{
+    if is_one_used(conn.schema()) {
+        return Err(MakeFault::Taken);
+    }
+    match make_alone(conn) {
+        Ok(()) => Ok(()),
+        Err(error) => {
+            if !is_memory(error) {
+                return Err(MakeFault::Device(error));
+            }
+            match probe(conn) {
+                Ok(()) => Err(MakeFault::Memory),
+                Err(error) => {
+                    // Between two transactions it holds what was committed.
+                    let _idle = conn.is_autocommit();
+                    Err(MakeFault::Device(error))
+                }
+            }
+        }
+    }
+}
