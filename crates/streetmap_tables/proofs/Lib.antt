@@ -13,3 +13,5 @@ pub mod Told
 pub mod Committing
 pub mod Finding
 pub mod Schemas
+pub mod Answering
+pub mod Settled

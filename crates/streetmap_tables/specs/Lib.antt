@@ -2,3 +2,4 @@ pub mod Holds
 pub mod Shapes
 pub mod Queries
 pub mod Failing
+pub mod Settling

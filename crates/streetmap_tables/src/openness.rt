@@ -1,5 +1,5 @@
 //! Whether a connection is still open.
-ghost use Rattle.std.specs.Prelude.{◌≡◌, false, IfErr, OnOk};
+ghost use Rattle.std.specs.Prelude.{◌≡◌, IsTrue, false, IfErr, OnOk};
 ghost use Rattle.sqlite.specs.Held.{state};
 ghost use Rattle.sqlite.specs.State.{HasCleanDisk, IsUnchanged, KeepsCommit, Survives};
 ghost use Rattle.streetmap_tables.specs.Failing.{IsOfStore};
@@ -12,13 +12,13 @@ pub fn probe<S: Alter>(conn: &mut Connection<S>) -> Result<(), Error>
     requires { conn.old.in_transaction ≡ false }
     ensures idle { conn.new.in_transaction ≡ false }
     ensures survives { Survives (state S.Store conn.old) (state S.Store conn.new) (λ _. ⊥) }
+    ensures settled { IsTrue (state S.Store conn.new).is_open → (state S.Store conn.new).now ≡ (state S.Store conn.new).committed }
     ensures unchanged { HasCleanDisk (state S.Store conn.new) → OnOk result (IsUnchanged (state S.Store conn.old) (state S.Store conn.new)) }
     ensures failed { HasCleanDisk (state S.Store conn.new) → IfErr result IsOfStore }
     ensures kept { HasCleanDisk (state S.Store conn.new) → KeepsCommit (state S.Store conn.old) (state S.Store conn.new) }
 {
-    match conn.prepare("COMMIT") {
-        Ok(_) => {}
-        Err(error) => return Err(error),
-    }
-    Ok(())
+    let probed = conn.prepare("COMMIT").map(|_| ());
+    // Between two transactions it holds what was committed.
+    let _idle = conn.is_autocommit();
+    probed
 }

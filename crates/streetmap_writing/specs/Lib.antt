@@ -1,3 +1,2 @@
 pub mod Acting
-pub mod Told
 pub mod Storing

@@ -7,18 +7,15 @@ ghost use Rattle.sqlite.specs.View.{doubt};
 ghost use Rattle.streetmap_ledger.specs.State.{State};
 ghost use Rattle.streetmap_batch.specs.BatchText.{batch_text};
 ghost use Rattle.streetmap_batch.specs.BatchView.{batch_value};
-ghost use Rattle.streetmap_tables.specs.Failing.{IsOfStore};
 ghost use Rattle.streetmap_rows.specs.Keeping.{Rests, MayBecome};
 ghost use Rattle.streetmap_writing.specs.Acting.{Awaits, Applied, Ended};
-ghost use Rattle.streetmap_writing.specs.Told as told;
 
 use crate::acting::act_inside;
 use crate::kept::kept_reply;
-use crate::stop::{Shut, Stop};
-use sqlite::{Alter, Connection, Error, ErrorCode};
+use sqlite::{Alter, Connection, Error};
 use std::alloc::Global;
 use streetmap_ledger::{Batch, Refusal, Reply};
-use streetmap_tables::probe;
+use streetmap_tables::{Stop, cause_of, probe, settle};
 
 /// How many batches may be accepted.
 const MOST_BATCHES: u64 = 9_223_372_036_854_775_807;
@@ -87,31 +84,6 @@ fn act_by_key<S: Alter>(
     }
 }
 
-/// Whether memory was refused.
-fn is_memory(error: Error) -> bool
-    ensures { result ≡ told.is_memory error }
-{
-    matches!(error, Error::SqliteFailure(ErrorCode::OutOfMemory))
-}
-
-/// Tells the cause that an error shuts the keeper for.
-fn cause_of(error: Error) -> Shut
-    ensures { IsOfStore error → result ≡ Shut.Device error }
-{
-    match error {
-        Error::SqliteFailure(
-            ErrorCode::NoRowid
-            | ErrorCode::OutOfMemory
-            | ErrorCode::SystemIoFailure
-            | ErrorCode::DatabaseCorrupt
-            | ErrorCode::DiskFull
-            | ErrorCode::Closed
-            | ErrorCode::TooBig,
-        ) => Shut::Device(error),
-        _ => Shut::Damaged,
-    }
-}
-
 /// Acts on a batch whole or not at all.
 pub fn apply_batch<S: Alter>(
     alloc: Global,
@@ -134,14 +106,6 @@ pub fn apply_batch<S: Alter>(
             Ok(()) => Ok(reply),
             Err(error) => Err(Stop::Closed(cause_of(error))),
         },
-        Err(error) => {
-            if !is_memory(error) {
-                return Err(Stop::Closed(cause_of(error)));
-            }
-            match probe(conn) {
-                Ok(()) => Err(Stop::Memory),
-                Err(error) => Err(Stop::Closed(cause_of(error))),
-            }
-        }
+        Err(error) => Err(settle(conn, error)),
     }
 }

@@ -5,9 +5,8 @@
 //! edits: a stop leaves what it left before, or the state after the batch. Where it gives up, memory was
 //! refused and nothing changed, or the store failed, and it tells the error that named the cause.
 //!
-//! In the order of reading: `stop` (why a call gives up), `kept` (what is kept for a key), `timing` and
-//! `storing` (what is written of a feature), `edits`, `counts`, `acting` (a batch inside its transaction),
-//! `batch`.
+//! In the order of reading: `kept` (what is kept for a key), `timing` and `storing` (what is written of a
+//! feature), `edits`, `counts`, `acting` (a batch inside its transaction), `batch`.
 #![tactic(auto)]
 
 mod acting;
@@ -15,9 +14,8 @@ mod batch;
 mod counts;
 mod edits;
 mod kept;
-mod stop;
 mod storing;
 mod timing;
 
 pub use batch::apply_batch;
-pub use stop::{Shut, Stop};
+pub use streetmap_tables::{Shut, Stop};

@@ -9,7 +9,7 @@ ghost use Rattle.streetmap_ledger.specs.State.{Collection, timed};
 ghost use Rattle.streetmap_ledger.specs.declared.reply.Refusal.TheVariants.{BadTime};
 ghost use Rattle.streetmap_rows.specs.Stands.{Looks, IsReadable};
 ghost use Rattle.streetmap_rows.specs.Views.{collection_view};
-ghost use Rattle.streetmap_writing.specs.Told.{IsMemory};
+ghost use Rattle.streetmap_tables.specs.Failing.{IsMemory};
 ghost use Rattle.streetmap_writing.specs.Storing.{FindsTime, IsTimed};
 
 use sqlite::{Alter, Error, ErrorCode, Row, Transaction};
