@@ -4,14 +4,12 @@ ghost use Rattle.sqlite.specs.Held.{state};
 ghost use Rattle.sqlite.specs.State.{HasCleanDisk, IsUnchanged, KeepsCommit, Survives};
 ghost use Rattle.sqlite.specs.declared.types.Value.TheVariants.{Int};
 ghost use Rattle.streetmap_ledger.specs.State.{State};
-ghost use Rattle.streetmap_tables.specs.Failing.{IsOfStore};
 ghost use Rattle.streetmap_rows.specs.Keeping.{Rests};
 ghost use Rattle.streetmap_opening.specs.Adopting.{FindsFormat, FindsSerials, FindsKeys, IsAsItWas, Adopts};
 
-use crate::making::is_memory;
 use sqlite::types::ValueRef;
-use sqlite::{Alter, Connection, Error, ErrorCode, Row, Transaction};
-use streetmap_tables::probe;
+use sqlite::{Alter, Connection, Error, Row, Transaction};
+use streetmap_tables::{is_memory, is_of_store, probe};
 
 /// Why tables were not opened.
 #[derive(Debug, Drop)]
@@ -122,24 +120,6 @@ fn refusal_of(format: Option<i64>) -> AdoptFault {
         Some(format) if format > 2 => AdoptFault::NewFormat,
         _ => AdoptFault::NotOurs,
     }
-}
-
-/// Whether the store failed, or had no room or memory.
-fn is_of_store(error: Error) -> bool
-    ensures { IsOfStore error → IsTrue result }
-{
-    matches!(
-        error,
-        Error::SqliteFailure(
-            ErrorCode::NoRowid
-                | ErrorCode::OutOfMemory
-                | ErrorCode::SystemIoFailure
-                | ErrorCode::DatabaseCorrupt
-                | ErrorCode::DiskFull
-                | ErrorCode::Closed
-                | ErrorCode::TooBig
-        )
-    )
 }
 
 /// Whether the connection is still open, and holds what was committed.

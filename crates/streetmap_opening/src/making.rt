@@ -12,9 +12,9 @@ ghost use Rattle.streetmap_rows.specs.Keeping.{Keeps};
 ghost use Rattle.streetmap_opening.specs.Made.{IsTableText, Created};
 ghost use Rattle.streetmap_opening.specs.Making.{is_taken, HasRoom, IsReady, AreMade, MayOpen, MakesAlone, Makes};
 
-use sqlite::{Alter, Connection, Error, ErrorCode, Transaction};
+use sqlite::{Alter, Connection, Error, Transaction};
 use sqlite_schema::schema::Schema;
-use streetmap_tables::probe;
+use streetmap_tables::{is_memory, probe};
 
 /// Why tables were not made.
 #[derive(Debug, Drop)]
@@ -122,11 +122,6 @@ fn make_alone<S: Alter>(conn: &mut Connection<S>) -> Result<(), Error>
             Err(error)
         }
     }
-}
-
-/// Whether memory was refused.
-pub fn is_memory(error: Error) -> bool {
-    matches!(error, Error::SqliteFailure(ErrorCode::OutOfMemory))
 }
 
 /// Makes the four tables with the opening state, in one transaction.
