@@ -11,5 +11,5 @@
 mod looks;
 mod writes;
 
-pub use looks::{collection_rows, has_feature, kept_rows};
+pub use looks::{collection_rows, has_feature, kept_rows, time_in};
 pub use writes::{delete_feature, insert_batch, insert_collection, insert_feature};

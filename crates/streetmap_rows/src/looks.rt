@@ -1,12 +1,14 @@
 //! Looks by a key.
-ghost use Rattle.std.specs.Prelude.{◌≡◌, ◌≤◌, false, is_some};
+ghost use Rattle.std.specs.Prelude.{◌≡◌, ◌≤◌, MatchResult, false, is_some, option_map, string_bytes};
 ghost use Rattle.sqlite.specs.View.{doubt};
 ghost use Rattle.sqlite.specs.Tree.{Trees};
-ghost use Rattle.streetmap_ledger.specs.State.{State};
+ghost use Rattle.streetmap_batch.specs.Text.{Text};
+ghost use Rattle.streetmap_ledger.specs.State.{State, Collection};
+ghost use Rattle.streetmap_tables.specs.Failing.{IsMemory};
 ghost use Rattle.sqlite.specs.Held.{state};
 ghost use Rattle.sqlite.specs.State.{HasCleanDisk, Survives};
 ghost use Rattle.streetmap_rows.specs.Rows.{feature_at};
-ghost use Rattle.streetmap_rows.specs.Stands.{StandsFor, Looks};
+ghost use Rattle.streetmap_rows.specs.Stands.{StandsFor, IsReadable, Looks};
 ghost use Rattle.streetmap_rows.specs.Calls.{LooksAll};
 ghost use Rattle.streetmap_rows.specs.Views as views;
 
@@ -21,13 +23,10 @@ pub fn kept_rows<S: Alter>(conn: &mut Connection<S>, key: &str) -> Result<Vec<Ro
     ensures limit { (state S.Store conn.new).step_limit ≡ (state S.Store conn.old).step_limit }
     ensures crash { HasCleanDisk (state S.Store conn.new) → (s : State) → StandsFor s (state S.Store conn.old).now → (trees : Trees) → (state S.Store conn.new).may_leave trees → (state S.Store conn.old).may_leave trees }
 {
-    match conn.query_all(
+    conn.query_all(
         "SELECT body, opened, inserted, replaced, deleted, serial FROM streetmap_batches WHERE key = ?1",
         params![key],
-    ) {
-        Ok(rows) => Ok(rows),
-        Err(error) => Err(error),
-    }
+    )
 }
 
 /// What is kept of a collection, inside a transaction: a row of its title and its time property, or none.
@@ -39,13 +38,17 @@ pub fn collection_rows<S: Alter>(
     ensures looks { HasCleanDisk (state S.Store tx.new.conn.now) → LooksAll (views.collection_rows collection.now) (state S.Store tx.old.conn.now) (state S.Store tx.new.conn.now) result }
     ensures survives { Survives (state S.Store tx.old.conn.now) (state S.Store tx.new.conn.now) (λ _. ⊥) }
 {
-    match tx.query_all(
+    tx.query_all(
         "SELECT title, time FROM streetmap_collections WHERE id = ?1",
         params![collection],
-    ) {
-        Ok(rows) => Ok(rows),
-        Err(error) => Err(error),
-    }
+    )
+}
+
+/// The time property in the row of a collection. The error is that memory was refused.
+pub fn time_in(row: &Row) -> Result<Option<String>, Error>
+    ensures { (name : Text) (c : Collection) → row.now ≡ views.collection_view c → IsReadable name c → MatchResult result (λ time. option_map string_bytes time ≡ c.time) IsMemory }
+{
+    row.get(1)
 }
 
 /// Whether a collection has a feature with this id.
@@ -58,11 +61,9 @@ pub fn has_feature<S: Alter>(
     ensures looks { HasCleanDisk (state S.Store tx.new.conn.now) → Looks (λ s. is_some (feature_at s (collection.now, id.now))) (state S.Store tx.old.conn.now) (state S.Store tx.new.conn.now) result }
     ensures survives { Survives (state S.Store tx.old.conn.now) (state S.Store tx.new.conn.now) (λ _. ⊥) }
 {
-    match tx.query_all(
+    let rows = tx.query_all(
         "SELECT id FROM streetmap_features WHERE collection = ?1 AND id = ?2",
         params![collection, id],
-    ) {
-        Ok(rows) => Ok(!rows.is_empty()),
-        Err(error) => Err(error),
-    }
+    )?;
+    Ok(!rows.is_empty())
 }

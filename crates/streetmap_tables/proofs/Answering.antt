@@ -1,5 +1,5 @@
 -- What a result tells, by what each of its cases tells.
-use Rattle.std.proofs.Common.{◌≡◌, Result, Ok, Err, IfOk, IfErr, OnOk, IsOkAnd, MatchResult, sym, subst}
+use Rattle.std.proofs.Common.{◌≡◌, Result, Ok, Err, IfOk, IfErr, OnOk, IsOkAnd, IsErrAnd, MatchResult, sym, subst}
 
 pub by_result : {A E : Type 0} (r : Result A E) (P P' : A → Type 0) (Q Q' : E → Type 0) → IfOk r P → IfErr r Q → ((a : A) → P a → P' a) → ((e : E) → Q e → Q' e) → MatchResult r P' Q'
 by_result (Ok a) P P' Q Q' ok err shown told = shown a ok
@@ -19,3 +19,8 @@ if_err (Ok a) (Ok b) P Q Q' mapped err told = tt
 if_err (Ok a) (Err e) P Q Q' mapped err told = absurd mapped
 if_err (Err e) (Ok b) P Q Q' mapped err told = absurd (cc)
 if_err (Err e) (Err f) P Q Q' mapped err told = let same : f ≡ e = cc in subst Q' (sym same) (told e err)
+
+-- the error that a `?` hands on
+pub handed_on : {A E : Type 0} (r : Result A E) (e : E) (P : A → Type 0) (Q : E → Type 0) → IsErrAnd r (λ x. x ≡ e) → Q e → MatchResult r P Q
+handed_on (Ok a) e P Q same told = absurd same
+handed_on (Err x) e P Q same told = subst Q (sym same) told

@@ -1,11 +1,12 @@
 use Rattle.sqlite.specs.Held.{state}
+use Rattle.streetmap_tables.proofs.Answering.{by_result}
 use Rattle.streetmap_rows.proofs.Looking.{collection_shown, collection_told_inside}
 use Rattle.streetmap_rows.proofs.looks.collection_rows.Goals as goal
 
-pub returns-in-Ok-clause-looks : goal.returns-in-Ok-clause-looks
-returns-in-Ok-clause-looks g c clean limit s stands =
-    let ran = rw c.params-to_sql.ensures at (c.in-Ok.ensures.ok clean) in collection_shown (state g.S.Store c.args.tx.now.conn.now) (state g.S.Store c.query_all.new.self.conn.now) s stands c.args.collection.now _ ran
-
-pub returns-in-Err-clause-looks : goal.returns-in-Err-clause-looks
-returns-in-Err-clause-looks g c clean limit s stands =
-    let ran = rw c.params-to_sql.ensures at (c.in-Err.ensures.err clean) in collection_told_inside (state g.S.Store c.args.tx.now.conn.now) (state g.S.Store c.query_all.new.self.conn.now) s stands limit c.args.collection.now _ ran
+pub returns-clause-looks : goal.returns-clause-looks
+returns-clause-looks g c clean limit s stands =
+    let old = state g.S.Store c.args.tx.now.conn.now in
+    let new = state g.S.Store c.query_all.new.self.conn.now in
+    let ok = rw c.params-to_sql.ensures at (c.query_all.ensures.ok clean) in
+    let err = rw c.params-to_sql.ensures at (c.query_all.ensures.err clean) in
+    by_result c.query_all.result _ _ _ _ ok err (λ rows ran. collection_shown old new s stands c.args.collection.now rows.items ran) (λ e ran. collection_told_inside old new s stands limit c.args.collection.now e ran)

@@ -3,17 +3,18 @@ use Rattle.sqlite.specs.Held.{state}
 use Rattle.sqlite.specs.declared.types.Value.TheVariants.{Text as Words}
 use Rattle.streetmap_geojson.specs.FeatureValue.{FeatureValue}
 use Rattle.streetmap_rows.specs.Rows.{feature_at}
+use Rattle.streetmap_tables.proofs.Answering.{handed_on}
 use Rattle.streetmap_tables.proofs.Choosing.{none_empty}
 use Rattle.streetmap_rows.proofs.Looking.{id_shown, id_told}
 use Rattle.streetmap_rows.proofs.looks.has_feature.Goals as goal
 
-pub returns-in-Ok-clause-looks : goal.returns-in-Ok-clause-looks
-returns-in-Ok-clause-looks g c clean limit s stands =
-    let ran = rw (c.params-to_sql.ensures, c.params-to_sql-2.ensures) at (c.in-Ok.ensures.ok clean) in
+pub returns-clause-looks : goal.returns-clause-looks
+returns-clause-looks g c clean limit s stands =
+    let ran = rw (c.params-to_sql.ensures, c.params-to_sql-2.ensures) at (c.in_ok-rows.ensures.ok clean) in
     let r = id_shown (state g.S.Store c.args.tx.now.conn.now) (state g.S.Store c.query_all.new.self.conn.now) s stands (c.args.collection.now, c.args.id.now) _ ran in
     (none_empty (λ (f : FeatureValue). Words c.args.id.now ∷ []) (feature_at s (c.args.collection.now, c.args.id.now)) _ r.0 c.is_empty.result (search rules), r.1)
 
-pub returns-in-Err-clause-looks : goal.returns-in-Err-clause-looks
-returns-in-Err-clause-looks g c clean limit s stands =
-    let ran = rw (c.params-to_sql.ensures, c.params-to_sql-2.ensures) at (c.in-Err.ensures.err clean) in
-    id_told (state g.S.Store c.args.tx.now.conn.now) (state g.S.Store c.query_all.new.self.conn.now) s stands limit (c.args.collection.now, c.args.id.now) _ ran
+pub returns-in_err-rows-clause-looks : goal.returns-in_err-rows-clause-looks
+returns-in_err-rows-clause-looks g c clean limit s stands =
+    let ran = rw (c.params-to_sql.ensures, c.params-to_sql-2.ensures) at (c.in_err-rows.ensures.err clean) in
+    handed_on c.from_residual.result c.in_err-rows.field-0.0 _ _ c.from_residual.ensures.1 (id_told (state g.S.Store c.args.tx.now.conn.now) (state g.S.Store c.query_all.new.self.conn.now) s stands limit (c.args.collection.now, c.args.id.now) _ ran)

@@ -5,20 +5,21 @@ use Rattle.sqlite.specs.Values.{or_null}
 use Rattle.sqlite.specs.declared.types.Value.TheVariants.{Int}
 use Rattle.streetmap_rows.specs.Stands.{StandsFor}
 use Rattle.streetmap_rows.specs.Statements.{insert_feature}
+use Rattle.streetmap_tables.proofs.Answering.{handed_on}
 use Rattle.streetmap_rows.proofs.Writing.{insert_stands, insert_told}
 use Rattle.streetmap_rows.proofs.Bound.{nine, feature_bound}
 use Rattle.streetmap_rows.proofs.writes.insert_feature.Goals as goal
 
-pub returns-in-Ok-clause-writes : goal.returns-in-Ok-clause-writes
-returns-in-Ok-clause-writes g c clean inside f is limit s t stands leads =
+pub returns-clause-writes : goal.returns-clause-writes
+returns-clause-writes g c clean inside f is limit s t stands leads =
     let old = state g.S.Store c.args.tx.now.conn.now in
     let new = state g.S.Store c.execute.new.self.conn.now in
-    let ran = subst (λ row. ExecutesInside 0 insert_feature row old new (Ok c.in-Ok.field-0)) (nine c.params-to_sql.ensures c.params-to_sql-2.ensures c.params-to_sql-3.ensures (c.params-to_sql-4.ensures ∙ ap (or_null Int) c.west.ensures) (c.params-to_sql-5.ensures ∙ ap (or_null Int) c.south.ensures) (c.params-to_sql-6.ensures ∙ ap (or_null Int) c.east.ensures) (c.params-to_sql-7.ensures ∙ ap (or_null Int) c.north.ensures) (c.params-to_sql-8.ensures ∙ ap (or_null Int) c.first.ensures) (c.params-to_sql-9.ensures ∙ ap (or_null Int) c.last.ensures) ∙ feature_bound (c.args.collection.now, c.args.id.now) f _ _ _ is) (c.in-Ok.ensures.runs clean inside) in
+    let ran = subst (λ row. ExecutesInside 0 insert_feature row old new (Ok c.in_ok-execute.field-0)) (nine c.params-to_sql.ensures c.params-to_sql-2.ensures c.params-to_sql-3.ensures (c.params-to_sql-4.ensures ∙ ap (or_null Int) c.west.ensures) (c.params-to_sql-5.ensures ∙ ap (or_null Int) c.south.ensures) (c.params-to_sql-6.ensures ∙ ap (or_null Int) c.east.ensures) (c.params-to_sql-7.ensures ∙ ap (or_null Int) c.north.ensures) (c.params-to_sql-8.ensures ∙ ap (or_null Int) c.first.ensures) (c.params-to_sql-9.ensures ∙ ap (or_null Int) c.last.ensures) ∙ feature_bound (c.args.collection.now, c.args.id.now) f _ _ _ is) (c.in_ok-execute.ensures.runs clean inside) in
     subst (λ x. StandsFor x new.now) (sym leads.is) (insert_stands old new s stands limit (c.args.collection.now, c.args.id.now) leads.collection leads.there f leads.absent leads.fine _ ran.0)
 
-pub returns-in-Err-clause-writes : goal.returns-in-Err-clause-writes
-returns-in-Err-clause-writes g c clean inside f is limit s t stands leads =
+pub returns-in_err-execute-clause-writes : goal.returns-in_err-execute-clause-writes
+returns-in_err-execute-clause-writes g c clean inside f is limit s t stands leads =
     let old = state g.S.Store c.args.tx.now.conn.now in
     let new = state g.S.Store c.execute.new.self.conn.now in
-    let ran = subst (λ row. ExecutesInside 0 insert_feature row old new (Err c.in-Err.error)) (nine c.params-to_sql.ensures c.params-to_sql-2.ensures c.params-to_sql-3.ensures (c.params-to_sql-4.ensures ∙ ap (or_null Int) c.west.ensures) (c.params-to_sql-5.ensures ∙ ap (or_null Int) c.south.ensures) (c.params-to_sql-6.ensures ∙ ap (or_null Int) c.east.ensures) (c.params-to_sql-7.ensures ∙ ap (or_null Int) c.north.ensures) (c.params-to_sql-8.ensures ∙ ap (or_null Int) c.first.ensures) (c.params-to_sql-9.ensures ∙ ap (or_null Int) c.last.ensures) ∙ feature_bound (c.args.collection.now, c.args.id.now) f _ _ _ is) (c.in-Err.ensures.runs clean inside) in
-    insert_told old new s stands limit (c.args.collection.now, c.args.id.now) leads.collection leads.there f leads.absent _ ran
+    let ran = subst (λ row. ExecutesInside 0 insert_feature row old new (Err c.in_err-execute.field-0.0)) (nine c.params-to_sql.ensures c.params-to_sql-2.ensures c.params-to_sql-3.ensures (c.params-to_sql-4.ensures ∙ ap (or_null Int) c.west.ensures) (c.params-to_sql-5.ensures ∙ ap (or_null Int) c.south.ensures) (c.params-to_sql-6.ensures ∙ ap (or_null Int) c.east.ensures) (c.params-to_sql-7.ensures ∙ ap (or_null Int) c.north.ensures) (c.params-to_sql-8.ensures ∙ ap (or_null Int) c.first.ensures) (c.params-to_sql-9.ensures ∙ ap (or_null Int) c.last.ensures) ∙ feature_bound (c.args.collection.now, c.args.id.now) f _ _ _ is) (c.in_err-execute.ensures.runs clean inside) in
+    handed_on c.from_residual.result c.in_err-execute.field-0.0 _ _ c.from_residual.ensures.1 (insert_told old new s stands limit (c.args.collection.now, c.args.id.now) leads.collection leads.there f leads.absent _ ran)
