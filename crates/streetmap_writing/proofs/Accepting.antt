@@ -1,5 +1,5 @@
 -- A batch whose key is new: refused with an edit, or accepted with the next serial.
-use Rattle.std.proofs.Common.{◌≡◌, ℕ, ◌+◌, ◌-◌, ◌^◌, ◌<◌, ◌≤◌, true, cond, None, Ok, Result, IfOk, sym, ap, subst, ◌∙◌, nat_lt, arith, length}
+use Rattle.std.proofs.Common.{◌≡◌, ℕ, ◌+◌, ◌-◌, ◌^◌, ◌<◌, ◌≤◌, true, cond, None, Ok, Result, IfOk, sym, ap, subst, ◌∙◌, nat_lt, arith}
 use Rattle.std.proofs.lemmas.Bool.Decides.{nat_tests}
 use Rattle.std.specs.FinMap.{get, len}
 use Rattle.sqlite.specs.Effect.{Database}

@@ -9,7 +9,7 @@ ghost use Rattle.streetmap_batch.specs.BatchView.{edit_value};
 ghost use Rattle.streetmap_rows.specs.Stands.{Looks, Edits, EditsAll};
 
 use crate::storing::put_feature;
-use crate::timing::{lent, time_property};
+use crate::timing::time_property;
 use sqlite::{Alter, Error, Transaction};
 use std::alloc::Global;
 use streetmap_geojson::Feature;
@@ -72,7 +72,7 @@ fn insert_in<S: Alter>(
         Ok(true) => return Ok(Some(Refusal::FeatureExists)),
         Ok(false) => {}
     }
-    put_feature(tx, alloc, collection, lent(&property), feature)
+    put_feature(tx, alloc, collection, property.as_deref(), feature)
 }
 
 /// Replaces a feature by another with its id, or tells why not.
@@ -100,7 +100,7 @@ fn replace_in<S: Alter>(
         Err(error) => return Err(error),
         Ok(()) => {}
     }
-    put_feature(tx, alloc, collection, lent(&property), feature)
+    put_feature(tx, alloc, collection, property.as_deref(), feature)
 }
 
 /// Deletes a feature, or tells why not.

@@ -1,34 +1,16 @@
 //! The time property of a collection, and what it tells of a feature.
-ghost use Rattle.std.specs.Prelude.{◌≡◌, Ok, Err, IfOk, OnErr, MatchResult, option_map, string_bytes};
+ghost use Rattle.std.specs.Prelude.{◌≡◌, Err, IfOk, OnErr};
 ghost use Rattle.std.specs.Option.{option_copied};
-ghost use Rattle.std.specs.FinMap.{get};
 ghost use Rattle.sqlite.specs.Held.{state};
 ghost use Rattle.sqlite.specs.State.{HasCleanDisk, Survives};
-ghost use Rattle.streetmap_batch.specs.Text.{Text};
-ghost use Rattle.streetmap_ledger.specs.State.{Collection, timed};
+ghost use Rattle.streetmap_ledger.specs.State.{timed};
 ghost use Rattle.streetmap_ledger.specs.declared.reply.Refusal.TheVariants.{BadTime};
-ghost use Rattle.streetmap_rows.specs.Stands.{Looks, IsReadable};
-ghost use Rattle.streetmap_rows.specs.Views.{collection_view};
-ghost use Rattle.streetmap_tables.specs.Failing.{IsMemory};
 ghost use Rattle.streetmap_writing.specs.Storing.{FindsTime, IsTimed};
 
-use sqlite::{Alter, Error, ErrorCode, Row, Transaction};
+use sqlite::{Alter, Error, Transaction};
 use streetmap_geojson::Feature;
 use streetmap_moment::TimeFault;
-use streetmap_rows::collection_rows;
-
-/// The time property in the row of a collection.
-fn property_in(row: &Row) -> Result<Option<String>, Error>
-    ensures { (name : Text) (c : Collection) → row.now ≡ collection_view c → IsReadable name c → MatchResult result (λ time. option_map string_bytes time ≡ c.time) IsMemory }
-{
-    match row.get::<Option<String>>(1) {
-        Ok(time) => Ok(time),
-        Err(Error::SqliteFailure(ErrorCode::OutOfMemory)) => {
-            Err(Error::SqliteFailure(ErrorCode::OutOfMemory))
-        }
-        Err(error) => Err(error),
-    }
-}
+use streetmap_rows::{collection_rows, time_in};
 
 /// The time property of a collection, where it has one; none where the collection is not there.
 pub fn time_property<S: Alter>(
@@ -44,21 +26,11 @@ pub fn time_property<S: Alter>(
         Err(error) => return Err(error),
     };
     match rows.first() {
-        Some(row) => match property_in(row) {
+        Some(row) => match time_in(row) {
             Ok(time) => Ok(Some(time)),
             Err(error) => Err(error),
         },
         None => Ok(None),
-    }
-}
-
-/// The name of a time property, where there is one.
-pub fn lent(property: &Option<String>) -> Option<&str>
-    ensures { option_copied result ≡ option_map string_bytes property.now }
-{
-    match property {
-        Some(name) => Some(name.as_str()),
-        None => None,
     }
 }
 

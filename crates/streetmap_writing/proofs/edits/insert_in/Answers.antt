@@ -64,6 +64,6 @@ returns-clause-edits g c clean limit inside s stands =
     let held = seen ∙ ap (λ id. is_some (feature_at s (c.args.collection.now, id))) c.id.ensures in
     let none = free_id s c.args.collection.now c.args.feature.now col.0 col.1 held in
     let within : IsTrue e.in_transaction = second.1.0.mode ∙ first.1.0.mode ∙ inside in
-    let put = c.put_feature.ensures.puts clean (c.has_feature.ensures.survives.limit ∙ c.time_property.ensures.survives.limit ∙ limit) within s col.0 (stands_still b e s second.1 mid) col.1 (col.2 ∙ sym c.lent.ensures) none in
+    let put = c.put_feature.ensures.puts clean (c.has_feature.ensures.survives.limit ∙ c.time_property.ensures.survives.limit ∙ limit) within s col.0 (stands_still b e s second.1 mid) col.1 (col.2 ∙ sym c.as_deref.ensures.value) none in
     answered_on a e f (WasPut s c.args.collection.now col.0 c.args.feature.now f) (Answered s (edit.insert c.args.collection.now c.args.feature.now) f) c.put_feature.result
     (was_inserted s c.args.collection.now c.args.feature.now col.0 col.1 f none) (keeps_then a b e (keeps a b first.1) (keeps b e second.1)) put

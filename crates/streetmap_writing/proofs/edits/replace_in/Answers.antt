@@ -94,6 +94,6 @@ returns-clause-edits g c clean limit inside s stands =
     let cut = rw c.id-2.ensures at c.in-Ok.ensures.writes last within (c.has_feature.ensures.survives.limit ∙ c.time_property.ensures.survives.limit ∙ limit) s in
     let gone = cut (between s name x col.0 col.1) (stands_still b e s second.1 mid) (cuts s name x col.0 col.1 old.0 old.1) in
     let put = c.put_feature.ensures.puts clean (c.delete_feature.ensures.survives.limit ∙ c.has_feature.ensures.survives.limit ∙ c.time_property.ensures.survives.limit ∙ limit) (c.in-Ok.ensures.inside last within)
-    (between s name x col.0 col.1) (without s name x col.0 col.1) gone (between_has s name x col.0 col.1) (col.2 ∙ sym c.lent.ensures) (without_lacks s name x col.0 col.1) in
+    (between s name x col.0 col.1) (without s name x col.0 col.1) gone (between_has s name x col.0 col.1) (col.2 ∙ sym c.as_deref.ensures.value) (without_lacks s name x col.0 col.1) in
     answered_on a d f (WasPut (between s name x col.0 col.1) name (without s name x col.0 col.1) x f) (Answered s (edit.replace name x) f) c.put_feature.result
     (was_replaced s name x col.0 col.1 f old.0 old.1 (λ y is. same_id col.0.time x y is)) (keeps_then a b d (keeps a b first.1) (keeps_then b e d (keeps b e second.1) (c.in-Ok.ensures.kept last within))) put

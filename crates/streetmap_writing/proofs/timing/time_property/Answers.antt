@@ -10,18 +10,18 @@ use Rattle.streetmap_writing.proofs.timing.time_property.Goals as goal
 pub returns-in-Err-clause-finds : goal.returns-in-Err-clause-finds
 returns-in-Err-clause-finds g c clean limit s stands = c.in-Err.ensures.looks clean limit s stands
 
-pub returns-in-Ok-property_in-clause-finds : goal.returns-in-Ok-property_in-clause-finds
-returns-in-Ok-property_in-clause-finds g c clean limit s stands =
+pub returns-in-Ok-time_in-clause-finds : goal.returns-in-Ok-time_in-clause-finds
+returns-in-Ok-time_in-clause-finds g c clean limit s stands =
     let r = c.in-Ok.ensures.looks clean limit s stands in
     let k = the_row collection_view (get s.collections c.args.collection.now) c.deref.result.now c.in-Some.row.now (search rules) c.in-Some.ensures.value in
-    let told = c.in-Ok-property_in.ensures c.args.collection.now k.0 k.2 (stands.readable.collections c.args.collection.now k.0 k.1) in
+    let told = c.in-Ok-time_in.ensures c.args.collection.now k.0 k.2 (stands.readable.collections c.args.collection.now k.0 k.1) in
     (rw k.1 (ap (λ x. Some x) told), r.1)
 
 pub returns-in-Some-clause-finds : goal.returns-in-Some-clause-finds
 returns-in-Some-clause-finds g c clean limit s stands =
     let r = c.in-Ok.ensures.looks clean limit s stands in
     let k = the_row collection_view (get s.collections c.args.collection.now) c.deref.result.now c.in-Some.row.now (search rules) c.in-Some.ensures.value in
-    let told = c.in-Err-property_in.ensures c.args.collection.now k.0 k.2 (stands.readable.collections c.args.collection.now k.0 k.1) in
+    let told = c.in-Err-time_in.ensures c.args.collection.now k.0 k.2 (stands.readable.collections c.args.collection.now k.0 k.1) in
     (inr (OutOfMemory, told), keeps (state g.S.Store c.args.tx.now.conn.now) (state g.S.Store c.collection_rows.new.tx.conn.now) r.1)
 
 pub returns-clause-finds : goal.returns-clause-finds
