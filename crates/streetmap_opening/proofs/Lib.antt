@@ -8,3 +8,5 @@ pub mod Serials
 pub mod Counting
 pub mod Reading
 pub mod Opened
+pub mod Seeing
+pub mod Telling

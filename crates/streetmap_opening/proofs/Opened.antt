@@ -1,6 +1,6 @@
 -- A connection at rest, after tables were looked at.
 use Rattle.std.proofs.Common.{◌≡◌, ℕ, IsTrue, sym, ap, subst, ◌∙◌}
-use Rattle.sqlite.specs.State.{State as Seen, IsUnchanged}
+use Rattle.sqlite.specs.State.{State as Seen, IsUnchanged, KeepsCommit}
 use Rattle.streetmap_ledger.specs.State.{State}
 use Rattle.streetmap_rows.specs.Keeping.{Keeps, Rests}
 use Rattle.streetmap_opening.specs.Making.{HasSame}
@@ -23,11 +23,11 @@ same_unchanged old mid new was same settled live =
     let before = was settled same.0.was_open in (same.0.now_is ∙ before.0, same.0.committed_is ∙ before.1)
 
 -- as it was, and then with the last commit that it had
-pub same_settled : (old mid new : Seen) → IsAsItWas old mid → (IsTrue new.is_open → IsTrue mid.is_open × (new.committed ≡ mid.committed) × (new.now ≡ new.committed)) → IsAsItWas old new
-same_settled old mid new was after settled live =
-    let last = after live in
-    let before = was settled last.0 in
-    (last.2 ∙ last.1 ∙ before.1 ∙ sym settled, last.1 ∙ before.1)
+pub same_settled : (old mid new : Seen) → IsAsItWas old mid → KeepsCommit mid new → (IsTrue new.is_open → new.now ≡ new.committed) → IsAsItWas old new
+same_settled old mid new was kept after settled live =
+    let before = was settled (kept.was_open live) in
+    let last = kept.committed live ∙ before.1 in
+    (after live ∙ last ∙ sym settled, last)
 
 counted : Found → ℕ
 counted (Keys n) = n

@@ -1,5 +1,5 @@
 -- What is so before a call whose end is clean, and what a stop may leave of an open connection.
-use Rattle.std.proofs.Common.{◌≡◌, inl, inr, Some, Ok, Err, Result, OnOk, IsTrue, sym, ap, subst, ◌∙◌, arith}
+use Rattle.std.proofs.Common.{◌≡◌, inl, inr, Some, Ok, Err, Result, OnOk, IsErrAnd, IsTrue, sym, ap, subst, ◌∙◌, arith}
 use Rattle.sqlite.specs.State.{State as Seen, HasCleanDisk, Survives, KeepsCommit}
 use Rattle.sqlite.specs.Effect.{Database}
 use Rattle.sqlite.specs.Steps.{FailsToCommit}
@@ -36,3 +36,8 @@ pub same_if_settled : (old mid new : Seen) → (IsTrue mid.is_open → HasSame o
 same_if_settled old mid new before kept settled was live =
     let last = kept.committed live ∙ (before (kept.was_open live)).1 in
     (settled live ∙ last ∙ sym was, last)
+
+-- what a `?` hands on is its error
+pub is_handed : {A E : Type 0} (r : Result A E) (e : E) → IsErrAnd r (λ x. x ≡ e) → r ≡ Err e
+is_handed (Ok a) e h = absurd h
+is_handed (Err x) e h = ap (λ y. Err y) h

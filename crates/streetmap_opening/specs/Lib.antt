@@ -1,3 +1,4 @@
 pub mod Made
 pub mod Making
 pub mod Adopting
+pub mod Telling

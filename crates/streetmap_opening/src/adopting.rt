@@ -1,15 +1,16 @@
 //! Opening tables that are there: the format row is read, and a row for each accepted batch.
-ghost use Rattle.std.specs.Prelude.{◌≡◌, [], ◌∷◌, pos, Some, false, IsTrue, IfErr, OnOk};
+ghost use Rattle.std.specs.Prelude.{◌≡◌, false, IsTrue, OnOk};
 ghost use Rattle.sqlite.specs.Held.{state};
-ghost use Rattle.sqlite.specs.State.{HasCleanDisk, IsUnchanged, KeepsCommit, Survives};
-ghost use Rattle.sqlite.specs.declared.types.Value.TheVariants.{Int};
+ghost use Rattle.sqlite.specs.State.{HasCleanDisk, KeepsCommit, Survives};
 ghost use Rattle.streetmap_ledger.specs.State.{State};
 ghost use Rattle.streetmap_rows.specs.Keeping.{Rests};
-ghost use Rattle.streetmap_opening.specs.Adopting.{FindsFormat, FindsSerials, FindsKeys, IsAsItWas, Adopts};
+ghost use Rattle.streetmap_rows.specs.Statements.{select_format};
+ghost use Rattle.streetmap_opening.specs.Adopting.{serials_text, FindsFormat, FindsSerials, FindsKeys, IsAsItWas, Adopts};
+ghost use Rattle.streetmap_opening.specs.Telling.{format_in, LooksAt, IsFoundIn, IsRefusedFor, AdoptsBy};
 
 use sqlite::types::ValueRef;
 use sqlite::{Alter, Connection, Error, Row, Transaction};
-use streetmap_tables::{is_memory, is_of_store, probe};
+use streetmap_tables::{Shut, Stop, probe, settle};
 
 /// Why tables were not opened.
 #[derive(Debug, Drop)]
@@ -39,35 +40,31 @@ enum Found {
 fn read_format<S: Alter>(tx: &mut Transaction<'_, S>) -> Result<Vec<Row>, Error>
     ensures same_reference { tx.new.conn.ghost_name ≡ tx.old.conn.ghost_name }
     ensures finds { HasCleanDisk (state S.Store tx.new.conn.now) → FindsFormat (state S.Store tx.old.conn.now) (state S.Store tx.new.conn.now) result }
+    ensures tells { HasCleanDisk (state S.Store tx.new.conn.now) → LooksAt select_format (state S.Store tx.old.conn.now) (state S.Store tx.new.conn.now) result }
     ensures inside { HasCleanDisk (state S.Store tx.new.conn.now) → IsTrue (state S.Store tx.old.conn.now).in_transaction → OnOk result (IsTrue (state S.Store tx.new.conn.now).in_transaction) }
     ensures kept { HasCleanDisk (state S.Store tx.new.conn.now) → IsTrue (state S.Store tx.old.conn.now).in_transaction → KeepsCommit (state S.Store tx.old.conn.now) (state S.Store tx.new.conn.now) }
     ensures survives { Survives (state S.Store tx.old.conn.now) (state S.Store tx.new.conn.now) (λ _. ⊥) }
 {
-    match tx.query_all(
+    tx.query_all(
         "SELECT value FROM streetmap_meta WHERE name = 'format'",
         &[],
-    ) {
-        Ok(rows) => Ok(rows),
-        Err(error) => Err(error),
-    }
+    )
 }
 
 /// The serials of all batches.
 fn read_serials<S: Alter>(tx: &mut Transaction<'_, S>) -> Result<Vec<Row>, Error>
     ensures same_reference { tx.new.conn.ghost_name ≡ tx.old.conn.ghost_name }
     ensures finds { HasCleanDisk (state S.Store tx.new.conn.now) → FindsSerials (state S.Store tx.old.conn.now) result }
+    ensures tells { HasCleanDisk (state S.Store tx.new.conn.now) → LooksAt serials_text (state S.Store tx.old.conn.now) (state S.Store tx.new.conn.now) result }
     ensures kept { HasCleanDisk (state S.Store tx.new.conn.now) → IsTrue (state S.Store tx.old.conn.now).in_transaction → KeepsCommit (state S.Store tx.old.conn.now) (state S.Store tx.new.conn.now) }
     ensures survives { Survives (state S.Store tx.old.conn.now) (state S.Store tx.new.conn.now) (λ _. ⊥) }
 {
-    match tx.query_all("SELECT serial FROM streetmap_batches", &[]) {
-        Ok(rows) => Ok(rows),
-        Err(error) => Err(error),
-    }
+    tx.query_all("SELECT serial FROM streetmap_batches", &[])
 }
 
 /// The format that the format row tells.
 fn format_of(rows: &[Row]) -> Option<i64>
-    ensures { rows.now ≡ (Int (pos 2) ∷ []) ∷ [] → result ≡ Some (pos 2) }
+    ensures { result ≡ format_in rows.now }
 {
     match rows.first() {
         Some(row) => match row.get_ref(0) {
@@ -82,21 +79,17 @@ fn format_of(rows: &[Row]) -> Option<i64>
 fn look_inside<S: Alter>(tx: &mut Transaction<'_, S>) -> Result<Found, Error>
     ensures same_reference { tx.new.conn.ghost_name ≡ tx.old.conn.ghost_name }
     ensures finds { HasCleanDisk (state S.Store tx.new.conn.now) → FindsKeys (state S.Store tx.old.conn.now) result }
+    ensures tells { HasCleanDisk (state S.Store tx.new.conn.now) → IsFoundIn (state S.Store tx.old.conn.now) result }
     ensures kept { HasCleanDisk (state S.Store tx.new.conn.now) → IsTrue (state S.Store tx.old.conn.now).in_transaction → KeepsCommit (state S.Store tx.old.conn.now) (state S.Store tx.new.conn.now) }
     ensures survives { Survives (state S.Store tx.old.conn.now) (state S.Store tx.new.conn.now) (λ _. ⊥) }
 {
-    let rows = match read_format(tx) {
-        Ok(rows) => rows,
-        Err(error) => return Err(error),
-    };
+    let rows = read_format(tx)?;
     match format_of(&rows) {
         Some(2) => {}
         other => return Ok(Found::Other(other)),
     }
-    match read_serials(tx) {
-        Ok(serials) => Ok(Found::Keys(serials.len() as u64)),
-        Err(error) => Err(error),
-    }
+    let serials = read_serials(tx)?;
+    Ok(Found::Keys(serials.len() as u64))
 }
 
 /// The same, in a transaction that is undone: whatever the connection holds, it is as it was.
@@ -106,6 +99,7 @@ fn look_alone<S: Alter>(conn: &mut Connection<S>) -> Result<Found, Error>
     ensures survives { Survives (state S.Store conn.old) (state S.Store conn.new) (λ _. ⊥) }
     ensures same { HasCleanDisk (state S.Store conn.new) → IsAsItWas (state S.Store conn.old) (state S.Store conn.new) }
     ensures finds { HasCleanDisk (state S.Store conn.new) → FindsKeys (state S.Store conn.old) result }
+    ensures tells { HasCleanDisk (state S.Store conn.new) → IsFoundIn (state S.Store conn.old) result }
 {
     let mut tx = conn.transaction();
     let found = look_inside(&mut tx);
@@ -114,29 +108,13 @@ fn look_alone<S: Alter>(conn: &mut Connection<S>) -> Result<Found, Error>
 }
 
 /// Why tables of another format are not opened.
-fn refusal_of(format: Option<i64>) -> AdoptFault {
+fn refusal_of(format: Option<i64>) -> AdoptFault
+    ensures { IsRefusedFor format result }
+{
     match format {
         Some(1) => AdoptFault::OldFormat,
         Some(format) if format > 2 => AdoptFault::NewFormat,
         _ => AdoptFault::NotOurs,
-    }
-}
-
-/// Whether the connection is still open, and holds what was committed.
-fn stays_open<S: Alter>(conn: &mut Connection<S>) -> Result<(), Error>
-    requires { conn.old.in_transaction ≡ false }
-    ensures idle { conn.new.in_transaction ≡ false }
-    ensures survives { Survives (state S.Store conn.old) (state S.Store conn.new) (λ _. ⊥) }
-    ensures unchanged { HasCleanDisk (state S.Store conn.new) → OnOk result (IsUnchanged (state S.Store conn.old) (state S.Store conn.new)) }
-    ensures same { HasCleanDisk (state S.Store conn.new) → IfErr result (λ _. IsTrue (state S.Store conn.new).is_open → IsTrue (state S.Store conn.old).is_open × ((state S.Store conn.new).committed ≡ (state S.Store conn.old).committed) × ((state S.Store conn.new).now ≡ (state S.Store conn.new).committed)) }
-{
-    match probe(conn) {
-        Ok(()) => Ok(()),
-        Err(error) => {
-            // Between two transactions it holds what was committed.
-            let _idle = conn.is_autocommit();
-            Err(error)
-        }
     }
 }
 
@@ -147,32 +125,27 @@ fn stays_open<S: Alter>(conn: &mut Connection<S>) -> Result<(), Error>
 ///
 /// # Errors
 ///
-/// `NotOurs` where there is no format row of this product, `OldFormat` for format 1 and `NewFormat`
-/// for a format above 2, `Device` where the store fails, `Memory`.
+/// `OldFormat` for format 1 and `NewFormat` for a format above 2; `NotOurs` for any other, where there
+/// is no format row, and where a look at it or at the batches is refused; `Device` where the store
+/// fails, `Memory`.
 pub fn adopt_tables<S: Alter>(conn: &mut Connection<S>) -> Result<u64, AdoptFault>
     requires { conn.old.in_transaction ≡ false }
     ensures idle { conn.new.in_transaction ≡ false }
     ensures survives { Survives (state S.Store conn.old) (state S.Store conn.new) (λ _. ⊥) }
     ensures same { HasCleanDisk (state S.Store conn.new) → IsAsItWas (state S.Store conn.old) (state S.Store conn.new) }
+    ensures tells { HasCleanDisk (state S.Store conn.new) → AdoptsBy (state S.Store conn.old) result }
     ensures adopts { HasCleanDisk (state S.Store conn.new) → (s : State) → Rests (state S.Store conn.old) s → Adopts s (state S.Store conn.old) (state S.Store conn.new) result }
 {
     match look_alone(conn) {
-        Ok(Found::Keys(count)) => match stays_open(conn) {
+        Ok(Found::Keys(count)) => match probe(conn) {
             Ok(()) => Ok(count),
             Err(error) => Err(AdoptFault::Device(error)),
         },
         Ok(Found::Other(format)) => Err(refusal_of(format)),
-        Err(error) => {
-            if !is_of_store(error) {
-                return Err(AdoptFault::NotOurs);
-            }
-            if !is_memory(error) {
-                return Err(AdoptFault::Device(error));
-            }
-            match stays_open(conn) {
-                Ok(()) => Err(AdoptFault::Memory),
-                Err(error) => Err(AdoptFault::Device(error)),
-            }
-        }
+        Err(error) => match settle(conn, error) {
+            Stop::Memory => Err(AdoptFault::Memory),
+            Stop::Closed(Shut::Device(error)) => Err(AdoptFault::Device(error)),
+            Stop::Closed(Shut::Damaged) => Err(AdoptFault::NotOurs),
+        },
     }
 }

@@ -54,10 +54,8 @@ pub fn create_table<S: Alter>(tx: &mut Transaction<'_, S>, sql: &str) -> Result<
     ensures kept { HasCleanDisk (state S.Store tx.new.conn.now) → IsTrue (state S.Store tx.old.conn.now).in_transaction → KeepsCommit (state S.Store tx.old.conn.now) (state S.Store tx.new.conn.now) }
     ensures survives { Survives (state S.Store tx.old.conn.now) (state S.Store tx.new.conn.now) (λ _. ⊥) }
 {
-    match tx.execute(sql, &[]) {
-        Ok(_) => Ok(()),
-        Err(error) => Err(error),
-    }
+    tx.execute(sql, &[])?;
+    Ok(())
 }
 
 /// Writes the row of format 2 into tables that were made.
@@ -68,13 +66,11 @@ fn insert_format<S: Alter>(tx: &mut Transaction<'_, S>) -> Result<(), Error>
     ensures kept { HasCleanDisk (state S.Store tx.new.conn.now) → IsTrue (state S.Store tx.old.conn.now).in_transaction → KeepsCommit (state S.Store tx.old.conn.now) (state S.Store tx.new.conn.now) }
     ensures survives { Survives (state S.Store tx.old.conn.now) (state S.Store tx.new.conn.now) (λ _. ⊥) }
 {
-    match tx.execute(
+    tx.execute(
         "INSERT INTO streetmap_meta (name, value) VALUES ('format', 2)",
         &[],
-    ) {
-        Ok(_) => Ok(()),
-        Err(error) => Err(error),
-    }
+    )?;
+    Ok(())
 }
 
 /// Makes the four tables and the format row.
@@ -113,10 +109,10 @@ fn make_alone<S: Alter>(conn: &mut Connection<S>) -> Result<(), Error>
 {
     let mut tx = conn.transaction();
     match make_inside(&mut tx) {
-        Ok(()) => match tx.commit() {
-            Ok(()) => Ok(()),
-            Err(error) => Err(error),
-        },
+        Ok(()) => {
+            tx.commit()?;
+            Ok(())
+        }
         Err(error) => {
             tx.rollback();
             Err(error)
@@ -127,8 +123,10 @@ fn make_alone<S: Alter>(conn: &mut Connection<S>) -> Result<(), Error>
 /// Makes the four tables with the opening state, in one transaction.
 ///
 /// `Taken` is answered exactly where a table, an index or a view of the connection has one of the
-/// four names. The connection is to have no step limit, and none of its tables may refer to the
-/// four. After `Device` it may be shut; where it is open its tables are as they were.
+/// four names. The other answers hold for an open connection with no step limit, and where its tables
+/// leave room: each has a tree of its own, none refers to the features, and where one counts its
+/// rowids the table of those counts is there. After `Device` it may be shut; where it is open its
+/// tables are as they were.
 ///
 /// # Errors
 ///
@@ -153,11 +151,7 @@ pub fn make_tables<S: Alter>(conn: &mut Connection<S>) -> Result<(), MakeFault>
             }
             match probe(conn) {
                 Ok(()) => Err(MakeFault::Memory),
-                Err(error) => {
-                    // Between two transactions it holds what was committed.
-                    let _idle = conn.is_autocommit();
-                    Err(MakeFault::Device(error))
-                }
+                Err(error) => Err(MakeFault::Device(error)),
             }
         }
     }

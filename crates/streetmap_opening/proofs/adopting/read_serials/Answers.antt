@@ -1,17 +1,23 @@
 use Rattle.std.proofs.Common.{[]}
 use Rattle.sqlite.specs.Held.{state}
+use Rattle.streetmap_tables.proofs.Answering.{by_result, by_either}
 use Rattle.streetmap_opening.specs.Adopting.{serials_text}
 use Rattle.streetmap_opening.proofs.Reading.{serials_shown, serials_told, keeps_shown, keeps_failed}
+use Rattle.streetmap_opening.proofs.Telling.{serials_bare, looked}
 use Rattle.streetmap_opening.proofs.adopting.read_serials.Goals as goal
 
-pub returns-in-Ok-clause-finds : goal.returns-in-Ok-clause-finds
-returns-in-Ok-clause-finds g c clean s limit keeps = serials_shown (state g.S.Store c.args.tx.now.conn.now) (state g.S.Store c.query_all.new.self.conn.now) s keeps c.in-Ok.rows.items (c.in-Ok.ensures.ok clean)
+pub returns-clause-finds : goal.returns-clause-finds
+returns-clause-finds g c clean s limit keeps =
+    let old = state g.S.Store c.args.tx.now.conn.now in
+    let new = state g.S.Store c.query_all.new.self.conn.now in
+    by_result c.query_all.result _ _ _ _ (c.query_all.ensures.ok clean) (c.query_all.ensures.err clean) (λ rows shown. serials_shown old new s keeps rows.items shown) (λ e failed. serials_told old new s keeps limit e failed)
 
-pub returns-in-Ok-clause-kept : goal.returns-in-Ok-clause-kept
-returns-in-Ok-clause-kept g c clean inside = keeps_shown serials_text [] (state g.S.Store c.args.tx.now.conn.now) (state g.S.Store c.query_all.new.self.conn.now) inside c.in-Ok.rows.items (c.in-Ok.ensures.ok clean)
+pub returns-clause-tells : goal.returns-clause-tells
+returns-clause-tells g c clean =
+    looked serials_text serials_bare (state g.S.Store c.args.tx.now.conn.now) (state g.S.Store c.query_all.new.self.conn.now) c.query_all.result (c.query_all.ensures.ok clean) (c.query_all.ensures.err clean)
 
-pub returns-in-Err-clause-finds : goal.returns-in-Err-clause-finds
-returns-in-Err-clause-finds g c clean s limit keeps = serials_told (state g.S.Store c.args.tx.now.conn.now) (state g.S.Store c.query_all.new.self.conn.now) s keeps limit c.in-Err.error (c.in-Err.ensures.err clean)
-
-pub returns-in-Err-clause-kept : goal.returns-in-Err-clause-kept
-returns-in-Err-clause-kept g c clean inside = keeps_failed serials_text [] (state g.S.Store c.args.tx.now.conn.now) (state g.S.Store c.query_all.new.self.conn.now) inside c.in-Err.error (c.in-Err.ensures.err clean)
+pub returns-clause-kept : goal.returns-clause-kept
+returns-clause-kept g c clean inside =
+    let old = state g.S.Store c.args.tx.now.conn.now in
+    let new = state g.S.Store c.query_all.new.self.conn.now in
+    by_either c.query_all.result _ _ _ (c.query_all.ensures.ok clean) (c.query_all.ensures.err clean) (λ rows shown. keeps_shown serials_text [] old new inside rows.items shown) (λ e failed. keeps_failed serials_text [] old new inside e failed)

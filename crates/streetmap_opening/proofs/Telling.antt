@@ -1,0 +1,94 @@
+-- What the two looks tell of any tables.
+use Rattle.std.proofs.Common.{◌≡◌, ◌⊎◌, inl, inr, ℕ, ℤ, true, List, [], Ok, Err, Option, Some, Result, Vec, IsTrue, IfOk, IfErr, is_ok, pos, refl}
+use Rattle.std.specs.declared.alloc.Global.{Global}
+use Rattle.sqlite.specs.Order.{Row}
+use Rattle.sqlite.specs.State.{State as Seen, IsUnchanged, Shown, FailsToQuery, IsTooLate}
+use Rattle.sqlite.specs.declared.error.Error.{Error}
+use Rattle.sqlite_syntax.specs.declared.statement.Parsed.{Parsed}
+use Rattle.sqlite_resolve.specs.Compile.{first, returning, timed}
+use Rattle.sqlite_resolve.specs.Lowering.{Checked}
+use Rattle.sqlite_tied.specs.Compute.{everything}
+use Rattle.streetmap_tables.specs.Failing.{IsOfStore}
+use Rattle.streetmap_rows.specs.Statements.{select_format}
+use Rattle.streetmap_opening.specs.Adopting.{serials_text}
+use Rattle.streetmap_opening.specs.Telling.{Sees, IsUnseen, LooksAt, TellsFormat, TellsNothing, IsFoundIn, IsRefusedFor, AdoptsBy}
+use Rattle.streetmap_opening.specs.declared.adopting.Found.{Found}
+use Rattle.streetmap_opening.specs.declared.adopting.Found.TheVariants.{Keys, Other}
+use Rattle.streetmap_opening.specs.declared.adopting.AdoptFault.{AdoptFault}
+use Rattle.streetmap_opening.specs.declared.adopting.AdoptFault.TheVariants.{NotOurs, OldFormat, NewFormat, Device, Memory}
+use Rattle.streetmap_opening.proofs.Seeing.{IsBare, was_unchanged, shown_there, fails_there, not_too_late}
+
+abbrev parsed_of : (r : Checked Parsed) → is_ok r ≡ true → Parsed
+parsed_of (Ok p) h = p
+parsed_of (Err e) h = absurd (cc)
+
+was_parsed : (r : Checked Parsed) (h : is_ok r ≡ true) → r ≡ Ok (parsed_of r h)
+was_parsed (Ok p) h = refl
+was_parsed (Err e) h = absurd (cc)
+
+format_reads : is_ok (first select_format) ≡ true
+unfolding everything
+format_reads = refl
+
+serials_read : is_ok (first serials_text) ≡ true
+unfolding everything
+serials_read = refl
+
+pub format_bare : IsBare select_format
+unfolding everything returning timed
+format_bare = record { parsed = parsed_of (first select_format) format_reads; is = was_parsed (first select_format) format_reads; none = λ schema base. refl; untimed = λ schema. refl }
+
+pub serials_bare : IsBare serials_text
+unfolding everything returning timed
+serials_bare = record { parsed = parsed_of (first serials_text) serials_read; is = was_parsed (first serials_text) serials_read; none = λ schema base. refl; untimed = λ schema. refl }
+
+-- ---- one look
+
+module _ (text : List ℕ) (bare : IsBare text) (old new : Seen) where
+  pub seen : (rows : List Row) → Shown text [] old new rows → Sees text old rows × IsUnchanged old new
+  seen rows h = let same = was_unchanged text bare old new old refl rows h in (shown_there text bare old new old refl rows h same.0.was_open, same)
+
+  pub unseen : (e : Error) → FailsToQuery text [] old new e ⊎ IsTooLate text [] old new e → (IsOfStore e → ⊥) → IsUnseen text old
+  unseen e (inl failed) other = (e, other, fails_there text bare old new old refl refl e other failed (λ live. live))
+  unseen e (inr late) other = absurd (not_too_late text bare old new old refl refl e other late)
+
+  pub looked : (r : Result (Vec Row Global) Error) → IfOk r (λ rows. Shown text [] old new rows.items) → IfErr r (λ e. FailsToQuery text [] old new e ⊎ IsTooLate text [] old new e) → LooksAt text old new r
+  looked (Ok rows) shown failed = seen rows.items shown
+  looked (Err e) shown failed = λ other. unseen e failed other
+
+-- ---- of one connection as of another with the same database
+
+module _ (mid old : Seen) (same : mid.now ≡ old.now) (limit : mid.step_limit ≡ old.step_limit) (live : IsTrue mid.is_open → IsTrue old.is_open) where
+  sees_there : (text : List ℕ) → IsBare text → (rows : List Row) → Sees text mid rows → Sees text old rows
+  sees_there text bare rows h = shown_there text bare mid mid old same rows h (live (was_unchanged text bare mid mid old same rows h).0.was_open)
+
+  unseen_there : (text : List ℕ) → IsBare text → IsUnseen text mid → IsUnseen text old
+  unseen_there text bare h = (h.0, h.1, fails_there text bare mid mid old same limit h.0 h.1 h.2 live)
+
+  pub format_there : (format : Option ℤ) → TellsFormat mid format → TellsFormat old format
+  format_there format h = (h.0, sees_there select_format format_bare h.0 h.1, h.2)
+
+  nothing_there : TellsNothing mid → TellsNothing old
+  nothing_there (inl h) = inl (unseen_there select_format format_bare h)
+  nothing_there (inr h) = inr (unseen_there serials_text serials_bare h)
+
+  pub serials_there : (rows : List Row) → Sees serials_text mid rows → Sees serials_text old rows
+  serials_there = sees_there serials_text serials_bare
+
+  pub unseen_serials_there : IsUnseen serials_text mid → IsUnseen serials_text old
+  unseen_serials_there = unseen_there serials_text serials_bare
+
+  pub found_there : (r : Result Found Error) → IsFoundIn mid r → IsFoundIn old r
+  found_there (Ok (Keys count)) h = (format_there (Some (pos 2)) h.0, (h.1.0, sees_there serials_text serials_bare h.1.0 h.1.1, h.1.2))
+  found_there (Ok (Other format)) h = format_there format h
+  found_there (Err e) h = λ other. nothing_there (h other)
+
+-- ---- what is answered
+
+-- tables of another format
+pub refused_by : (old : Seen) (format : Option ℤ) (fault : AdoptFault) → IsRefusedFor format fault → TellsFormat old format → AdoptsBy old (Err fault)
+refused_by old format NotOurs refused told = inl (format, refused, told)
+refused_by old format OldFormat refused told = (format, refused, told)
+refused_by old format NewFormat refused told = (format, refused, told)
+refused_by old format (Device e) refused told = absurd refused
+refused_by old format Memory refused told = absurd refused
