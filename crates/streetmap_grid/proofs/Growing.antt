@@ -1,51 +1,73 @@
 -- The extent of more and more positions.
-use Rattle.std.specs.Prelude.{ℕ, zero, suc, ◌+◌, ◌<◌, ◌≤◌, ℤ, ◌≤ℤ◌, ◌≡◌, ◌⊎◌, List, [], ◌∷◌, ◌++◌, length, take, map, get_or, slice_index_or, All, Contains, refl}
+use Rattle.std.specs.Prelude.{ℕ, zero, suc, ◌+◌, ◌<◌, ◌≤◌, ℤ, ◌≤ℤ◌, ◌≡◌, ◌⊎◌, List, [], ◌∷◌, ◌++◌, length, take, map, int_lt, get_or, slice_index_or, All, Contains, refl}
 use Rattle.std.specs.Int.{int_max, int_min}
 use Rattle.std.specs.List.{AllByRecursion, flat_map, fold}
-use Rattle.std.proofs.Common.{subst, sym, ◌∙◌, ap, arith, inl, inr, Option}
-use Rattle.std.proofs.lemmas.Int.{ints, fold-int_max_bounds, fold-int_max_reached, fold-int_min_bounds, fold-int_min_reached}
+use Rattle.std.proofs.Common.{subst, sym, ◌∙◌, ap, arith, inl, inr, Option, cond, true, false}
+use Rattle.std.proofs.lemmas.Int.{ints, clamps, fold-int_max_bounds, fold-int_max_reached, fold-int_min_bounds, fold-int_min_reached}
 use Rattle.std.proofs.lemmas.List.{take_more, take_all, flat_map_more, length-append}
-use Rattle.std.proofs.lemmas.List.Elements.{recursion_from_All, All-from_recursion, All-push, All-weaker, All-nil, All-cons}
+use Rattle.std.proofs.lemmas.List.Elements.{recursion_from_All, All-from_recursion, All-append, All-weaker, All-cons}
 use Rattle.streetmap_grid.specs.declared.grid_box.GridBox.{GridBox}
 use Rattle.streetmap_grid.specs.Values.{PositionValue, BoxValue, SimpleValue, GeometryValue, point, multi_point, line_string, multi_line_string, polygon, multi_polygon, simple, collection}
 use Rattle.streetmap_grid.specs.Some.{SomeOf}
-use Rattle.streetmap_grid.specs.Range.{IsBound, IsCoordinate}
+use Rattle.streetmap_grid.specs.Range.{IsBound}
 use Rattle.streetmap_grid.specs.Meeting.{Holds}
 use Rattle.streetmap_grid.specs.WellFormed.{IsLine, IsRing, IsPolygon, IsSimple, IsGeometry}
-use Rattle.streetmap_grid.specs.Extent.{IsExtent, polygon_vertices, simple_vertices, vertices, positions_extent, extent_of}
-use Rattle.streetmap_grid.specs.Bounds.{AreBounds, IsLeast, IsGreatest}
+use Rattle.streetmap_grid.specs.Extent.{IsExtent, union, polygon_vertices, simple_vertices, vertices, positions_extent, extent_of}
+use Rattle.streetmap_grid.specs.Bounds.{AreBounds}
 
--- ---- one more position
-some_old : (P Q : PositionValue → Type 0) → ((p : PositionValue) → P p → Q p) → (ps : List PositionValue) (p : PositionValue) → SomeOf P ps → SomeOf Q (ps ++ p ∷ [])
-some_old P Q f [] p s = absurd s
-some_old P Q f (v ∷ vs) p (inl s) = inl (f v s)
-some_old P Q f (v ∷ vs) p (inr s) = inr (some_old P Q f vs p s)
+-- ---- the positions of two lists
+some_left : (P Q : PositionValue → Type 0) → ((p : PositionValue) → P p → Q p) → (ps qs : List PositionValue) → SomeOf P ps → SomeOf Q (ps ++ qs)
+some_left P Q f [] qs s = absurd s
+some_left P Q f (v ∷ vs) qs (inl s) = inl (f v s)
+some_left P Q f (v ∷ vs) qs (inr s) = inr (some_left P Q f vs qs s)
 
-some_new : (Q : PositionValue → Type 0) (ps : List PositionValue) (p : PositionValue) → Q p → SomeOf Q (ps ++ p ∷ [])
-some_new Q [] p s = inl s
-some_new Q (v ∷ vs) p s = inr (some_new Q vs p s)
+some_each : (P Q : PositionValue → Type 0) → ((p : PositionValue) → P p → Q p) → (qs : List PositionValue) → SomeOf P qs → SomeOf Q qs
+some_each P Q f [] s = absurd s
+some_each P Q f (v ∷ vs) (inl s) = inl (f v s)
+some_each P Q f (v ∷ vs) (inr s) = inr (some_each P Q f vs s)
 
-bound : (f : PositionValue → ℤ) (old new : ℤ) (ps : List PositionValue) (p : PositionValue) → (new ≡ old) ⊎ (new ≡ f p) → SomeOf (λ v. f v ≡ old) ps → SomeOf (λ v. f v ≡ new) (ps ++ p ∷ [])
-bound f old new ps p (inl e) s = some_old (λ v. f v ≡ old) (λ v. f v ≡ new) (λ v k. k ∙ sym e) ps p s
-bound f old new ps p (inr e) s = some_new (λ v. f v ≡ new) ps p (sym e)
+some_right : (P Q : PositionValue → Type 0) → ((p : PositionValue) → P p → Q p) → (ps qs : List PositionValue) → SomeOf P qs → SomeOf Q (ps ++ qs)
+some_right P Q f [] qs s = some_each P Q f qs s
+some_right P Q f (v ∷ vs) qs s = inr (some_right P Q f vs qs s)
 
-pub extent_push : (ps : List PositionValue) (g h : BoxValue) (p : PositionValue) → IsExtent ps g → IsLeast h.x0 g.x0 p.x → IsLeast h.y0 g.y0 p.y → IsGreatest h.x1 g.x1 p.x → IsGreatest h.y1 g.y1 p.y → IsExtent (ps ++ p ∷ []) h
-extent_push ps g h p x w s e n =
+bound : (f : PositionValue → ℤ) (a b new : ℤ) (ps qs : List PositionValue) → (new ≡ a) ⊎ (new ≡ b) → SomeOf (λ v. f v ≡ a) ps → SomeOf (λ v. f v ≡ b) qs → SomeOf (λ v. f v ≡ new) (ps ++ qs)
+bound f a b new ps qs (inl e) s t = some_left (λ v. f v ≡ a) (λ v. f v ≡ new) (λ v k. k ∙ sym e) ps qs s
+bound f a b new ps qs (inr e) s t = some_right (λ v. f v ≡ b) (λ v. f v ≡ new) (λ v k. k ∙ sym e) ps qs t
+
+min_reached : (a b : ℤ) → (int_min a b ≡ a) ⊎ (int_min a b ≡ b)
+min_reached a b = elim (int_lt b a) as (λ v. (cond v b a ≡ a) ⊎ (cond v b a ≡ b)) [ true ↦ inr refl | false ↦ inl refl ]
+
+max_reached : (a b : ℤ) → (int_max a b ≡ a) ⊎ (int_max a b ≡ b)
+max_reached a b = elim (int_lt b a) as (λ v. (cond v a b ≡ a) ⊎ (cond v a b ≡ b)) [ true ↦ inl refl | false ↦ inr refl ]
+
+held_left : (g h : BoxValue) (x y : ℤ) → Holds g x y → Holds (union g h) x y
+held_left g h x y i = (omega (arith, ints, clamps, i), omega (arith, ints, clamps, i), omega (arith, ints, clamps, i), omega (arith, ints, clamps, i))
+
+held_right : (g h : BoxValue) (x y : ℤ) → Holds h x y → Holds (union g h) x y
+held_right g h x y i = (omega (arith, ints, clamps, i), omega (arith, ints, clamps, i), omega (arith, ints, clamps, i), omega (arith, ints, clamps, i))
+
+-- the extent of two lists, from those of each
+pub extent_both : (ps qs : List PositionValue) (g h : BoxValue) → IsExtent ps g → IsExtent qs h → IsExtent (ps ++ qs) (union g h)
+extent_both ps qs g h x y =
     record {
-      holds = All-push (λ v. Holds h v.x v.y) ps p (All-weaker (λ v. Holds g v.x v.y) (λ v. Holds h v.x v.y) (λ v k. (omega (arith, ints, k, w.0), omega (arith, ints, k, e.0), omega (arith, ints, k, s.0), omega (arith, ints, k, n.0))) ps x.holds) (w.1, e.1, s.1, n.1);
-      west = bound (λ v. v.x) g.x0 h.x0 ps p w.2 x.west;
-      south = bound (λ v. v.y) g.y0 h.y0 ps p s.2 x.south;
-      east = bound (λ v. v.x) g.x1 h.x1 ps p e.2 x.east;
-      north = bound (λ v. v.y) g.y1 h.y1 ps p n.2 x.north;
+      holds = All-append (λ v. Holds (union g h) v.x v.y) ps qs
+          (All-weaker (λ v. Holds g v.x v.y) (λ v. Holds (union g h) v.x v.y) (λ v i. held_left g h v.x v.y i) ps x.holds)
+          (All-weaker (λ v. Holds h v.x v.y) (λ v. Holds (union g h) v.x v.y) (λ v i. held_right g h v.x v.y i) qs y.holds);
+      west = bound (λ v. v.x) g.x0 h.x0 (int_min g.x0 h.x0) ps qs (min_reached g.x0 h.x0) x.west y.west;
+      south = bound (λ v. v.y) g.y0 h.y0 (int_min g.y0 h.y0) ps qs (min_reached g.y0 h.y0) x.south y.south;
+      east = bound (λ v. v.x) g.x1 h.x1 (int_max g.x1 h.x1) ps qs (max_reached g.x1 h.x1) x.east y.east;
+      north = bound (λ v. v.y) g.y1 h.y1 (int_max g.y1 h.y1) ps qs (max_reached g.y1 h.y1) x.north y.north;
     }
 
-pub least_in : (r a b : ℤ) → IsBound a → IsCoordinate b → IsLeast r a b → IsBound r
-least_in r a b ha hb (l, k, inl e) = omega (arith, ints, ha, e)
-least_in r a b ha hb (l, k, inr e) = omega (arith, ints, hb, e)
+pub min_in : (a b : ℤ) → IsBound a → IsBound b → IsBound (int_min a b)
+min_in a b ha hb = (omega (arith, ints, clamps, ha, hb), omega (arith, ints, clamps, ha, hb))
 
-pub greatest_in : (r a b : ℤ) → IsBound a → IsCoordinate b → IsGreatest r a b → IsBound r
-greatest_in r a b ha hb (l, k, inl e) = omega (arith, ints, ha, e)
-greatest_in r a b ha hb (l, k, inr e) = omega (arith, ints, hb, e)
+pub max_in : (a b : ℤ) → IsBound a → IsBound b → IsBound (int_max a b)
+max_in a b ha hb = (omega (arith, ints, clamps, ha, hb), omega (arith, ints, clamps, ha, hb))
+
+-- the least of the lower bounds is below the greatest of the upper ones
+pub min_below : (l h m n low high : ℤ) → l ≤ℤ h → low ≡ int_min l m → high ≡ int_max h n → low ≤ℤ high
+min_below l h m n low high o e d = omega (arith, ints, clamps, o, e, d)
 
 -- ---- a loop that adds what each element has
 pub bounds_more : {X : Type 0} (f : X → List PositionValue) (xs : List X) (ps : List PositionValue) (i : ℕ) (x : X) (o : Option GridBox) → i < length xs → x ≡ get_or xs i x → AreBounds ((ps ++ flat_map f (take i xs)) ++ f x) o → AreBounds (ps ++ flat_map f (take (i + 1) xs)) o
@@ -81,7 +103,7 @@ all_at V P (p ∷ ps) h (inr s) = all_at V P ps h.1 s
 abbrev box_of : ℤ → ℤ → ℤ → ℤ → BoxValue
 box_of a b c d = record { x0 = a; y0 = b; x1 = c; y1 = d }
 
-made_box : (g h : BoxValue) → g.x0 ≡ h.x0 → g.y0 ≡ h.y0 → g.x1 ≡ h.x1 → g.y1 ≡ h.y1 → g ≡ h
+pub made_box : (g h : BoxValue) → g.x0 ≡ h.x0 → g.y0 ≡ h.y0 → g.x1 ≡ h.x1 → g.y1 ≡ h.y1 → g ≡ h
 made_box g h a b c d =
     ap (λ (n : ℤ). box_of n g.y0 g.x1 g.y1) a ∙ ap (λ (n : ℤ). box_of h.x0 n g.x1 g.y1) b ∙ ap (λ (n : ℤ). box_of h.x0 h.y0 n g.y1) c ∙ ap (λ (n : ℤ). box_of h.x0 h.y0 h.x1 n) d
 

@@ -47,6 +47,10 @@ positions_extent (p ∷ ps) =
 unfoldable pub extent_of : GeometryValue → BoxValue
 extent_of v = positions_extent (vertices v)
 
+-- the least box that holds both
+abbrev pub union : BoxValue → BoxValue → BoxValue
+union a b = record { x0 = int_min a.x0 b.x0; y0 = int_min a.y0 b.y0; x1 = int_max a.x1 b.x1; y1 = int_max a.y1 b.y1 }
+
 -- two closed boxes have a point in common
 abbrev pub Overlaps : BoxValue → BoxValue → Type 0
 Overlaps a b = (x : ℤ) × ((y : ℤ) × (Holds a x y × Holds b x y))

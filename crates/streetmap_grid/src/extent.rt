@@ -3,7 +3,7 @@ ghost use Rattle.std.specs.List.{flat_map};
 ghost use Rattle.streetmap_grid.specs.Values.{PositionValue};
 ghost use Rattle.streetmap_grid.specs.Views.{position_value, positions_value, lines_value, rings_value, polygons_value, simple_value, simples_value, geometry_value, box_value};
 ghost use Rattle.streetmap_grid.specs.Extent.{IsExtent, polygon_vertices, simple_vertices, vertices, extent_of};
-ghost use Rattle.streetmap_grid.specs.Bounds.{AreBounds, IsLeast, IsGreatest};
+ghost use Rattle.streetmap_grid.specs.Bounds.{AreBounds};
 
 use crate::geometry::{Geometry, SimpleGeometry};
 use crate::grid_box::GridBox;
@@ -11,18 +11,6 @@ use crate::line::Line;
 use crate::polygon::Polygon;
 use crate::position::Position;
 use crate::ring::Ring;
-
-fn least(a: i64, b: i64) -> i64
-    ensures { IsLeast result a b }
-{
-    if b < a { b } else { a }
-}
-
-fn greatest(a: i64, b: i64) -> i64
-    ensures { IsGreatest result a b }
-{
-    if a < b { b } else { a }
-}
 
 /// The extent of one position.
 fn extent_at(p: &Position) -> GridBox
@@ -36,24 +24,12 @@ fn extent_at(p: &Position) -> GridBox
     }
 }
 
-/// The extent of some positions and one more.
-fn wider(bounds: &GridBox, p: &Position) -> GridBox
-    ensures { (ps : List PositionValue) → IsExtent ps (box_value bounds.now) → IsExtent (ps ++ position_value p.now ∷ []) (box_value result) }
-{
-    GridBox {
-        x0: least(bounds.x0, p.x),
-        y0: least(bounds.y0, p.y),
-        x1: greatest(bounds.x1, p.x),
-        y1: greatest(bounds.y1, p.y),
-    }
-}
-
 /// The bounds so far, with one more position.
 fn grown(bounds: Option<GridBox>, p: &Position) -> Option<GridBox>
     ensures { (ps : List PositionValue) → AreBounds ps bounds → AreBounds (ps ++ position_value p.now ∷ []) result }
 {
     match bounds {
-        Some(b) => Some(wider(&b, p)),
+        Some(b) => Some(b.union(&extent_at(p))),
         None => Some(extent_at(p)),
     }
 }

@@ -1,4 +1,4 @@
-ghost use Rattle.std.specs.Prelude.{◌≡◌, ◌≤ℤ◌, ◌↔◌, ◌&&◌, int_le, IsTrue, None, Some, IfOk, IfErr, OnOk};
+ghost use Rattle.std.specs.Prelude.{◌≡◌, ◌≤ℤ◌, ◌↔◌, ◌&&◌, ◌++◌, int_le, IsTrue, List, None, Some, IfOk, IfErr, OnOk};
 ghost use Rattle.streetmap_grid.specs.Range.{IsBound};
 
 use crate::fault::GridFault;
@@ -38,9 +38,10 @@ fn range_within(low: i64, high: i64, from: i64, to: i64) -> bool
 }
 
 impl GridBox {
+    ghost use Rattle.streetmap_grid.specs.Values.{PositionValue};
     ghost use Rattle.streetmap_grid.specs.Views.{box_value};
     ghost use Rattle.streetmap_grid.specs.Faults.{box_fault};
-    ghost use Rattle.streetmap_grid.specs.Extent.{Overlaps, overlaps, IsWithin, is_within};
+    ghost use Rattle.streetmap_grid.specs.Extent.{IsExtent, union, Overlaps, overlaps, IsWithin, is_within};
 
     /// The box of four bounds, in millimetres. Refused as `BadBox` where a bound is below
     /// -2,000,000,000 or above 2,000,000,000, or `x0` above `x1`, or `y0` above `y1`.
@@ -59,6 +60,19 @@ impl GridBox {
         }
     }
 
+    /// The least box that holds both: of the extents of two lists of positions, that of all of them.
+    pub fn union(&self, other: &GridBox) -> GridBox
+        ensures value { box_value result ≡ union (box_value self.now) (box_value other.now) }
+        ensures extent { (ps qs : List PositionValue) → IsExtent ps (box_value self.now) → IsExtent qs (box_value other.now) → IsExtent (ps ++ qs) (box_value result) }
+    {
+        GridBox {
+            x0: self.x0.min(other.x0),
+            y0: self.y0.min(other.y0),
+            x1: self.x1.max(other.x1),
+            y1: self.y1.max(other.y1),
+        }
+    }
+
     /// Whether the two boxes have a point in common, on their edges too.
     pub fn overlaps(&self, other: &GridBox) -> bool
         ensures point { IsTrue result ↔ Overlaps (box_value self.now) (box_value other.now) }
@@ -67,6 +81,7 @@ impl GridBox {
         ranges_meet(self.x0, self.x1, other.x0, other.x1)
             && ranges_meet(self.y0, self.y1, other.y0, other.y1)
     }
+
     /// Whether each point of the box lies in the other, on its edges too.
     pub fn is_within(&self, other: &GridBox) -> bool
         ensures points { IsTrue result ↔ IsWithin (box_value self.now) (box_value other.now) }
