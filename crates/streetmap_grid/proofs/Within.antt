@@ -1,8 +1,8 @@
 -- A geometry whose extent lies within a box meets that box.
-use Rattle.std.specs.Prelude.{ℤ, pos, ◌≤◌, ◌≤ℤ◌, int_le, List, [], ◌∷◌, ◌++◌, length, All, IsTrue}
+use Rattle.std.specs.Prelude.{pos, ◌≤◌, ◌≤ℤ◌, int_le, List, [], ◌∷◌, length, All}
 use Rattle.std.specs.Bool.{Decides}
-use Rattle.std.specs.List.{AllByRecursion, flat_map}
-use Rattle.std.proofs.Common.{arith, inl, inr}
+use Rattle.std.specs.List.{AllByRecursion}
+use Rattle.std.proofs.Common.{arith, inl}
 use Rattle.std.proofs.lemmas.Bool.Decides.{Decides-and, Decides-like}
 use Rattle.std.proofs.lemmas.Int.{ints}
 use Rattle.std.proofs.lemmas.List.Elements.{recursion_from_All}
