@@ -10,12 +10,12 @@ use Rattle.streetmap_http.specs.declared.fault.FramingFault.TheVariants.{HeadToo
 use Rattle.streetmap_http.specs.declared.arrival.Arrival.{Arrival}
 use Rattle.streetmap_http.specs.declared.arrival.Arrival.TheVariants.{Request, Head, Body}
 use Rattle.streetmap_http.specs.declared.arrival.HeadScan.{HeadScan}
-use Rattle.streetmap_http.specs.declared.head.HeadProgress.TheVariants.{Blank}
-use Rattle.streetmap_http.specs.Head.{progress_after, IsHead, HasNoHead}
+use Rattle.streetmap_http.specs.Head.{IsHead, HasNoHead}
+use Rattle.streetmap_http.specs.Progress.{StandsAt}
 use Rattle.streetmap_http.specs.Framing.{HeadValue, Framing, broken, sized, Frames, Breaks, no_end, rule, IsRequest}
 use Rattle.streetmap_http.specs.Streams.{LacksOfBody}
 use Rattle.streetmap_http.specs.Arrivals.{IsAnswered, HoldsOf, HasScanned, SplitsAs}
-use Rattle.streetmap_http.proofs.Heads.{head_unique}
+use Rattle.streetmap_http.proofs.OneHead.{head_unique}
 use Rattle.streetmap_http.proofs.Fronts.{Shape, framed, large, short, shape_unique, le_true, le_false, behind_same, frames_unique, no_head_at, no_head_within}
 
 -- ---- one thing
@@ -98,7 +98,7 @@ pub scans_go_on : (scan : HeadScan) (bytes more : List ℕ) → HasScanned scan 
 scans_go_on scan bytes more s = record {
   within = omega (arith, length-append bytes more, s.within);
   short = s.short;
-  progress = ap (progress_after Blank) (take-append-le scan.scanned bytes more s.within) ∙ s.progress;
+  progress = subst (StandsAt scan.progress) (sym (take-append-le scan.scanned bytes more s.within)) s.progress;
   unfinished = s.unfinished;
 }
 

@@ -1,17 +1,15 @@
--- A head is its lines.
-use Rattle.std.proofs.Common.{◌≡◌, ◌≢◌, ◌≤◌, ◌<◌, ◌+◌, ◌-◌, ◌∙◌, ◌++◌, ◌∷◌, [], ℕ, List, false, length, take, sym, ap, subst, refl, arith, append_assoc, inl, inr, get_or, ◌↔◌}
+-- Where bytes stand in a head, by their lines.
+use Rattle.std.proofs.Common.{◌≡◌, ◌≢◌, ◌<◌, ◌+◌, ◌∙◌, ◌++◌, ◌∷◌, [], ℕ, List, false, length, sym, ap, subst, refl, arith, append_assoc, append-nil, inl, inr, ◌⊎◌}
 use Rattle.std.proofs.lemmas.Bool.{cases_order}
 use Rattle.std.proofs.lemmas.Grind.{common_steps}
-use Rattle.std.proofs.lemmas.List.{take_more, take_all}
-use Rattle.std.proofs.lemmas.List.Elements.{All-nil, All-cons, All-head, All-tail}
+use Rattle.std.proofs.lemmas.List.{length_push}
+use Rattle.std.proofs.lemmas.List.Elements.{All-nil, All-cons, All-head, All-tail, All-push}
 use Rattle.std.specs.Prelude.{All, ⊤, ◌==◌}
-use Rattle.streetmap_http.specs.declared.limits.TheConstants.{HEAD_LIMIT}
 use Rattle.streetmap_http.specs.declared.head.HeadProgress.{HeadProgress}
 use Rattle.streetmap_http.specs.declared.head.HeadProgress.TheVariants.{Blank, BlankCr, Text, Start, StartCr, Done}
-use Rattle.streetmap_http.specs.Head.{step, progress_after, IsHead}
-use Rattle.streetmap_http.specs.HeadByLines.{HasNoLineFeed, IsEmptyText, nothing, carriage_return, IsLineText, lines_of, IsLinesOfHead}
-use Rattle.streetmap_http.specs.Lines.{ends_text, text_lines, field_lines}
-use Rattle.streetmap_http.proofs.Heads.{progress_append, done_stays, progress_after_more, front_of_more}
+use Rattle.streetmap_http.specs.Head.{HasNoLineFeed, IsEmptyText, nothing, carriage_return, IsLineText, lines_of, AreEmptyLines, IsLinesOfHead}
+use Rattle.streetmap_http.specs.Progress.{BeginsHead, BreaksOffInLine, StandsAt, step}
+use Rattle.streetmap_http.proofs.Heads.{progress_after, progress_after_more, progress_append, done_stays}
 
 -- a byte is a line feed, a carriage return, or another
 on_byte : (P : ℕ → Type 0) → P 10 → P 13 → ((b : ℕ) → b ≢ 10 → b ≢ 13 → P b) → (b : ℕ) → P b
@@ -26,7 +24,7 @@ on_byte P feed return other b = elim (cases_order b 10) [
 pub other_than : (b n : ℕ) → b ≢ n → (b == n) ≡ false
 other_than b n h = grind (arith, common_steps)
 
--- ---- from the lines to the bytes
+-- ---- from the lines to how far the head has come
 
 in_line : (text : List ℕ) → HasNoLineFeed text → progress_after Text text ≡ Text
 in_line [] h = refl
@@ -84,7 +82,7 @@ past_lines (l ∷ ls) rest h =
     ∙ past_line Start l (lines_of ls ++ rest) tt (All-head IsLineText l ls h)
     ∙ past_lines ls rest (All-tail IsLineText l ls h)
 
-past_all : (lines : List (List ℕ)) (rest : List ℕ) → 0 < length lines → All IsLineText lines → progress_after Blank (lines_of lines ++ rest) ≡ progress_after Start rest
+pub past_all : (lines : List (List ℕ)) (rest : List ℕ) → 0 < length lines → All IsLineText lines → progress_after Blank (lines_of lines ++ rest) ≡ progress_after Start rest
 past_all [] rest some h = absurd (omega arith)
 past_all (l ∷ ls) rest some h =
     ap (progress_after Blank) (append_assoc (l ++ 10 ∷ []) (lines_of ls) rest)
@@ -95,96 +93,55 @@ past_empty : (text rest : List ℕ) → IsEmptyText text → progress_after Blan
 past_empty text rest (nothing e) = ap (λ t. progress_after Blank ((t ++ 10 ∷ []) ++ rest)) e
 past_empty text rest (carriage_return e) = ap (λ t. progress_after Blank ((t ++ 10 ∷ []) ++ rest)) e
 
-past_blank : (blank : List (List ℕ)) (rest : List ℕ) → All IsEmptyText blank → progress_after Blank (lines_of blank ++ rest) ≡ progress_after Blank rest
+pub past_blank : (blank : List (List ℕ)) (rest : List ℕ) → All IsEmptyText blank → progress_after Blank (lines_of blank ++ rest) ≡ progress_after Blank rest
 past_blank [] rest h = refl
 past_blank (l ∷ ls) rest h =
     ap (progress_after Blank) (append_assoc (l ++ 10 ∷ []) (lines_of ls) rest)
     ∙ past_empty l (lines_of ls ++ rest) (All-head IsEmptyText l ls h)
     ∙ past_blank ls rest (All-tail IsEmptyText l ls h)
 
--- at the start of a line, behind a carriage return or not
-abbrev AtLast : HeadProgress → Type 0
-AtLast Blank = ⊥
-AtLast BlankCr = ⊥
-AtLast Text = ⊥
-AtLast Start = ⊤
-AtLast StartCr = ⊤
-AtLast Done = ⊥
+-- ---- where the bytes stand is how far the head has come
 
-last_leads : (text : List ℕ) → IsEmptyText text → AtLast (progress_after Start text)
-last_leads text (nothing e) = subst (λ t. AtLast (progress_after Start t)) (sym e) tt
-last_leads text (carriage_return e) = subst (λ t. AtLast (progress_after Start t)) (sym e) tt
+into_text : (lines : List (List ℕ)) (text : List ℕ) → All IsLineText lines → IsLineText text → progress_after Blank (lines_of lines ++ text) ≡ Text
+into_text [] text h line = into_line Blank text tt line
+into_text (l ∷ ls) text h line = past_all (l ∷ ls) text (omega arith) h ∙ into_line Start text tt line
 
-at_last_ends : (p : HeadProgress) → AtLast p → step p 10 ≡ Done
-at_last_ends Blank at = absurd at
-at_last_ends BlankCr at = absurd at
-at_last_ends Text at = absurd at
-at_last_ends Start at = refl
-at_last_ends StartCr at = refl
-at_last_ends Done at = absurd at
+alone : (p : HeadProgress) (xs : List ℕ) → progress_after p xs ≡ progress_after p (xs ++ [])
+alone p xs = ap (progress_after p) (sym (append-nil xs))
 
-at_last_not_done : (p : HeadProgress) → AtLast p → p ≢ Done
-at_last_not_done Blank at = absurd at
-at_last_not_done BlankCr at = absurd at
-at_last_not_done Text at = absurd at
-at_last_not_done Start at = λ e. cc
-at_last_not_done StartCr at = λ e. cc
-at_last_not_done Done at = absurd at
+blank_is : (xs : List ℕ) → AreEmptyLines xs → progress_after Blank xs ≡ Blank
+blank_is xs s = ap (progress_after Blank) s.joined ∙ alone Blank (lines_of s.lines) ∙ past_blank s.lines [] s.empty
 
--- a head is some bytes that lead there, and a line feed
-ends_head : (bytes front : List ℕ) → bytes ≡ front ++ 10 ∷ [] → length bytes ≤ HEAD_LIMIT → AtLast (progress_after Blank front) → IsHead bytes
-ends_head bytes front e short at = record {
-  short = short;
-  done = ap (progress_after Blank) e ∙ progress_after_more Blank front 10 ∙ at_last_ends (progress_after Blank front) at;
-  first = λ done. at_last_not_done (progress_after Blank front) at (ap (progress_after Blank) (sym (front_of_more front 10)) ∙ ap (λ l. progress_after Blank (take (length l - 1) l)) (sym e) ∙ done);
-}
+start_is : (xs : List ℕ) → BeginsHead xs → progress_after Blank xs ≡ Start
+start_is xs s = ap (progress_after Blank) s.joined ∙ past_blank s.blank (lines_of s.lines) s.skipped ∙ alone Blank (lines_of s.lines) ∙ past_all s.lines [] s.some s.full
 
-pub head_of_lines : (bytes : List ℕ) (lines : List (List ℕ)) → length bytes ≤ HEAD_LIMIT → IsLinesOfHead bytes lines → IsHead bytes
-head_of_lines bytes lines short h =
-    let front : List ℕ = lines_of h.blank ++ (lines_of lines ++ h.last) in
-    let joined : bytes ≡ front ++ 10 ∷ [] =
-    h.joined ∙ ap (λ l. lines_of h.blank ++ l) (sym (append_assoc (lines_of lines) h.last (10 ∷ []))) ∙ sym (append_assoc (lines_of h.blank) (lines_of lines ++ h.last) (10 ∷ [])) in
-    let leads : progress_after Blank front ≡ progress_after Start h.last =
-    past_blank h.blank (lines_of lines ++ h.last) h.skipped ∙ past_all lines h.last h.some h.full in
-    ends_head bytes front joined short (subst AtLast (sym leads) (last_leads h.last h.ends))
+-- one byte behind bytes that lead there
+one_more : (xs front : List ℕ) (b : ℕ) (p : HeadProgress) → xs ≡ front ++ b ∷ [] → progress_after Blank front ≡ p → progress_after Blank xs ≡ step p b
+one_more xs front b p e leads = ap (progress_after Blank) e ∙ progress_after_more Blank front b ∙ ap (λ q. step q b) leads
 
--- ---- from the bytes to the lines
+ended_is : (text : List ℕ) → IsEmptyText text → progress_after Start (text ++ 10 ∷ []) ≡ Done
+ended_is text (nothing e) = ap (λ t. progress_after Start (t ++ 10 ∷ [])) e
+ended_is text (carriage_return e) = ap (λ t. progress_after Start (t ++ 10 ∷ [])) e
 
--- what is behind the start of a line: lines that are not empty, and the text of an empty one
-pub record FromStart (bytes : List ℕ) : Type 0 where
-  pub lines : List (List ℕ)
-  pub last : List ℕ
-  pub full : All IsLineText lines
-  pub ends : IsEmptyText last
-  pub joined : bytes ≡ lines_of lines ++ last
+pub head_is : (head : List ℕ) (lines : List (List ℕ)) → IsLinesOfHead head lines → progress_after Blank head ≡ Done
+head_is head lines h =
+    ap (progress_after Blank) h.joined ∙ past_blank h.blank (lines_of lines ++ (h.last ++ 10 ∷ [])) h.skipped
+    ∙ past_all lines (h.last ++ 10 ∷ []) h.some h.full ∙ ended_is h.last h.ends
 
-pub record FromText (bytes : List ℕ) : Type 0 where
-  pub text : List ℕ
-  pub behind : List ℕ
-  pub one_line : HasNoLineFeed text
-  pub others : FromStart behind
-  pub joined : bytes ≡ text ++ 10 ∷ behind
+pub stands_is : (p : HeadProgress) (xs : List ℕ) → StandsAt p xs → progress_after Blank xs ≡ p
+stands_is Blank xs s = blank_is xs s
+stands_is BlankCr xs (front, s, e) = one_more xs front 13 Blank e (blank_is front s)
+stands_is Text xs s = ap (progress_after Blank) s.joined ∙ past_blank s.blank (lines_of s.lines ++ s.text) s.skipped ∙ into_text s.lines s.text s.full s.line
+stands_is Start xs s = start_is xs s
+stands_is StartCr xs (front, s, e) = one_more xs front 13 Start e (start_is front s)
+stands_is Done xs (head, rest, lines, h, e) =
+    ap (progress_after Blank) e ∙ progress_append Blank head rest ∙ ap (λ q. progress_after q rest) (head_is head lines h) ∙ done_stays rest
 
-pub record FromBlank (bytes : List ℕ) : Type 0 where
-  pub blank : List (List ℕ)
-  pub first : List ℕ
-  pub behind : List ℕ
-  pub skipped : All IsEmptyText blank
-  pub line : IsLineText first
-  pub others : FromStart behind
-  pub joined : bytes ≡ lines_of blank ++ ((first ++ 10 ∷ []) ++ behind)
+-- ---- with one more byte
 
-abbrev From : HeadProgress → List ℕ → Type 0
-From Blank bytes = FromBlank bytes
-From BlankCr bytes = FromBlank (13 ∷ bytes)
-From Text bytes = FromText bytes
-From Start bytes = FromStart bytes
-From StartCr bytes = FromStart (13 ∷ bytes)
-From Done bytes = ⊤
-
--- one more byte of a text
-more_text : (b : ℕ) (bytes : List ℕ) → b ≢ 10 → FromText bytes → FromText (b ∷ bytes)
-more_text b bytes h t = record { text = b ∷ t.text; behind = t.behind; one_line = All-cons (λ x. x ≢ 10) b t.text h t.one_line; others = t.others; joined = ap (λ l. b ∷ l) t.joined }
+lines_more : (lines : List (List ℕ)) (text : List ℕ) → lines_of (lines ++ text ∷ []) ≡ lines_of lines ++ (text ++ 10 ∷ [])
+lines_more [] text = append-nil (text ++ 10 ∷ [])
+lines_more (l ∷ ls) text = ap (λ r. (l ++ 10 ∷ []) ++ r) (lines_more ls text) ∙ sym (append_assoc (l ++ 10 ∷ []) (lines_of ls) (text ++ 10 ∷ []))
 
 same_head : (b c : ℕ) (xs ys : List ℕ) → b ∷ xs ≡ c ∷ ys → b ≡ c
 same_head b c xs ys e = cc
@@ -207,188 +164,166 @@ full_by_two b text h one_line = record {
   not_empty = not_empty_two b text;
 }
 
-regroup : (text behind : List ℕ) → text ++ 10 ∷ behind ≡ (text ++ 10 ∷ []) ++ behind
-regroup text behind = sym (append_assoc text (10 ∷ []) behind)
+longer_not_empty : (text : List ℕ) (b : ℕ) → (IsEmptyText text → ⊥) → IsEmptyText (text ++ b ∷ []) → ⊥
+longer_not_empty [] b h e = h (nothing refl)
+longer_not_empty (x ∷ xs) b h (nothing e) = cc
+longer_not_empty (x ∷ xs) b h (carriage_return e) = absurd (omega (arith, length_push xs b, ap length e))
 
-line_first : (bytes text behind : List ℕ) → IsLineText text → FromStart behind → bytes ≡ text ++ 10 ∷ behind → FromStart bytes
-line_first bytes text behind line others e = record {
-  lines = text ∷ others.lines;
-  last = others.last;
-  full = All-cons IsLineText text others.lines line others.full;
-  ends = others.ends;
-  joined = e ∙ regroup text behind ∙ ap (λ l. (text ++ 10 ∷ []) ++ l) others.joined ∙ sym (append_assoc (text ++ 10 ∷ []) (lines_of others.lines) others.last);
+no_feed : HasNoLineFeed []
+no_feed = All-nil (λ b. b ≢ 10)
+
+no_lines : All IsLineText []
+no_lines = All-nil IsLineText
+
+-- one empty line more
+empty_line : (xs front text : List ℕ) → xs ≡ front ++ (text ++ 10 ∷ []) → AreEmptyLines front → IsEmptyText text → AreEmptyLines xs
+empty_line xs front text e s empty = record {
+  lines = s.lines ++ text ∷ [];
+  empty = All-push IsEmptyText s.lines text s.empty empty;
+  joined = e ∙ ap (λ l. l ++ (text ++ 10 ∷ [])) s.joined ∙ sym (lines_more s.lines text);
 }
 
-request_line : (bytes text behind : List ℕ) → IsLineText text → FromStart behind → bytes ≡ text ++ 10 ∷ behind → FromBlank bytes
-request_line bytes text behind line others e = record { blank = []; first = text; behind = behind; skipped = All-nil IsEmptyText; line = line; others = others; joined = e ∙ regroup text behind }
-
-blank_first : (bytes text behind : List ℕ) → IsEmptyText text → FromBlank behind → bytes ≡ text ++ 10 ∷ behind → FromBlank bytes
-blank_first bytes text behind empty others e = record {
-  blank = text ∷ others.blank;
-  first = others.first;
-  behind = others.behind;
-  skipped = All-cons IsEmptyText text others.blank empty others.skipped;
-  line = others.line;
-  others = others.others;
-  joined = e ∙ regroup text behind ∙ ap (λ l. (text ++ 10 ∷ []) ++ l) others.joined ∙ sym (append_assoc (text ++ 10 ∷ []) (lines_of others.blank) _);
+-- a line that is not empty begins behind empty lines
+first_text : (xs front text : List ℕ) → xs ≡ front ++ text → AreEmptyLines front → IsLineText text → BreaksOffInLine xs
+first_text xs front text e s line = record {
+  blank = s.lines;
+  lines = [];
+  text = text;
+  skipped = s.empty;
+  full = no_lines;
+  line = line;
+  joined = e ∙ ap (λ l. l ++ text) s.joined;
 }
 
-last_alone : (text : List ℕ) → IsEmptyText text → FromStart text
-last_alone text empty = record { lines = []; last = text; full = All-nil IsLineText; ends = empty; joined = refl }
+-- or behind others
+next_text : (xs front text : List ℕ) → xs ≡ front ++ text → BeginsHead front → IsLineText text → BreaksOffInLine xs
+next_text xs front text e s line = record {
+  blank = s.blank;
+  lines = s.lines;
+  text = text;
+  skipped = s.skipped;
+  full = s.full;
+  line = line;
+  joined = e ∙ ap (λ l. l ++ text) s.joined ∙ append_assoc (lines_of s.blank) (lines_of s.lines) text;
+}
 
-never_last : (bytes : List ℕ) → AtLast (progress_after Done bytes) → ⊥
-never_last bytes at = subst AtLast (done_stays bytes) at
+-- it goes on, or ends
+behind_text : (a b text more : List ℕ) → (a ++ (b ++ text)) ++ more ≡ a ++ (b ++ (text ++ more))
+behind_text a b text more = append_assoc a (b ++ text) more ∙ ap (λ l. a ++ l) (append_assoc b text more)
 
-parsed : (p : HeadProgress) (bytes : List ℕ) → AtLast (progress_after p bytes) → From p bytes
-parsed Blank [] at = absurd at
-parsed BlankCr [] at = absurd at
-parsed Text [] at = absurd at
-parsed Start [] at = last_alone [] (nothing refl)
-parsed StartCr [] at = last_alone (13 ∷ []) (carriage_return refl)
-parsed Done bytes at = tt
-parsed Blank (b ∷ bs) at = on_byte (λ c. AtLast (progress_after (step Blank c) bs) → FromBlank (c ∷ bs))
-    (λ h. blank_first (10 ∷ bs) [] bs (nothing refl) (parsed Blank bs h) refl)
-    (λ h. parsed BlankCr bs h)
-    (λ c feed return h. let t = parsed Text bs (subst (λ q. AtLast (progress_after q bs)) (begins Blank c tt feed return) h) in
-    request_line (c ∷ bs) (c ∷ t.text) t.behind (full_by_first c t.text feed return t.one_line) t.others (ap (λ l. c ∷ l) t.joined))
-    b at
-parsed BlankCr (b ∷ bs) at = elim (cases_order b 10) [
-  | inl same ↦ subst (λ c. FromBlank (13 ∷ (c ∷ bs))) (sym same)
-      (blank_first (13 ∷ (10 ∷ bs)) (13 ∷ []) bs (carriage_return refl) (parsed Blank bs (subst (λ c. AtLast (progress_after (step BlankCr c) bs)) same at)) refl)
-  | inr apart ↦
-      let feed : b ≢ 10 = λ e. elim apart [ inl h ↦ omega (arith, e) | inr h ↦ omega (arith, e) ] in
-      let t = parsed Text bs (subst (λ q. AtLast (progress_after q bs)) (begins_with_return Blank b tt feed) at) in
-      request_line (13 ∷ (b ∷ bs)) (13 ∷ (b ∷ t.text)) t.behind (full_by_two b t.text feed t.one_line) t.others (ap (λ l. 13 ∷ (b ∷ l)) t.joined)
-]
-parsed Text (b ∷ bs) at = elim (cases_order b 10) [
-  | inl same ↦ subst (λ c. FromText (c ∷ bs)) (sym same)
-      (record { text = []; behind = bs; one_line = All-nil (λ x. x ≢ 10); others = parsed Start bs (subst (λ c. AtLast (progress_after (step Text c) bs)) same at); joined = refl })
-  | inr apart ↦
-      let feed : b ≢ 10 = λ e. elim apart [ inl h ↦ omega (arith, e) | inr h ↦ omega (arith, e) ] in
-      more_text b bs feed (parsed Text bs (rw (other_than b 10 feed) at at))
-]
-parsed Start (b ∷ bs) at = on_byte (λ c. AtLast (progress_after (step Start c) bs) → FromStart (c ∷ bs))
-    (λ h. absurd (never_last bs h))
-    (λ h. parsed StartCr bs h)
-    (λ c feed return h. let t = parsed Text bs (subst (λ q. AtLast (progress_after q bs)) (begins Start c tt feed return) h) in
-    line_first (c ∷ bs) (c ∷ t.text) t.behind (full_by_first c t.text feed return t.one_line) t.others (ap (λ l. c ∷ l) t.joined))
-    b at
-parsed StartCr (b ∷ bs) at = elim (cases_order b 10) [
-  | inl same ↦ absurd (never_last bs (subst (λ c. AtLast (progress_after (step StartCr c) bs)) same at))
-  | inr apart ↦
-      let feed : b ≢ 10 = λ e. elim apart [ inl h ↦ omega (arith, e) | inr h ↦ omega (arith, e) ] in
-      let t = parsed Text bs (subst (λ q. AtLast (progress_after q bs)) (begins_with_return Start b tt feed) at) in
-      line_first (13 ∷ (b ∷ bs)) (13 ∷ (b ∷ t.text)) t.behind (full_by_two b t.text feed t.one_line) t.others (ap (λ l. 13 ∷ (b ∷ l)) t.joined)
-]
+text_goes_on : (xs : List ℕ) (b : ℕ) → b ≢ 10 → BreaksOffInLine xs → BreaksOffInLine (xs ++ b ∷ [])
+text_goes_on xs b other s = record {
+  blank = s.blank;
+  lines = s.lines;
+  text = s.text ++ b ∷ [];
+  skipped = s.skipped;
+  full = s.full;
+  line = record { one_line = All-push (λ x. x ≢ 10) s.text b s.line.one_line other; not_empty = longer_not_empty s.text b s.line.not_empty };
+  joined = ap (λ l. l ++ b ∷ []) s.joined ∙ behind_text (lines_of s.blank) (lines_of s.lines) s.text (b ∷ []);
+}
+
+text_ends : (xs : List ℕ) → BreaksOffInLine xs → BeginsHead (xs ++ 10 ∷ [])
+text_ends xs s = record {
+  blank = s.blank;
+  lines = s.lines ++ s.text ∷ [];
+  skipped = s.skipped;
+  some = omega (arith, length_push s.lines s.text);
+  full = All-push IsLineText s.lines s.text s.full s.line;
+  joined = ap (λ l. l ++ 10 ∷ []) s.joined ∙ behind_text (lines_of s.blank) (lines_of s.lines) s.text (10 ∷ []) ∙ ap (λ l. lines_of s.blank ++ l) (sym (lines_more s.lines s.text));
+}
+
+-- the empty line behind the field lines ends the head
+empty_line_ends : (xs front text : List ℕ) → xs ≡ front ++ (text ++ 10 ∷ []) → IsEmptyText text → (s : BeginsHead front) → IsLinesOfHead xs s.lines
+empty_line_ends xs front text e empty s = record {
+  blank = s.blank;
+  last = text;
+  skipped = s.skipped;
+  some = s.some;
+  full = s.full;
+  ends = empty;
+  joined = e ∙ ap (λ l. l ++ (text ++ 10 ∷ [])) s.joined ∙ append_assoc (lines_of s.blank) (lines_of s.lines) (text ++ 10 ∷ []);
+}
+
+-- a carriage return and one byte more
+return_more : (xs front : List ℕ) (b : ℕ) → xs ≡ front ++ 13 ∷ [] → xs ++ b ∷ [] ≡ front ++ 13 ∷ (b ∷ [])
+return_more xs front b e = ap (λ l. l ++ b ∷ []) e ∙ append_assoc front (13 ∷ []) (b ∷ [])
+
+-- at the start of a line, behind a carriage return or not
+abbrev pub AtLast : HeadProgress → Type 0
+AtLast Blank = ⊥
+AtLast BlankCr = ⊥
+AtLast Text = ⊥
+AtLast Start = ⊤
+AtLast StartCr = ⊤
+AtLast Done = ⊥
+
+-- a line feed at the start of a line behind the field lines, or behind a carriage return there
+pub lines_end : (p : HeadProgress) (xs : List ℕ) → AtLast p → StandsAt p xs → (lines : List (List ℕ)) × IsLinesOfHead (xs ++ 10 ∷ []) lines
+lines_end Blank xs at s = absurd at
+lines_end BlankCr xs at s = absurd at
+lines_end Text xs at s = absurd at
+lines_end Start xs at s = (s.lines, empty_line_ends (xs ++ 10 ∷ []) xs [] refl (nothing refl) s)
+lines_end StartCr xs at (front, s, e) = (s.lines, empty_line_ends (xs ++ 10 ∷ []) front (13 ∷ []) (return_more xs front 10 e) (carriage_return refl) s)
+lines_end Done xs at s = absurd at
+
+behind_none : (xs : List ℕ) → ((lines : List (List ℕ)) × IsLinesOfHead xs lines) → StandsAt Done xs
+behind_none xs (lines, h) = (xs, [], lines, h, sym (append-nil xs))
+
+apart_of : (b n : ℕ) → (b < n) ⊎ (n < b) → b ≢ n
+apart_of b n (inl h) = λ e. omega (arith, e)
+apart_of b n (inr h) = λ e. omega (arith, e)
+
+by_feed : (P : ℕ → Type 0) → P 10 → ((b : ℕ) → b ≢ 10 → P b) → (b : ℕ) → P b
+by_feed P feed other b = elim (cases_order b 10) [ inl same ↦ subst P (sym same) feed | inr apart ↦ other b (apart_of b 10 apart) ]
+
+within : (b : ℕ) → b ≢ 10 → step Text b ≡ Text
+within b h = rw (other_than b 10 h) refl
+
+-- the bytes with one more stand where the head has come with it
+pub step_stands : (p : HeadProgress) (xs : List ℕ) (b : ℕ) → StandsAt p xs → StandsAt (step p b) (xs ++ b ∷ [])
+step_stands Blank xs b s = on_byte (λ c. StandsAt (step Blank c) (xs ++ c ∷ []))
+    (empty_line (xs ++ 10 ∷ []) xs [] refl s (nothing refl))
+    (xs, s, refl)
+    (λ c feed return. subst (λ q. StandsAt q (xs ++ c ∷ [])) (sym (begins Blank c tt feed return)) (first_text (xs ++ c ∷ []) xs (c ∷ []) refl s (full_by_first c [] feed return no_feed)))
+    b
+step_stands BlankCr xs b (front, s, e) = by_feed (λ c. StandsAt (step BlankCr c) (xs ++ c ∷ []))
+    (empty_line (xs ++ 10 ∷ []) front (13 ∷ []) (return_more xs front 10 e) s (carriage_return refl))
+    (λ c feed. subst (λ q. StandsAt q (xs ++ c ∷ [])) (sym (begins_with_return Blank c tt feed)) (first_text (xs ++ c ∷ []) front (13 ∷ (c ∷ [])) (return_more xs front c e) s (full_by_two c [] feed no_feed)))
+    b
+step_stands Text xs b s = by_feed (λ c. StandsAt (step Text c) (xs ++ c ∷ []))
+    (text_ends xs s)
+    (λ c feed. subst (λ q. StandsAt q (xs ++ c ∷ [])) (sym (within c feed)) (text_goes_on xs c feed s))
+    b
+step_stands Start xs b s = on_byte (λ c. StandsAt (step Start c) (xs ++ c ∷ []))
+    (behind_none (xs ++ 10 ∷ []) (lines_end Start xs tt s))
+    (xs, s, refl)
+    (λ c feed return. subst (λ q. StandsAt q (xs ++ c ∷ [])) (sym (begins Start c tt feed return)) (next_text (xs ++ c ∷ []) xs (c ∷ []) refl s (full_by_first c [] feed return no_feed)))
+    b
+step_stands StartCr xs b (front, s, e) = by_feed (λ c. StandsAt (step StartCr c) (xs ++ c ∷ []))
+    (behind_none (xs ++ 10 ∷ []) (lines_end StartCr xs tt (front, s, e)))
+    (λ c feed. subst (λ q. StandsAt q (xs ++ c ∷ [])) (sym (begins_with_return Start c tt feed)) (next_text (xs ++ c ∷ []) front (13 ∷ (c ∷ [])) (return_more xs front c e) s (full_by_two c [] feed no_feed)))
+    b
+step_stands Done xs b (head, rest, lines, h, e) = (head, rest ++ b ∷ [], lines, h, ap (λ l. l ++ b ∷ []) e ∙ append_assoc head rest (b ∷ []))
+
+pub stands_first : StandsAt Blank []
+stands_first = record { lines = []; empty = All-nil IsEmptyText; joined = refl }
+
+stands_behind : (p : HeadProgress) (front bytes : List ℕ) → StandsAt p front → StandsAt (progress_after p bytes) (front ++ bytes)
+stands_behind p front [] s = subst (StandsAt p) (sym (append-nil front)) s
+stands_behind p front (b ∷ bs) s = subst (StandsAt (progress_after (step p b) bs)) (append_assoc front (b ∷ []) bs) (stands_behind (step p b) (front ++ b ∷ []) bs (step_stands p front b s))
+
+-- all bytes stand somewhere
+pub stands : (bytes : List ℕ) → StandsAt (progress_after Blank bytes) bytes
+stands bytes = stands_behind Blank [] bytes stands_first
 
 -- what ends a head is a line feed at the start of a line, behind a carriage return or not
-abbrev EndsThere : HeadProgress → ℕ → Type 0
+abbrev pub EndsThere : HeadProgress → ℕ → Type 0
 EndsThere p b = AtLast p × (b ≡ 10)
 
-ends_there : (p : HeadProgress) (b : ℕ) → p ≢ Done → step p b ≡ Done → EndsThere p b
+pub ends_there : (p : HeadProgress) (b : ℕ) → p ≢ Done → step p b ≡ Done → EndsThere p b
 ends_there Blank b h e = on_byte (λ c. step Blank c ≡ Done → EndsThere Blank c) (λ e. cc) (λ e. cc) (λ c f r e. let wrong : Text ≡ Done = sym (begins Blank c tt f r) ∙ e in cc) b e
 ends_there BlankCr b h e = on_byte (λ c. step BlankCr c ≡ Done → EndsThere BlankCr c) (λ e. cc) (λ e. cc) (λ c f r e. let wrong : Text ≡ Done = sym (begins_with_return Blank c tt f) ∙ e in cc) b e
-ends_there Text b h e = on_byte (λ c. step Text c ≡ Done → EndsThere Text c) (λ e. cc) (λ e. cc) (λ c f r e. let wrong : Text ≡ Done = rw (other_than c 10 f) at e in cc) b e
+ends_there Text b h e = on_byte (λ c. step Text c ≡ Done → EndsThere Text c) (λ e. cc) (λ e. cc) (λ c f r e. let wrong : Text ≡ Done = sym (within c f) ∙ e in cc) b e
 ends_there Start b h e = on_byte (λ c. step Start c ≡ Done → EndsThere Start c) (λ e. (tt, refl)) (λ e. cc) (λ c f r e. let wrong : Text ≡ Done = sym (begins Start c tt f r) ∙ e in cc) b e
 ends_there StartCr b h e = on_byte (λ c. step StartCr c ≡ Done → EndsThere StartCr c) (λ e. (tt, refl)) (λ e. cc) (λ c f r e. let wrong : Text ≡ Done = sym (begins_with_return Start c tt f) ∙ e in cc) b e
 ends_there Done b h e = absurd (h refl)
-
--- bytes that are not empty, by their last
-pub by_last : (bytes : List ℕ) → 0 < length bytes → bytes ≡ take (length bytes - 1) bytes ++ get_or bytes (length bytes - 1) 0 ∷ []
-by_last bytes some =
-    let all : take (length bytes - 1 + 1) bytes ≡ bytes = take_all (length bytes - 1 + 1) bytes (omega arith) in
-    sym all ∙ take_more bytes (length bytes - 1) 0 (omega arith)
-
-not_none : (bytes : List ℕ) → progress_after Blank bytes ≡ Done → 0 < length bytes
-not_none [] e = let wrong : Blank ≡ Done = e in cc
-not_none (b ∷ bs) e = omega arith
-
-lines_by : (bytes front : List ℕ) → bytes ≡ front ++ 10 ∷ [] → FromBlank front → (lines : List (List ℕ)) × IsLinesOfHead bytes lines
-lines_by bytes front e f = (
-  f.first ∷ f.others.lines,
-  record {
-    blank = f.blank;
-    last = f.others.last;
-    skipped = f.skipped;
-    some = omega arith;
-    full = All-cons IsLineText f.first f.others.lines f.line f.others.full;
-    ends = f.others.ends;
-    joined = e ∙ ap (λ l. l ++ 10 ∷ []) (f.joined ∙ ap (λ l. lines_of f.blank ++ ((f.first ++ 10 ∷ []) ++ l)) f.others.joined)
-        ∙ append_assoc (lines_of f.blank) _ (10 ∷ [])
-        ∙ ap (λ l. lines_of f.blank ++ l) (ap (λ l. l ++ 10 ∷ []) (sym (append_assoc (f.first ++ 10 ∷ []) (lines_of f.others.lines) f.others.last)) ∙ append_assoc (lines_of (f.first ∷ f.others.lines)) f.others.last (10 ∷ []));
-  },
-)
-
-pub lines_of_head : (bytes : List ℕ) → IsHead bytes → (lines : List (List ℕ)) × IsLinesOfHead bytes lines
-lines_of_head bytes h =
-    let front : List ℕ = take (length bytes - 1) bytes in
-    let last : ℕ = get_or bytes (length bytes - 1) 0 in
-    let parts : bytes ≡ front ++ last ∷ [] = by_last bytes (not_none bytes h.done) in
-    let steps : step (progress_after Blank front) last ≡ Done = sym (progress_after_more Blank front last) ∙ ap (progress_after Blank) (sym parts) ∙ h.done in
-    let there : EndsThere (progress_after Blank front) last = ends_there (progress_after Blank front) last h.first steps in
-    lines_by bytes front (parts ∙ ap (λ b. front ++ b ∷ []) there.1) (parsed Blank front there.0)
-
-pub heads_are_lines : (bytes : List ℕ) → IsHead bytes ↔ ((length bytes ≤ HEAD_LIMIT) × ((lines : List (List ℕ)) × IsLinesOfHead bytes lines))
-heads_are_lines bytes = (λ h. (h.short, lines_of_head bytes h), λ (short, (lines, h)). head_of_lines bytes lines short h)
-
--- ---- how many field lines there are
-
-lines_append : (p : HeadProgress) (xs ys : List ℕ) → text_lines p (xs ++ ys) ≡ text_lines p xs + text_lines (progress_after p xs) ys
-lines_append p [] ys = omega arith
-lines_append p (x ∷ xs) ys = omega (arith, lines_append (step p x) xs ys)
-
-none_ends : (p : HeadProgress) (b : ℕ) → b ≢ 10 → ends_text p b ≡ 0
-none_ends Blank b h = refl
-none_ends BlankCr b h = refl
-none_ends Text b h = rw (other_than b 10 h) refl
-none_ends Start b h = refl
-none_ends StartCr b h = refl
-none_ends Done b h = refl
-
-none_counted : (p : HeadProgress) (text : List ℕ) → HasNoLineFeed text → text_lines p text ≡ 0
-none_counted p [] h = refl
-none_counted p (b ∷ bs) h =
-    omega (arith, none_ends p b (All-head (λ x. x ≢ 10) b bs h), none_counted (step p b) bs (All-tail (λ x. x ≢ 10) b bs h))
-
-line_counted : (p : HeadProgress) (text rest : List ℕ) → AtStart p → IsLineText text → text_lines p ((text ++ 10 ∷ []) ++ rest) ≡ 1 + text_lines Start rest
-line_counted p text rest at line =
-    let feed : text_lines (progress_after p text) (10 ∷ rest) ≡ 1 + text_lines Start rest = ap (λ q. text_lines q (10 ∷ rest)) (into_line p text at line) in
-    ap (text_lines p) (append_assoc text (10 ∷ []) rest) ∙ lines_append p text (10 ∷ rest) ∙ omega (arith, none_counted p text line.one_line, feed)
-
-lines_counted : (lines : List (List ℕ)) (rest : List ℕ) → All IsLineText lines → text_lines Start (lines_of lines ++ rest) ≡ length lines + text_lines Start rest
-lines_counted [] rest h = omega arith
-lines_counted (l ∷ ls) rest h =
-    let first = line_counted Start l (lines_of ls ++ rest) tt (All-head IsLineText l ls h) in
-    let others = lines_counted ls rest (All-tail IsLineText l ls h) in
-    ap (text_lines Start) (append_assoc (l ++ 10 ∷ []) (lines_of ls) rest) ∙ omega (arith, first, others)
-
-all_counted : (lines : List (List ℕ)) (rest : List ℕ) → 0 < length lines → All IsLineText lines → text_lines Blank (lines_of lines ++ rest) ≡ length lines + text_lines Start rest
-all_counted [] rest some h = absurd (omega arith)
-all_counted (l ∷ ls) rest some h =
-    let first = line_counted Blank l (lines_of ls ++ rest) tt (All-head IsLineText l ls h) in
-    let others = lines_counted ls rest (All-tail IsLineText l ls h) in
-    ap (text_lines Blank) (append_assoc (l ++ 10 ∷ []) (lines_of ls) rest) ∙ omega (arith, first, others)
-
-empty_counted : (text rest : List ℕ) → IsEmptyText text → text_lines Blank ((text ++ 10 ∷ []) ++ rest) ≡ text_lines Blank rest
-empty_counted text rest (nothing e) = ap (λ t. text_lines Blank ((t ++ 10 ∷ []) ++ rest)) e ∙ omega arith
-empty_counted text rest (carriage_return e) = ap (λ t. text_lines Blank ((t ++ 10 ∷ []) ++ rest)) e ∙ omega arith
-
-blank_counted : (blank : List (List ℕ)) (rest : List ℕ) → All IsEmptyText blank → text_lines Blank (lines_of blank ++ rest) ≡ text_lines Blank rest
-blank_counted [] rest h = refl
-blank_counted (l ∷ ls) rest h =
-    ap (text_lines Blank) (append_assoc (l ++ 10 ∷ []) (lines_of ls) rest)
-    ∙ empty_counted l (lines_of ls ++ rest) (All-head IsEmptyText l ls h)
-    ∙ blank_counted ls rest (All-tail IsEmptyText l ls h)
-
-last_counted : (text : List ℕ) → IsEmptyText text → text_lines Start (text ++ 10 ∷ []) ≡ 0
-last_counted text (nothing e) = ap (λ t. text_lines Start (t ++ 10 ∷ [])) e
-last_counted text (carriage_return e) = ap (λ t. text_lines Start (t ++ 10 ∷ [])) e
-
-pub field_lines_are_lines : (bytes : List ℕ) (lines : List (List ℕ)) → IsLinesOfHead bytes lines → length lines ≡ 1 + field_lines bytes
-field_lines_are_lines bytes lines h =
-    let all = ap (text_lines Blank) h.joined in
-    let skipped = blank_counted h.blank (lines_of lines ++ (h.last ++ 10 ∷ [])) h.skipped in
-    let counted = all_counted lines (h.last ++ 10 ∷ []) h.some h.full in
-    let none = last_counted h.last h.ends in
-    let some : 0 < length lines = h.some in
-    omega (arith, all, skipped, counted, none, some)

@@ -12,10 +12,13 @@ use Rattle.streetmap_http.specs.declared.head.HeadProgress.{HeadProgress}
 use Rattle.streetmap_http.specs.declared.head.HeadProgress.TheVariants.{Blank, BlankCr, Text, Start, StartCr, Done}
 use Rattle.streetmap_http.specs.declared.fault.FramingFault.{FramingFault}
 use Rattle.streetmap_http.specs.declared.fault.FramingFault.TheVariants.{HeadTooLarge}
-use Rattle.streetmap_http.specs.Head.{progress_after, IsHead, HasNoHead}
+use Rattle.streetmap_http.specs.Head.{IsHead, HasNoHead}
+use Rattle.streetmap_http.specs.Progress.{StandsAt}
 use Rattle.streetmap_http.specs.Framing.{HeadValue, Framing, broken, sized, Frames, many, unread, read, framing_in, Breaks, no_end, rule}
 use Rattle.streetmap_http.specs.Streams.{Request, IsWhole, BeginsWith, IsUnfinished, in_head, in_body, StreamEnd, refused, ended, truncated, EndsAs, Front, request, stops, IsFront, BeginsWithAll, IsCut}
-use Rattle.streetmap_http.proofs.Heads.{progress_append, done_stays, head_unique}
+use Rattle.streetmap_http.proofs.Heads.{progress_after}
+use Rattle.streetmap_http.proofs.ByLines.{stands_is, stands}
+use Rattle.streetmap_http.proofs.OneHead.{not_ended, head_unique}
 
 -- a head says one thing
 pub frames_unique : (head : List ℕ) (f g : Framing) → Frames head f → Frames head g → f ≡ g
@@ -41,8 +44,7 @@ take_front stream a x n e long = ap (take n) e ∙ ap (λ k. take k (a ++ x)) (s
 
 -- bytes that begin with a head hold one
 pub no_head_at : (stream a x : List ℕ) → stream ≡ a ++ x → IsHead a → HasNoHead stream → ⊥
-no_head_at stream a x e h none =
-    none (ap (progress_after Blank) e ∙ progress_append Blank a x ∙ ap (λ p. progress_after p x) h.done ∙ done_stays x)
+no_head_at stream a x e h none = none a x e h
 
 take_over : (n : ℕ) (xs ys : List ℕ) → length xs ≤ n → take n (xs ++ ys) ≡ xs ++ take (n - length xs) ys
 take_over n xs ys h =
@@ -106,9 +108,6 @@ not_blank Start h = refl
 not_blank StartCr h = refl
 not_blank Done h = refl
 
-blank_is_no_head : (bytes : List ℕ) → progress_after Blank bytes ≡ Blank → HasNoHead bytes
-blank_is_no_head bytes blank = λ done. let wrong : Blank ≡ Done = sym blank ∙ done in cc
-
 pub le_true : (n m : ℕ) → n ≤ m → nat_le n m ≡ true
 le_true n m h = grind (arith, common_steps)
 
@@ -142,7 +141,8 @@ refused_shape stream bytes bare fault (no_end long none bared is) (rest, e) =
 refused_shape stream bytes bare fault (rule cut says) (rest, e) = framed bytes rest (broken bare fault) e cut says refl
 
 truncated_shape : (stream : List ℕ) → IsUnfinished stream → FrontShape stream (stops truncated)
-truncated_shape stream (in_head less none some) = short less none (not_blank (progress_after Blank stream) some)
+truncated_shape stream (in_head less none some) =
+    short less none (not_blank (progress_after Blank stream) (λ e. some (record { short = less; blank = subst (λ p. StandsAt p stream) e (stands stream) })))
 truncated_shape stream (in_body missing some lacks) =
     let less : length lacks.came < lacks.value.len = omega (arith, lacks.len) in
     framed lacks.head lacks.came (sized lacks.value) lacks.parts lacks.cut lacks.framed
@@ -150,7 +150,7 @@ truncated_shape stream (in_body missing some lacks) =
 
 end_shape : (stream : List ℕ) (end : StreamEnd) → EndsAs stream end → FrontShape stream (stops end)
 end_shape stream (refused bytes bare fault) (breaks, begins) = refused_shape stream bytes bare fault breaks begins
-end_shape stream ended blank = short blank.short (blank_is_no_head stream blank.blank) (ap front_by_progress (sym blank.blank))
+end_shape stream ended blank = short blank.short (not_ended Blank stream blank.blank (λ e. cc)) (ap front_by_progress (sym (stands_is Blank stream blank.blank)))
 end_shape stream truncated unfinished = truncated_shape stream unfinished
 
 front_shape : (stream : List ℕ) (front : Front) → IsFront stream front → FrontShape stream front

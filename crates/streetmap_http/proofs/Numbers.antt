@@ -3,7 +3,7 @@ use Rattle.std.proofs.Common.{◌≡◌, ◌≢◌, ℕ, ◌+◌, ◌*◌, ◌-�
 use Rattle.std.proofs.lemmas.Bool.{cases_order}
 use Rattle.std.proofs.lemmas.Bool.Decides.{nat_tests, same_from_decides}
 use Rattle.std.proofs.lemmas.Int.Digits.{digits_value_push}
-use Rattle.std.proofs.lemmas.List.{get_or_append_left}
+use Rattle.std.proofs.lemmas.List.{get_or_append_left, take_more, take_all}
 use Rattle.std.proofs.lemmas.Slice.Eq.{bytes_eq-Decides}
 use Rattle.std.specs.Prelude.{IsTrue, ◌==◌, ◌&&◌}
 use Rattle.std.specs.Char.{is_ascii_digit}
@@ -11,7 +11,13 @@ use Rattle.std.specs.Str.{all_ascii_digits, bytes_eq}
 use Rattle.std.specs.Str.Parse.{digits_value}
 use Rattle.streetmap_http.specs.Lengths.{is_number, number_of, behind_zeros, is_same_number}
 use Rattle.streetmap_http.proofs.Digits.{digit_counts}
-use Rattle.streetmap_http.proofs.ByLines.{by_last, other_than}
+use Rattle.streetmap_http.proofs.ByLines.{other_than}
+
+-- bytes that are not empty, by their last
+by_last : (bytes : List ℕ) → 0 < length bytes → bytes ≡ take (length bytes - 1) bytes ++ get_or bytes (length bytes - 1) 0 ∷ []
+by_last bytes some =
+    let all : take (length bytes - 1 + 1) bytes ≡ bytes = take_all (length bytes - 1 + 1) bytes (omega arith) in
+    sym all ∙ take_more bytes (length bytes - 1) 0 (omega arith)
 
 abbrev AreDigits : List ℕ → Type 0
 AreDigits text = all_ascii_digits text ≡ true

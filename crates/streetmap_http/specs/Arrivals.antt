@@ -1,11 +1,12 @@
 -- What bytes that came hold of a request, and how far they were looked through for the end of its head.
 use Rattle.std.specs.Prelude.{◌≡◌, ◌≢◌, ◌⊎◌, ℕ, ◌<◌, ◌≤◌, List, [], length, take, Bool}
-use Rattle.streetmap_http.specs.Head.{progress_after, HasNoHead}
+use Rattle.streetmap_http.specs.Head.{HasNoHead}
+use Rattle.streetmap_http.specs.Progress.{StandsAt}
 use Rattle.streetmap_http.specs.Framing.{HeadValue, Framing, broken, sized, Breaks, IsRequest}
 use Rattle.streetmap_http.specs.Streams.{LacksOfBody}
 use Rattle.streetmap_http.specs.declared.limits.TheConstants.{HEAD_LIMIT}
 use Rattle.streetmap_http.specs.declared.fault.FramingFault.{FramingFault}
-use Rattle.streetmap_http.specs.declared.head.HeadProgress.TheVariants.{Blank, Done}
+use Rattle.streetmap_http.specs.declared.head.HeadProgress.TheVariants.{Done}
 use Rattle.streetmap_http.specs.declared.arrival.HeadScan.{HeadScan}
 use Rattle.streetmap_http.specs.declared.arrival.Arrival.{Arrival}
 use Rattle.streetmap_http.specs.declared.arrival.Arrival.TheVariants.{Request, Head, Body}
@@ -25,9 +26,9 @@ abbrev pub SplitsAs : Framing → List ℕ → List ℕ → Type 0
 SplitsAs (broken bare fault) body bytes = Breaks bytes bare fault × (body ≡ [])
 SplitsAs (sized h) body bytes = IsRequest bytes h body
 
--- no head ends in the first bytes, which were looked through, and the progress is theirs
+-- the first bytes, which were looked through, stand so far in a head, and not behind one
 pub record HasScanned (scan : HeadScan) (bytes : List ℕ) : Type 0 where
   pub within : scan.scanned ≤ length bytes
   pub short : scan.scanned ≤ HEAD_LIMIT
-  pub progress : progress_after Blank (take scan.scanned bytes) ≡ scan.progress
+  pub progress : StandsAt scan.progress (take scan.scanned bytes)
   pub unfinished : scan.progress ≢ Done

@@ -1,9 +1,7 @@
 -- What holds of heads and streams, whatever the code does.
-use Rattle.std.specs.Prelude.{◌≡◌, Bool, false, Option, Some, None, IfSome, take, ℕ, ◌+◌, ◌-◌, ◌<◌, ◌≤◌, List, ◌++◌, length, ◌⊎◌, ◌↔◌}
-use Rattle.streetmap_http.specs.Head.{IsHead, HeadSays}
-use Rattle.streetmap_http.specs.HeadByLines.{IsLinesOfHead}
+use Rattle.std.specs.Prelude.{◌≡◌, Bool, false, Option, Some, None, IfSome, take, ℕ, ◌+◌, ◌-◌, ◌<◌, ◌≤◌, List, ◌++◌, length, ◌⊎◌}
+use Rattle.streetmap_http.specs.Head.{IsLinesOfHead, IsHead, HeadSays}
 use Rattle.streetmap_http.specs.Lines.{field_lines}
-use Rattle.streetmap_http.specs.declared.limits.TheConstants.{HEAD_LIMIT}
 use Rattle.streetmap_http.specs.Framing.{HeadValue, Framing, Frames, sized}
 use Rattle.streetmap_http.specs.Body.{BodySays}
 use Rattle.streetmap_http.specs.Streams as streams
@@ -18,10 +16,6 @@ use Rattle.streetmap_http.specs.declared.head.HeadEnd.{HeadEnd}
 use Rattle.streetmap_http.specs.declared.head.HeadEnd.TheVariants.{Whole, TooLarge, Ended, Truncated, Failed}
 use Rattle.streetmap_http.specs.declared.body.BodyEnd.{BodyEnd}
 use Rattle.streetmap_http.specs.declared.body.BodyEnd.TheVariants as bodies
-
--- the bytes of a head are empty lines, one or more lines that are not, and an empty line
-abbrev pub HeadsAreLines : Type 0
-HeadsAreLines = (bytes : List ℕ) → IsHead bytes ↔ ((length bytes ≤ HEAD_LIMIT) × ((lines : List (List ℕ)) × IsLinesOfHead bytes lines))
 
 -- the field lines of a head are its lines but the request line
 abbrev pub FieldLinesAreLines : Type 0

@@ -1,10 +1,9 @@
 -- A stream of requests, one behind the other, and how it goes on behind them. RFC 9112, sections 2.1, 6.3 and 9.3.
-use Rattle.std.specs.Prelude.{◌≡◌, ◌≢◌, ℕ, ◌+◌, ◌<◌, List, ◌++◌, length, Bool, All}
+use Rattle.std.specs.Prelude.{◌≡◌, ℕ, ◌+◌, ◌<◌, List, ◌++◌, length, Bool, All}
 use Rattle.std.specs.List.{flat_map}
-use Rattle.streetmap_http.specs.Head.{progress_after, IsHead, HasNoHead}
+use Rattle.streetmap_http.specs.Head.{IsHead, HasNoHead, IsBlank}
 use Rattle.streetmap_http.specs.Framing.{HeadValue, Frames, sized, Breaks, IsRequest}
 use Rattle.streetmap_http.specs.declared.limits.TheConstants.{HEAD_LIMIT}
-use Rattle.streetmap_http.specs.declared.head.HeadProgress.TheVariants.{Blank}
 use Rattle.streetmap_http.specs.declared.fault.FramingFault.{FramingFault}
 
 -- a request: its bytes, what its head says, and its body
@@ -21,11 +20,6 @@ IsWhole r = IsRequest r.bytes r.head r.body
 abbrev pub BeginsWith : List ℕ → List ℕ → Type 0
 BeginsWith stream bytes = (rest : List ℕ) × (stream ≡ bytes ++ rest)
 
--- nothing, or empty lines alone
-pub record IsBlank (bytes : List ℕ) : Type 0 where
-  pub short : length bytes < HEAD_LIMIT
-  pub blank : progress_after Blank bytes ≡ Blank
-
 -- a head, and what of its body came: so many bytes are missing
 pub record LacksOfBody (missing : ℕ) (bytes : List ℕ) : Type 0 where
   pub head : List ℕ
@@ -38,7 +32,7 @@ pub record LacksOfBody (missing : ℕ) (bytes : List ℕ) : Type 0 where
 
 -- a request without its end
 pub data IsUnfinished (bytes : List ℕ) : Type 0 where
-  in_head : length bytes < HEAD_LIMIT → HasNoHead bytes → progress_after Blank bytes ≢ Blank → IsUnfinished bytes
+  in_head : length bytes < HEAD_LIMIT → HasNoHead bytes → (IsBlank bytes → ⊥) → IsUnfinished bytes
   in_body : (missing : ℕ) → 0 < missing → LacksOfBody missing bytes → IsUnfinished bytes
 
 -- how a stream goes on where no further request is: bytes that break a rule of framing (with whether the answer has no

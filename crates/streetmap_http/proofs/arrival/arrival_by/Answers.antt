@@ -1,9 +1,8 @@
-use Rattle.std.proofs.Common.{◌≡◌, ◌∙◌, false, refl, take, length-take-le, ap, arith, rules, inr}
+use Rattle.std.proofs.Common.{◌≡◌, false, refl, take, length-take-le, subst, arith, rules, inr}
 use Rattle.std.proofs.lemmas.List.{take_all}
 use Rattle.streetmap_http.specs.declared.limits.TheConstants.{HEAD_LIMIT}
 use Rattle.streetmap_http.specs.declared.fault.FramingFault.TheVariants.{HeadTooLarge}
-use Rattle.streetmap_http.specs.declared.head.HeadProgress.TheVariants.{Blank}
-use Rattle.streetmap_http.specs.Head.{progress_after, HasNoHead}
+use Rattle.streetmap_http.specs.Head.{HasNoHead}
 use Rattle.streetmap_http.specs.Framing.{no_end}
 use Rattle.streetmap_http.proofs.arrival.arrival_by.Goals as goal
 
@@ -11,7 +10,7 @@ pub returns-then-bytes-lt-HEAD_LIMIT : goal.returns-then-bytes-lt-HEAD_LIMIT
 returns-then-bytes-lt-HEAD_LIMIT c =
     let none : HasNoHead (take HEAD_LIMIT c.args.bytes.now) = search rules in
     let all : take HEAD_LIMIT c.args.bytes.now ≡ c.args.bytes.now = take_all HEAD_LIMIT c.args.bytes.now (omega arith) in
-    (omega arith, λ done. none (ap (progress_after Blank) all ∙ done))
+    (omega arith, subst HasNoHead all none)
 
 pub returns-else-bytes-lt-HEAD_LIMIT : goal.returns-else-bytes-lt-HEAD_LIMIT
 returns-else-bytes-lt-HEAD_LIMIT c =

@@ -1,4 +1,4 @@
-use Rattle.streetmap_http.proofs.ByLines.{field_lines_are_lines}
+use Rattle.streetmap_http.proofs.LineCounting.{field_lines_are_lines}
 use Rattle.streetmap_http.proofs.laws.field_lines_are_lines.Goals as goal
 
 pub returns : goal.returns
