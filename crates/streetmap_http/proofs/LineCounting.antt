@@ -1,10 +1,9 @@
 -- The field lines of a head are its lines but the request line.
-use Rattle.std.proofs.Common.{◌≡◌, ◌≢◌, ◌<◌, ◌+◌, ◌∙◌, ◌++◌, ◌∷◌, [], ℕ, List, true, false, cond, length, sym, ap, refl, arith, append_assoc}
-use Rattle.std.proofs.lemmas.Grind.{common_steps}
+use Rattle.std.proofs.Common.{◌≡◌, ◌≢◌, ◌<◌, ◌+◌, ◌∙◌, ◌++◌, ◌∷◌, [], ℕ, List, true, false, cond, length, ap, refl, arith, append_assoc}
 use Rattle.std.proofs.lemmas.List.Elements.{All-nil, All-cons, All-head, All-tail, All-weaker}
 use Rattle.std.proofs.lemmas.List.Splits.{slice_split_at}
 use Rattle.std.proofs.lemmas.List.Sums.{sum_by-cons}
-use Rattle.std.specs.Prelude.{All, ◌==◌, ◌&&◌, ◌||◌, not, Bool, bytes_eq, count_by}
+use Rattle.std.specs.Prelude.{All, ◌==◌, ◌&&◌, Bool, count_by}
 use Rattle.streetmap_http.specs.Head.{HasNoLineFeed, IsEmptyText, nothing, carriage_return, IsLineText, lines_of, IsLinesOfHead}
 use Rattle.streetmap_http.specs.Lines.{line_texts, is_full, field_lines}
 use Rattle.streetmap_http.proofs.ByLines.{other_than}
