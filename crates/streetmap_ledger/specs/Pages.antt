@@ -67,7 +67,7 @@ rest_of q fs = behind q.after (selected q fs)
 abbrev pub last_id : List FeatureValue → Option Text
 last_id fs = option_map (λ (f : FeatureValue). f.id) (slice_get fs (length fs - 1))
 
--- a count, as far as it can be saturated
+-- a count, as far as 64 bits can hold it
 abbrev pub saturated : ℕ → ℕ
 saturated n = min n (2 ^ 64 - 1)
 
