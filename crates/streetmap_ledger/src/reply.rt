@@ -1,4 +1,5 @@
 //! Replies and faults.
+use streetmap_batch::Edit;
 
 /// How many edits of each kind a batch has.
 #[derive(Clone, Copy, Debug, PartialEq, Eq)]
@@ -68,6 +69,37 @@ pub struct Run {
     pub replies: Vec<Reply>,
     /// The fault that ended the run before all batches were answered.
     pub fault: Option<Fault>,
+}
+
+impl Counts {
+    ghost use Rattle.std.specs.Prelude.{◌≡◌, ◌≤◌, length, map};
+    ghost use Rattle.streetmap_batch.specs.BatchView.{edit_value};
+    ghost use Rattle.streetmap_ledger.specs.Batches.{counts_of};
+
+    /// How many of the edits are of each kind.
+    pub fn of(edits: &[Edit]) -> Counts
+        ensures value { result ≡ counts_of (map edit_value edits.now) }
+        ensures opened { result.opened ≤ length edits.now }
+        ensures inserted { result.inserted ≤ length edits.now }
+        ensures replaced { result.replaced ≤ length edits.now }
+        ensures deleted { result.deleted ≤ length edits.now }
+    {
+        let mut counts = Counts {
+            opened: 0,
+            inserted: 0,
+            replaced: 0,
+            deleted: 0,
+        };
+        for edit in edits {
+            match edit {
+                Edit::Open { .. } => counts.opened += 1,
+                Edit::Insert { .. } => counts.inserted += 1,
+                Edit::Replace { .. } => counts.replaced += 1,
+                Edit::Delete { .. } => counts.deleted += 1,
+            }
+        }
+        counts
+    }
 }
 
 impl Refusal {

@@ -1,13 +1,13 @@
 //! A keeper in memory.
-ghost use Rattle.std.specs.Prelude.{◌≡◌, ◌≤◌, ◌+◌, Option, Some, None, Vec, IfOk, OnOk, OnErr, IsErrOf, map, length, string_bytes};
+ghost use Rattle.std.specs.Prelude.{◌≡◌, ◌+◌, Option, Some, None, Vec, IfOk, OnOk, OnErr, IsErrOf, string_bytes};
 ghost use Rattle.std.specs.FinMap.{get, insert};
 ghost use Rattle.std.specs.Option.{option_map};
 ghost use Rattle.std.specs.declared.alloc.Global.{Global};
 ghost use Rattle.streetmap_query.specs.Views.{query_value};
 ghost use Rattle.streetmap_ledger.specs.State.{opening_state};
-ghost use Rattle.streetmap_ledger.specs.Batches.{counts_of, act};
+ghost use Rattle.streetmap_ledger.specs.Batches.{act};
 ghost use Rattle.streetmap_batch.specs.BatchText.{batch_text};
-ghost use Rattle.streetmap_batch.specs.BatchView.{batch_value, edit_value};
+ghost use Rattle.streetmap_batch.specs.BatchView.{batch_value};
 ghost use Rattle.streetmap_memory.specs.Slots.{map_of};
 ghost use Rattle.streetmap_ledger.specs.Pages.{page_in, feature_in};
 ghost use Rattle.streetmap_ledger.specs.PageView.{page_value};
@@ -26,7 +26,7 @@ use crate::kept::KeptBatch;
 use bytes::Bytes;
 use std::alloc::{AllocError, Global};
 use std::collections::BTreeMap;
-use streetmap_batch::{Batch, Edit};
+use streetmap_batch::Batch;
 use streetmap_geojson::Feature;
 use streetmap_ledger::{Counts, Fault, FeatureOutline, Keeper, Page, Refusal, Reply, Summary};
 use streetmap_query::Query;
@@ -40,28 +40,6 @@ pub struct PlainKeeper {
     alloc: Global,
     collections: BTreeMap<String, PlainCollection>,
     keys: BTreeMap<String, KeptBatch>,
-}
-
-/// How many edits there are of each kind.
-fn count(edits: &[Edit]) -> Counts
-    requires { length edits.now ≤ 10000 }
-    ensures { result ≡ counts_of (map edit_value edits.now) }
-{
-    let mut counts = Counts {
-        opened: 0,
-        inserted: 0,
-        replaced: 0,
-        deleted: 0,
-    };
-    for edit in edits {
-        match edit {
-            Edit::Open { .. } => counts.opened += 1,
-            Edit::Insert { .. } => counts.inserted += 1,
-            Edit::Replace { .. } => counts.replaced += 1,
-            Edit::Delete { .. } => counts.deleted += 1,
-        }
-    }
-    counts
 }
 
 /// The text of a batch, in no more memory than it needs.
@@ -107,7 +85,7 @@ fn accept(
     ensures err_collections { OnErr result (map_of collections.new.entries ≡ map_of collections.old.entries) }
     ensures err_keys { OnErr result (map_of keys.new.entries ≡ map_of keys.old.entries) }
 {
-    let counts = count(batch.edits());
+    let counts = Counts::of(batch.edits());
     keep(alloc, keys, batch.key(), text, counts, serial)?;
     match act_all(alloc, collections, batch.edits(), text) {
         Ok(None) => Ok(Reply::Accepted(counts, serial)),

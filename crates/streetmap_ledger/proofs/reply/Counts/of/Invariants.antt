@@ -1,7 +1,7 @@
 use Rattle.std.proofs.Common.{◌≡◌, ◌≤◌, drop, map}
 use Rattle.streetmap_batch.specs.BatchView.{edit_value}
 use Rattle.streetmap_ledger.specs.Batches.{counted_all, counts_of}
-use Rattle.streetmap_memory.proofs.plain.count.Given as goal
+use Rattle.streetmap_ledger.proofs.reply.Counts.of.Given as goal
 
 abbrev pub invariant-loop-edit : goal.invariant-loop-edit
 invariant-loop-edit l = record {
