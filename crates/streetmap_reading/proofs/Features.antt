@@ -24,7 +24,7 @@ use Rattle.streetmap_rows.specs.Tables.{Roots, features, features_name}
 use Rattle.streetmap_rows.proofs.Compiles.{both, select_body_means, select_body_never}
 use Rattle.streetmap_rows.proofs.Deleting.{both_is, keys_of}
 use Rattle.streetmap_rows.proofs.Placing as placing
-use Rattle.streetmap_reading.specs.declared.stop.Stop.{Stop}
+use Rattle.streetmap_reading.specs.declared.fault.ReadFault.{ReadFault}
 use Rattle.streetmap_reading.specs.Candidates.{candidate_row, IsStored, ShowsOf}
 use Rattle.streetmap_reading.specs.Taking.{Stopped}
 use Rattle.streetmap_reading.proofs.Rests.{stopped_on}
@@ -69,6 +69,6 @@ no_text None e = refl
 no_text (Some f) e = absurd (cc)
 
 -- a look after a look that changed nothing
-pub looked_on : {A : Type 0} (a b c : Seen) (P : A → Type 0) (r : Result A Stop) → IsUnchanged a b → MatchResult r (λ x. P x × IsUnchanged b c) (Stopped b c) → MatchResult r (λ x. P x × IsUnchanged a c) (Stopped a c)
+pub looked_on : {A : Type 0} (a b c : Seen) (P : A → Type 0) (r : Result A ReadFault) → IsUnchanged a b → MatchResult r (λ x. P x × IsUnchanged b c) (Stopped b c) → MatchResult r (λ x. P x × IsUnchanged a c) (Stopped a c)
 looked_on a b c P (Ok x) same h = (h.0, unchanged_then a b c same h.1)
-looked_on a b c P (Err stop) same h = stopped_on a b c stop same h
+looked_on a b c P (Err fault) same h = stopped_on a b c fault same h

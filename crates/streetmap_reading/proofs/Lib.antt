@@ -1,4 +1,5 @@
 pub mod Choosing
+pub mod Failing
 pub mod Features
 pub mod Listing
 pub mod Looks

@@ -21,7 +21,7 @@ use Rattle.streetmap_ledger.specs.Pages.{selects, selected, is_candidate, candid
 use Rattle.streetmap_ledger.specs.declared.fold.PageFold.{PageFold}
 use Rattle.streetmap_ledger.proofs.Examining.{selected_are_candidates, same_page}
 use Rattle.streetmap_rows.specs.Keeping.{Keeps}
-use Rattle.streetmap_reading.specs.declared.stop.Stop.{Stop}
+use Rattle.streetmap_reading.specs.declared.fault.ReadFault.{ReadFault}
 use Rattle.streetmap_reading.specs.Candidates.{candidate_row, IsStored, ShowsOf}
 use Rattle.streetmap_reading.specs.Taking.{TakesAll}
 use Rattle.streetmap_reading.specs.Choosing.{chosen_of, TakesChosen}
@@ -30,7 +30,7 @@ use Rattle.streetmap_rows.specs.Views.{collection_view}
 use Rattle.streetmap_reading.proofs.Shown.{chosen_stored}
 
 -- the rows of the chosen features are taken
-pub takes_by : (sql : List ℕ) (params : Row) (box : Option BoxValue) (interval : Option IntervalValue) (name : Text) (property : Option Text) (old new : Seen) (before after : PageFold) (r : Result (Unit {0}) Stop)
+pub takes_by : (sql : List ℕ) (params : Row) (box : Option BoxValue) (interval : Option IntervalValue) (name : Text) (property : Option Text) (old new : Seen) (before after : PageFold) (r : Result (Unit {0}) ReadFault)
     → TakesAll sql params property old new before after r → ((s : State) (c : Collection) → Keeps s old.now → get s.collections name ≡ Some c → ShowsOf sql params old.now (map candidate_row (chosen_of box interval c)))
     → TakesChosen box interval name property old new before after r
 takes_by sql params box interval name property old new before after r all shows q s c limit keeps collected same held =

@@ -16,8 +16,8 @@ use Rattle.streetmap_geojson.specs.FeatureValue.{FeatureValue}
 use Rattle.streetmap_tables.specs.Failing.{IsOfStore}
 use Rattle.streetmap_reading.specs.Candidates.{candidate_row, ShowsOf}
 use Rattle.streetmap_reading.specs.Taking.{Stopped}
-use Rattle.streetmap_reading.specs.declared.stop.Stop.{Stop}
-use Rattle.streetmap_reading.specs.declared.stop.Stop.TheVariants.{Memory, Store, Unread}
+use Rattle.streetmap_reading.specs.declared.fault.ReadFault.{ReadFault}
+use Rattle.streetmap_reading.specs.declared.fault.ReadFault.TheVariants.{Memory, Store, Unread}
 use Rattle.streetmap_reading.proofs.Told.{told}
 
 pub map_append : {A B : Type 0} (f : A → B) (xs ys : List A) → map f (xs ++ ys) ≡ map f xs ++ map f ys
@@ -85,12 +85,12 @@ shows_still a b sql params fs gs same is shows = subst (λ hs. ShowsOf sql param
 pub keeps_on : (a b c : Seen) → IsUnchanged a b → KeepsCommit b c → KeepsCommit a c
 keeps_on a b c same kept = keeps_then a b c (record { was_open = λ _. same.0.was_open; committed = λ _. same.0.committed_is }) kept
 
-pub stopped_on : (a b c : Seen) (stop : Stop) → IsUnchanged a b → Stopped b c stop → Stopped a c stop
+pub stopped_on : (a b c : Seen) (fault : ReadFault) → IsUnchanged a b → Stopped b c fault → Stopped a c fault
 stopped_on a b c Memory same h = unchanged_then a b c same h
 stopped_on a b c (Store e) same h = (h.0, keeps_on a b c same h.1)
 stopped_on a b c Unread same h = h
 
 -- a query whose rows were taken, after it had begun
-pub taken_on : (a b c : Seen) (P : Type 0) (r : Result (Unit {0}) Stop) → IsUnchanged a b → MatchResult r (λ _. P × IsUnchanged b c) (Stopped b c) → MatchResult r (λ _. P × IsUnchanged a c) (Stopped a c)
+pub taken_on : (a b c : Seen) (P : Type 0) (r : Result (Unit {0}) ReadFault) → IsUnchanged a b → MatchResult r (λ _. P × IsUnchanged b c) (Stopped b c) → MatchResult r (λ _. P × IsUnchanged a c) (Stopped a c)
 taken_on a b c P (Ok u) same h = (h.0, unchanged_then a b c same h.1)
-taken_on a b c P (Err stop) same h = stopped_on a b c stop same h
+taken_on a b c P (Err fault) same h = stopped_on a b c fault same h

@@ -13,7 +13,7 @@ use Rattle.streetmap_ledger.specs.Pages.{passes, extent_overlaps}
 use Rattle.streetmap_ledger.specs.Folds.{Holds}
 use Rattle.streetmap_ledger.specs.declared.fold.PageFold.{PageFold}
 use Rattle.streetmap_rows.specs.Keeping.{Keeps}
-use Rattle.streetmap_reading.specs.declared.stop.Stop.{Stop}
+use Rattle.streetmap_reading.specs.declared.fault.ReadFault.{ReadFault}
 use Rattle.streetmap_reading.specs.Taking.{Stopped}
 
 -- the extent overlaps the box, and the seconds those of the interval, as far as they are asked
@@ -25,7 +25,7 @@ abbrev pub chosen_of : Option BoxValue → Option IntervalValue → Collection �
 chosen_of box interval c = filter (is_chosen box interval) (values c.features)
 
 -- the chosen features of a collection that is there were taken, in order of ids
-abbrev pub TakesChosen : Option BoxValue → Option IntervalValue → Text → Option Text → Seen → Seen → PageFold → PageFold → Result (Unit {0}) Stop → Type 0
+abbrev pub TakesChosen : Option BoxValue → Option IntervalValue → Text → Option Text → Seen → Seen → PageFold → PageFold → Result (Unit {0}) ReadFault → Type 0
 TakesChosen box interval name property old new before after result =
     (q : QueryValue) (s : State) (c : Collection) → old.step_limit ≡ None → Keeps s old.now → get s.collections name ≡ Some c → c.time ≡ property → Holds q before []
     → MatchResult result (λ _. Holds q after (chosen_of box interval c) × IsUnchanged old new) (Stopped old new)

@@ -13,12 +13,12 @@ use Rattle.streetmap_ledger.specs.PageView.{page_value}
 use Rattle.streetmap_ledger.specs.declared.page.Page.{Page}
 use Rattle.streetmap_rows.specs.Keeping.{Keeps}
 use Rattle.streetmap_rows.specs.Views.{collection_view}
-use Rattle.streetmap_reading.specs.declared.stop.Stop.{Stop}
+use Rattle.streetmap_reading.specs.declared.fault.ReadFault.{ReadFault}
 use Rattle.streetmap_reading.specs.Candidates.{candidate_row}
 use Rattle.streetmap_reading.specs.Taking.{Stopped}
 
 -- a look at the database of a state: the answer is as it is in the state, and nothing changes
-abbrev pub LooksInto : {A : Type 0} → (State → A → Type 0) → Seen → Seen → Result A Stop → Type 0
+abbrev pub LooksInto : {A : Type 0} → (State → A → Type 0) → Seen → Seen → Result A ReadFault → Type 0
 LooksInto Is old new result =
     (s : State) → old.step_limit ≡ None → Keeps s old.now → MatchResult result (λ a. Is s a × IsUnchanged old new) (Stopped old new)
 
@@ -34,7 +34,7 @@ abbrev pub IsPageOf : Text → QueryValue → State → Option Page → Type 0
 IsPageOf name q s page = option_map page_value page ≡ page_in s name q
 
 -- the page of a collection that is there, whose time property is this
-abbrev pub IsPageUnder : Text → QueryValue → Option Text → Seen → Seen → Result Page Stop → Type 0
+abbrev pub IsPageUnder : Text → QueryValue → Option Text → Seen → Seen → Result Page ReadFault → Type 0
 IsPageUnder name q property old new result =
     (s : State) (c : Collection) → old.step_limit ≡ None → Keeps s old.now → get s.collections name ≡ Some c → c.time ≡ property
     → MatchResult result (λ page. (page_value page ≡ page_over q (values c.features)) × IsUnchanged old new) (Stopped old new)
@@ -48,7 +48,7 @@ abbrev pub IsFeatureOf : Text → Text → State → Option FeatureValue → Typ
 IsFeatureOf name id s found = found ≡ feature_in s name id
 
 -- the feature of a collection that is there, whose time property is this
-abbrev pub IsFeatureUnder : Text → Text → Option Text → Seen → Seen → Result (Option FeatureValue) Stop → Type 0
+abbrev pub IsFeatureUnder : Text → Text → Option Text → Seen → Seen → Result (Option FeatureValue) ReadFault → Type 0
 IsFeatureUnder name id property old new result =
     (s : State) (c : Collection) → old.step_limit ≡ None → Keeps s old.now → get s.collections name ≡ Some c → c.time ≡ property
     → MatchResult result (λ found. IsFeatureOf name id s found × IsUnchanged old new) (Stopped old new)

@@ -13,7 +13,7 @@ ghost use Rattle.streetmap_rows.specs.Rows.{feature_text};
 ghost use Rattle.streetmap_reading.specs.Candidates.{candidate_row, IsStored};
 ghost use Rattle.streetmap_reading.specs.Taking.{TakesNext, TakesRest, TakesAll};
 
-use crate::stop::Stop;
+use crate::fault::ReadFault;
 use sqlite::types::ValueRef;
 use sqlite::{Alter, Connection, Error, ErrorCode, Row, Rows};
 use std::alloc::Global;
@@ -24,23 +24,21 @@ use streetmap_ledger::PageFold;
 fn read_body(alloc: Global, body: &[u8], property: Option<&str>) -> Result<Feature, JsonFault>
     ensures { (f : FeatureValue) → body.now ≡ feature_text f → IsStored (option_copied property.entry) f → Gives feature_value result (Ok f) }
 {
-    match read_json(alloc, body) {
-        Ok(value) => read_feature(alloc, &value, property),
-        Err(error) => Err(error),
-    }
+    let value = read_json(alloc, body)?;
+    read_feature(alloc, &value, property)
 }
 
 /// The feature of a row that shows its text.
-pub fn read_row(alloc: Global, row: &Row, property: Option<&str>) -> Result<Feature, Stop>
-    ensures { (f : FeatureValue) → row.now ≡ candidate_row f → IsStored (option_copied property.entry) f → MatchResult result (λ g. g ≡ f) (λ stop. stop ≡ Stop.Memory) }
+pub fn read_row(alloc: Global, row: &Row, property: Option<&str>) -> Result<Feature, ReadFault>
+    ensures { (f : FeatureValue) → row.now ≡ candidate_row f → IsStored (option_copied property.entry) f → MatchResult result (λ g. g ≡ f) (λ fault. fault ≡ ReadFault.Memory) }
 {
     match row.get_ref(0) {
         Ok(ValueRef::Text(body)) => match read_body(alloc, body, property) {
             Ok(feature) => Ok(feature),
-            Err(JsonFault::Memory) => Err(Stop::Memory),
-            Err(JsonFault::Fault(_)) => Err(Stop::Unread),
+            Err(JsonFault::Memory) => Err(ReadFault::Memory),
+            Err(JsonFault::Fault(_)) => Err(ReadFault::Unread),
         },
-        _ => Err(Stop::Unread),
+        _ => Err(ReadFault::Unread),
     }
 }
 
@@ -50,7 +48,7 @@ fn take_next<S: Alter>(
     rows: &mut Rows<'_, S>,
     property: Option<&str>,
     fold: &mut PageFold<'_>,
-) -> Result<bool, Stop>
+) -> Result<bool, ReadFault>
     ensures same_reference { rows.new.conn.ghost_name ≡ rows.old.conn.ghost_name }
     ensures takes { HasCleanDisk (state S.Store rows.new.conn.now) → TakesNext S.Store (option_copied property.entry) rows.old.conn.now rows.new.conn.now fold.old fold.new result }
     ensures mode { rows.old.conn.now.in_transaction ≡ false → rows.new.conn.now.in_transaction ≡ false }
@@ -58,17 +56,15 @@ fn take_next<S: Alter>(
 {
     match rows.advance() {
         Ok(()) => {}
-        Err(error) => return Err(Stop::Store(error)),
+        Err(error) => return Err(ReadFault::Store(error)),
     }
     let Some(row) = rows.get() else {
         return Ok(false);
     };
-    match read_row(alloc, row, property) {
-        Ok(feature) => match fold.take(feature) {
-            Ok(()) => Ok(true),
-            Err(_) => Err(Stop::Memory),
-        },
-        Err(stop) => Err(stop),
+    let feature = read_row(alloc, row, property)?;
+    match fold.take(feature) {
+        Ok(()) => Ok(true),
+        Err(_) => Err(ReadFault::Memory),
     }
 }
 
@@ -78,20 +74,19 @@ fn take_rest<S: Alter>(
     rows: &mut Rows<'_, S>,
     property: Option<&str>,
     fold: &mut PageFold<'_>,
-) -> Result<(), Stop>
+) -> Result<(), ReadFault>
     ensures same_reference { rows.new.conn.ghost_name ≡ rows.old.conn.ghost_name }
     ensures takes { HasCleanDisk (state S.Store rows.new.conn.now) → TakesRest S.Store (option_copied property.entry) rows.old.conn.now rows.new.conn.now fold.old fold.new result }
     ensures mode { rows.old.conn.now.in_transaction ≡ false → rows.new.conn.now.in_transaction ≡ false }
     ensures survives { Survives (state S.Store rows.old.conn.now) (state S.Store rows.new.conn.now) (λ _. ⊥) }
 {
     'rows: for _ in 0..u64::MAX {
-        match take_next(alloc, rows, property, fold) {
-            Ok(true) => {}
-            Ok(false) => return Ok(()),
-            Err(stop) => return Err(stop),
+        let took = take_next(alloc, rows, property, fold)?;
+        if !took {
+            return Ok(());
         }
     }
-    Err(Stop::Store(Error::SqliteFailure(ErrorCode::TooBig)))
+    Err(ReadFault::Store(Error::SqliteFailure(ErrorCode::TooBig)))
 }
 
 /// Takes all rows of a query, each of which shows the text of a feature.
@@ -102,13 +97,13 @@ pub fn take_rows<S: Alter>(
     params: &[ValueRef<'_>],
     property: Option<&str>,
     fold: &mut PageFold<'_>,
-) -> Result<(), Stop>
+) -> Result<(), ReadFault>
     ensures takes { HasCleanDisk (state S.Store conn.new) → TakesAll sql.now (bound params.now) (option_copied property.entry) (state S.Store conn.old) (state S.Store conn.new) fold.old fold.new result }
     ensures mode { conn.old.in_transaction ≡ false → conn.new.in_transaction ≡ false }
     ensures survives { Survives (state S.Store conn.old) (state S.Store conn.new) (CommitsShowing sql.now (bound params.now) (state S.Store conn.old)) }
 {
     match conn.query(sql, params) {
         Ok(mut rows) => take_rest(alloc, &mut rows, property, fold),
-        Err(error) => Err(Stop::Store(error)),
+        Err(error) => Err(ReadFault::Store(error)),
     }
 }

@@ -6,8 +6,8 @@ ghost use Rattle.sqlite.specs.State.{HasCleanDisk, Survives};
 ghost use Rattle.streetmap_reading.specs.Looking.{LooksInto, Stays, IsTextRow, IsFeatureOf, IsFeatureUnder};
 
 use crate::candidates::read_row;
+use crate::fault::ReadFault;
 use crate::page::{collection_row, lent, time_in};
-use crate::stop::Stop;
 use sqlite::{Alter, Connection, Row, params};
 use std::alloc::Global;
 use streetmap_geojson::Feature;
@@ -17,7 +17,7 @@ fn text_row<S: Alter>(
     conn: &mut Connection<S>,
     collection: &str,
     id: &str,
-) -> Result<Option<Row>, Stop>
+) -> Result<Option<Row>, ReadFault>
     ensures finds { HasCleanDisk (state S.Store conn.new) → LooksInto (IsTextRow collection.now id.now) (state S.Store conn.old) (state S.Store conn.new) result }
     ensures mode { conn.old.in_transaction ≡ false → conn.new.in_transaction ≡ false }
     ensures survives { Survives (state S.Store conn.old) (state S.Store conn.new) (λ _. Unit {0}) }
@@ -28,7 +28,7 @@ fn text_row<S: Alter>(
         params![collection, id],
     ) {
         Ok(mut rows) => Ok(rows.pop()),
-        Err(error) => Err(Stop::Store(error)),
+        Err(error) => Err(ReadFault::Store(error)),
     }
 }
 
@@ -39,20 +39,17 @@ fn feature_under<S: Alter>(
     collection: &str,
     id: &str,
     property: Option<&str>,
-) -> Result<Option<Feature>, Stop>
+) -> Result<Option<Feature>, ReadFault>
     ensures shows { HasCleanDisk (state S.Store conn.new) → IsFeatureUnder collection.now id.now (option_copied property.entry) (state S.Store conn.old) (state S.Store conn.new) result }
     ensures mode { conn.old.in_transaction ≡ false → conn.new.in_transaction ≡ false }
     ensures survives { Survives (state S.Store conn.old) (state S.Store conn.new) (λ _. Unit {0}) }
     ensures stays { Stays (state S.Store conn.old) (state S.Store conn.new) }
 {
-    match text_row(conn, collection, id) {
-        Ok(Some(row)) => match read_row(alloc, &row, property) {
-            Ok(feature) => Ok(Some(feature)),
-            Err(stop) => Err(stop),
-        },
-        Ok(None) => Ok(None),
-        Err(stop) => Err(stop),
-    }
+    let Some(row) = text_row(conn, collection, id)? else {
+        return Ok(None);
+    };
+    let feature = read_row(alloc, &row, property)?;
+    Ok(Some(feature))
 }
 
 /// A feature of a collection; `None` where the collection or the feature is not there.
@@ -61,20 +58,15 @@ pub fn feature_of<S: Alter>(
     conn: &mut Connection<S>,
     collection: &str,
     id: &str,
-) -> Result<Option<Feature>, Stop>
+) -> Result<Option<Feature>, ReadFault>
     ensures shows { HasCleanDisk (state S.Store conn.new) → LooksInto (IsFeatureOf collection.now id.now) (state S.Store conn.old) (state S.Store conn.new) result }
     ensures mode { conn.old.in_transaction ≡ false → conn.new.in_transaction ≡ false }
     ensures survives { Survives (state S.Store conn.old) (state S.Store conn.new) (λ _. Unit {0}) }
     ensures stays { Stays (state S.Store conn.old) (state S.Store conn.new) }
 {
-    let row = match collection_row(conn, collection) {
-        Ok(Some(row)) => row,
-        Ok(None) => return Ok(None),
-        Err(stop) => return Err(stop),
+    let Some(row) = collection_row(conn, collection)? else {
+        return Ok(None);
     };
-    let time = match time_in(&row) {
-        Ok(time) => time,
-        Err(stop) => return Err(stop),
-    };
+    let time = time_in(&row)?;
     feature_under(alloc, conn, collection, id, lent(&time))
 }

@@ -8,15 +8,15 @@
 //! because a statement failed, or at a row that is none that this product writes; the last never on
 //! the tables of a state.
 //!
-//! In the order of reading: `stop`, `candidates` (rows of a query, one after the other), `page`,
+//! In the order of reading: `fault`, `candidates` (rows of a query, one after the other), `page`,
 //! `feature`.
 #![tactic(auto)]
 
 mod candidates;
+mod fault;
 mod feature;
 mod page;
-mod stop;
 
+pub use fault::ReadFault;
 pub use feature::feature_of;
-pub use page::page_of;
-pub use stop::Stop;
+pub use page::{collection_row, lent, page_of, time_in};

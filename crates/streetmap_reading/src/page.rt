@@ -19,7 +19,7 @@ ghost use Rattle.streetmap_reading.specs.Looking.{LooksInto, Stays, IsCollection
 ghost use Rattle.streetmap_rows.specs.Views.{collection_view};
 
 use crate::candidates::take_rows;
-use crate::stop::Stop;
+use crate::fault::ReadFault;
 use sqlite::{Alter, Connection, Error, ErrorCode, Row, params};
 use std::alloc::Global;
 use streetmap_grid::GridBox;
@@ -34,7 +34,7 @@ fn take_all<S: Alter>(
     collection: &str,
     property: Option<&str>,
     fold: &mut PageFold<'_>,
-) -> Result<(), Stop>
+) -> Result<(), ReadFault>
     ensures takes { HasCleanDisk (state S.Store conn.new) → TakesChosen None None collection.now (option_copied property.entry) (state S.Store conn.old) (state S.Store conn.new) fold.old fold.new result }
     ensures mode { conn.old.in_transaction ≡ false → conn.new.in_transaction ≡ false }
     ensures survives { Survives (state S.Store conn.old) (state S.Store conn.new) (λ _. Unit {0}) }
@@ -58,7 +58,7 @@ fn take_in_box<S: Alter>(
     area: &GridBox,
     property: Option<&str>,
     fold: &mut PageFold<'_>,
-) -> Result<(), Stop>
+) -> Result<(), ReadFault>
     ensures takes { HasCleanDisk (state S.Store conn.new) → TakesChosen (Some (box_value area.now)) None collection.now (option_copied property.entry) (state S.Store conn.old) (state S.Store conn.new) fold.old fold.new result }
     ensures mode { conn.old.in_transaction ≡ false → conn.new.in_transaction ≡ false }
     ensures survives { Survives (state S.Store conn.old) (state S.Store conn.new) (λ _. Unit {0}) }
@@ -82,7 +82,7 @@ fn take_in_time<S: Alter>(
     interval: &Interval,
     property: Option<&str>,
     fold: &mut PageFold<'_>,
-) -> Result<(), Stop>
+) -> Result<(), ReadFault>
     ensures takes { HasCleanDisk (state S.Store conn.new) → TakesChosen None (Some (interval_value interval.now)) collection.now (option_copied property.entry) (state S.Store conn.old) (state S.Store conn.new) fold.old fold.new result }
     ensures mode { conn.old.in_transaction ≡ false → conn.new.in_transaction ≡ false }
     ensures survives { Survives (state S.Store conn.old) (state S.Store conn.new) (λ _. Unit {0}) }
@@ -109,7 +109,7 @@ fn take_in_both<S: Alter>(
     interval: &Interval,
     property: Option<&str>,
     fold: &mut PageFold<'_>,
-) -> Result<(), Stop>
+) -> Result<(), ReadFault>
     ensures takes { HasCleanDisk (state S.Store conn.new) → TakesChosen (Some (box_value area.now)) (Some (interval_value interval.now)) collection.now (option_copied property.entry) (state S.Store conn.old) (state S.Store conn.new) fold.old fold.new result }
     ensures mode { conn.old.in_transaction ≡ false → conn.new.in_transaction ≡ false }
     ensures survives { Survives (state S.Store conn.old) (state S.Store conn.new) (λ _. Unit {0}) }
@@ -134,7 +134,7 @@ fn take_candidates<S: Alter>(
     query: &Query,
     property: Option<&str>,
     fold: &mut PageFold<'_>,
-) -> Result<(), Stop>
+) -> Result<(), ReadFault>
     ensures takes { HasCleanDisk (state S.Store conn.new) → TakesChosen (query_value query.now).bbox (interval_asked (query_value query.now)) collection.now (option_copied property.entry) (state S.Store conn.old) (state S.Store conn.new) fold.old fold.new result }
     ensures mode { conn.old.in_transaction ≡ false → conn.new.in_transaction ≡ false }
     ensures survives { Survives (state S.Store conn.old) (state S.Store conn.new) (λ _. Unit {0}) }
@@ -163,7 +163,10 @@ fn take_candidates<S: Alter>(
 }
 
 /// The row of a collection, its title and its time property; none where it is not there.
-pub fn collection_row<S: Alter>(conn: &mut Connection<S>, id: &str) -> Result<Option<Row>, Stop>
+pub fn collection_row<S: Alter>(
+    conn: &mut Connection<S>,
+    id: &str,
+) -> Result<Option<Row>, ReadFault>
     ensures finds { HasCleanDisk (state S.Store conn.new) → LooksInto (IsCollectionRow id.now) (state S.Store conn.old) (state S.Store conn.new) result }
     ensures mode { conn.old.in_transaction ≡ false → conn.new.in_transaction ≡ false }
     ensures survives { Survives (state S.Store conn.old) (state S.Store conn.new) (λ _. Unit {0}) }
@@ -174,18 +177,18 @@ pub fn collection_row<S: Alter>(conn: &mut Connection<S>, id: &str) -> Result<Op
         params![id],
     ) {
         Ok(mut rows) => Ok(rows.pop()),
-        Err(error) => Err(Stop::Store(error)),
+        Err(error) => Err(ReadFault::Store(error)),
     }
 }
 
 /// The time property in the row of a collection.
-pub fn time_in(row: &Row) -> Result<Option<String>, Stop>
-    ensures { (name : _) (c : Collection) → row.now ≡ collection_view c → IsReadable name c → MatchResult result (λ time. option_map string_bytes time ≡ c.time) (λ stop. stop ≡ Stop.Memory) }
+pub fn time_in(row: &Row) -> Result<Option<String>, ReadFault>
+    ensures { (name : _) (c : Collection) → row.now ≡ collection_view c → IsReadable name c → MatchResult result (λ time. option_map string_bytes time ≡ c.time) (λ fault. fault ≡ ReadFault.Memory) }
 {
     match row.get::<Option<String>>(1) {
         Ok(time) => Ok(time),
-        Err(Error::SqliteFailure(ErrorCode::OutOfMemory)) => Err(Stop::Memory),
-        Err(_) => Err(Stop::Unread),
+        Err(Error::SqliteFailure(ErrorCode::OutOfMemory)) => Err(ReadFault::Memory),
+        Err(_) => Err(ReadFault::Unread),
     }
 }
 
@@ -196,19 +199,17 @@ fn page_under<S: Alter>(
     collection: &str,
     query: &Query,
     property: Option<&str>,
-) -> Result<Page, Stop>
+) -> Result<Page, ReadFault>
     ensures shows { HasCleanDisk (state S.Store conn.new) → IsPageUnder collection.now (query_value query.now) (option_copied property.entry) (state S.Store conn.old) (state S.Store conn.new) result }
     ensures mode { conn.old.in_transaction ≡ false → conn.new.in_transaction ≡ false }
     ensures survives { Survives (state S.Store conn.old) (state S.Store conn.new) (λ _. Unit {0}) }
     ensures stays { Stays (state S.Store conn.old) (state S.Store conn.new) }
 {
     let mut fold = PageFold::new(alloc, query);
-    match take_candidates(alloc, conn, collection, query, property, &mut fold) {
-        Ok(()) => match fold.end(alloc) {
-            Ok(page) => Ok(page),
-            Err(_) => Err(Stop::Memory),
-        },
-        Err(stop) => Err(stop),
+    take_candidates(alloc, conn, collection, query, property, &mut fold)?;
+    match fold.end(alloc) {
+        Ok(page) => Ok(page),
+        Err(_) => Err(ReadFault::Memory),
     }
 }
 
@@ -228,23 +229,16 @@ pub fn page_of<S: Alter>(
     conn: &mut Connection<S>,
     collection: &str,
     query: &Query,
-) -> Result<Option<Page>, Stop>
+) -> Result<Option<Page>, ReadFault>
     ensures shows { HasCleanDisk (state S.Store conn.new) → LooksInto (IsPageOf collection.now (query_value query.now)) (state S.Store conn.old) (state S.Store conn.new) result }
     ensures mode { conn.old.in_transaction ≡ false → conn.new.in_transaction ≡ false }
     ensures survives { Survives (state S.Store conn.old) (state S.Store conn.new) (λ _. Unit {0}) }
     ensures stays { Stays (state S.Store conn.old) (state S.Store conn.new) }
 {
-    let row = match collection_row(conn, collection) {
-        Ok(Some(row)) => row,
-        Ok(None) => return Ok(None),
-        Err(stop) => return Err(stop),
+    let Some(row) = collection_row(conn, collection)? else {
+        return Ok(None);
     };
-    let time = match time_in(&row) {
-        Ok(time) => time,
-        Err(stop) => return Err(stop),
-    };
-    match page_under(alloc, conn, collection, query, lent(&time)) {
-        Ok(page) => Ok(Some(page)),
-        Err(stop) => Err(stop),
-    }
+    let time = time_in(&row)?;
+    let page = page_under(alloc, conn, collection, query, lent(&time))?;
+    Ok(Some(page))
 }

@@ -1,6 +1,6 @@
 //! Pages.
 use super::*;
-use streetmap_reading::Stop;
+use streetmap_reading::ReadFault;
 
 const MIXED: &str =
     r#"{"key":"m","edits":[{"op":"open","collection":"mixed","time":"when"},{"op":"insert","collection":"mixed","feature":{"type":"Feature","id":"C","geometry":{"type":"Point","coordinates":[2,8]},"properties":{"when":"2024-05-01T00:00:00.5Z"}}},{"op":"insert","collection":"mixed","feature":{"type":"Feature","id":"A","geometry":{"type":"LineString","coordinates":[[0,0],[10,10]]},"properties":null}},{"op":"insert","collection":"mixed","feature":{"type":"Feature","id":"B","geometry":{"type":"Point","coordinates":[1,7]},"properties":{"when":"2024-05-01T00:00:00Z"}}}]}"#;
@@ -58,6 +58,6 @@ fn a_row_that_does_not_overlap_is_not_read(rt: HostRuntime) -> Result<(), Fail> 
     assert_eq!(rt; (matched, examined), (1, 2));
     let query = read_query(rt.alloc(), Some("bbox=2,8,2,8"))?;
     let unread = page_of(rt.alloc(), &mut conn, "mixed", &query);
-    assert!(rt; matches!(unread, Err(Stop::Unread)));
+    assert!(rt; matches!(unread, Err(ReadFault::Unread)));
     Ok(())
 }

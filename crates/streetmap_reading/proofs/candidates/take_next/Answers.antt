@@ -6,6 +6,7 @@ use Rattle.streetmap_geojson.specs.FeatureValue.{FeatureValue}
 use Rattle.streetmap_ledger.specs.Folds.{Holds}
 use Rattle.streetmap_reading.specs.Candidates.{IsStored}
 use Rattle.streetmap_reading.specs.Taking.{Stopped}
+use Rattle.streetmap_reading.proofs.Failing.{passed_on}
 use Rattle.streetmap_reading.proofs.Rests.{at_end, at_row, at_fault}
 use Rattle.streetmap_reading.proofs.candidates.take_next.Goals as goal
 
@@ -22,12 +23,13 @@ returns-in-Ok-take-clause-takes g c clean = λ sql params q done rest limit show
     let same = c.in-Ok.ensures.same clean in
     let met = at_row g.S.Store c.args.rows.now.conn.now c.advance.new.self.conn.now sql params done rest shows given _ c.in-Some.row.now (sym c.get.ensures ∙ ap option_copied c.in-Some.is) same (c.in-Ok.ensures.ok clean) in
     let kept = (subst (AllByRecursion (IsStored (option_copied c.args.property))) met.2 stored).0 in
-    let is = c.in-Ok-read_row.ensures met.0 met.3 kept in
+    let is = c.in_ok-feature.ensures met.0 met.3 kept in
     ((met.0, met.1, met.2, met.4, subst (λ (f : FeatureValue). Holds q c.take.new.self (done ++ f ∷ [])) is (c.in-Ok-take.ensures.ok q done held)), same)
 
-pub returns-in-Err-read_row-clause-takes : goal.returns-in-Err-read_row-clause-takes
-returns-in-Err-read_row-clause-takes g c clean = λ sql params q done rest limit shows stored given held.
+pub returns-in_err-feature-clause-takes : goal.returns-in_err-feature-clause-takes
+returns-in_err-feature-clause-takes g c clean = λ sql params q done rest limit shows stored given held.
     let same = c.in-Ok.ensures.same clean in
     let met = at_row g.S.Store c.args.rows.now.conn.now c.advance.new.self.conn.now sql params done rest shows given _ c.in-Some.row.now (sym c.get.ensures ∙ ap option_copied c.in-Some.is) same (c.in-Ok.ensures.ok clean) in
     let kept = (subst (AllByRecursion (IsStored (option_copied c.args.property))) met.2 stored).0 in
-    subst (Stopped (state g.S.Store c.args.rows.now.conn.now) (state g.S.Store c.advance.new.self.conn.now)) (sym (c.in-Err-read_row.ensures met.0 met.3 kept)) same
+    let stopped = subst (Stopped (state g.S.Store c.args.rows.now.conn.now) (state g.S.Store c.advance.new.self.conn.now)) (sym (c.in_err-feature.ensures met.0 met.3 kept)) same in
+    passed_on _ _ _ _ c.from_residual.ensures.1 stopped

@@ -1,4 +1,4 @@
-use Rattle.std.proofs.Common.{◌≡◌, sym, subst, ◌∙◌, ap, refl, inr, ◌∷◌, [], ◌++◌, append-nil, append_assoc}
+use Rattle.std.proofs.Common.{◌≡◌, sym, subst, ◌∙◌, ap, refl, inr, ◌∷◌, [], ◌++◌, append-nil, append_assoc, rules, true, false}
 use Rattle.std.specs.List.{AllByRecursion}
 use Rattle.std.specs.Option.{option_copied}
 use Rattle.sqlite.specs.Held.{state}
@@ -7,6 +7,7 @@ use Rattle.sqlite_trees.specs.declared.error.StoreError.TheVariants.{Unstorable}
 use Rattle.streetmap_ledger.specs.Folds.{Holds}
 use Rattle.streetmap_reading.specs.Candidates.{IsStored}
 use Rattle.streetmap_reading.specs.Taking.{TookNext}
+use Rattle.streetmap_reading.proofs.Failing.{passed_on}
 use Rattle.streetmap_reading.proofs.Rests.{given_open, survives_still, survives_on, shows_still, stopped_on, clean_before}
 use Rattle.streetmap_reading.proofs.candidates.take_rest.Goals as goal
 
@@ -29,26 +30,28 @@ rows-preserved g c =
         survives = survives_on _ _ _ before.survives c.take_next.ensures.survives;
         took = λ clean sql params q fs limit shows stored given held.
             let t = before.took (clean_before _ _ _ c.take_next.ensures.survives clean) sql params q fs limit shows stored given held in
-            let r = c.in-Ok-true.ensures.takes clean sql params q t.done t.rest (before.survives.limit ∙ limit) (shows_still _ _ sql params fs (t.done ++ t.rest) t.same (sym t.are) shows) t.stored t.given t.held in
-            let m = subst (TookNext g.S.Store sql params q t.done t.rest c.take_next.new.rows.conn.now c.take_next.new.fold) c.in-Ok-true.field-0-test r.0 in
+            let r = c.in_ok-took.ensures.takes clean sql params q t.done t.rest (before.survives.limit ∙ limit) (shows_still _ _ sql params fs (t.done ++ t.rest) t.same (sym t.are) shows) t.stored t.given t.held in
+            let on : c.in_ok-took.took ≡ true = search rules in
+            let m = subst (TookNext g.S.Store sql params q t.done t.rest c.take_next.new.rows.conn.now c.take_next.new.fold) on r.0 in
             record { done = t.done ++ m.0 ∷ []; rest = m.1; are = append_assoc t.done (m.0 ∷ []) m.1 ∙ ap (λ l. t.done ++ l) (sym m.2) ∙ t.are; given = m.3; held = m.4; stored = (subst (AllByRecursion (IsStored (option_copied c.args.property))) m.2 t.stored).1; same = unchanged_then _ _ _ t.same r.1 };
       },
     )
 
-pub returns-in-Ok-false-clause-takes : goal.returns-in-Ok-false-clause-takes
-returns-in-Ok-false-clause-takes g c clean = λ sql params q fs limit shows stored given held.
+pub returns-then-not-took-clause-takes : goal.returns-then-not-took-clause-takes
+returns-then-not-took-clause-takes g c clean = λ sql params q fs limit shows stored given held.
     let before = c.rows.invariant.1 in
     let t = before.took (clean_before _ _ _ c.take_next.ensures.survives clean) sql params q fs limit shows stored given held in
-    let r = c.in-Ok-false.ensures.takes clean sql params q t.done t.rest (before.survives.limit ∙ limit) (shows_still _ _ sql params fs (t.done ++ t.rest) t.same (sym t.are) shows) t.stored t.given t.held in
-    let m = subst (TookNext g.S.Store sql params q t.done t.rest c.take_next.new.rows.conn.now c.take_next.new.fold) c.in-Ok-false.field-0-test r.0 in
+    let r = c.in_ok-took.ensures.takes clean sql params q t.done t.rest (before.survives.limit ∙ limit) (shows_still _ _ sql params fs (t.done ++ t.rest) t.same (sym t.are) shows) t.stored t.given t.held in
+    let off : c.in_ok-took.took ≡ false = search rules in
+    let m = subst (TookNext g.S.Store sql params q t.done t.rest c.take_next.new.rows.conn.now c.take_next.new.fold) off r.0 in
     let all : t.done ≡ fs = sym (append-nil t.done) ∙ ap (λ l. t.done ++ l) (sym m.0) ∙ t.are in
     (subst (Holds q c.take_next.new.fold) all m.1, unchanged_then _ _ _ t.same r.1)
 
-pub returns-in-Err-clause-takes : goal.returns-in-Err-clause-takes
-returns-in-Err-clause-takes g c clean = λ sql params q fs limit shows stored given held.
+pub returns-in_err-took-clause-takes : goal.returns-in_err-took-clause-takes
+returns-in_err-took-clause-takes g c clean = λ sql params q fs limit shows stored given held.
     let before = c.rows.invariant.1 in
     let t = before.took (clean_before _ _ _ c.take_next.ensures.survives clean) sql params q fs limit shows stored given held in
-    stopped_on _ _ _ c.in-Err.stop t.same (c.in-Err.ensures.takes clean sql params q t.done t.rest (before.survives.limit ∙ limit) (shows_still _ _ sql params fs (t.done ++ t.rest) t.same (sym t.are) shows) t.stored t.given t.held)
+    passed_on _ _ _ _ c.from_residual.ensures.1 (stopped_on _ _ _ _ t.same (c.in_err-took.ensures.takes clean sql params q t.done t.rest (before.survives.limit ∙ limit) (shows_still _ _ sql params fs (t.done ++ t.rest) t.same (sym t.are) shows) t.stored t.given t.held))
 
 pub returns-clause-takes : goal.returns-clause-takes
 returns-clause-takes g c clean = λ sql params q fs limit shows stored given held.

@@ -7,12 +7,12 @@ use Rattle.streetmap_reading.proofs.Shown.{stored}
 use Rattle.streetmap_reading.proofs.Pages.{page_is}
 use Rattle.streetmap_reading.proofs.page.page_under.Goals as goal
 
-pub returns-in-Ok-end-clause-shows : goal.returns-in-Ok-end-clause-shows
-returns-in-Ok-end-clause-shows g c clean = λ s d limit keeps there property.
+pub returns-in-Ok-clause-shows : goal.returns-in-Ok-clause-shows
+returns-in-Ok-clause-shows g c clean = λ s d limit keeps there property.
     let q = query_value c.args.query.now in
-    let took = c.in-Ok.ensures.takes clean q s d limit keeps there property c.new-fold.ensures in
-    (c.in-Ok-end.ensures q (chosen_of q.bbox (interval_asked q) d) took.0 ∙ page_is c.args.query.now d.time (values d.features) (stored s _ keeps c.args.collection.now d there), took.1)
+    let took = c.in_ok-take_candidates.ensures.takes clean q s d limit keeps there property c.new-fold.ensures in
+    (c.in-Ok.ensures q (chosen_of q.bbox (interval_asked q) d) took.0 ∙ page_is c.args.query.now d.time (values d.features) (stored s _ keeps c.args.collection.now d there), took.1)
 
-pub returns-in-Err-end-clause-shows : goal.returns-in-Err-end-clause-shows
-returns-in-Err-end-clause-shows g c clean = λ s d limit keeps there property.
-    (c.in-Ok.ensures.takes clean (query_value c.args.query.now) s d limit keeps there property c.new-fold.ensures).1
+pub returns-in-Err-clause-shows : goal.returns-in-Err-clause-shows
+returns-in-Err-clause-shows g c clean = λ s d limit keeps there property.
+    (c.in_ok-take_candidates.ensures.takes clean (query_value c.args.query.now) s d limit keeps there property c.new-fold.ensures).1
