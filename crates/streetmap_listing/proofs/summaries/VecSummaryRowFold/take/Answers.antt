@@ -1,0 +1,9 @@
+use Rattle.std.proofs.Common.{◌≡◌, Some}
+use Rattle.streetmap_batch.specs.Text.{Text}
+use Rattle.streetmap_ledger.specs.State.{Collection}
+use Rattle.streetmap_ledger.specs.SummaryView.{summary_value}
+use Rattle.streetmap_listing.proofs.Taken.{one_head_more}
+use Rattle.streetmap_listing.proofs.summaries.VecSummaryRowFold.take.Goals as goal
+
+pub returns : goal.returns
+returns c = λ rows readable held. one_head_more c.args.self.now.items c.push.new.self.items c.in_ok-head.head rows c.args.row.now c.in-Ok.ensures.items held c.in_ok-head.ensures
