@@ -1,5 +1,5 @@
 -- What a request asks for, before the state is asked. OGC 17-069, section 7.
-use Rattle.std.specs.Prelude.{ℕ, [], ◌∷◌, Bool, false, ◌||◌, Option, None, Some, option_map, option_and_then, Result, Ok, Err, codes, if◌then◌else◌, ◌==◌, bytes_eq, slice_get, nat_lt, length}
+use Rattle.std.specs.Prelude.{ℕ, [], ◌∷◌, Bool, false, unwrap_or, ◌||◌, Option, None, Some, option_map, option_and_then, Result, Ok, Err, codes, if◌then◌else◌, ◌==◌, bytes_eq, slice_get, nat_lt, length}
 use Rattle.std.specs.List.{before_first, after_first, position_or_len, slice_split}
 use Rattle.std.specs.Str.{is_utf8}
 use Rattle.percent_encoding.specs.Percent.{percent_decode}
@@ -31,14 +31,9 @@ pub data ResourceValue : Type 0 where
   item : (name id : Text) → ResourceValue
   batches : ResourceValue
 
--- a text, or nothing
-abbrev pub or_empty : Option Text → Text
-or_empty None = []
-or_empty (Some text) = text
-
 -- what a path has at this place between its slashes
 abbrev pub segment : ℕ → Text → Text
-segment place path = or_empty (slice_get (slice_split (λ b. b == 47) path) place)
+segment place path = unwrap_or (slice_get (slice_split (λ b. b == 47) path) place) []
 
 -- bytes that are text
 abbrev pub if_text : Text → Option Text
