@@ -10,10 +10,10 @@ use Rattle.streetmap_ledger.specs.declared.reply.Fault.{Fault}
 use Rattle.streetmap_ledger.specs.declared.reply.Fault.TheVariants as faults
 use Rattle.streetmap_routes.specs.Ask.{AskValue}
 use Rattle.streetmap_web.specs.Response.{ResponseValue, response_in, state_in}
-use Rattle.streetmap_web.specs.Responds.{RespondLeaves, RespondsIn, response_value}
+use Rattle.streetmap_web.specs.Responds.{AnswerLeaves, RespondsIn, response_value}
 use Rattle.streetmap_web.specs.declared.response.Response.{Response}
 
-pub look_leaves : (s : State) (ask : AskValue) (result : Result Response Fault) (left : Option State → Type 0) → s ≡ state_in s ask → LeavesOnly left (Some s) → RespondLeaves s ask result left
+pub look_leaves : (s : State) (ask : AskValue) (result : Result Response Fault) (left : Option State → Type 0) → s ≡ state_in s ask → LeavesOnly left (Some s) → AnswerLeaves s ask result left
 look_leaves s ask (Ok response) left e only = subst (λ t. LeavesOnly left (Some t)) e only
 look_leaves s ask (Err faults.Memory) left e only = only
 look_leaves s ask (Err faults.Device) left e only = λ o h. inl (only o h)

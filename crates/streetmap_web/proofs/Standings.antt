@@ -10,7 +10,7 @@ use Rattle.streetmap_ledger.specs.declared.reply.Fault.TheVariants as faults
 use Rattle.streetmap_routes.specs.Ask.{AskValue}
 use Rattle.streetmap_web.specs.Response.{fault_response, closes_with, response_text}
 use Rattle.streetmap_web.specs.Standing.{Standing, Stands, of_state, shut, told, starved, failed, LeavesNoMore}
-use Rattle.streetmap_web.specs.Responds.{answer_text, Answers, TriesIn, TriesShut, TryLeaves}
+use Rattle.streetmap_web.specs.Responds.{answer_text, Answers, TriesIn, TriesShut, AnswerLeaves}
 use Rattle.streetmap_web.specs.declared.answer.Answer.{Answer}
 use Rattle.streetmap_bodies.specs.declared.request_fault.RequestFault.TheVariants.{Keeper}
 
@@ -29,7 +29,7 @@ fault_closes asked faults.Reopen = or_true asked
 pub ok_answers : (root : Text) (x : Standing) (ask : AskValue) (asked bare : Bool) (r : Answer × Bool) (old_stands new_stands : State → Type 0) (old_cause new_cause : Option Cause) (old new : Option State → Type 0)
     → ((s : State) → old_stands s → TriesIn root s ask asked bare (Ok r) new_stands new_cause)
     → ((why : Cause) → old_cause ≡ Some why → TriesShut root ask asked bare (Ok r) × (new_cause ≡ Some why) × LeavesNoMore old new)
-    → ((s : State) → old_stands s → LeavesOnly old (Some s) → TryLeaves s ask (Ok r) new)
+    → ((s : State) → old_stands s → LeavesOnly old (Some s) → AnswerLeaves s ask (Ok r) new)
     → Stands old_stands old_cause x
     → Answers root x ask asked bare (answer_text r.0) r.1 (Stands new_stands new_cause) old new
 ok_answers root (of_state s) ask asked bare r os ns oc nc old new whole shuts leaves h =
@@ -42,7 +42,7 @@ ok_answers root (shut why) ask asked bare r os ns oc nc old new whole shuts leav
 pub err_answers : (root : Text) (x : Standing) (ask : AskValue) (asked bare : Bool) (fault : Fault) (text : Text) (old_stands new_stands : State → Type 0) (old_cause new_cause : Option Cause) (old new : Option State → Type 0)
     → ((s : State) → old_stands s → TriesIn root s ask asked bare (Err fault) new_stands new_cause)
     → ((why : Cause) → old_cause ≡ Some why → TriesShut root ask asked bare (Err fault) × (new_cause ≡ Some why) × LeavesNoMore old new)
-    → ((s : State) → old_stands s → LeavesOnly old (Some s) → TryLeaves s ask (Err fault) new)
+    → ((s : State) → old_stands s → LeavesOnly old (Some s) → AnswerLeaves {A = Answer × Bool} s ask (Err fault) new)
     → Stands old_stands old_cause x
     → text ≡ response_text true bare (fault_response (Keeper fault))
     → Answers root x ask asked bare text true (Stands new_stands new_cause) old new

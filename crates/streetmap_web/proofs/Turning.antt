@@ -3,8 +3,8 @@ use Rattle.std.proofs.Common.{◌≡◌, ◌<◌, ◌+◌, ◌-◌, arith, ◌++
 use Rattle.std.specs.Prelude.{Option}
 use Rattle.std.specs.Io.KnownBytes.{Consumes, IsAtEnd}
 use Rattle.std.proofs.KnownBytes.{Keeps-refl}
-use Rattle.streetmap_http.specs.Head.{IsHead}
-use Rattle.streetmap_http.specs.Streams.{IsBlank, IsUnfinished, in_body}
+use Rattle.streetmap_http.specs.Head.{IsHead, IsBlank}
+use Rattle.streetmap_http.specs.Streams.{IsUnfinished, in_body}
 use Rattle.streetmap_http.specs.Framing.{HeadValue, Frames, sized, Breaks, is_bare}
 use Rattle.streetmap_http.specs.Sending.{SentSays}
 use Rattle.streetmap_http.specs.declared.fault.FramingFault.{FramingFault}

@@ -1,8 +1,9 @@
 -- Requests of a stream with their answers.
 use Rattle.std.specs.Prelude.{◌≡◌, ◌≢◌, ℕ, ◌<◌, ◌+◌, ◌++◌, List, [], ◌∷◌, Bool, true, false, length, take, Option, nat_lt, if◌then◌else◌, ⊤}
+use Rattle.std.specs.List.{flat_map}
 use Rattle.std.specs.Io.KnownBytes.{Consumes, Appends, Keeps, IsAtEnd}
-use Rattle.streetmap_http.specs.Head.{IsHead}
-use Rattle.streetmap_http.specs.Streams.{IsBlank, IsUnfinished}
+use Rattle.streetmap_http.specs.Head.{IsHead, IsBlank}
+use Rattle.streetmap_http.specs.Streams.{IsUnfinished}
 use Rattle.streetmap_http.specs.Framing.{HeadValue, sized, Frames, Breaks, IsRequest, is_bare}
 use Rattle.streetmap_http.specs.declared.fault.FramingFault.{FramingFault}
 use Rattle.streetmap_batch.specs.Text.{Text}
@@ -72,8 +73,7 @@ GoOn root x (e ∷ es) = IsExchange x e × (closes root x e ≡ false) × GoOn r
 
 -- the bytes of the requests
 abbrev pub all_requests : List Exchange → Text
-all_requests [] = []
-all_requests (e ∷ es) = e.bytes ++ all_requests es
+all_requests es = flat_map (λ e. e.bytes) es
 
 -- the bytes of the answers
 abbrev pub all_answers : Text → Standing → List Exchange → Text

@@ -22,29 +22,37 @@ use Rattle.streetmap_web.specs.declared.answer.Answer.TheVariants.{Made, Fixed}
 abbrev pub response_value : Response → ResponseValue
 response_value b = record { status = b.status; kind = b.kind; allow = b.allow; body = string_bytes b.body }
 
+-- a fault over a keeper that stood for a state: memory was refused and it stands so, or the device failed and shut it
+abbrev pub FaultsIn : State → AskValue → Fault → (State → Type 0) → Option Cause → Type 0
+FaultsIn s ask faults.Memory stands cause = stands s
+FaultsIn s ask faults.Device stands cause = (asks_state ask ≡ true) × (cause ≡ Some causes.Device)
+FaultsIn s ask faults.Damaged stands cause = ⊥
+FaultsIn s ask faults.Reopen stands cause = ⊥
+
 -- over a keeper that stood for a state: the answer of the state, or the fault that is to be answered
 abbrev pub RespondsIn : Text → State → AskValue → Result Response Fault → (State → Type 0) → Option Cause → Type 0
 RespondsIn root s ask (Ok response) stands cause = (response_value response ≡ response_in root s ask) × stands (state_in s ask)
-RespondsIn root s ask (Err faults.Memory) stands cause = stands s
-RespondsIn root s ask (Err faults.Device) stands cause = (asks_state ask ≡ true) × (cause ≡ Some causes.Device)
-RespondsIn root s ask (Err faults.Damaged) stands cause = ⊥
-RespondsIn root s ask (Err faults.Reopen) stands cause = ⊥
+RespondsIn root s ask (Err fault) stands cause = FaultsIn s ask fault stands cause
+
+-- a fault over a shut keeper: memory was refused, or it is the answer
+abbrev pub FaultsShut : Text → AskValue → Fault → Type 0
+FaultsShut root ask faults.Memory = ⊤
+FaultsShut root ask faults.Device = ⊥
+FaultsShut root ask faults.Damaged = ⊥
+FaultsShut root ask faults.Reopen = response_shut root ask ≡ fault_response (Keeper faults.Reopen)
 
 -- over a shut keeper
 abbrev pub RespondsShut : Text → AskValue → Result Response Fault → Type 0
 RespondsShut root ask (Ok response) = response_value response ≡ response_shut root ask
-RespondsShut root ask (Err faults.Memory) = ⊤
-RespondsShut root ask (Err faults.Device) = ⊥
-RespondsShut root ask (Err faults.Damaged) = ⊥
-RespondsShut root ask (Err faults.Reopen) = response_shut root ask ≡ fault_response (Keeper faults.Reopen)
+RespondsShut root ask (Err fault) = FaultsShut root ask fault
 
--- what a stop may leave, where the keeper stood for a state and a stop could leave it and no other
-abbrev pub RespondLeaves : State → AskValue → Result Response Fault → (Option State → Type 0) → Type 0
-RespondLeaves s ask (Ok response) left = LeavesOnly left (Some (state_in s ask))
-RespondLeaves s ask (Err faults.Memory) left = LeavesOnly left (Some s)
-RespondLeaves s ask (Err faults.Device) left = LeavesEither left (Some s) (Some (state_in s ask))
-RespondLeaves s ask (Err faults.Damaged) left = LeavesOnly left (Some s)
-RespondLeaves s ask (Err faults.Reopen) left = LeavesOnly left (Some s)
+-- what a stop may leave behind an answer or a fault, where the keeper stood for a state and a stop could leave it and no other
+abbrev pub AnswerLeaves : {A : Type 0} → State → AskValue → Result A Fault → (Option State → Type 0) → Type 0
+AnswerLeaves s ask (Ok answer) left = LeavesOnly left (Some (state_in s ask))
+AnswerLeaves s ask (Err faults.Memory) left = LeavesOnly left (Some s)
+AnswerLeaves s ask (Err faults.Device) left = LeavesEither left (Some s) (Some (state_in s ask))
+AnswerLeaves s ask (Err faults.Damaged) left = LeavesOnly left (Some s)
+AnswerLeaves s ask (Err faults.Reopen) left = LeavesOnly left (Some s)
 
 -- the bytes of the head of an answer
 abbrev pub head_bytes : Answer → Text
@@ -73,26 +81,12 @@ pub record Answers (root : Text) (x : Standing) (ask : AskValue) (asked bare : B
 abbrev pub TriesIn : Text → State → AskValue → Bool → Bool → Result (Answer × Bool) Fault → (State → Type 0) → Option Cause → Type 0
 TriesIn root s ask asked bare (Ok r) stands cause =
     (r.1 ≡ closes_with asked (response_in root s ask)) × (answer_text r.0 ≡ response_text r.1 bare (response_in root s ask)) × stands (state_in s ask)
-TriesIn root s ask asked bare (Err faults.Memory) stands cause = stands s
-TriesIn root s ask asked bare (Err faults.Device) stands cause = (asks_state ask ≡ true) × (cause ≡ Some causes.Device)
-TriesIn root s ask asked bare (Err faults.Damaged) stands cause = ⊥
-TriesIn root s ask asked bare (Err faults.Reopen) stands cause = ⊥
+TriesIn root s ask asked bare (Err fault) stands cause = FaultsIn s ask fault stands cause
 
 -- over a shut keeper
 abbrev pub TriesShut : Text → AskValue → Bool → Bool → Result (Answer × Bool) Fault → Type 0
 TriesShut root ask asked bare (Ok r) = (r.1 ≡ closes_with asked (response_shut root ask)) × (answer_text r.0 ≡ response_text r.1 bare (response_shut root ask))
-TriesShut root ask asked bare (Err faults.Memory) = ⊤
-TriesShut root ask asked bare (Err faults.Device) = ⊥
-TriesShut root ask asked bare (Err faults.Damaged) = ⊥
-TriesShut root ask asked bare (Err faults.Reopen) = response_shut root ask ≡ fault_response (Keeper faults.Reopen)
-
--- what a stop may leave then
-abbrev pub TryLeaves : State → AskValue → Result (Answer × Bool) Fault → (Option State → Type 0) → Type 0
-TryLeaves s ask (Ok r) left = LeavesOnly left (Some (state_in s ask))
-TryLeaves s ask (Err faults.Memory) left = LeavesOnly left (Some s)
-TryLeaves s ask (Err faults.Device) left = LeavesEither left (Some s) (Some (state_in s ask))
-TryLeaves s ask (Err faults.Damaged) left = LeavesOnly left (Some s)
-TryLeaves s ask (Err faults.Reopen) left = LeavesOnly left (Some s)
+TriesShut root ask asked bare (Err fault) = FaultsShut root ask fault
 
 -- ---- batches
 

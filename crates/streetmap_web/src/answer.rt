@@ -10,7 +10,7 @@ ghost use Rattle.streetmap_routes.specs.Ask.{ask_of, batch};
 ghost use Rattle.streetmap_routes.specs.BaseView.{root_of};
 ghost use Rattle.streetmap_web.specs.Response.{response_text, closes_with, head_of, fault_response};
 ghost use Rattle.streetmap_web.specs.Standing.{Standing, Stands, LeavesNoMore};
-ghost use Rattle.streetmap_web.specs.Responds.{response_value, answer_text, Answers, TriesIn, TriesShut, TryLeaves, BatchTries, BatchAnswers, RefusesBy};
+ghost use Rattle.streetmap_web.specs.Responds.{response_value, answer_text, Answers, TriesIn, TriesShut, AnswerLeaves, BatchTries, BatchAnswers, RefusesBy};
 ghost use Rattle.streetmap_bodies.specs.declared.request_fault.RequestFault.TheVariants.{Keeper as KeeperFault, Framing};
 
 use crate::respond::{faulty, respond_to};
@@ -150,7 +150,7 @@ fn try_answer<K: Keeper>(
     ensures began_clean { K.is_clean keeper.new → K.is_clean keeper.old }
     ensures answers { K.is_clean keeper.new → (s : State) → K.stands keeper.old s → TriesIn (root_of base.now) s (ask_of request.entry.method.now request.entry.target.now body.now) request.entry.closes (is_bare_of request.entry.method.now) result (K.stands keeper.new) (K.cause keeper.new) }
     ensures shut { (why : Cause) → K.cause keeper.old ≡ Some why → TriesShut (root_of base.now) (ask_of request.entry.method.now request.entry.target.now body.now) request.entry.closes (is_bare_of request.entry.method.now) result × (K.cause keeper.new ≡ Some why) × LeavesNoMore (K.may_leave keeper.old) (K.may_leave keeper.new) }
-    ensures leaves { K.is_clean keeper.new → (s : State) → K.stands keeper.old s → LeavesOnly (K.may_leave keeper.old) (Some s) → TryLeaves s (ask_of request.entry.method.now request.entry.target.now body.now) result (K.may_leave keeper.new) }
+    ensures leaves { K.is_clean keeper.new → (s : State) → K.stands keeper.old s → LeavesOnly (K.may_leave keeper.old) (Some s) → AnswerLeaves s (ask_of request.entry.method.now request.entry.target.now body.now) result (K.may_leave keeper.new) }
 {
     let Ok(room) = String::with_capacity(alloc, HEAD_ROOM) else {
         return Err(Fault::Memory);

@@ -17,7 +17,7 @@ ghost use Rattle.streetmap_web.specs.Response.{fault_response, found};
 ghost use Rattle.streetmap_bodies.specs.Bodies as spec_bodies;
 ghost use Rattle.streetmap_web.specs.Standing.{LeavesNoMore};
 ghost use Rattle.streetmap_routes.specs.AskView.{ask_value};
-ghost use Rattle.streetmap_web.specs.Responds.{response_value, RespondsIn, RespondsShut, RespondLeaves, BatchResponds};
+ghost use Rattle.streetmap_web.specs.Responds.{response_value, RespondsIn, RespondsShut, AnswerLeaves, BatchResponds};
 ghost use Rattle.streetmap_http.specs.declared.answer_head.MediaType.TheVariants.{Json, GeoJson, Html};
 
 use crate::response::Response;
@@ -121,7 +121,7 @@ fn respond_batch<K: Keeper>(alloc: Global, keeper: &mut K, batch: &Batch) -> Res
     ensures began_clean { K.is_clean keeper.new → K.is_clean keeper.old }
     ensures responds { K.is_clean keeper.new → (s : State) → K.stands keeper.old s → (root : Text) → RespondsIn root s (spec.batch (batch_value batch.now)) result (K.stands keeper.new) (K.cause keeper.new) }
     ensures shut { (why : Cause) → K.cause keeper.old ≡ Some why → ((root : Text) → RespondsShut root (spec.batch (batch_value batch.now)) result) × (K.cause keeper.new ≡ Some why) × LeavesNoMore (K.may_leave keeper.old) (K.may_leave keeper.new) }
-    ensures leaves { K.is_clean keeper.new → (s : State) → K.stands keeper.old s → LeavesOnly (K.may_leave keeper.old) (Some s) → RespondLeaves s (spec.batch (batch_value batch.now)) result (K.may_leave keeper.new) }
+    ensures leaves { K.is_clean keeper.new → (s : State) → K.stands keeper.old s → LeavesOnly (K.may_leave keeper.old) (Some s) → AnswerLeaves s (spec.batch (batch_value batch.now)) result (K.may_leave keeper.new) }
 {
     let Ok(body) = String::with_capacity(alloc, BODY_ROOM) else {
         return Err(Fault::Memory);
@@ -162,7 +162,7 @@ fn respond_page<K: Keeper>(
     ensures began_clean { K.is_clean keeper.new → K.is_clean keeper.old }
     ensures responds { K.is_clean keeper.new → (s : State) → K.stands keeper.old s → RespondsIn root.now s (spec.page name.now (query_value query.now)) result (K.stands keeper.new) (K.cause keeper.new) }
     ensures shut { (why : Cause) → K.cause keeper.old ≡ Some why → RespondsShut root.now (spec.page name.now (query_value query.now)) result × (K.cause keeper.new ≡ Some why) × LeavesNoMore (K.may_leave keeper.old) (K.may_leave keeper.new) }
-    ensures leaves { K.is_clean keeper.new → (s : State) → K.stands keeper.old s → LeavesOnly (K.may_leave keeper.old) (Some s) → RespondLeaves s (spec.page name.now (query_value query.now)) result (K.may_leave keeper.new) }
+    ensures leaves { K.is_clean keeper.new → (s : State) → K.stands keeper.old s → LeavesOnly (K.may_leave keeper.old) (Some s) → AnswerLeaves s (spec.page name.now (query_value query.now)) result (K.may_leave keeper.new) }
 {
     match keeper.page(name, query) {
         Ok(page) => or_starved(found_page(alloc, root, name, query, &page)),
@@ -199,7 +199,7 @@ fn respond_feature<K: Keeper>(
     ensures began_clean { K.is_clean keeper.new → K.is_clean keeper.old }
     ensures responds { K.is_clean keeper.new → (s : State) → K.stands keeper.old s → RespondsIn root.now s (spec.feature name.now id.now) result (K.stands keeper.new) (K.cause keeper.new) }
     ensures shut { (why : Cause) → K.cause keeper.old ≡ Some why → RespondsShut root.now (spec.feature name.now id.now) result × (K.cause keeper.new ≡ Some why) × LeavesNoMore (K.may_leave keeper.old) (K.may_leave keeper.new) }
-    ensures leaves { K.is_clean keeper.new → (s : State) → K.stands keeper.old s → LeavesOnly (K.may_leave keeper.old) (Some s) → RespondLeaves s (spec.feature name.now id.now) result (K.may_leave keeper.new) }
+    ensures leaves { K.is_clean keeper.new → (s : State) → K.stands keeper.old s → LeavesOnly (K.may_leave keeper.old) (Some s) → AnswerLeaves s (spec.feature name.now id.now) result (K.may_leave keeper.new) }
 {
     match keeper.feature(name, id) {
         Ok(feature) => or_starved(found_feature(alloc, root, name, &feature)),
@@ -231,7 +231,7 @@ fn respond_collection<K: Keeper>(
     ensures began_clean { K.is_clean keeper.new → K.is_clean keeper.old }
     ensures responds { K.is_clean keeper.new → (s : State) → K.stands keeper.old s → RespondsIn root.now s (spec.one_collection name.now) result (K.stands keeper.new) (K.cause keeper.new) }
     ensures shut { (why : Cause) → K.cause keeper.old ≡ Some why → RespondsShut root.now (spec.one_collection name.now) result × (K.cause keeper.new ≡ Some why) × LeavesNoMore (K.may_leave keeper.old) (K.may_leave keeper.new) }
-    ensures leaves { K.is_clean keeper.new → (s : State) → K.stands keeper.old s → LeavesOnly (K.may_leave keeper.old) (Some s) → RespondLeaves s (spec.one_collection name.now) result (K.may_leave keeper.new) }
+    ensures leaves { K.is_clean keeper.new → (s : State) → K.stands keeper.old s → LeavesOnly (K.may_leave keeper.old) (Some s) → AnswerLeaves s (spec.one_collection name.now) result (K.may_leave keeper.new) }
 {
     match keeper.collection(name) {
         Ok(summary) => or_starved(found_collection(alloc, root, &summary)),
@@ -260,7 +260,7 @@ fn respond_collections<K: Keeper>(
     ensures began_clean { K.is_clean keeper.new → K.is_clean keeper.old }
     ensures responds { K.is_clean keeper.new → (s : State) → K.stands keeper.old s → RespondsIn root.now s spec.all_collections result (K.stands keeper.new) (K.cause keeper.new) }
     ensures shut { (why : Cause) → K.cause keeper.old ≡ Some why → RespondsShut root.now spec.all_collections result × (K.cause keeper.new ≡ Some why) × LeavesNoMore (K.may_leave keeper.old) (K.may_leave keeper.new) }
-    ensures leaves { K.is_clean keeper.new → (s : State) → K.stands keeper.old s → LeavesOnly (K.may_leave keeper.old) (Some s) → RespondLeaves s spec.all_collections result (K.may_leave keeper.new) }
+    ensures leaves { K.is_clean keeper.new → (s : State) → K.stands keeper.old s → LeavesOnly (K.may_leave keeper.old) (Some s) → AnswerLeaves s spec.all_collections result (K.may_leave keeper.new) }
 {
     match keeper.collections() {
         Ok(summaries) => or_starved(found_collections(alloc, root, summaries.as_slice())),
@@ -310,7 +310,7 @@ pub(crate) fn respond_to<K: Keeper>(
     ensures began_clean { K.is_clean keeper.new → K.is_clean keeper.old }
     ensures responds { K.is_clean keeper.new → (s : State) → K.stands keeper.old s → RespondsIn root.now s (ask_value ask.now) result (K.stands keeper.new) (K.cause keeper.new) }
     ensures shut { (why : Cause) → K.cause keeper.old ≡ Some why → RespondsShut root.now (ask_value ask.now) result × (K.cause keeper.new ≡ Some why) × LeavesNoMore (K.may_leave keeper.old) (K.may_leave keeper.new) }
-    ensures leaves { K.is_clean keeper.new → (s : State) → K.stands keeper.old s → LeavesOnly (K.may_leave keeper.old) (Some s) → RespondLeaves s (ask_value ask.now) result (K.may_leave keeper.new) }
+    ensures leaves { K.is_clean keeper.new → (s : State) → K.stands keeper.old s → LeavesOnly (K.may_leave keeper.old) (Some s) → AnswerLeaves s (ask_value ask.now) result (K.may_leave keeper.new) }
 {
     match ask {
         Ask::Faulty(fault) => or_starved(faulty(alloc, *fault)),
