@@ -4,3 +4,4 @@ pub mod Accepting
 pub mod Joining
 pub mod Deciding
 pub mod Editing
+pub mod Told

@@ -61,3 +61,9 @@ Applied s b new (Ok reply) = (reply ≡ (act s b).reply) × Rests new (act s b).
 Applied s b new (Err Memory) = Rests new s
 Applied s b new (Err (Closed (Device e))) = IsOfStore e
 Applied s b new (Err (Closed Damaged)) = ⊥
+
+-- where the store is told to have failed, by an error that is the store's
+abbrev pub IsToldByStore : Stop → Type 0
+IsToldByStore Memory = Unit {0}
+IsToldByStore (Closed (Device e)) = IsOfStore e
+IsToldByStore (Closed Damaged) = Unit {0}

@@ -6,11 +6,10 @@ ghost use Rattle.streetmap_batch.specs.BatchText.{batch_text};
 ghost use Rattle.streetmap_batch.specs.BatchView.{batch_value};
 ghost use Rattle.streetmap_writing.specs.Acting.{ActsInside};
 
-use crate::counts::count_edits;
 use crate::edits::edit_each;
 use sqlite::{Alter, Error, Transaction};
 use std::alloc::Global;
-use streetmap_ledger::{Batch, Reply};
+use streetmap_ledger::{Batch, Counts, Reply};
 use streetmap_rows::insert_batch;
 
 /// Acts on a batch whose key is new.
@@ -33,7 +32,7 @@ pub fn act_inside<S: Alter>(
         Ok(Some((place, why))) => return Ok(Reply::Refused(why, Some(place))),
         Ok(None) => {}
     }
-    let counts = count_edits(batch.edits());
+    let counts = Counts::of(batch.edits());
     match insert_batch(tx, batch.key(), text, counts, count + 1) {
         Ok(()) => Ok(Reply::Accepted(counts, count + 1)),
         Err(error) => Err(error),

@@ -1,5 +1,5 @@
 //! A batch, in a transaction of its own.
-ghost use Rattle.std.specs.Prelude.{◌≡◌, ◌≤◌, ◌<◌, ◌^◌, ◌-◌, false};
+ghost use Rattle.std.specs.Prelude.{◌≡◌, ◌≤◌, ◌<◌, ◌^◌, ◌-◌, false, IfErr};
 ghost use Rattle.std.specs.FinMap.{len};
 ghost use Rattle.sqlite.specs.Held.{state};
 ghost use Rattle.sqlite.specs.State.{HasCleanDisk};
@@ -8,7 +8,7 @@ ghost use Rattle.streetmap_ledger.specs.State.{State};
 ghost use Rattle.streetmap_batch.specs.BatchText.{batch_text};
 ghost use Rattle.streetmap_batch.specs.BatchView.{batch_value};
 ghost use Rattle.streetmap_rows.specs.Keeping.{Rests, MayBecome};
-ghost use Rattle.streetmap_writing.specs.Acting.{Awaits, Applied, Ended};
+ghost use Rattle.streetmap_writing.specs.Acting.{Awaits, Applied, Ended, IsToldByStore};
 
 use crate::acting::act_inside;
 use crate::kept::kept_reply;
@@ -85,6 +85,7 @@ fn act_by_key<S: Alter>(
 }
 
 /// Acts on a batch whole or not at all.
+#[tactic(auto, using(crate::proofs::Told::told_by_cause, crate::proofs::Told::told_settled))]
 pub fn apply_batch<S: Alter>(
     alloc: Global,
     conn: &mut Connection<S>,
@@ -94,6 +95,7 @@ pub fn apply_batch<S: Alter>(
     requires { conn.old.in_transaction ≡ false }
     ensures idle { conn.new.in_transaction ≡ false }
     ensures clean { doubt (state S.Store conn.old).is_clean ≤ doubt (state S.Store conn.new).is_clean }
+    ensures told { HasCleanDisk (state S.Store conn.new) → IfErr result IsToldByStore }
     ensures acts { HasCleanDisk (state S.Store conn.new) → (s : State) → Rests (state S.Store conn.old) s → len s.keys ≡ count → Applied s (batch_value batch.now) (state S.Store conn.new) result }
     ensures crash { HasCleanDisk (state S.Store conn.new) → (s : State) → Rests (state S.Store conn.old) s → len s.keys ≡ count → MayBecome s (batch_value batch.now) (state S.Store conn.old) (state S.Store conn.new) }
 {

@@ -6,12 +6,11 @@
 //! refused and nothing changed, or the store failed, and it tells the error that named the cause.
 //!
 //! In the order of reading: `kept` (what is kept for a key), `timing` and `storing` (what is written of a
-//! feature), `edits`, `counts`, `acting` (a batch inside its transaction), `batch`.
+//! feature), `edits`, `acting` (a batch inside its transaction), `batch`.
 #![tactic(auto)]
 
 mod acting;
 mod batch;
-mod counts;
 mod edits;
 mod kept;
 mod storing;

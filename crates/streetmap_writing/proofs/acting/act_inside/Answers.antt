@@ -34,8 +34,8 @@ returns-in-Ok-clause-acts g c clean limit inside s kept awaits =
     let did = subst (AnsweredAll s (map edit_value c.edits.result.now) mid) c.in-Ok-None.field-0-is e.0 in
     let is = ap (edited 1 s) (sym c.edits.ensures.value) ∙ did.1 in
     let at = act_is s b c.args.count awaits (Ok did.0) is in
-    let counts : c.count_edits-counts.result ≡ counts_of b.edits = c.count_edits-counts.ensures.value ∙ ap counts_of c.edits-2.ensures.value in
-    let row : ◌≡◌ {A = AcceptedBatch} (kept_for b (len s.keys + 1)) (record { text = c.args.text.now; counts = c.count_edits-counts.result; serial = c.args.count + 1 }) =
+    let counts : c.of-counts.result ≡ counts_of b.edits = c.of-counts.ensures.value ∙ ap counts_of c.edits-2.ensures.value in
+    let row : ◌≡◌ {A = AcceptedBatch} (kept_for b (len s.keys + 1)) (record { text = c.args.text.now; counts = c.of-counts.result; serial = c.args.count + 1 }) =
     λ i. record { text = sym c.requires.its_text i; counts = sym counts i; serial = awaits.counted i + 1 } in
     let lead = subst₂ (λ key k. KeepsBatch key k did.0 (act s b).state) (sym c.key.ensures.value) row (leads s b c.args.count awaits did.0 is kept.well) in
     let rows = c.in-Ok.ensures.writes clean did.3 (c.edit_each.ensures.survives.limit ∙ limit) did.0 (act s b).state did.2 lead in (
@@ -54,8 +54,8 @@ returns-in-Err-insert_batch-clause-acts g c clean limit inside s kept awaits =
     let e = c.in-Ok-None.ensures.edits early limit inside s kept.rows in
     let did = subst (AnsweredAll s (map edit_value c.edits.result.now) mid) c.in-Ok-None.field-0-is e.0 in
     let is = ap (edited 1 s) (sym c.edits.ensures.value) ∙ did.1 in
-    let counts : c.count_edits-counts.result ≡ counts_of b.edits = c.count_edits-counts.ensures.value ∙ ap counts_of c.edits-2.ensures.value in
-    let row : ◌≡◌ {A = AcceptedBatch} (kept_for b (len s.keys + 1)) (record { text = c.args.text.now; counts = c.count_edits-counts.result; serial = c.args.count + 1 }) =
+    let counts : c.of-counts.result ≡ counts_of b.edits = c.of-counts.ensures.value ∙ ap counts_of c.edits-2.ensures.value in
+    let row : ◌≡◌ {A = AcceptedBatch} (kept_for b (len s.keys + 1)) (record { text = c.args.text.now; counts = c.of-counts.result; serial = c.args.count + 1 }) =
     λ i. record { text = sym c.requires.its_text i; counts = sym counts i; serial = awaits.counted i + 1 } in
     let lead = subst₂ (λ key k. KeepsBatch key k did.0 (act s b).state) (sym c.key.ensures.value) row (leads s b c.args.count awaits did.0 is kept.well) in
     (c.in-Err-insert_batch.ensures.writes clean did.3 (c.edit_each.ensures.survives.limit ∙ limit) did.0 (act s b).state did.2 lead, keeps_then old mid new e.1 (c.in-Err-insert_batch.ensures.kept clean did.3))
