@@ -13,51 +13,10 @@ use Rattle.streetmap_grid.specs.Range.{IsBound}
 use Rattle.streetmap_grid.specs.Meeting.{Holds}
 use Rattle.streetmap_grid.specs.WellFormed.{IsInGrid, IsBox, IsLine, IsRing, IsPolygon, IsSimple, IsGeometry}
 use Rattle.streetmap_grid.specs.Extent.{IsExtent, polygon_vertices, simple_vertices, vertices, extent_of, positions_extent}
-use Rattle.streetmap_grid.specs.Bounds.{AreBounds, IsLeast, IsGreatest}
+use Rattle.streetmap_grid.specs.Bounds.{AreBounds}
 use Rattle.streetmap_grid.proofs.Growing.{same_extent, positions_extent_is, extent_is, ordered_extent}
 use Rattle.streetmap_geojson.specs.FeatureInvariant.{IsGeometryIf}
 use Rattle.streetmap_ledger.specs.Summaries.{extent_if}
-
--- ---- of two lists
-
-some_left : (P Q : PositionValue → Type 0) → ((p : PositionValue) → P p → Q p) → (ps qs : List PositionValue) → SomeOf P ps → SomeOf Q (ps ++ qs)
-some_left P Q f [] qs s = absurd s
-some_left P Q f (v ∷ vs) qs (inl s) = inl (f v s)
-some_left P Q f (v ∷ vs) qs (inr s) = inr (some_left P Q f vs qs s)
-
-some_each : (P Q : PositionValue → Type 0) → ((p : PositionValue) → P p → Q p) → (qs : List PositionValue) → SomeOf P qs → SomeOf Q qs
-some_each P Q f [] s = absurd s
-some_each P Q f (v ∷ vs) (inl s) = inl (f v s)
-some_each P Q f (v ∷ vs) (inr s) = inr (some_each P Q f vs s)
-
-some_right : (P Q : PositionValue → Type 0) → ((p : PositionValue) → P p → Q p) → (ps qs : List PositionValue) → SomeOf P qs → SomeOf Q (ps ++ qs)
-some_right P Q f [] qs s = some_each P Q f qs s
-some_right P Q f (v ∷ vs) qs s = inr (some_right P Q f vs qs s)
-
-bound : (f : PositionValue → ℤ) (a b new : ℤ) (ps qs : List PositionValue) → (new ≡ a) ⊎ (new ≡ b) → SomeOf (λ v. f v ≡ a) ps → SomeOf (λ v. f v ≡ b) qs → SomeOf (λ v. f v ≡ new) (ps ++ qs)
-bound f a b new ps qs (inl e) s t = some_left (λ v. f v ≡ a) (λ v. f v ≡ new) (λ v k. k ∙ sym e) ps qs s
-bound f a b new ps qs (inr e) s t = some_right (λ v. f v ≡ b) (λ v. f v ≡ new) (λ v k. k ∙ sym e) ps qs t
-
--- the extent of two lists, from those of each
-pub extent_both : (ps qs : List PositionValue) (g h k : BoxValue) → IsExtent ps g → IsExtent qs h → IsLeast k.x0 g.x0 h.x0 → IsLeast k.y0 g.y0 h.y0 → IsGreatest k.x1 g.x1 h.x1 → IsGreatest k.y1 g.y1 h.y1 → IsExtent (ps ++ qs) k
-extent_both ps qs g h k x y w s e n =
-    record {
-      holds = All-append (λ v. Holds k v.x v.y) ps qs
-          (All-weaker (λ v. Holds g v.x v.y) (λ v. Holds k v.x v.y) (λ v i. (omega (arith, ints, i, w.0), omega (arith, ints, i, e.0), omega (arith, ints, i, s.0), omega (arith, ints, i, n.0))) ps x.holds)
-          (All-weaker (λ v. Holds h v.x v.y) (λ v. Holds k v.x v.y) (λ v i. (omega (arith, ints, i, w.1), omega (arith, ints, i, e.1), omega (arith, ints, i, s.1), omega (arith, ints, i, n.1))) qs y.holds);
-      west = bound (λ v. v.x) g.x0 h.x0 k.x0 ps qs w.2 x.west y.west;
-      south = bound (λ v. v.y) g.y0 h.y0 k.y0 ps qs s.2 x.south y.south;
-      east = bound (λ v. v.x) g.x1 h.x1 k.x1 ps qs e.2 x.east y.east;
-      north = bound (λ v. v.y) g.y1 h.y1 k.y1 ps qs n.2 x.north y.north;
-    }
-
-pub least_in : (r a b : ℤ) → IsBound a → IsBound b → IsLeast r a b → IsBound r
-least_in r a b ha hb (l, k, inl e) = omega (arith, ints, ha, e)
-least_in r a b ha hb (l, k, inr e) = omega (arith, ints, hb, e)
-
-pub greatest_in : (r a b : ℤ) → IsBound a → IsBound b → IsGreatest r a b → IsBound r
-greatest_in r a b ha hb (l, k, inl e) = omega (arith, ints, ha, e)
-greatest_in r a b ha hb (l, k, inr e) = omega (arith, ints, hb, e)
 
 -- the bounds of a list and of none
 pub bounds_none : (ps qs : List PositionValue) (o : Option GridBox) → qs ≡ [] → AreBounds ps o → AreBounds (ps ++ qs) o

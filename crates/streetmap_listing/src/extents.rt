@@ -2,8 +2,7 @@
 ghost use Rattle.std.specs.Prelude.{◌≡◌, List, Option, option_map, ◌++◌, false, MatchResult, IfSome};
 ghost use Rattle.sqlite.specs.Held.{state};
 ghost use Rattle.sqlite.specs.State.{HasCleanDisk, Survives};
-ghost use Rattle.streetmap_grid.specs.Bounds.{AreBounds, IsLeast, IsGreatest};
-ghost use Rattle.streetmap_grid.specs.Extent.{IsExtent};
+ghost use Rattle.streetmap_grid.specs.Bounds.{AreBounds};
 ghost use Rattle.streetmap_grid.specs.Values.{BoxValue, PositionValue};
 ghost use Rattle.streetmap_grid.specs.Views.{box_value};
 ghost use Rattle.streetmap_grid.specs.WellFormed.{IsBox};
@@ -17,30 +16,6 @@ use sqlite::{Alter, Connection, Row, params};
 use streetmap_grid::GridBox;
 use streetmap_reading::ReadFault;
 
-fn least(a: i64, b: i64) -> i64
-    ensures { IsLeast result a b }
-{
-    if b < a { b } else { a }
-}
-
-fn greatest(a: i64, b: i64) -> i64
-    ensures { IsGreatest result a b }
-{
-    if a < b { b } else { a }
-}
-
-/// The extent of the positions of two extents.
-fn union(one: &GridBox, other: &GridBox) -> GridBox
-    ensures { (ps qs : List PositionValue) → IsExtent ps (box_value one.now) → IsExtent qs (box_value other.now) → IsExtent (ps ++ qs) (box_value result) }
-{
-    GridBox {
-        x0: least(one.x0, other.x0),
-        y0: least(one.y0, other.y0),
-        x1: greatest(one.x1, other.x1),
-        y1: greatest(one.y1, other.y1),
-    }
-}
-
 /// The bounds of the positions of both.
 fn bounds_of_both(one: Option<GridBox>, other: Option<GridBox>) -> Option<GridBox>
     ensures { (ps qs : List PositionValue) → AreBounds ps one → AreBounds qs other → AreBounds (ps ++ qs) result }
@@ -48,7 +23,7 @@ fn bounds_of_both(one: Option<GridBox>, other: Option<GridBox>) -> Option<GridBo
     match (one, other) {
         (one, None) => one,
         (None, other) => other,
-        (Some(one), Some(other)) => Some(union(&one, &other)),
+        (Some(one), Some(other)) => Some(one.union(&other)),
     }
 }
 
