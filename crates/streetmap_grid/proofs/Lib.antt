@@ -1,5 +1,6 @@
 pub mod Booleans
 pub mod Closing
+pub mod Compared
 pub mod Counting
 pub mod Deciding
 pub mod Elements
