@@ -1,5 +1,5 @@
 -- What was read of a row.
-use Rattle.std.proofs.Common.{◌≡◌, ◌<◌, ℕ, List, Option, Ok, Err, Result, length, sym, ap, subst}
+use Rattle.std.proofs.Common.{◌≡◌, ◌<◌, ℕ, Ok, Err, Result, length, sym, subst}
 use Rattle.sqlite.specs.Order.{Row}
 
 pub good_of : {T E : Type 0} {x y : T} → ◌≡◌ {A = Result T E} (Ok x) (Ok y) → x ≡ y

@@ -17,7 +17,7 @@ use Rattle.sqlite_rules.proofs.ListLemmas.{all_has, all_from, has_filtered, has_
 use Rattle.streetmap_geojson.specs.FeatureValue.{FeatureValue}
 use Rattle.streetmap_geojson.specs.FeatureInvariant.{IsFeature, IsGeometryIf}
 use Rattle.streetmap_batch.specs.Text.{Text, text_cmp}
-use Rattle.streetmap_ledger.specs.State.{State, Collection, Features}
+use Rattle.streetmap_ledger.specs.State.{State, Collection}
 use Rattle.streetmap_ledger.specs.Outlines.{feature_outline_of}
 use Rattle.streetmap_tables.specs.Holds.{KeyPair, pair_key, has_pair, first_key, is_first, same_text}
 use Rattle.streetmap_tables.proofs.Finding.{IsFound}

@@ -1,8 +1,8 @@
 -- One row more.
-use Rattle.std.proofs.Common.{◌≡◌, List, [], ◌∷◌, ◌++◌, map, Option, Some, None, option_map, refl, sym, ap, ap₂, subst, ◌∙◌}
+use Rattle.std.proofs.Common.{◌≡◌, List, [], ◌∷◌, ◌++◌, map, Option, Some, None, option_map, sym, ap, subst, ◌∙◌}
 use Rattle.std.specs.List.{AllByRecursion}
 use Rattle.std.specs.Option.{option_map_or}
-use Rattle.std.specs.FinMap.{get, values, entries, empty}
+use Rattle.std.specs.FinMap.{values, entries, empty}
 use Rattle.std.proofs.lemmas.List.{flat_map_more}
 use Rattle.sqlite.specs.Order.{Row}
 use Rattle.streetmap_grid.specs.declared.grid_box.GridBox.{GridBox}
@@ -14,10 +14,8 @@ use Rattle.streetmap_geojson.specs.FeatureInvariant.{IsGeometryIf}
 use Rattle.streetmap_batch.specs.Text.{Text}
 use Rattle.streetmap_ledger.specs.State.{State, Collection}
 use Rattle.streetmap_ledger.specs.Outlines.{FeatureOutlineValue, feature_outline_of, feature_outlines_of}
-use Rattle.streetmap_ledger.specs.OutlineView.{feature_outline_value, feature_outline_values}
-use Rattle.streetmap_ledger.specs.Summaries.{SummaryValue, feature_vertices, all_vertices, extent_if, summary_of}
+use Rattle.streetmap_ledger.specs.Summaries.{SummaryValue, feature_vertices, all_vertices, extent_if}
 use Rattle.streetmap_ledger.specs.SummaryView.{summary_value, summary_values}
-use Rattle.streetmap_ledger.specs.declared.outline.FeatureOutline.{FeatureOutline}
 use Rattle.streetmap_ledger.specs.declared.summary.Summary.{Summary}
 use Rattle.streetmap_rows.specs.Rows.{collection_cells}
 use Rattle.streetmap_rows.specs.Stands.{IsReadable}
@@ -25,9 +23,9 @@ use Rattle.streetmap_rows.specs.Views.{collection_view}
 use Rattle.streetmap_reading.proofs.Rests.{map_append}
 use Rattle.streetmap_listing.specs.Held.{head_of}
 use Rattle.streetmap_listing.specs.Telling.{features_in, IsExtentIn, IsTold}
-use Rattle.streetmap_listing.specs.Views.{outline_row, extent_row, feature_extent, IsOutline}
-use Rattle.streetmap_listing.proofs.Boxes.{feature_bounds, extent_is_box}
-use Rattle.streetmap_listing.proofs.Lists.{EndsWith, ends_with, all_before}
+use Rattle.streetmap_listing.specs.Views.{extent_row, feature_extent}
+use Rattle.streetmap_listing.proofs.Boxes.{feature_bounds}
+use Rattle.streetmap_listing.proofs.Lists.{ends_with, all_before}
 
 -- a list with one value more, where the rows end with the row of that value
 pub one_more : {A B : Type 0} (value : A → B) (row_of : B → Row) (Fine : B → Type 0) (items next : List A) (item : A) (rows : List Row) (row : Row) → next ≡ items ++ item ∷ []

@@ -12,7 +12,7 @@ use Rattle.streetmap_ledger.specs.SummaryView.{summary_value, summary_values}
 use Rattle.streetmap_ledger.specs.declared.summary.Summary.{Summary}
 use Rattle.streetmap_rows.specs.Keeping.{Keeps}
 use Rattle.streetmap_reading.specs.declared.fault.ReadFault.{ReadFault}
-use Rattle.streetmap_reading.specs.Looking.{LooksInto, Stays}
+use Rattle.streetmap_reading.specs.Looking.{Stays}
 use Rattle.streetmap_reading.specs.Taking.{Stopped}
 use Rattle.streetmap_reading.proofs.Rests.{map_append, survives_still, clean_before, stopped_on}
 use Rattle.streetmap_reading.proofs.Pages.{survives_both}

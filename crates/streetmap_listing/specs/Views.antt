@@ -1,5 +1,5 @@
 -- What the rows of listings show, and which rows can be read.
-use Rattle.std.specs.Prelude.{◌≡◌, ℤ, [], ◌∷◌, Option, None, Some, option_map, IfSome, IsUtf8}
+use Rattle.std.specs.Prelude.{◌≡◌, ℤ, [], ◌∷◌, Option, option_map, IfSome, IsUtf8}
 use Rattle.sqlite.specs.declared.types.Value.TheVariants.{Int, Text as Words}
 use Rattle.sqlite.specs.Order.{Row}
 use Rattle.sqlite.specs.Values.{or_null}

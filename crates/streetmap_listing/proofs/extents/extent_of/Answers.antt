@@ -1,8 +1,6 @@
-use Rattle.std.proofs.Common.{◌≡◌, [], ◌∷◌, map, ap, sym, subst, ◌∙◌, None, refl}
+use Rattle.std.proofs.Common.{ap, sym}
 use Rattle.std.specs.FinMap.{entries, values}
-use Rattle.sqlite.specs.Held.{state}
 use Rattle.streetmap_geojson.specs.FeatureValue.{FeatureValue}
-use Rattle.streetmap_grid.specs.Bounds.{AreBounds}
 use Rattle.streetmap_ledger.specs.Summaries.{all_vertices}
 use Rattle.streetmap_reading.proofs.Failing.{passed_on}
 use Rattle.streetmap_reading.proofs.Pages.{stays_by, survives_any}

@@ -1,6 +1,5 @@
-use Rattle.std.proofs.Common.{◌≡◌, [], ◌∷◌, map, ap, sym, ◌∙◌, refl}
+use Rattle.std.proofs.Common.{◌≡◌, [], map, ap, sym, ◌∙◌, refl}
 use Rattle.std.specs.FinMap.{entries}
-use Rattle.sqlite.specs.Held.{state}
 use Rattle.streetmap_batch.specs.Text.{Text}
 use Rattle.streetmap_ledger.specs.State.{Collection}
 use Rattle.streetmap_ledger.specs.SummaryView.{summary_values}

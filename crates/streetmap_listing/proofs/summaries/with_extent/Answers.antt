@@ -1,5 +1,3 @@
-use Rattle.std.proofs.Common.{◌∙◌, sym}
-use Rattle.sqlite.specs.Held.{state}
 use Rattle.streetmap_reading.proofs.Failing.{passed_on}
 use Rattle.streetmap_listing.proofs.Taken.{extended}
 use Rattle.streetmap_listing.proofs.summaries.with_extent.Goals as goal

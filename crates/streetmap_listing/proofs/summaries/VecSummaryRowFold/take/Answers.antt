@@ -1,7 +1,3 @@
-use Rattle.std.proofs.Common.{◌≡◌, Some}
-use Rattle.streetmap_batch.specs.Text.{Text}
-use Rattle.streetmap_ledger.specs.State.{Collection}
-use Rattle.streetmap_ledger.specs.SummaryView.{summary_value}
 use Rattle.streetmap_listing.proofs.Taken.{one_head_more}
 use Rattle.streetmap_listing.proofs.summaries.VecSummaryRowFold.take.Goals as goal
 
