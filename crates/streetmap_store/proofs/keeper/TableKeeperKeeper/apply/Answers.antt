@@ -1,0 +1,36 @@
+use Rattle.std.proofs.Common.{sym, ap, ◌∙◌}
+use Rattle.std.specs.FinMap.{len}
+use Rattle.sqlite.specs.Held.{state}
+use Rattle.streetmap_batch.specs.BatchView.{batch_value}
+use Rattle.streetmap_ledger.specs.Batches.{act}
+use Rattle.streetmap_rows.proofs.Leaving.{leaves_only}
+use Rattle.streetmap_store.specs.Serving.{count_after}
+use Rattle.streetmap_store.proofs.Counting.{count_is}
+use Rattle.streetmap_store.proofs.Standing.{serves, acts, leaves}
+use Rattle.streetmap_store.proofs.keeper.TableKeeperKeeper.apply.Goals as goal
+
+pub returns-in-Ok-clause-acts : goal.returns-in-Ok-clause-acts
+returns-in-Ok-clause-acts g c clean s stands =
+    let b = batch_value c.args.batch.now in
+    let done = c.in-Ok.ensures.acts clean s stands.rests stands.counted in (
+      done.0,
+      serves _ (state g.S.Store c.apply_batch.new.conn) _ (act s b).state stands.unshut done.1 (count_is s b ∙ ap (λ r. count_after r (len s.keys)) (sym done.0) ∙ ap (count_after c.in-Ok.reply) stands.counted ∙ sym c.count_of-self.ensures)
+          (g.met.S.Store.stays c.apply_batch.new.conn.store),
+    )
+
+pub returns-in-Ok-clause-leaves : goal.returns-in-Ok-clause-leaves
+returns-in-Ok-clause-leaves g c clean s stands only =
+    let done = c.in-Ok.ensures.acts clean s stands.rests stands.counted in
+    leaves_only (state g.S.Store c.apply_batch.new.conn) (act s (batch_value c.args.batch.now)).state done.1 (λ trees may. g.met.S.Store.settled c.apply_batch.new.conn.store trees done.1.live may)
+
+pub returns-in-Err-clause-acts : goal.returns-in-Err-clause-acts
+returns-in-Err-clause-acts g c clean s stands =
+    let store = c.apply_batch.new.conn.store in
+    acts s (batch_value c.args.batch.now) (state g.S.Store c.args.self.now.conn) (state g.S.Store c.apply_batch.new.conn) _ _ stands (g.met.S.Store.stays store) (λ trees live may. g.met.S.Store.settled store trees live may) c.in-Err.stop _ _
+    (c.in-Err.ensures.acts clean s stands.rests stands.counted) c.shut_for.ensures.value c.shut_for.ensures.after
+
+pub returns-in-Err-clause-leaves : goal.returns-in-Err-clause-leaves
+returns-in-Err-clause-leaves g c clean s stands only =
+    let store = c.apply_batch.new.conn.store in
+    leaves s (batch_value c.args.batch.now) (state g.S.Store c.args.self.now.conn) (state g.S.Store c.apply_batch.new.conn) _ _ stands (g.met.S.Store.stays store) (λ trees live may. g.met.S.Store.settled store trees live may) c.in-Err.stop _
+    (c.in-Err.ensures.acts clean s stands.rests stands.counted) c.shut_for.ensures.value (c.in-Err.ensures.crash clean s stands.rests stands.counted) only

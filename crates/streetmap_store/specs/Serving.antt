@@ -1,0 +1,92 @@
+-- What a keeper over tables stands for.
+use Rattle.std.specs.Prelude.{◌≡◌, ℕ, Bool, true, false, Option, None, Some, Ok, Err, Result, IsSome, IsTrue, T, not}
+use Rattle.std.specs.Option.{option_map}
+use mathlib.Core.Path.{subst}
+use Rattle.std.specs.FinMap.{len}
+use Rattle.sqlite.specs.declared.error.Error.{Error}
+use Rattle.sqlite.specs.declared.error.Error.TheVariants.{SqliteFailure}
+use Rattle.sqlite.specs.declared.error.ErrorCode.TheVariants as code
+use Rattle.sqlite.specs.State.{State as Seen, IsUnchanged}
+use Rattle.streetmap_ledger.specs.State.{State}
+use Rattle.streetmap_ledger.specs.declared.reply.Reply.{Reply}
+use Rattle.streetmap_ledger.specs.declared.reply.Reply.TheVariants.{Accepted, Repeated, Refused}
+use Rattle.streetmap_ledger.specs.declared.reply.Cause.{Cause}
+use Rattle.streetmap_ledger.specs.declared.reply.Cause.TheVariants as cause
+use Rattle.streetmap_ledger.specs.declared.reply.Fault.{Fault}
+use Rattle.streetmap_ledger.specs.declared.reply.Fault.TheVariants as fault
+use Rattle.streetmap_tables.specs.declared.failing.Stop.{Stop}
+use Rattle.streetmap_tables.specs.declared.failing.Stop.TheVariants.{Memory, Closed}
+use Rattle.streetmap_tables.specs.declared.failing.Shut.{Shut}
+use Rattle.streetmap_tables.specs.declared.failing.Shut.TheVariants.{Device, Damaged}
+use Rattle.streetmap_tables.specs.Failing.{IsOfStore}
+use Rattle.streetmap_rows.specs.Keeping.{Rests, MayLeave}
+use Rattle.streetmap_reading.specs.declared.fault.ReadFault.{ReadFault}
+use Rattle.streetmap_reading.specs.declared.fault.ReadFault.TheVariants as read
+
+-- the cause that shut it
+abbrev pub cause_in : Shut → Cause
+cause_in (Device e) = cause.Device
+cause_in Damaged = cause.Damaged
+
+-- the error of the store that shut it
+abbrev pub error_in : Shut → Option Error
+error_in (Device e) = Some e
+error_in Damaged = None
+
+-- there is no rowid left, or the store failed or had no room or memory
+abbrev pub is_of_store : Error → Bool
+is_of_store (SqliteFailure code.NoRowid) = true
+is_of_store (SqliteFailure code.OutOfMemory) = true
+is_of_store (SqliteFailure code.SystemIoFailure) = true
+is_of_store (SqliteFailure code.DatabaseCorrupt) = true
+is_of_store (SqliteFailure code.DiskFull) = true
+is_of_store (SqliteFailure code.Closed) = true
+is_of_store (SqliteFailure code.TooBig) = true
+is_of_store _ = false
+
+-- it is not shut for a failure of the store, or by an error that is the store's
+abbrev pub is_named : Option Shut → Bool
+is_named None = true
+is_named (Some (Device e)) = is_of_store e
+is_named (Some Damaged) = true
+
+-- A keeper that is not shut stands for the state of its connection, holds how many batches were accepted, and a stop may leave that state. There is no other such state; both are lemmas, and stand here since the laws of a trait are proved without lemmas.
+pub record Serves (shut : Option Shut) (seen : Seen) (count : ℕ) (s : State) : Type 0 where
+  pub unshut : shut ≡ None
+  pub rests : Rests seen s
+  pub counted : len s.keys ≡ count
+  pub only : (t : State) → Rests seen t → t ≡ s
+  pub left : MayLeave seen (Some s)
+
+-- a keeper without a cause is not shut
+pub never_shut : {B : Type 0} (shut : Option Shut) → shut ≡ None → IsSome (option_map cause_in shut) → B
+never_shut shut none is = absurd (subst (λ b. T (not b)) (subst (λ o. IsSome (option_map cause_in o)) none is) tt)
+
+-- how many batches were accepted, after a reply
+abbrev pub count_after : Reply → ℕ → ℕ
+count_after (Accepted counts serial) count = serial
+count_after (Repeated counts serial) count = count
+count_after (Refused why place) count = count
+
+-- what a stop shuts it for, and how its caller is told
+abbrev pub shut_by : Stop → Option Shut → Option Shut
+shut_by Memory shut = shut
+shut_by (Closed why) shut = Some why
+
+abbrev pub fault_by : Stop → Fault
+fault_by Memory = fault.Memory
+fault_by (Closed (Device e)) = fault.Device
+fault_by (Closed Damaged) = fault.Damaged
+
+-- a failed look was settled: after a want of memory the connection is open and holds what was committed, and its tables are not damaged
+abbrev pub HasSettled : Seen → Seen → Fault → Type 0
+HasSettled old new fault.Memory = IsUnchanged old new × (new.now ≡ new.committed)
+HasSettled old new fault.Device = Unit {0}
+HasSettled old new fault.Damaged = ⊥
+HasSettled old new fault.Reopen = ⊥
+
+-- how a look that was not answered ends
+abbrev pub EndsLook : ReadFault → Seen → Seen → Fault → Type 0
+EndsLook read.Memory old new result = (result ≡ fault.Memory) × (IsTrue old.is_open → IsUnchanged old new)
+EndsLook (read.Store e) old new result = IsOfStore e → HasSettled old new result
+EndsLook read.Unread old new result = result ≡ fault.Damaged

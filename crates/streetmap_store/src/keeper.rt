@@ -1,0 +1,276 @@
+//! The keeper.
+ghost use Rattle.std.specs.Prelude.{◌≡◌, ◌≢◌, ◌↔◌, Ok, Err, None, Some, false, IsTrue, IfOk, IfErr, IfSome, IsErrAnd, MatchResult, option_and_then};
+ghost use Rattle.std.specs.Option.{option_map};
+ghost use Rattle.sqlite.specs.Held.{state};
+ghost use Rattle.sqlite.specs.State.{HasCleanDisk, Survives};
+ghost use Rattle.streetmap_ledger.specs.State.{State, opening_state};
+ghost use Rattle.streetmap_ledger.specs.Keep.{ShutsBy, LeavesOnly, LeavesEither};
+ghost use Rattle.streetmap_writing.specs.Acting.{IsToldByStore};
+ghost use Rattle.streetmap_rows.specs.Keeping.{Rests, MayLeave};
+ghost use Rattle.streetmap_opening.specs.Adopting.{Adopts, IsAsItWas};
+ghost use Rattle.streetmap_opening.specs.Telling.{AdoptsBy};
+ghost use Rattle.streetmap_opening.specs.Making.{is_taken, IsReady, Makes, MayOpen};
+ghost use Rattle.streetmap_store.specs.Reopening.{IsJustOpened, OpensAs, OpensAsEither};
+ghost use Rattle.streetmap_store.specs.Serving.{Serves, EndsLook, is_of_store, is_named, cause_in, error_in, count_after, shut_by, fault_by};
+
+use sqlite::{Alter, Connection, Error};
+use std::alloc::Global;
+use streetmap_geojson::Feature;
+use streetmap_ledger::{Batch, Fault, FeatureOutline, Keeper, Page, Reply, Summary};
+use streetmap_listing::{outlines_of, summaries_of, summary_of};
+use streetmap_opening::{AdoptFault, MakeFault, adopt_tables, make_tables};
+use streetmap_query::Query;
+use streetmap_reading::{ReadFault, feature_of, page_of};
+use streetmap_tables::{Shut, Stop, settle};
+use streetmap_writing::apply_batch;
+
+/// A keeper over the tables of a connection, between whose calls no transaction is open.
+#[derive(Drop)]
+pub struct TableKeeper<S: Alter> {
+    alloc: Global,
+    conn: Connection<S>,
+    /// How many batches were accepted.
+    count: u64,
+    shut: Option<Shut>,
+    pub ghost idle: { conn.in_transaction ≡ false },
+    pub ghost named: { HasCleanDisk (state S.Store conn) → IsTrue (is_named shut) },
+}
+
+/// How many batches were accepted, after a reply.
+fn count_of(reply: Reply, count: u64) -> u64
+    ensures { result ≡ count_after reply count }
+{
+    match reply {
+        Reply::Accepted(_, serial) => serial,
+        Reply::Repeated(_, _) | Reply::Refused(_, _) => count,
+    }
+}
+
+/// How a stop is told.
+fn fault_of(stop: Stop) -> Fault
+    ensures { result ≡ fault_by stop }
+{
+    match stop {
+        Stop::Memory => Fault::Memory,
+        Stop::Closed(Shut::Device(_)) => Fault::Device,
+        Stop::Closed(Shut::Damaged) => Fault::Damaged,
+    }
+}
+
+/// Shuts a keeper for a stop, but for want of memory, and tells the stop.
+#[tactic(auto, using(crate::proofs::Standing::named_after))]
+fn shut_for(shut: &mut Option<Shut>, stop: Stop) -> Fault
+    ensures value { result ≡ fault_by stop }
+    ensures after { shut.new ≡ shut_by stop shut.old }
+    ensures named { IsToldByStore stop → IsTrue (is_named shut.old) → IsTrue (is_named shut.new) }
+{
+    if let Stop::Closed(cause) = stop {
+        *shut = Some(cause);
+    }
+    fault_of(stop)
+}
+
+/// Ends a look that was not answered.
+fn give_up<S: Alter>(conn: &mut Connection<S>, shut: &mut Option<Shut>, fault: ReadFault) -> Fault
+    requires { conn.old.in_transaction ≡ false }
+    ensures idle { conn.new.in_transaction ≡ false }
+    ensures survives { Survives (state S.Store conn.old) (state S.Store conn.new) (λ _. ⊥) }
+    ensures faults { shut.old ≡ None → ShutsBy {T = Unit {0}} (Err result) None (option_map cause_in shut.new) }
+    ensures ends { HasCleanDisk (state S.Store conn.new) → EndsLook fault (state S.Store conn.old) (state S.Store conn.new) result }
+    ensures kept { result ≡ Fault.Memory → shut.new ≡ shut.old }
+    ensures not_shut_before { result ≢ Fault.Reopen }
+    ensures named { HasCleanDisk (state S.Store conn.new) → IsTrue (is_named shut.old) → IsTrue (is_named shut.new) }
+{
+    let stop = match fault {
+        ReadFault::Memory => Stop::Memory,
+        ReadFault::Store(error) => settle(conn, error),
+        ReadFault::Unread => Stop::Closed(Shut::Damaged),
+    };
+    shut_for(shut, stop)
+}
+
+impl<S: Alter> TableKeeper<S> {
+    /// Makes the four tables in a connection, with the opening state, and keeps it there.
+    ///
+    /// The connection is to have no step limit and room for the tables (`make_tables`). A stop then
+    /// leaves the opening state; after a refusal the connection, given back, holds what it held.
+    ///
+    /// # Errors
+    ///
+    /// `Taken` exactly where a table, an index or a view has one of the four names, `Device` where the
+    /// store fails, `Memory`.
+    pub fn make(
+        alloc: Global,
+        mut conn: Connection<S>,
+    ) -> Result<TableKeeper<S>, (MakeFault, Connection<S>)>
+        requires { conn.in_transaction ≡ false }
+        ensures idle { IfErr result (λ refused. refused.1.in_transaction ≡ false) }
+        ensures taken { IsErrAnd result (λ refused. refused.0 ≡ MakeFault.Taken) ↔ IsTrue (is_taken (state S.Store conn).now.schema) }
+        ensures untouched { IfErr result (λ refused. refused.0 ≡ MakeFault.Taken → refused.1 ≡ conn) }
+        ensures clean { IfOk result (λ keeper. HasCleanDisk (state S.Store keeper.conn) → HasCleanDisk (state S.Store conn)) }
+        ensures made { IfOk result (λ keeper. HasCleanDisk (state S.Store keeper.conn) → IsReady (state S.Store conn) → Serves keeper.shut (state S.Store keeper.conn) keeper.count opening_state × LeavesOnly (MayLeave (state S.Store keeper.conn)) (Some opening_state)) }
+        ensures refused { IfErr result (λ refused. HasCleanDisk (state S.Store refused.1) → IsReady (state S.Store conn) → Makes (state S.Store conn) (state S.Store refused.1) (Err refused.0)) }
+        ensures crash { IfErr result (λ refused. HasCleanDisk (state S.Store refused.1) → IsReady (state S.Store conn) → MayOpen (state S.Store conn) (state S.Store refused.1)) }
+    {
+        match make_tables(&mut conn) {
+            Ok(()) => Ok(TableKeeper {
+                alloc,
+                conn,
+                count: 0,
+                shut: None,
+            }),
+            Err(fault) => Err((fault, conn)),
+        }
+    }
+
+    /// Opens the tables that a connection has, and keeps their state.
+    ///
+    /// It writes nothing. The connection is to have no step limit.
+    ///
+    /// # Errors
+    ///
+    /// `NotOurs` where there is no format row of this product, `OldFormat` for format 1 and `NewFormat`
+    /// for a format above 2, `Device` where the store fails, `Memory`.
+    pub fn adopt(
+        alloc: Global,
+        mut conn: Connection<S>,
+    ) -> Result<TableKeeper<S>, (AdoptFault, Connection<S>)>
+        requires { conn.in_transaction ≡ false }
+        ensures idle { IfErr result (λ refused. refused.1.in_transaction ≡ false) }
+        ensures survives { MatchResult result (λ keeper. Survives (state S.Store conn) (state S.Store keeper.conn) (λ _. ⊥)) (λ refused. Survives (state S.Store conn) (state S.Store refused.1) (λ _. ⊥)) }
+        ensures same { MatchResult result (λ keeper. HasCleanDisk (state S.Store keeper.conn) → IsAsItWas (state S.Store conn) (state S.Store keeper.conn)) (λ refused. HasCleanDisk (state S.Store refused.1) → IsAsItWas (state S.Store conn) (state S.Store refused.1)) }
+        ensures tells { MatchResult result (λ keeper. HasCleanDisk (state S.Store keeper.conn) → AdoptsBy (state S.Store conn) (Ok keeper.count)) (λ refused. HasCleanDisk (state S.Store refused.1) → AdoptsBy (state S.Store conn) (Err refused.0)) }
+        ensures adopted { IfOk result (λ keeper. HasCleanDisk (state S.Store keeper.conn) → (s : State) → Rests (state S.Store conn) s → Serves keeper.shut (state S.Store keeper.conn) keeper.count s × LeavesOnly (MayLeave (state S.Store keeper.conn)) (Some s)) }
+        ensures refused { IfErr result (λ refused. HasCleanDisk (state S.Store refused.1) → (s : State) → Rests (state S.Store conn) s → Adopts s (state S.Store conn) (state S.Store refused.1) (Err refused.0)) }
+    {
+        match adopt_tables(&mut conn) {
+            Ok(count) => Ok(TableKeeper {
+                alloc,
+                conn,
+                count,
+                shut: None,
+            }),
+            Err(fault) => Err((fault, conn)),
+        }
+    }
+
+    /// Gives the connection back, as it is.
+    pub fn release(self) -> Connection<S>
+        ensures { result ≡ self.conn }
+    {
+        let TableKeeper {
+            alloc: _,
+            conn,
+            count: _,
+            shut: _,
+        } = self;
+        conn
+    }
+
+    /// The error of the store that shut it; none where it is not shut, or was shut at a row that no
+    /// keeper writes.
+    pub fn error(&self) -> Option<Error>
+        ensures value { result ≡ option_and_then error_in self.now.shut }
+        ensures named { HasCleanDisk (state S.Store self.now.conn) → IfSome result (λ error. IsTrue (is_of_store error)) }
+    {
+        match self.shut {
+            Some(Shut::Device(error)) => Some(error),
+            _ => None,
+        }
+    }
+}
+
+/// What a stop leaves of a keeper, opened again, is the state that its clauses on stops name: where a stop
+/// may leave one state alone the tables are that state's, and where it may leave one of two they are one
+/// of the two's. With `TableKeeper::adopt` it is kept again.
+pub fn what_a_stop_leaves_opens<S: Alter, T: Alter>(keeper: &TableKeeper<S>, opened: &Connection<T>)
+    ensures one { (s : State) → LeavesOnly (MayLeave (state S.Store keeper.now.conn)) (Some s) → (state S.Store keeper.now.conn).may_leave (state T.Store opened.now).now.trees → IsJustOpened (state T.Store opened.now) → OpensAs s (state T.Store opened.now) }
+    ensures either { (s t : State) → LeavesEither (MayLeave (state S.Store keeper.now.conn)) (Some s) (Some t) → (state S.Store keeper.now.conn).may_leave (state T.Store opened.now).now.trees → IsJustOpened (state T.Store opened.now) → OpensAsEither s t (state T.Store opened.now) }
+{}
+
+impl<S: Alter> Keeper for TableKeeper<S> {
+    ghost use Rattle.std.specs.Prelude.{option_map};
+    ghost use Rattle.sqlite.specs.Held.{state};
+    ghost use Rattle.sqlite.specs.State.{HasCleanDisk};
+    ghost use Rattle.streetmap_store.specs.Serving.{Serves, never_shut, cause_in};
+    ghost use Rattle.streetmap_rows.specs.Keeping.{MayLeave};
+
+    ghost stands = { λ k s. Serves k.shut (state S.Store k.conn) k.count s };
+
+    ghost may_leave = { λ k. MayLeave (state S.Store k.conn) };
+
+    ghost cause = { λ k. option_map cause_in k.shut };
+
+    ghost is_clean = { λ k. HasCleanDisk (state S.Store k.conn) };
+
+    ghost one_state = { λ k s t p q. q.only s p.rests };
+
+    ghost shut_has_none = { λ k s shut p. never_shut k.shut p.unshut shut };
+
+    ghost may_leave_it = { λ k s p. p.left };
+
+    ghost well_formed = { λ k s p. p.rests.kept.well };
+
+    fn apply(&mut self, batch: &Batch) -> Result<Reply, Fault> {
+        if self.shut.is_some() {
+            return Err(Fault::Reopen);
+        }
+        match apply_batch(self.alloc, &mut self.conn, self.count, batch) {
+            Ok(reply) => {
+                self.count = count_of(reply, self.count);
+                Ok(reply)
+            }
+            Err(stop) => Err(shut_for(&mut self.shut, stop)),
+        }
+    }
+
+    fn page(&mut self, collection: &str, query: &Query) -> Result<Option<Page>, Fault> {
+        if self.shut.is_some() {
+            return Err(Fault::Reopen);
+        }
+        match page_of(self.alloc, &mut self.conn, collection, query) {
+            Ok(page) => Ok(page),
+            Err(fault) => Err(give_up(&mut self.conn, &mut self.shut, fault)),
+        }
+    }
+
+    fn feature(&mut self, collection: &str, id: &str) -> Result<Option<Feature>, Fault> {
+        if self.shut.is_some() {
+            return Err(Fault::Reopen);
+        }
+        match feature_of(self.alloc, &mut self.conn, collection, id) {
+            Ok(feature) => Ok(feature),
+            Err(fault) => Err(give_up(&mut self.conn, &mut self.shut, fault)),
+        }
+    }
+
+    fn collection(&mut self, id: &str) -> Result<Option<Summary>, Fault> {
+        if self.shut.is_some() {
+            return Err(Fault::Reopen);
+        }
+        match summary_of(self.alloc, &mut self.conn, id) {
+            Ok(summary) => Ok(summary),
+            Err(fault) => Err(give_up(&mut self.conn, &mut self.shut, fault)),
+        }
+    }
+
+    fn collections(&mut self) -> Result<Vec<Summary>, Fault> {
+        if self.shut.is_some() {
+            return Err(Fault::Reopen);
+        }
+        match summaries_of(self.alloc, &mut self.conn) {
+            Ok(summaries) => Ok(summaries),
+            Err(fault) => Err(give_up(&mut self.conn, &mut self.shut, fault)),
+        }
+    }
+
+    fn outlines(&mut self, collection: &str) -> Result<Option<Vec<FeatureOutline>>, Fault> {
+        if self.shut.is_some() {
+            return Err(Fault::Reopen);
+        }
+        match outlines_of(self.alloc, &mut self.conn, collection) {
+            Ok(outlines) => Ok(outlines),
+            Err(fault) => Err(give_up(&mut self.conn, &mut self.shut, fault)),
+        }
+    }
+}
