@@ -126,8 +126,10 @@ fn refusal_of(format: Option<i64>) -> AdoptFault
 /// # Errors
 ///
 /// `OldFormat` for format 1 and `NewFormat` for a format above 2; `NotOurs` for any other, where there
-/// is no format row, and where a look at it or at the batches is refused; `Device` where the store
-/// fails, `Memory`.
+/// is no format row, and where a look at it or at the batches is refused; `Memory` where memory was
+/// refused and the connection is open; `Device` where the store fails, by its error. That the connection
+/// is open is found out by `probe`, before the batches are told and after memory was refused: where
+/// memory is refused to that look too, it is `Device`, by that error.
 pub fn adopt_tables<S: Alter>(conn: &mut Connection<S>) -> Result<u64, AdoptFault>
     requires { conn.old.in_transaction ≡ false }
     ensures idle { conn.new.in_transaction ≡ false }

@@ -66,8 +66,12 @@ pub fn cause_of(error: Error) -> Shut
 
 /// Tells how a call ends that met an error, between two transactions.
 ///
-/// Where memory was refused the connection is looked at: while it is open, which changes nothing, the
-/// call ends with `Memory`, and else with the error of that look. Another error is itself the cause.
+/// Where memory was refused the connection is looked at by `probe`. Where that look goes well the
+/// connection is open and as it was, and the call ends with `Memory`. Where it fails, the keeper is to be
+/// shut for the error of the look, which may again be that memory was refused: so
+/// `Closed(Device(SqliteFailure(OutOfMemory)))` tells that it was refused twice, to the call and to the
+/// look, and that nothing is known of the connection. Another error is itself the cause: `Device` where it
+/// is of the store, and else `Damaged`.
 pub fn settle<S: Alter>(conn: &mut Connection<S>, error: Error) -> Stop
     requires { conn.old.in_transaction ≡ false }
     ensures idle { conn.new.in_transaction ≡ false }

@@ -7,7 +7,12 @@ ghost use Rattle.streetmap_tables.specs.Failing.{IsOfStore};
 use sqlite::{Alter, Connection, Error};
 
 /// Tells whether the connection is still open: a text that is only prepared shows it, and nothing
-/// changes. The error is why it is not, or that memory was refused.
+/// changes.
+///
+/// # Errors
+///
+/// The error of the store by which the connection is not open; or that memory was refused to the look
+/// itself, which may be tried again while the connection is open.
 pub fn probe<S: Alter>(conn: &mut Connection<S>) -> Result<(), Error>
     requires { conn.old.in_transaction ≡ false }
     ensures idle { conn.new.in_transaction ≡ false }
