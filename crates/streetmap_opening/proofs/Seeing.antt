@@ -17,6 +17,7 @@ use Rattle.sqlite_resolve.specs.declared.compiled.Compiled.{Compiled}
 use Rattle.sqlite_resolve.specs.declared.error.CompileError.{CompileError}
 use Rattle.sqlite_resolve.specs.declared.error.CompileError.TheVariants.{NoSuchTable}
 use Rattle.streetmap_tables.specs.Failing.{IsOfStore}
+use Rattle.streetmap_tables.proofs.OfStore.{failure_is}
 
 -- a text that is read as one statement without RETURNING, which does not read the time
 pub record IsBare (text : List ℕ) : Type 0 where
@@ -96,7 +97,7 @@ module _ (text : List ℕ) (it : IsBare text) where
       pub fails_there : FailsToQuery text [] mid end e → (IsTrue mid.is_open → IsTrue old.is_open) → FailsToQuery text [] old old e
       unfolding FailsToQuery IsNotRun here
       fails_there (inl (inl none)) live = inl (inl (rw same at none.0, still (live none.1.0.was_open)))
-      fails_there (inl (inr failed)) live = absurd (other (inr (failed.0, failed.1)))
+      fails_there (inl (inr failed)) live = absurd (other (failure_is e failed.0 failed.1))
       fails_there (inr h) live =
           let none = (query_plain mid.now.schema h.0 h.1.is).0 in
           let full = timed_with [] h.0.formats h.1.now in

@@ -9,6 +9,7 @@ use Rattle.sqlite.specs.Clock.{timed}
 use Rattle.sqlite.specs.State.{State as Seen, IsNotRun, FailsToQuery, FailsToShow, IsTooLate, KeepsCommit}
 use Rattle.sqlite.proofs.Callers.{IsPlain, command_of}
 use Rattle.streetmap_tables.specs.Failing.{IsOfStore}
+use Rattle.streetmap_tables.proofs.OfStore.{failure_is}
 use Rattle.streetmap_reading.specs.Candidates.{IsWhole, ShowsOf}
 
 module _ (sql : List ℕ) (params : Row) (old new : Seen) (rows : List Row) (shows : ShowsOf sql params old.now rows) (limit : old.step_limit ≡ None) where
@@ -19,7 +20,7 @@ module _ (sql : List ℕ) (params : Row) (old new : Seen) (rows : List Row) (sho
       let bare = subst IsPlain other.1 shows.plain in
       let fits = subst (IsWhole sql params) other.1 shows.whole in
       absurd (elim other.2 [ inl cut ↦ cut.0 fits.0 | inr more ↦ elim more [ inl few ↦ few.0 fits.1 | inr timeless ↦ timeless.0 bare.1 ] ])
-  told e (inl (inr failed)) = (inr (failed.0, failed.1), record { was_open = failed.3.was_open; committed = λ o. (failed.3.undone o).1 })
+  told e (inl (inr failed)) = (failure_is e failed.0 failed.1, record { was_open = failed.3.was_open; committed = λ o. (failed.3.undone o).1 })
   told e (inr h) =
       let at = h.1.is in
       let bare = subst IsPlain at shows.plain in

@@ -33,6 +33,7 @@ use Rattle.streetmap_tables.specs.Failing.{IsOfStore}
 use Rattle.streetmap_tables.proofs.Casts.{cast_null, cast_int, whole_null, word_null}
 use Rattle.streetmap_tables.specs.Queries.{program}
 use Rattle.streetmap_tables.proofs.Finding.{IsFound}
+use Rattle.streetmap_tables.proofs.OfStore.{failure_is}
 use Rattle.streetmap_tables.proofs.Resolving.{Means, command_is, is_plain, is_fit}
 use Rattle.sqlite_rules.proofs.ListLemmas.{all_has}
 use Rattle.sqlite_rules.specs.Lists.{Has}
@@ -187,7 +188,7 @@ module _ (old new : Seen) (s : State) (stands : StandsFor s old.now) (limit : ol
               | inr done ↦ absurd (gone.never_refused s schema roots ours db stands.of p c collected f is in_features (mode_of old) old.now e (statement_of delete_feature (understood schema delete_feature)) refl refl refl
                   keeps was (subst (λ l. Does l (mode_of old) (cut.keys_of p) old.now (statement_of delete_feature (understood schema delete_feature)) None (Delete in_features.at (program (cut.delete_query roots.features))) (Err (Some e))) limit done))
             ]
-            | inr failed ↦ inr (failed.1.0, failed.1.1)
+            | inr failed ↦ failure_is e failed.1.0 failed.1.1
           ]
 
   -- ---- what is kept for a batch

@@ -1,9 +1,8 @@
 -- What a keeper stands for after a look, and what a stop may leave then.
-use Rattle.std.proofs.Common.{◌≡◌, true, inl, inr, ℕ, Option, None, Some, Ok, Err, Result, IsTrue, refl, sym, ap, subst, ◌∙◌, arith}
+use Rattle.std.proofs.Common.{◌≡◌, inl, inr, ℕ, Option, None, Some, Err, IsTrue, refl, sym, ap, subst, ◌∙◌, arith}
 use Rattle.std.specs.FinMap.{len}
 use Rattle.sqlite.specs.State.{State as Seen, HasCleanDisk, IsUnchanged, KeepsCommit, Survives}
 use Rattle.sqlite_trees.specs.Tree.{Trees}
-use Rattle.sqlite_trees.specs.declared.error.StoreError.TheVariants as store
 use Rattle.streetmap_ledger.specs.State.{State}
 use Rattle.streetmap_ledger.specs.declared.reply.Fault.{Fault}
 use Rattle.streetmap_ledger.specs.declared.reply.Fault.TheVariants as fault
@@ -14,7 +13,6 @@ use Rattle.streetmap_writing.proofs.Resting.{rests_still, rests_if_open}
 use Rattle.streetmap_opening.proofs.Stopping.{may_leave_it}
 use Rattle.sqlite.proofs.Callers.{unchanged_then}
 use Rattle.streetmap_batch.specs.BatchValue.{BatchValue}
-use Rattle.streetmap_ledger.specs.Batches.{act}
 use Rattle.streetmap_ledger.specs.Keep.{Looks, Acts, LeavesOnly, ApplyLeaves}
 use Rattle.streetmap_rows.specs.Keeping.{MayBecome}
 use Rattle.streetmap_rows.proofs.Leaving.{leaves_only, leaves_either}
@@ -28,7 +26,7 @@ use Rattle.streetmap_tables.specs.declared.failing.Shut.TheVariants as shut
 use Rattle.sqlite.specs.declared.error.Error.{Error}
 use Rattle.streetmap_tables.specs.Failing.{IsOfStore}
 use Rattle.streetmap_tables.specs.Settling.{Settles}
-use Rattle.streetmap_store.specs.Serving.{Serves, EndsLook, HasSettled, is_of_store, is_named, fault_by, shut_by}
+use Rattle.streetmap_store.specs.Serving.{Serves, EndsLook, HasSettled, is_named, fault_by, shut_by}
 
 -- an open connection that rests at a state is that of a keeper which stands for it
 pub serves : (shut : Option Shut) (seen : Seen) (count : ℕ) (s : State) → shut ≡ None → Rests seen s → len s.keys ≡ count → (IsTrue seen.is_open → seen.may_leave seen.committed.trees) → Serves shut seen count s
@@ -85,26 +83,11 @@ settled_so error old new stop.Memory result ends settled told of = subst (HasSet
 settled_so error old new (stop.Closed (shut.Device e)) result ends settled told of = subst (HasSettled old new) (sym told) tt
 settled_so error old new (stop.Closed shut.Damaged) result ends settled told of = absurd (ends of)
 
-of_store : (e : Error) → IsOfStore e → is_of_store e ≡ true
-of_store e (inl is) = ap is_of_store is
-of_store e (inr (store.OutOfMemory, is)) = ap is_of_store is
-of_store e (inr (store.Io, is)) = ap is_of_store is
-of_store e (inr (store.Corrupt, is)) = ap is_of_store is
-of_store e (inr (store.Full, is)) = ap is_of_store is
-of_store e (inr (store.Broken, is)) = ap is_of_store is
-of_store e (inr (store.Unstorable, is)) = ap is_of_store is
-
 -- what shut a keeper after a stop
 pub named_after : (it : Stop) (was now : Option Shut) → now ≡ shut_by it was → IsToldByStore it → IsTrue (is_named was) → IsTrue (is_named now)
 named_after stop.Memory was now same told before = ap is_named same ∙ before
-named_after (stop.Closed (shut.Device e)) was now same told before = ap is_named same ∙ of_store e told
+named_after (stop.Closed (shut.Device e)) was now same told before = ap is_named same ∙ told
 named_after (stop.Closed shut.Damaged) was now same told before = ap is_named same
-
--- a failure that was settled tells the store's error
-pub told_settled : (error : Error) (old new : Seen) (it : Stop) → Settles error old new it → IsToldByStore it
-told_settled error old new stop.Memory h = tt
-told_settled error old new (stop.Closed (shut.Device e)) h = h.0
-told_settled error old new (stop.Closed shut.Damaged) h = tt
 
 -- a call whose end is clean began clean
 pub named_still : (old new : Seen) (Commits : Trees → Type 0) (shut : Option Shut) → Survives old new Commits → (HasCleanDisk old → IsTrue (is_named shut)) → HasCleanDisk new → IsTrue (is_named shut)

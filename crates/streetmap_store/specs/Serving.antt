@@ -1,11 +1,9 @@
 -- What a keeper over tables stands for.
-use Rattle.std.specs.Prelude.{◌≡◌, ℕ, Bool, true, false, Option, None, Some, Ok, Err, Result, IsSome, IsTrue, T, not}
+use Rattle.std.specs.Prelude.{◌≡◌, ℕ, Bool, true, Option, None, Some, IsSome, IsTrue, T, not}
 use Rattle.std.specs.Option.{option_map}
 use mathlib.Core.Path.{subst}
 use Rattle.std.specs.FinMap.{len}
 use Rattle.sqlite.specs.declared.error.Error.{Error}
-use Rattle.sqlite.specs.declared.error.Error.TheVariants.{SqliteFailure}
-use Rattle.sqlite.specs.declared.error.ErrorCode.TheVariants as code
 use Rattle.sqlite.specs.State.{State as Seen, IsUnchanged}
 use Rattle.streetmap_ledger.specs.State.{State}
 use Rattle.streetmap_ledger.specs.declared.reply.Reply.{Reply}
@@ -18,7 +16,7 @@ use Rattle.streetmap_tables.specs.declared.failing.Stop.{Stop}
 use Rattle.streetmap_tables.specs.declared.failing.Stop.TheVariants.{Memory, Closed}
 use Rattle.streetmap_tables.specs.declared.failing.Shut.{Shut}
 use Rattle.streetmap_tables.specs.declared.failing.Shut.TheVariants.{Device, Damaged}
-use Rattle.streetmap_tables.specs.Failing.{IsOfStore}
+use Rattle.streetmap_tables.specs.Failing.{IsOfStore, is_of_store}
 use Rattle.streetmap_rows.specs.Keeping.{Rests, MayLeave}
 use Rattle.streetmap_reading.specs.declared.fault.ReadFault.{ReadFault}
 use Rattle.streetmap_reading.specs.declared.fault.ReadFault.TheVariants as read
@@ -32,17 +30,6 @@ cause_in Damaged = cause.Damaged
 abbrev pub error_in : Shut → Option Error
 error_in (Device e) = Some e
 error_in Damaged = None
-
--- there is no rowid left, or the store failed or had no room or memory
-abbrev pub is_of_store : Error → Bool
-is_of_store (SqliteFailure code.NoRowid) = true
-is_of_store (SqliteFailure code.OutOfMemory) = true
-is_of_store (SqliteFailure code.SystemIoFailure) = true
-is_of_store (SqliteFailure code.DatabaseCorrupt) = true
-is_of_store (SqliteFailure code.DiskFull) = true
-is_of_store (SqliteFailure code.Closed) = true
-is_of_store (SqliteFailure code.TooBig) = true
-is_of_store _ = false
 
 -- it is not shut for a failure of the store, or by an error that is the store's
 abbrev pub is_named : Option Shut → Bool

@@ -5,13 +5,14 @@ ghost use Rattle.sqlite.specs.Held.{state};
 ghost use Rattle.sqlite.specs.State.{HasCleanDisk, Survives};
 ghost use Rattle.streetmap_ledger.specs.State.{State, opening_state};
 ghost use Rattle.streetmap_ledger.specs.Keep.{ShutsBy, LeavesOnly, LeavesEither};
+ghost use Rattle.streetmap_tables.specs.Failing.{IsOfStore};
 ghost use Rattle.streetmap_writing.specs.Acting.{IsToldByStore};
 ghost use Rattle.streetmap_rows.specs.Keeping.{Rests, MayLeave};
 ghost use Rattle.streetmap_opening.specs.Adopting.{Adopts, IsAsItWas};
 ghost use Rattle.streetmap_opening.specs.Telling.{AdoptsBy};
 ghost use Rattle.streetmap_opening.specs.Making.{is_taken, IsReady, Makes, MayOpen};
 ghost use Rattle.streetmap_store.specs.Reopening.{IsJustOpened, OpensAs, OpensAsEither};
-ghost use Rattle.streetmap_store.specs.Serving.{Serves, EndsLook, is_of_store, is_named, cause_in, error_in, count_after, shut_by, fault_by};
+ghost use Rattle.streetmap_store.specs.Serving.{Serves, EndsLook, is_named, cause_in, error_in, count_after, shut_by, fault_by};
 
 use sqlite::{Alter, Connection, Error};
 use std::alloc::Global;
@@ -171,7 +172,7 @@ impl<S: Alter> TableKeeper<S> {
     /// keeper writes.
     pub fn error(&self) -> Option<Error>
         ensures value { result ≡ option_and_then error_in self.now.shut }
-        ensures named { HasCleanDisk (state S.Store self.now.conn) → IfSome result (λ error. IsTrue (is_of_store error)) }
+        ensures named { HasCleanDisk (state S.Store self.now.conn) → IfSome result IsOfStore }
     {
         match self.shut {
             Some(Shut::Device(error)) => Some(error),

@@ -9,6 +9,7 @@ use Rattle.sqlite.proofs.Callers.{IsPlain}
 use Rattle.sqlite.proofs.InsideLemmas.{unchanged_keeps}
 use Rattle.sqlite_tied.specs.Compute.{everything}
 use Rattle.streetmap_tables.specs.Failing.{IsOfStore}
+use Rattle.streetmap_tables.proofs.OfStore.{failure_is}
 use Rattle.streetmap_tables.proofs.Resolving.{IsWhole}
 
 abbrev pub commit_text : List ℕ
@@ -32,7 +33,7 @@ commit_fails old new e h = elim (h []) [
         let fits = subst (IsWhole commit_text 0) other.1 (commit_whole old.now.schema) in
         absurd (elim other.2 [ inl cut ↦ cut.0 fits.0 | inr more ↦ elim more [ inl few ↦ few.0 fits.1 | inr timeless ↦ timeless.0 bare.1 ] ])
   ]
-  | inr failed ↦ inr (failed.0, failed.1)
+  | inr failed ↦ failure_is e failed.0 failed.1
 ]
 
 -- and it commits nothing

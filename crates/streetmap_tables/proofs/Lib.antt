@@ -15,3 +15,4 @@ pub mod Finding
 pub mod Schemas
 pub mod Answering
 pub mod Settled
+pub mod OfStore

@@ -25,6 +25,7 @@ use Rattle.sqlite_schema.specs.declared.schema.Keys.TheVariants.{Enforced}
 use Rattle.sqlite_schema.specs.declared.schema.Among.TheVariants.{All}
 use Rattle.sqlite_schema.specs.Rules.{Refers}
 use Rattle.streetmap_tables.specs.Failing.{IsOfStore}
+use Rattle.streetmap_tables.proofs.OfStore.{no_rowid_is, failure_is}
 use Rattle.streetmap_tables.proofs.Resolving.{IsFit}
 use Rattle.streetmap_tables.proofs.Parts.{went}
 use Rattle.streetmap_tables.proofs.Inserting.{concluded}
@@ -91,8 +92,8 @@ module _ (name : List ℕ) (tree : ℕ) (columns : List Column) (primary : List 
         elim (refused_as sql params old new schema has _ is plain fit e h.0) [
           | inl refused ↦ elim refused.0 [
             | inl misplaced ↦ absurd (never_misplaced old _ e (λ q. absurd (cc)) (λ q. absurd (cc)) (λ q. absurd (cc)) (λ n q. absurd (cc)) (λ n q. absurd (cc)) misplaced)
-            | inr done ↦ inl (put.refused_for name tree columns primary references uniques orders at terms width params schema old.now.trees row fits made (mode_of old) refl refl only refers e
+            | inr done ↦ no_rowid_is e (put.refused_for name tree columns primary references uniques orders at terms width params schema old.now.trees row fits made (mode_of old) refl refl only refers e
                 (at_table text (Err (Some e)) (subst₂ (λ l f. Does l (mode_of old) params f text None (Insert at (Values terms width)) (Err (Some e))) limit from done)))
           ]
-          | inr failed ↦ inr (failed.1.0, failed.1.1)
+          | inr failed ↦ failure_is e failed.1.0 failed.1.1
         ]

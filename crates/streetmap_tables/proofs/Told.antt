@@ -12,6 +12,7 @@ use Rattle.sqlite.specs.Clock.{timed}
 use Rattle.sqlite.specs.State.{State as Seen, IsNotRun, FailsToQuery, FailsToShow, IsTooLate, KeepsCommit}
 use Rattle.sqlite.proofs.Callers.{IsPlain, command_of}
 use Rattle.streetmap_tables.specs.Failing.{IsOfStore}
+use Rattle.streetmap_tables.proofs.OfStore.{failure_is}
 use Rattle.streetmap_tables.proofs.Resolving.{IsWhole}
 
 module _ (sql : List ℕ) (params : Row) (old new : Seen) (schema : Schema) (has : old.now.schema ≡ schema) (p : Program) (names : List (List ℕ)) (is : command_of (understood schema sql) ≡ Select p names)
@@ -28,7 +29,7 @@ module _ (sql : List ℕ) (params : Row) (old new : Seen) (schema : Schema) (has
       let bare = subst IsPlain at plain in
       let fits = subst (IsWhole sql (length params)) at whole in
       absurd (elim other.2 [ inl cut ↦ cut.0 fits.0 | inr more ↦ elim more [ inl few ↦ few.0 fits.1 | inr timeless ↦ timeless.0 bare.1 ] ])
-  told e (inl (inr failed)) = (inr (failed.0, failed.1), record { was_open = failed.3.was_open; committed = λ o. (failed.3.undone o).1 })
+  told e (inl (inr failed)) = (failure_is e failed.0 failed.1, record { was_open = failed.3.was_open; committed = λ o. (failed.3.undone o).1 })
   told e (inr h) =
       let at = known h.0 h.1.is in
       let bare = subst IsPlain at plain in

@@ -1,8 +1,7 @@
-use Rattle.std.proofs.Common.{◌≡◌, sym, subst, ◌∙◌, ap, refl, inr, ◌∷◌, [], ◌++◌, append-nil, append_assoc, rules, true, false}
+use Rattle.std.proofs.Common.{◌≡◌, sym, subst, ◌∙◌, ap, refl, ◌∷◌, [], ◌++◌, append-nil, append_assoc, rules, true, false}
 use Rattle.std.specs.List.{AllByRecursion}
 use Rattle.sqlite.specs.Held.{state}
 use Rattle.sqlite.proofs.Callers.{unchanged_then}
-use Rattle.sqlite_trees.specs.declared.error.StoreError.TheVariants.{Unstorable}
 use Rattle.streetmap_reading.proofs.Failing.{passed_on}
 use Rattle.streetmap_reading.proofs.Rests.{given_open, survives_still, survives_on, stopped_on, clean_before}
 use Rattle.streetmap_listing.specs.Folding.{TookNext}
@@ -54,4 +53,4 @@ returns-in_err-took-clause-takes g c clean = λ sql params rows limit shows read
 pub returns-clause-takes : goal.returns-clause-takes
 returns-clause-takes g c clean = λ sql params rows limit shows readable given held.
     let t = c.rows.invariant.1.took clean sql params rows limit shows readable given held in
-    (inr (Unstorable, refl), record { was_open = λ _. t.same.0.was_open; committed = λ _. t.same.0.committed_is })
+    (refl, record { was_open = λ _. t.same.0.was_open; committed = λ _. t.same.0.committed_is })

@@ -1,9 +1,8 @@
-use Rattle.std.proofs.Common.{◌≡◌, sym, subst, ◌∙◌, ap, refl, inr, ◌∷◌, [], ◌++◌, append-nil, append_assoc, rules, true, false}
+use Rattle.std.proofs.Common.{◌≡◌, sym, subst, ◌∙◌, ap, refl, ◌∷◌, [], ◌++◌, append-nil, append_assoc, rules, true, false}
 use Rattle.std.specs.List.{AllByRecursion}
 use Rattle.std.specs.Option.{option_copied}
 use Rattle.sqlite.specs.Held.{state}
 use Rattle.sqlite.proofs.Callers.{unchanged_then}
-use Rattle.sqlite_trees.specs.declared.error.StoreError.TheVariants.{Unstorable}
 use Rattle.streetmap_ledger.specs.Folds.{Holds}
 use Rattle.streetmap_reading.specs.Candidates.{IsStored}
 use Rattle.streetmap_reading.specs.Taking.{TookNext}
@@ -56,4 +55,4 @@ returns-in_err-took-clause-takes g c clean = λ sql params q fs limit shows stor
 pub returns-clause-takes : goal.returns-clause-takes
 returns-clause-takes g c clean = λ sql params q fs limit shows stored given held.
     let t = c.rows.invariant.1.took clean sql params q fs limit shows stored given held in
-    (inr (Unstorable, refl), record { was_open = λ _. t.same.0.was_open; committed = λ _. t.same.0.committed_is })
+    (refl, record { was_open = λ _. t.same.0.was_open; committed = λ _. t.same.0.committed_is })

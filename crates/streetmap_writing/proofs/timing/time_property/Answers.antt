@@ -1,7 +1,7 @@
-use Rattle.std.proofs.Common.{rules, Some, ap, inr, refl}
+use Rattle.std.proofs.Common.{rules, Some, ap, refl}
 use Rattle.std.specs.FinMap.{get}
 use Rattle.sqlite.specs.Held.{state}
-use Rattle.sqlite_trees.specs.declared.error.StoreError.TheVariants.{OutOfMemory}
+use Rattle.streetmap_tables.specs.Failing.{is_of_store}
 use Rattle.streetmap_rows.specs.Views.{collection_view}
 use Rattle.streetmap_writing.proofs.Joining.{keeps}
 use Rattle.streetmap_writing.proofs.Resting.{the_row, no_row}
@@ -22,7 +22,7 @@ returns-in-Some-clause-finds g c clean limit s stands =
     let r = c.in-Ok.ensures.looks clean limit s stands in
     let k = the_row collection_view (get s.collections c.args.collection.now) c.deref.result.now c.in-Some.row.now (search rules) c.in-Some.ensures.value in
     let told = c.in-Err-time_in.ensures c.args.collection.now k.0 k.2 (stands.readable.collections c.args.collection.now k.0 k.1) in
-    (inr (OutOfMemory, told), keeps (state g.S.Store c.args.tx.now.conn.now) (state g.S.Store c.collection_rows.new.tx.conn.now) r.1)
+    (ap is_of_store told, keeps (state g.S.Store c.args.tx.now.conn.now) (state g.S.Store c.collection_rows.new.tx.conn.now) r.1)
 
 pub returns-clause-finds : goal.returns-clause-finds
 returns-clause-finds g c clean limit s stands =
