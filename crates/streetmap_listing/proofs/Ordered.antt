@@ -26,7 +26,7 @@ use Rattle.streetmap_tables.specs.Holds.{same_text}
 use Rattle.streetmap_tables.specs.Queries.{over_in}
 use Rattle.streetmap_tables.proofs.Choosing.{picked, staged}
 use Rattle.streetmap_tables.proofs.Keys.{one_text, text_is}
-use Rattle.streetmap_rows.proofs.Compiles.{rising as upwards}
+use Rattle.streetmap_tables.proofs.Drafts.{rising as upwards}
 use Rattle.streetmap_reading.proofs.Listing.{keeps, has_mapped, mapped_has, find_has}
 
 -- the rows of this table that pass the tests, in order of the texts in one column, and what is shown of them

@@ -1,5 +1,5 @@
 -- The format row goes into tables that were made.
-use Rattle.std.proofs.Common.{◌≡◌, ◌≢◌, ℕ, ◌≤◌, pos, List, [], ◌∷◌, length, codes, Ok, Err, refl, None, Option, true, is_ok, sym, subst, ◌∙◌, arith}
+use Rattle.std.proofs.Common.{◌≡◌, ◌≢◌, ℕ, ◌≤◌, pos, List, [], ◌∷◌, length, codes, Ok, refl, None, Option, true, is_ok, sym, subst, ◌∙◌, arith}
 use Rattle.std.specs.List.{AllByRecursion}
 use Rattle.std.specs.FinMap.{empty, get-empty}
 use Rattle.sqlite.specs.declared.types.Value.TheVariants.{Null, Int, Text as Words}
@@ -18,7 +18,6 @@ use Rattle.sqlite_ast.specs.declared.Statement.TheVariants as written
 use Rattle.sqlite_ast.specs.declared.Conflict.TheVariants as conflict
 use Rattle.sqlite_syntax.specs.declared.statement.Parsed.{Parsed}
 use Rattle.sqlite_resolve.specs.Compile.{first}
-use Rattle.sqlite_resolve.specs.Lowering.{Checked}
 use Rattle.sqlite_tied.specs.Compute.{everything}
 use Rattle.sqlite_trees.specs.Tree.{Trees}
 use Rattle.sqlite_rules.specs.Lists.{Has}
@@ -28,6 +27,7 @@ use Rattle.streetmap_ledger.specs.State.{opening_state}
 use Rattle.streetmap_ledger.proofs.StatesStay.{opening_sound}
 use Rattle.streetmap_tables.specs.Holds.{Holds, KeyPair, first_key, is_first, pair_key, has_pair}
 use Rattle.streetmap_tables.proofs.Casts.{cast_null, cast_int}
+use Rattle.streetmap_tables.proofs.Drafts.{parsed_of, was_parsed}
 use Rattle.streetmap_tables.proofs.Finding.{IsFound}
 use Rattle.streetmap_tables.proofs.Holding.{holds_put}
 use Rattle.streetmap_tables.proofs.Keys.{first_is, first_self}
@@ -41,14 +41,6 @@ use Rattle.streetmap_rows.proofs.Placing as placing
 use Rattle.streetmap_opening.specs.Making.{AreMade, format_text}
 
 -- ---- what the text means
-
-abbrev parsed_of : (r : Checked Parsed) → is_ok r ≡ true → Parsed
-parsed_of (Ok p) h = p
-parsed_of (Err e) h = absurd (cc)
-
-was_parsed : (r : Checked Parsed) (h : is_ok r ≡ true) → r ≡ Ok (parsed_of r h)
-was_parsed (Ok p) h = refl
-was_parsed (Err e) h = absurd (cc)
 
 format_reads : is_ok (first format_text) ≡ true
 unfolding everything

@@ -34,7 +34,8 @@ use Rattle.streetmap_rows.specs.Rows.{AreOf, meta_cells}
 use Rattle.streetmap_rows.specs.Statements.{select_format}
 use Rattle.streetmap_rows.specs.Tables.{Roots, meta, meta_name, batches, batches_name}
 use Rattle.streetmap_rows.specs.Keeping.{Keeps}
-use Rattle.streetmap_rows.proofs.Compiles.{equal_terms, select_format_means, select_format_never}
+use Rattle.streetmap_tables.proofs.Drafts.{equal_terms}
+use Rattle.streetmap_rows.proofs.Compiles.{select_format_means, select_format_never}
 use Rattle.streetmap_rows.proofs.Looking.{answered, fails_inside}
 use Rattle.streetmap_rows.proofs.Placing as placing
 use Rattle.streetmap_opening.specs.Adopting.{serials_text, IsAsItWas}

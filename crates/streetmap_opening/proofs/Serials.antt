@@ -1,60 +1,29 @@
 -- What the query of the serials of all batches means.
-use Rattle.std.proofs.Common.{◌≡◌, ℕ, ◌≤◌, List, [], ◌∷◌, length, codes, Ok, Err, refl, Some, None, true, false, arith, is_ok, find, slice_get, eqb, inl, inr, sym, ◌∙◌, true≢false, nat_le, ◌^◌, negsuc}
-use Rattle.sqlite.specs.declared.types.Value.TheVariants.{Int}
-use Rattle.sqlite.specs.Term.{Term, lit, col}
+use Rattle.std.proofs.Common.{◌≡◌, ℕ, ◌≤◌, List, [], ◌∷◌, length, codes, Ok, refl, Some, None, true, false, arith, is_ok, find, slice_get, eqb, inl, inr, sym, ◌∙◌, true≢false, nat_le, ◌^◌}
+use Rattle.sqlite.specs.Term.{col}
 use Rattle.sqlite.specs.Schema.{Schema}
 use Rattle.sqlite.specs.Command.TheVariants.{Select}
 use Rattle.sqlite_value.specs.declared.keys.Collation.TheVariants.{Binary}
-use Rattle.sqlite_value.specs.declared.keys.Key.{Key}
-use Rattle.sqlite_ast.specs.declared.Expr.{Expr}
-use Rattle.sqlite_ast.specs.declared.Expr.TheVariants as expr
 use Rattle.sqlite_ast.specs.declared.Core.{Core, roll-Core}
 use Rattle.sqlite_ast.specs.declared.Sort.{Sort}
 use Rattle.sqlite_ast.specs.declared.Select.{Select as Selects, roll-Select}
-use Rattle.sqlite_ast.specs.declared.Source.{Source as From, roll-Source}
-use Rattle.sqlite_ast.specs.declared.Shown.{Shown as Shows}
-use Rattle.sqlite_ast.specs.declared.Shown.TheVariants.{One}
-use Rattle.sqlite_ast.specs.declared.Origin.TheVariants.{Table as Stored}
 use Rattle.sqlite_ast.specs.declared.Statement.TheVariants as written
 use Rattle.sqlite_syntax.specs.declared.statement.Parsed.{Parsed}
 use Rattle.sqlite_draft.specs.declared.query.Draft.{Draft}
 use Rattle.sqlite.specs.declared.error.Error.{Error}
 use Rattle.sqlite.specs.Effect.{RefusesQuery}
 use Rattle.sqlite_trees.specs.Tree.{Trees}
-use Rattle.sqlite_draft.specs.declared.join.Step.TheVariants.{Inner}
-use Rattle.sqlite_draft.specs.Join.{chain}
 use Rattle.sqlite_typing.specs.Types.{accepts_program}
-use Rattle.sqlite_resolve.specs.Lowering.{Checked}
-use Rattle.sqlite_resolve.specs.Terms.{number}
 use Rattle.sqlite_resolve.specs.Compile.{first}
 use Rattle.sqlite_resolve.specs.Select.{named}
 use Rattle.sqlite_tied.specs.Compute.{everything}
 use Rattle.sqlite_schema.specs.Names.{table_named}
 use Rattle.streetmap_tables.specs.Queries.{over_in, program}
+use Rattle.streetmap_tables.proofs.Drafts.{parsed_of, was_parsed, from_table, shown_column, draft}
 use Rattle.streetmap_tables.proofs.Finding.{IsFound}
 use Rattle.streetmap_tables.proofs.Resolving.{Means, means, IsOne, whole_page, select_planned, program_is}
 use Rattle.streetmap_rows.specs.Tables.{batches, batches_name}
 use Rattle.streetmap_opening.specs.Adopting.{serials_text}
-
-abbrev parsed_of : (r : Checked Parsed) → is_ok r ≡ true → Parsed
-parsed_of (Ok p) h = p
-parsed_of (Err e) h = absurd (cc)
-
-was_parsed : (r : Checked Parsed) (h : is_ok r ≡ true) → r ≡ Ok (parsed_of r h)
-was_parsed (Ok p) h = refl
-was_parsed (Err e) h = absurd (cc)
-
-abbrev named_column : List ℕ → Expr
-named_column name = expr.Column None name
-
-abbrev from_table : List ℕ → From
-from_table name = roll-Source (record { is_left = false; origin = Stored name; alias = None; on = None; using = [] })
-
-abbrev shown_column : List ℕ → Shows
-shown_column name = One (named_column name) None name
-
-abbrev draft : ℕ → List Term → List Term → List (Term × Key) → Draft
-draft tree filter project order = record { from = chain (Inner tree ∷ []); filter = filter; group = None; project = project; distinct = false; collations = []; order = order; limit = lit (Int (negsuc 0)); offset = number 0 }
 
 -- ---- select_serials
 

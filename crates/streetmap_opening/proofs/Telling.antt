@@ -4,11 +4,10 @@ use Rattle.std.specs.declared.alloc.Global.{Global}
 use Rattle.sqlite.specs.Order.{Row}
 use Rattle.sqlite.specs.State.{State as Seen, IsUnchanged, Shown, FailsToQuery, IsTooLate}
 use Rattle.sqlite.specs.declared.error.Error.{Error}
-use Rattle.sqlite_syntax.specs.declared.statement.Parsed.{Parsed}
 use Rattle.sqlite_resolve.specs.Compile.{first, returning, timed}
-use Rattle.sqlite_resolve.specs.Lowering.{Checked}
 use Rattle.sqlite_tied.specs.Compute.{everything}
 use Rattle.streetmap_tables.specs.Failing.{IsOfStore}
+use Rattle.streetmap_tables.proofs.Drafts.{parsed_of, was_parsed}
 use Rattle.streetmap_rows.specs.Statements.{select_format}
 use Rattle.streetmap_opening.specs.Adopting.{serials_text}
 use Rattle.streetmap_opening.specs.Telling.{Sees, IsUnseen, LooksAt, TellsFormat, TellsNothing, IsFoundIn, IsRefusedFor, AdoptsBy}
@@ -17,14 +16,6 @@ use Rattle.streetmap_opening.specs.declared.adopting.Found.TheVariants.{Keys, Ot
 use Rattle.streetmap_opening.specs.declared.adopting.AdoptFault.{AdoptFault}
 use Rattle.streetmap_opening.specs.declared.adopting.AdoptFault.TheVariants.{NotOurs, OldFormat, NewFormat, Device, Memory}
 use Rattle.streetmap_opening.proofs.Seeing.{IsBare, was_unchanged, shown_there, fails_there, not_too_late}
-
-abbrev parsed_of : (r : Checked Parsed) → is_ok r ≡ true → Parsed
-parsed_of (Ok p) h = p
-parsed_of (Err e) h = absurd (cc)
-
-was_parsed : (r : Checked Parsed) (h : is_ok r ≡ true) → r ≡ Ok (parsed_of r h)
-was_parsed (Ok p) h = refl
-was_parsed (Err e) h = absurd (cc)
 
 format_reads : is_ok (first select_format) ≡ true
 unfolding everything

@@ -1,14 +1,13 @@
 -- The texts of our four tables.
-use Rattle.std.proofs.Common.{◌≡◌, Bool, ℕ, List, [], Ok, Err, refl, true, false, not, is_ok}
+use Rattle.std.proofs.Common.{◌≡◌, Bool, ℕ, List, [], Ok, refl, true, false, not, is_ok}
 use Rattle.sqlite.specs.State.{text_of}
 use Rattle.sqlite_ast.specs.declared.CreateTable.{CreateTable as Def}
 use Rattle.sqlite_ast.specs.declared.Statement.{Statement}
 use Rattle.sqlite_ast.specs.declared.Statement.TheVariants as written
-use Rattle.sqlite_syntax.specs.declared.statement.Parsed.{Parsed}
 use Rattle.sqlite_resolve.specs.Compile.{first, table_defined_by}
-use Rattle.sqlite_resolve.specs.Lowering.{Checked}
 use Rattle.sqlite_tied.specs.Compute.{everything}
 use Rattle.sqlite.specs.Table.{Table}
+use Rattle.streetmap_tables.proofs.Drafts.{parsed_of, was_parsed}
 use Rattle.streetmap_rows.specs.Tables.{meta, meta_text, collections, collections_text, batches, batches_text, features, features_text}
 use Rattle.streetmap_opening.specs.Made.{creating, IsTableText}
 
@@ -30,14 +29,6 @@ makes_of (written.CreateTable def) h = record { def = def; is = refl; fresh = go
     go true e = absurd (cc)
     go false e = refl
 makes_of _ h = absurd (cc)
-
-abbrev parsed_of : (r : Checked Parsed) → is_ok r ≡ true → Parsed
-parsed_of (Ok p) h = p
-parsed_of (Err e) h = absurd (cc)
-
-was_parsed : (r : Checked Parsed) (h : is_ok r ≡ true) → r ≡ Ok (parsed_of r h)
-was_parsed (Ok p) h = refl
-was_parsed (Err e) h = absurd (cc)
 
 table_text : (sql : List ℕ) (table : Table) (reads : is_ok (first sql) ≡ true) → (is_create (parsed_of (first sql) reads).statement ≡ true) × ((parsed_of (first sql) reads).formats ≡ []) × (text_of sql (creating (parsed_of (first sql) reads)) ≡ sql)
     → table_defined_by sql ≡ Ok table → IsTableText sql table

@@ -25,7 +25,7 @@ use Rattle.streetmap_tables.specs.Holds.{same_text}
 use Rattle.streetmap_rows.specs.Rows.{feature_cells, extent_in, seconds_in}
 use Rattle.streetmap_tables.specs.Holds.{KeyPair}
 use Rattle.streetmap_tables.proofs.Keys.{truth_is, equal_texts, column_later}
-use Rattle.streetmap_rows.proofs.Compiles.{equal_terms, at_most, at_least}
+use Rattle.streetmap_tables.proofs.Drafts.{equal_terms, at_most, at_least}
 use Rattle.streetmap_reading.specs.Choosing.{is_chosen}
 use Rattle.streetmap_reading.proofs.Listing.{Chooses, keeps}
 

@@ -32,7 +32,7 @@ use Rattle.streetmap_tables.proofs.Keys.{one_text, text_is, text_self, pair_is, 
 use Rattle.streetmap_tables.specs.Queries.{over_in}
 use Rattle.streetmap_tables.proofs.Choosing.{picked, staged}
 use Rattle.streetmap_rows.specs.Tables.{Roots}
-use Rattle.streetmap_rows.proofs.Compiles.{rising as upwards}
+use Rattle.streetmap_tables.proofs.Drafts.{rising as upwards}
 use Rattle.streetmap_reading.specs.Candidates.{candidate_row}
 
 abbrev pub page_query : ℕ → List Term → Query

@@ -16,3 +16,4 @@ pub mod Schemas
 pub mod Answering
 pub mod Settled
 pub mod OfStore
+pub mod Drafts
