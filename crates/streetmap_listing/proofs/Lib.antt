@@ -1,9 +1,7 @@
 pub mod Lists
 pub mod Readings
-pub mod Given
 pub mod Boxes
 pub mod Compiles
-pub mod Ordered
 pub mod Shown
 pub mod Taken
 pub mod Told

@@ -1,16 +1,16 @@
 -- What the statements over all features of a collection, and over all collections, show of the database of a state.
-use Rattle.std.proofs.Common.{◌≡◌, ◌≢◌, inl, inr, ℕ, suc, List, [], ◌∷◌, map, filter, codes, true, drop, Option, Some, None, option_map, refl, sym, ap, subst, ◌∙◌, IsUtf8}
+use Rattle.std.proofs.Common.{◌≡◌, ◌≢◌, ℕ, suc, List, [], ◌∷◌, map, filter, codes, drop, Option, Some, None, option_map, refl, sym, ap, subst, ◌∙◌, IsUtf8}
 use Rattle.std.specs.Option.{option_and_then, option_map_or}
 use Rattle.std.specs.FinMap.{get, empty, entries, entries_sorted, get-entries, get-empty}
 use Rattle.std.specs.List.{AllByRecursion}
-use Rattle.std.proofs.lemmas.Bool.{and_parts, and_from}
 use Rattle.std.proofs.lemmas.Str.{IsUtf8-from_is_utf8}
-use Rattle.sqlite.specs.declared.types.Value.TheVariants.{Text as Words}
+use Rattle.sqlite.specs.declared.types.Value.TheVariants.{Null, Text as Words}
 use Rattle.sqlite.specs.Effect.{Database}
-use Rattle.sqlite.specs.Order.{Row, column, bytes}
+use Rattle.sqlite.specs.Order.{Row, column}
 use Rattle.sqlite.specs.Term.{Term, col}
+use Rattle.sqlite.specs.Query.{IsAnswerAs}
+use Rattle.sqlite.specs.Program.{overlay}
 use Rattle.sqlite_sql.specs.Term.{eval_all}
-use Rattle.sqlite_trees.specs.Tree.{IsAscending}
 use Rattle.sqlite_catalog.proofs.LayoutLemmas.{ascending_filter}
 use Rattle.sqlite_rules.specs.Lists.{Has}
 use Rattle.sqlite_rules.proofs.ListLemmas.{all_has, all_from, has_filtered, has_kept}
@@ -19,10 +19,11 @@ use Rattle.streetmap_geojson.specs.FeatureInvariant.{IsFeature, IsGeometryIf}
 use Rattle.streetmap_batch.specs.Text.{Text, text_cmp}
 use Rattle.streetmap_ledger.specs.State.{State, Collection}
 use Rattle.streetmap_ledger.specs.Outlines.{feature_outline_of}
-use Rattle.streetmap_tables.specs.Holds.{KeyPair, pair_key, has_pair, first_key, is_first, same_text}
+use Rattle.streetmap_tables.specs.Holds.{first_key, is_first}
 use Rattle.streetmap_tables.proofs.Finding.{IsFound}
 use Rattle.streetmap_tables.proofs.Holding.{cells_of, there}
-use Rattle.streetmap_tables.proofs.Keys.{text_is, text_self, pair_is, pair_self, first_is, first_self, column_later}
+use Rattle.streetmap_tables.proofs.Keys.{first_is, first_self, column_later}
+use Rattle.streetmap_tables.proofs.Ordered.{Says, AreRowsOf, keeps, ordered_query, shows_entries, passing, mapped_has, find_has}
 use Rattle.streetmap_rows.specs.Keeping.{Keeps}
 use Rattle.streetmap_rows.specs.Rows.{AreOf, feature_at, feature_cells, collection_cells, extent_in, seconds_in}
 use Rattle.streetmap_rows.specs.Stands.{IsReadable}
@@ -33,14 +34,13 @@ use Rattle.streetmap_rows.proofs.Placing as placing
 use Rattle.streetmap_reading.specs.Candidates.{ShowsOf}
 use Rattle.streetmap_reading.specs.Choosing.{is_chosen}
 use Rattle.streetmap_reading.proofs.Choosing.{in_collection, all_chooses}
-use Rattle.streetmap_reading.proofs.Listing.{keeps, mapped_has, find_has, IsRowOf, row_of}
+use Rattle.streetmap_reading.proofs.Listing.{Shows, shows_chosen}
 use Rattle.streetmap_reading.proofs.Shown.{shows_by}
 use Rattle.streetmap_listing.specs.Statements.{select_outlines, select_extents}
 use Rattle.streetmap_listing.specs.Telling.{features_in}
 use Rattle.streetmap_listing.specs.Views.{outline_row, extent_row, feature_extent, IsOutline, IsOutlineRow, IsExtentRow, IsHeadRow}
 use Rattle.streetmap_listing.proofs.Boxes.{extent_is_box}
 use Rattle.streetmap_listing.proofs.Compiles.{select_outlines_means, select_outlines_never, select_extents_means, select_extents_never}
-use Rattle.streetmap_listing.proofs.Ordered.{Says, AreRowsOf, text_in, ordered_query, shows_entries}
 
 abbrev outline_terms : List Term
 outline_terms = col 1 2 ∷ col 1 4 ∷ col 1 5 ∷ col 1 6 ∷ col 1 7 ∷ col 1 8 ∷ col 1 9 ∷ []
@@ -51,23 +51,22 @@ extent_terms = col 1 4 ∷ col 1 5 ∷ col 1 6 ∷ col 1 7 ∷ []
 abbrev collection_terms : List Term
 collection_terms = col 1 1 ∷ col 1 2 ∷ col 1 3 ∷ []
 
-outline_cells : (params r : Row) (p : KeyPair) (f : FeatureValue) → drop 1 r ≡ feature_cells p f → eval_all outline_terms (params ∷ r ∷ []) ≡ outline_row (feature_outline_of p.1 f)
+outline_cells : (params : Row) → Shows outline_terms params (λ id f. outline_row (feature_outline_of id f))
 unfolding extent_in seconds_in
 outline_cells params r p f cells =
     let at : (n : ℕ) → column r (suc n) ≡ column (feature_cells p f) n = λ n. column_later r n ∙ ap (λ x. column x n) cells in
     λ i. at 1 i ∷ at 3 i ∷ at 4 i ∷ at 5 i ∷ at 6 i ∷ at 7 i ∷ at 8 i ∷ []
 
-extent_cells : (params r : Row) (p : KeyPair) (f : FeatureValue) → drop 1 r ≡ feature_cells p f → eval_all extent_terms (params ∷ r ∷ []) ≡ extent_row (feature_extent f)
+extent_cells : (params : Row) → Shows extent_terms params (λ id f. extent_row (feature_extent f))
 unfolding extent_in
 extent_cells params r p f cells =
     let at : (n : ℕ) → column r (suc n) ≡ column (feature_cells p f) n = λ n. column_later r n ∙ ap (λ x. column x n) cells in
     λ i. at 3 i ∷ at 4 i ∷ at 5 i ∷ at 6 i ∷ []
 
--- rows of one collection have ids apart
-apart_in : (name : Text) (rs : List Row) → ((r : Row) → Has rs r → bytes (column r 1) ≡ name) → IsAscending (λ a b. pair_key a ≢ pair_key b) rs → IsAscending (λ a b. text_in 2 a ≢ text_in 2 b) rs
-apart_in name [] same up = tt
-apart_in name (r ∷ rs) same up =
-    (all_from _ rs (λ x h is. let one : bytes (column r 1) ≡ bytes (column x 1) = same r (inl refl) ∙ sym (same x (inr h)) in all_has _ rs x up.0 h (λ i. (one i, is i))), apart_in name rs (λ x h. same x (inr h)) up.1)
+-- each feature is chosen
+all_pass : (es : List (Text × FeatureValue)) → passing (is_chosen None None) es ≡ es
+all_pass [] = refl
+all_pass (e ∷ es) = ap (λ l. e ∷ l) (all_pass es)
 
 module _ (db : Database) (s : State) (kept : Keeps s db) where
   abbrev roots : Roots
@@ -99,39 +98,17 @@ module _ (db : Database) (s : State) (kept : Keeps s db) where
         go None = get-empty text_cmp q
         go (Some c) = refl
 
-    inside : (r : Row) (it : IsRowOf s r) → keeps tests params r ≡ true → bytes (column r 1) ≡ name
-    inside r it is = text_is _ _ (and_parts (same_text (bytes (column r 1)) name) (is_chosen None None it.feature) (sym (all_chooses name r (pair_key r) it.feature it.cells) ∙ is)).0
-
-    says : (project : List Term) (view : Text → FeatureValue → Row) → ((r : Row) (p : KeyPair) (f : FeatureValue) → drop 1 r ≡ feature_cells p f → eval_all project (params ∷ r ∷ []) ≡ view p.1 f) → (r : Row) → Has (filter (keeps tests params) all_rows) r
-        → Says (features_in s name) view 2 (λ r. eval_all project (params ∷ r ∷ [])) r
-    says project view shows r h =
-        let had = has_filtered (keeps tests params) all_rows r h in
-        let it = row_of s roots db.trees of r had.0 in
-        record {
-          value = it.feature;
-          is = get_in (text_in 2 r) ∙ ap (λ n. feature_at s (n, text_in 2 r)) (sym (inside r it had.1)) ∙ it.is;
-          named = column_later r 1 ∙ ap (λ x. column x 1) it.cells;
-          shown = shows r (pair_key r) it.feature it.cells;
-        }
-
-    -- the rows of a collection are those of its features
-    feature_rows : (project : List Term) (view : Text → FeatureValue → Row) → ((r : Row) (p : KeyPair) (f : FeatureValue) → drop 1 r ≡ feature_cells p f → eval_all project (params ∷ r ∷ []) ≡ view p.1 f)
-        → AreRowsOf (features_in s name) view 2 (λ r. eval_all project (params ∷ r ∷ [])) (filter (keeps tests params) all_rows)
-    feature_rows project view shows = record {
-      apart = apart_in name (filter (keeps tests params) all_rows) (λ r h. let had = has_filtered (keeps tests params) all_rows r h in inside r (row_of s roots db.trees of r had.0) had.1) (ascending_filter _ _ all_rows of.features.apart);
-      each = says project view shows;
-      all = λ q f is.
-          let r = there pair_key has_pair pair_is pair_self _ all_rows of.features (name, q) _ (ap (option_map (feature_cells (name, q))) (sym (get_in q) ∙ is)) in
-          (r.0, has_kept (keeps tests params) all_rows r.0 r.1 (all_chooses name r.0 (name, q) f r.4 ∙ and_from _ _ (text_self name) refl), ap (λ (p : KeyPair). p.1) r.2);
-    }
+    shown_of : (project : List Term) (view : Text → FeatureValue → Row) → Shows project params view → (given : List Row) → IsAnswerAs Null (ordered_query roots.features tests project 2) (overlay db.trees []) params given → given ≡ map (λ e. view e.0 e.1) (entries (features_in s name))
+    shown_of project view shows given a =
+        shows_chosen s roots db.trees of name (features_in s name) get_in tests params (is_chosen None None) (all_chooses name) project view shows in_features.low given a ∙ ap (map (λ e. view e.0 e.1)) (all_pass (entries (features_in s name)))
 
     pub outlines_at : ShowsOf select_outlines params db (map (λ e. outline_row (feature_outline_of e.0 e.1)) (entries (features_in s name)))
     outlines_at = shows_by select_outlines params db (ordered_query roots.features tests outline_terms 2) (codes "id" ∷ codes "x0" ∷ codes "y0" ∷ codes "x1" ∷ codes "y1" ∷ codes "s0" ∷ codes "s1" ∷ []) _ (select_outlines_means db.schema roots.features in_features) (select_outlines_never db.schema roots.features in_features db.trees name)
-        (λ given a. shows_entries roots.features tests outline_terms 2 params (features_in s name) (λ id f. outline_row (feature_outline_of id f)) db.trees in_features.low (feature_rows outline_terms (λ id f. outline_row (feature_outline_of id f)) (outline_cells params)) given a)
+        (shown_of outline_terms (λ id f. outline_row (feature_outline_of id f)) (outline_cells params))
 
     pub extents_at : ShowsOf select_extents params db (map (λ e. extent_row (feature_extent e.1)) (entries (features_in s name)))
     extents_at = shows_by select_extents params db (ordered_query roots.features tests extent_terms 2) (codes "x0" ∷ codes "y0" ∷ codes "x1" ∷ codes "y1" ∷ []) _ (select_extents_means db.schema roots.features in_features) (select_extents_never db.schema roots.features in_features db.trees name)
-        (λ given a. shows_entries roots.features tests extent_terms 2 params (features_in s name) (λ id f. extent_row (feature_extent f)) db.trees in_features.low (feature_rows extent_terms (λ id f. extent_row (feature_extent f)) (extent_cells params)) given a)
+        (shown_of extent_terms (λ id f. extent_row (feature_extent f)) (extent_cells params))
 
     -- ---- what is shown can be read
 
@@ -168,17 +145,17 @@ module _ (db : Database) (s : State) (kept : Keeps s db) where
   abbrev collection_list : List Row
   collection_list = db.trees roots.collections
 
-  collection_says : (r : Row) → Has (filter (keeps [] []) collection_list) r → Says s.collections collection_cells 1 (λ r. eval_all collection_terms ([] ∷ r ∷ [])) r
+  collection_says : (r : Row) → Has (filter (keeps [] []) collection_list) r → Says (get s.collections) collection_cells 1 (λ r. eval_all collection_terms ([] ∷ r ∷ [])) r
   collection_says r h = go (get s.collections (first_key r)) refl (cells_of first_key is_first first_is first_self _ collection_list of.collections r (has_filtered (keeps [] []) collection_list r h).0)
     where
-      go : (o : Option Collection) → get s.collections (first_key r) ≡ o → option_map (collection_cells (first_key r)) o ≡ Some (drop 1 r) → Says s.collections collection_cells 1 (λ r. eval_all collection_terms ([] ∷ r ∷ [])) r
+      go : (o : Option Collection) → get s.collections (first_key r) ≡ o → option_map (collection_cells (first_key r)) o ≡ Some (drop 1 r) → Says (get s.collections) collection_cells 1 (λ r. eval_all collection_terms ([] ∷ r ∷ [])) r
       go None is some = absurd (cc)
       go (Some c) is some =
           let cells : collection_cells (first_key r) c ≡ drop 1 r = cc in
           let at : (n : ℕ) → column r (suc n) ≡ column (collection_cells (first_key r) c) n = λ n. column_later r n ∙ ap (λ x. column x n) (sym cells) in
           record { value = c; is = is; named = at 0; shown = λ i. at 0 i ∷ at 1 i ∷ at 2 i ∷ [] }
 
-  all_collections : AreRowsOf s.collections collection_cells 1 (λ r. eval_all collection_terms ([] ∷ r ∷ [])) (filter (keeps [] []) collection_list)
+  all_collections : AreRowsOf (get s.collections) collection_cells 1 (λ r. eval_all collection_terms ([] ∷ r ∷ [])) (filter (keeps [] []) collection_list)
   all_collections = record {
     apart = ascending_filter (λ a b. first_key a ≢ first_key b) (keeps [] []) collection_list of.collections.apart;
     each = collection_says;
@@ -189,7 +166,7 @@ module _ (db : Database) (s : State) (kept : Keeps s db) where
 
   pub collections_at : ShowsOf select_collections [] db (map (λ e. collection_cells e.0 e.1) (entries s.collections))
   collections_at = shows_by select_collections [] db (ordered_query roots.collections [] collection_terms 1) (codes "id" ∷ codes "title" ∷ codes "time" ∷ []) _ (select_collections_means db.schema roots.collections in_collections) (select_collections_never db.schema roots.collections in_collections db.trees)
-      (λ given a. shows_entries roots.collections [] collection_terms 1 [] s.collections collection_cells db.trees in_collections.low all_collections given a)
+      (λ given a. shows_entries roots.collections [] collection_terms 1 [] (get s.collections) collection_cells db.trees in_collections.low all_collections given a (entries s.collections) (entries_sorted s.collections) (get-entries s.collections))
 
   -- each is found under its id
   pub found_each : AllByRecursion (λ (e : Text × Collection). get s.collections e.0 ≡ Some e.1) (entries s.collections)

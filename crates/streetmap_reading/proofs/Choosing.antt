@@ -27,7 +27,8 @@ use Rattle.streetmap_tables.specs.Holds.{KeyPair}
 use Rattle.streetmap_tables.proofs.Keys.{truth_is, equal_texts, column_later}
 use Rattle.streetmap_tables.proofs.Drafts.{equal_terms, at_most, at_least}
 use Rattle.streetmap_reading.specs.Choosing.{is_chosen}
-use Rattle.streetmap_reading.proofs.Listing.{Chooses, keeps}
+use Rattle.streetmap_tables.proofs.Ordered.{keeps}
+use Rattle.streetmap_reading.proofs.Listing.{Chooses}
 
 le_is : (a b : ℤ) → is_le (int_cmp a b) ≡ int_le a b
 le_is a b = go (int_cmp a b) (int_ranks a b)

@@ -1,6 +1,7 @@
 pub mod Choosing
 pub mod Failing
 pub mod Features
+pub mod Given
 pub mod Listing
 pub mod Looks
 pub mod Pages

@@ -1,35 +1,26 @@
--- What the next row of a query is, and its end.
-use Rattle.std.proofs.Common.{Result, MatchResult, ◌≡◌, inl, ℕ, List, [], ◌∷◌, ◌++◌, map, Option, None, Some, Ok, Err, refl, sym, ap, subst, ◌∙◌, append-nil, append_assoc, arith}
+-- What the next feature of a query is, and its end.
+use Rattle.std.proofs.Common.{Result, MatchResult, ◌≡◌, inl, ℕ, List, [], ◌∷◌, ◌++◌, map, Option, None, Some, Ok, Err, refl, sym, ap, subst, ◌∙◌, arith}
 use Rattle.sqlite.specs.declared.error.Error.{Error}
 use Rattle.sqlite.specs.Order.{Row}
 use Rattle.sqlite.specs.Store.{Ghosts}
-use Rattle.sqlite.specs.Command.TheVariants.{Select}
-use Rattle.sqlite.specs.Effect.{Database, ReadsFirst}
 use Rattle.sqlite.specs.Given.{HasGiven, Advances, FailsToAdvance}
 use Rattle.sqlite.specs.Held.{Held, state}
 use Rattle.sqlite.specs.State.{State as Seen, HasCleanDisk, IsUnchanged, KeepsCommit, Survives}
 use Rattle.sqlite_trees.specs.Tree.{Trees}
 use Rattle.sqlite.proofs.StateLemmas.{unchanged, survives_then}
 use Rattle.sqlite.proofs.InsideLemmas.{keeps_then}
-use Rattle.sqlite.proofs.Callers.{unchanged_then, reads_as, begins_as, given_begin}
+use Rattle.sqlite.proofs.Callers.{unchanged_then}
 use Rattle.streetmap_geojson.specs.FeatureValue.{FeatureValue}
 use Rattle.streetmap_tables.specs.Failing.{IsOfStore}
 use Rattle.streetmap_reading.specs.Candidates.{candidate_row, ShowsOf}
 use Rattle.streetmap_reading.specs.Taking.{Stopped}
 use Rattle.streetmap_reading.specs.declared.fault.ReadFault.{ReadFault}
 use Rattle.streetmap_reading.specs.declared.fault.ReadFault.TheVariants.{Memory, Store, Unread}
-use Rattle.streetmap_reading.proofs.Told.{told}
+use Rattle.streetmap_reading.proofs.Given as next
 
 pub map_append : {A B : Type 0} (f : A → B) (xs ys : List A) → map f (xs ++ ys) ≡ map f xs ++ map f ys
 map_append f [] ys = refl
 map_append f (x ∷ xs) ys = ap (λ l. f x ∷ l) (map_append f xs ys)
-
-cancel : {A : Type 0} (xs ys zs : List A) → xs ++ ys ≡ xs ++ zs → ys ≡ zs
-cancel [] ys zs e = e
-cancel (x ∷ xs) ys zs e = cancel xs ys zs (let f : xs ++ ys ≡ xs ++ zs = cc in f)
-
-none_left : {A : Type 0} (xs ys : List A) → xs ≡ xs ++ ys → ys ≡ []
-none_left xs ys e = sym (cancel xs [] ys (append-nil xs ∙ e))
 
 no_rest : (rest : List FeatureValue) → map candidate_row rest ≡ [] → rest ≡ []
 no_rest [] e = refl
@@ -41,29 +32,21 @@ first_of r tail (f ∷ later) e = (f, later, refl, let same : r ≡ candidate_ro
 
 module _ {S : Type 0} (g : Ghosts S) (old new : Held S) (sql : List ℕ) (params : Row) (done rest : List FeatureValue) (shows : ShowsOf sql params (state g old).now (map candidate_row (done ++ rest)))
     (given : HasGiven g sql params old (map candidate_row done)) where
+  shows_both : ShowsOf sql params (state g old).now (map candidate_row done ++ map candidate_row rest)
+  shows_both = subst (ShowsOf sql params (state g old).now) (map_append candidate_row done rest) shows
+
   pub at_end : (row : Option Row) → row ≡ None → Advances g old new row → rest ≡ []
-  at_end row none moved =
-      let shown = (subst (Advances g old new) none moved) sql params (map candidate_row done) given in
-      let read = reads_as sql params (state g old) (state g new) old.schema refl (Select shows.program shows.names) shows.is shows.plain shows.unlisted (map candidate_row done) shown in
-      let all = shows.answers (map candidate_row done) read ∙ map_append candidate_row done rest in
-      no_rest rest (none_left (map candidate_row done) (map candidate_row rest) all)
+  at_end row none moved = no_rest rest (next.at_end g old new sql params (map candidate_row done) (map candidate_row rest) shows_both given row none moved)
 
   pub at_row : (row : Option Row) (r : Row) → row ≡ Some r → IsUnchanged (state g old) (state g new) → Advances g old new row
       → (f : FeatureValue) × (later : List FeatureValue) × (rest ≡ f ∷ later) × (r ≡ candidate_row f) × HasGiven g sql params new (map candidate_row (done ++ f ∷ []))
   at_row row r is same moved =
-      let front = map candidate_row done in
-      let more : HasGiven g sql params new (front ++ r ∷ []) = (subst (Advances g old new) is moved) sql params front given in
-      let begun = given_begin g sql params new (front ++ r ∷ []) more in
-      let at : (state g new).now ≡ (state g old).now = same.0.now_is in
-      let first : ReadsFirst (Select shows.program shows.names) (state g new).now params (front ++ r ∷ []) =
-      begins_as sql params (state g new) (state g new) (state g old).now.schema (ap (λ (d : Database). d.schema) at) (Select shows.program shows.names) shows.is shows.plain shows.unlisted (front ++ r ∷ []) begun in
-      let tail = shows.starts (front ++ r ∷ []) (subst (λ d. ReadsFirst (Select shows.program shows.names) d params (front ++ r ∷ [])) at first) in
-      let rests : r ∷ tail.0 ≡ map candidate_row rest = cancel front (r ∷ tail.0) (map candidate_row rest) (sym (append_assoc front (r ∷ []) tail.0) ∙ tail.1 ∙ map_append candidate_row done rest) in
-      let f = first_of r tail.0 rest rests in
-      (f.0, f.1, f.2, f.3, subst (HasGiven g sql params new) (ap (λ x. front ++ x ∷ []) f.3 ∙ sym (map_append candidate_row done (f.0 ∷ []))) more)
+      let met = next.at_row g old new sql params (map candidate_row done) (map candidate_row rest) shows_both given row r is same moved in
+      let f = first_of r met.0 rest (sym met.1) in
+      (f.0, f.1, f.2, f.3, subst (HasGiven g sql params new) (ap (λ x. map candidate_row done ++ x ∷ []) f.3 ∙ sym (map_append candidate_row done (f.0 ∷ []))) met.2)
 
   pub at_fault : (e : Error) → (state g old).step_limit ≡ None → FailsToAdvance g old new e → IsOfStore e × KeepsCommit (state g old) (state g new)
-  at_fault e limit fails = told sql params (state g old) (state g new) (map candidate_row (done ++ rest)) shows limit e (fails sql params (map candidate_row done) given)
+  at_fault = next.at_fault g old new sql params (map candidate_row done) (map candidate_row rest) shows_both given
 
 pub given_open : {S : Type 0} (g : Ghosts S) (sql : List ℕ) (params : Row) (h : Held S) (given : List Row) → HasGiven g sql params h given → IsUnchanged (state g h) (state g h)
 unfolding HasGiven
@@ -78,9 +61,9 @@ survives_on a b c p q = survives_then a b c (λ _. ⊥) (λ _. ⊥) (λ _. ⊥) 
 pub clean_before : (a b : Seen) (P : Trees → Type 0) → Survives a b P → HasCleanDisk b → HasCleanDisk a
 clean_before a b P it clean = omega (arith, clean, it.clean)
 
--- the rows that a query shows of a database that is unchanged
+-- the features that a query shows of a database that is unchanged
 pub shows_still : (a b : Seen) (sql : List ℕ) (params : Row) (fs gs : List FeatureValue) → IsUnchanged a b → fs ≡ gs → ShowsOf sql params a.now (map candidate_row fs) → ShowsOf sql params b.now (map candidate_row gs)
-shows_still a b sql params fs gs same is shows = subst (λ hs. ShowsOf sql params b.now (map candidate_row hs)) is (subst (λ d. ShowsOf sql params d (map candidate_row fs)) (sym same.0.now_is) shows)
+shows_still a b sql params fs gs same is shows = next.shows_still a b sql params (map candidate_row fs) (map candidate_row gs) same (ap (map candidate_row) is) shows
 
 pub keeps_on : (a b c : Seen) → IsUnchanged a b → KeepsCommit b c → KeepsCommit a c
 keeps_on a b c same kept = keeps_then a b c (record { was_open = λ _. same.0.was_open; committed = λ _. same.0.committed_is }) kept

@@ -39,7 +39,8 @@ use Rattle.streetmap_reading.specs.Candidates.{candidate_row, IsStored, ShowsOf}
 use Rattle.streetmap_reading.specs.Choosing.{is_chosen, chosen_of}
 use Rattle.streetmap_rows.specs.Views.{collection_view}
 use Rattle.streetmap_moment.specs.Meeting.{first_second, last_second}
-use Rattle.streetmap_reading.proofs.Listing.{Chooses, page_query, listed_from, lists_chosen, find_has, mapped_has}
+use Rattle.streetmap_tables.proofs.Ordered.{find_has, mapped_has}
+use Rattle.streetmap_reading.proofs.Listing.{Chooses, page_query, lists_chosen}
 use Rattle.streetmap_reading.proofs.Choosing.{in_collection, box_params, time_params, box_terms, time_terms, all_chooses, box_chooses, time_chooses, both_chooses}
 
 -- ---- the features of a collection
@@ -91,7 +92,7 @@ module _ (db : Database) (s : State) (keeps : Keeps s db) (name : Text) where
 
   module _ (c : Collection) (collected : get s.collections name ≡ Some c) where
     only_chosen : (terms : List Term) (params : Row) (test : FeatureValue → Bool) → Chooses terms params name test → (given : List Row) → IsAnswerAs Null (page_query roots.features terms) (overlay db.trees []) params given → given ≡ map candidate_row (filter test (values c.features))
-    only_chosen terms params test chooses given a = lists_chosen s roots db.trees of name c collected terms params test chooses given (listed_from roots.features in_features.low terms params db.trees given a)
+    only_chosen terms params test chooses given a = lists_chosen s roots db.trees of name c.features (λ q. sym (rw collected refl)) terms params test chooses in_features.low given a
 
     pub all_at : ShowsOf select_all (Words name ∷ []) db (map candidate_row (chosen_of None None c))
     all_at = shows_by select_all (Words name ∷ []) db (page_query roots.features (in_collection ∷ [])) (codes "body" ∷ []) _ (select_all_means db.schema roots.features in_features) (select_all_never db.schema roots.features in_features db.trees name)

@@ -17,3 +17,4 @@ pub mod Answering
 pub mod Settled
 pub mod OfStore
 pub mod Drafts
+pub mod Ordered

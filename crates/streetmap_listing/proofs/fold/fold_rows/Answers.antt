@@ -6,7 +6,7 @@ use Rattle.sqlite.proofs.Callers.{begun_plain}
 use Rattle.streetmap_reading.specs.Taking.{Stopped}
 use Rattle.streetmap_reading.proofs.Rests.{clean_before, taken_on}
 use Rattle.streetmap_reading.proofs.Told.{told}
-use Rattle.streetmap_listing.proofs.Given.{shows_still}
+use Rattle.streetmap_reading.proofs.Given.{shows_still}
 use Rattle.streetmap_listing.proofs.fold.fold_rows.Goals as goal
 
 pub returns-in-Err-clause-takes : goal.returns-in-Err-clause-takes

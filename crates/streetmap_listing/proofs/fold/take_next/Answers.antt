@@ -4,7 +4,7 @@ use Rattle.std.specs.List.{AllByRecursion}
 use Rattle.streetmap_reading.proofs.Failing.{passed_on}
 use Rattle.sqlite.specs.Held.{state}
 use Rattle.streetmap_reading.specs.Taking.{Stopped}
-use Rattle.streetmap_listing.proofs.Given.{at_end, at_row, at_fault}
+use Rattle.streetmap_reading.proofs.Given.{at_end, at_row, at_fault}
 use Rattle.streetmap_listing.proofs.fold.take_next.Goals as goal
 
 pub returns-in-Err-clause-takes : goal.returns-in-Err-clause-takes

@@ -5,7 +5,7 @@ use Rattle.sqlite.proofs.Callers.{unchanged_then}
 use Rattle.streetmap_reading.proofs.Failing.{passed_on}
 use Rattle.streetmap_reading.proofs.Rests.{given_open, survives_still, survives_on, stopped_on, clean_before}
 use Rattle.streetmap_listing.specs.Folding.{TookNext}
-use Rattle.streetmap_listing.proofs.Given.{shows_still}
+use Rattle.streetmap_reading.proofs.Given.{shows_still}
 use Rattle.streetmap_listing.proofs.fold.take_rest.Goals as goal
 
 pub rows-init : goal.rows-init

@@ -1,19 +1,20 @@
--- What is shown of a map's rows, in order of its keys, is what a query over one table answers.
-use Rattle.std.proofs.Common.{nat_le, ◌^◌, ◌≡◌, ◌≢◌, inl, inr, ℕ, ◌+◌, ◌<◌, List, [], ◌∷◌, length, map, filter, Bool, true, false, T, ◌&&◌, get_or, Option, Some, None, option_map, Ordering, Less, Equal, Greater, refl, sym, ap, ap₂, subst, ◌∙◌, arith}
-use Rattle.std.specs.List.{AllByRecursion, IsDistinct}
+-- What a query over one table shows in order of the texts in one column.
+use Rattle.std.proofs.Common.{nat_le, ◌^◌, ◌≡◌, ◌≢◌, inl, inr, ℕ, ◌+◌, ◌<◌, List, [], ◌∷◌, length, map, filter, Bool, true, false, T, ◌&&◌, cond, get_or, Option, Some, None, option_map, Ordering, Less, Equal, Greater, refl, sym, ap, ap₂, subst, ◌∙◌, arith}
+use Rattle.std.specs.List.{AllByRecursion, list_all, IsDistinct}
 use Rattle.std.specs.Ordering.{is_lt, is_eq, ordering_reverse, ordering_then}
 use Rattle.std.specs.List.Sorted.{IsPermutation, IsSorted, IsStrictlySortedBy}
-use Rattle.std.specs.FinMap.{FinMap, get, entries, entries_sorted, get-entries, is_sorted, find}
+use Rattle.std.specs.FinMap.{is_sorted, find}
 use Rattle.std.specs.FinMap.Entries.{below_all, same_entries}
 use Rattle.std.specs.Cmp.Lexicographic.{nat_list_cmp_total}
 use Rattle.std.specs.Cmp.{eq_by_cmp_equiv}
 use Rattle.std.proofs.lemmas.Bool.{both_ways, cases_Bool, false_from_ne_true}
+use Rattle.std.proofs.lemmas.Cmp.{tied_itself}
 use Rattle.std.proofs.lemmas.List.{get_or-map, length-map}
 use Rattle.std.proofs.lemmas.List.Sorted.{IsPermutation-map, IsPermutation-sym, Contains-permutation}
 use Rattle.std.proofs.lemmas.Map.Keys.{IsDistinct-IsPermutation, sorted_from_all_adjacent, apart_from_distinct}
 use Rattle.sqlite.specs.declared.types.Value.TheVariants.{Null, Text as Words}
 use Rattle.sqlite.specs.Order.{Row, column, bytes}
-use Rattle.sqlite.specs.Term.{Term, col}
+use Rattle.sqlite.specs.Term.{Term, col, holds}
 use Rattle.sqlite.specs.Query.{Query, IsAnswerAs, Output, output, output_cmp}
 use Rattle.sqlite.specs.Program.{overlay}
 use Rattle.sqlite_sql.specs.Term.{eval_all}
@@ -21,17 +22,19 @@ use Rattle.sqlite_value.proofs.OrderLemmas.{value_cmp-Text}
 use Rattle.sqlite_trees.specs.Tree.{Trees, IsAscending}
 use Rattle.sqlite_rules.specs.Lists.{Has}
 use Rattle.sqlite_rules.proofs.ListLemmas.{all_has, all_from, has_contained, contains_had}
-use Rattle.streetmap_batch.specs.Text.{Text, text_cmp}
-use Rattle.streetmap_tables.specs.Holds.{same_text}
+use Rattle.streetmap_tables.specs.Holds.{Text, text_cmp, same_text}
 use Rattle.streetmap_tables.specs.Queries.{over_in}
 use Rattle.streetmap_tables.proofs.Choosing.{picked, staged}
-use Rattle.streetmap_tables.proofs.Keys.{one_text, text_is}
+use Rattle.streetmap_tables.proofs.Keys.{one_text, text_is, text_self}
 use Rattle.streetmap_tables.proofs.Drafts.{rising as upwards}
-use Rattle.streetmap_reading.proofs.Listing.{keeps, has_mapped, mapped_has, find_has}
 
 -- the rows of this table that pass the tests, in order of the texts in one column, and what is shown of them
 abbrev pub ordered_query : ℕ → List Term → List Term → ℕ → Query
 ordered_query tree tests project at = over_in tree tests project ((col 1 at, upwards) ∷ [])
+
+-- the row passes the tests
+abbrev pub keeps : List Term → Row → Row → Bool
+keeps tests params r = list_all (holds (params ∷ r ∷ [])) tests
 
 abbrev pub text_in : ℕ → Row → Text
 text_in at r = bytes (column r at)
@@ -53,6 +56,16 @@ keyed_again (e ∷ es) = ap (λ l. e ∷ l) (keyed_again es)
 unkeyed_again : (os : List Output) → ((o : Output) → Has os o → unkey (key o) ≡ o) → map unkey (map key os) ≡ os
 unkeyed_again [] each = refl
 unkeyed_again (o ∷ os) each = λ i. each o (inl refl) i ∷ unkeyed_again os (λ x h. each x (inr h)) i
+
+pub has_mapped : {A B : Type 0} (f : A → B) (xs : List A) (x : A) → Has xs x → Has (map f xs) (f x)
+has_mapped f [] x h = absurd h
+has_mapped f (y ∷ xs) x (inl same) = inl (ap f same)
+has_mapped f (y ∷ xs) x (inr later) = inr (has_mapped f xs x later)
+
+pub mapped_has : {A B : Type 0} (f : A → B) (xs : List A) (y : B) → Has (map f xs) y → (x : A) × Has xs x × (y ≡ f x)
+mapped_has f [] y h = absurd h
+mapped_has f (x ∷ xs) y (inl same) = (x, inl refl, same)
+mapped_has f (x ∷ xs) y (inr later) = let r = mapped_has f xs y later in (r.0, inr r.1, r.2)
 
 moved : {A : Type 0} (xs ys : List A) (x : A) → IsPermutation xs ys → Has xs x → Has ys x
 moved xs ys x p h = has_contained ys x (Contains-permutation xs ys x p (contains_had xs x h))
@@ -83,6 +96,20 @@ unfolding IsStrictlySortedBy
 rising [] h = tt
 rising (e ∷ es) h = both _ _ (below e.0 es h.0) (rising es h.1)
 
+not_below : {V : Type 0} (k q : Text) (fs : List (Text × V)) (w : V) → T (below_all text_cmp k fs) → Has fs (q, w) → q ≡ k → ⊥
+not_below k q [] w all h is = absurd h
+not_below k q (f ∷ fs) w all (inl same) is = subst T (ap is_lt (ap₂ text_cmp (sym is) (sym (ap (λ x. x.0) same)) ∙ tied_itself nat_list_cmp_total q)) (first _ _ all)
+not_below k q (f ∷ fs) w all (inr h) is = not_below k q fs w (second _ _ all) h is
+
+-- what is found in a list in order
+pub find_has : {V : Type 0} (es : List (Text × V)) (q : Text) (v : V) → T (is_sorted text_cmp es) → Has es (q, v) → find text_cmp q es ≡ Some v
+find_has [] q v up h = absurd h
+find_has (e ∷ es) q v up (inl same) = subst (λ x. cond (same_text q x.0) (Some x.1) (find text_cmp q es) ≡ Some v) same (rw (text_self q) refl)
+find_has (e ∷ es) q v up (inr later) = elim (cases_Bool (same_text q e.0)) [
+  | inl here ↦ absurd (not_below e.0 q es v (first (below_all text_cmp e.0 es) (is_sorted text_cmp es) up) later (text_is q e.0 here))
+  | inr other ↦ rw (other, find_has es q v (second (below_all text_cmp e.0 es) (is_sorted text_cmp es) up) later)
+]
+
 found_in : {V : Type 0} (es : List (Text × V)) (q : Text) (v : V) → find text_cmp q es ≡ Some v → Has es (q, v)
 found_in [] q v h = absurd (cc)
 found_in (e ∷ es) q v h = elim (cases_Bool (same_text q e.0)) [
@@ -90,7 +117,14 @@ found_in (e ∷ es) q v h = elim (cases_Bool (same_text q e.0)) [
   | inr other ↦ inr (found_in es q v (sym (rw other refl) ∙ h))
 ]
 
--- ---- what is shown of the entries of a map
+none_below : {V : Type 0} (k : Text) (fs : List (Text × V)) → T (below_all text_cmp k fs) → find text_cmp k fs ≡ None
+none_below k [] all = refl
+none_below k (f ∷ fs) all = elim (cases_Bool (same_text k f.0)) [
+  | inl here ↦ absurd (subst T (ap is_lt (ap (text_cmp k) (sym (text_is k f.0 here)) ∙ tied_itself nat_list_cmp_total k)) (first _ _ all))
+  | inr other ↦ rw other (none_below k fs (second _ _ all))
+]
+
+-- ---- what is shown of entries
 
 module _ {V : Type 0} (view : Text → V → Row) where
   abbrev viewed : List (Text × V) → List Keyed
@@ -115,20 +149,20 @@ module _ {V : Type 0} (view : Text → V → Row) where
   rows_viewed [] = refl
   rows_viewed (e ∷ es) = ap (λ l. view e.0 e.1 ∷ l) (rows_viewed es)
 
--- ---- the rows of a map
+-- ---- the rows of entries
 
--- a row has a text of the map in its column, and shows what is found under that
-pub record Says {V : Type 0} (m : FinMap text_cmp V) (view : Text → V → Row) (at : ℕ) (shows : Row → Row) (r : Row) : Type 0 where
+-- a row has a text in its column, and shows the value of that
+pub record Says {V : Type 0} (value_of : Text → Option V) (view : Text → V → Row) (at : ℕ) (shows : Row → Row) (r : Row) : Type 0 where
   pub value : V
-  pub is : get m (text_in at r) ≡ Some value
+  pub is : value_of (text_in at r) ≡ Some value
   pub named : column r at ≡ Words (text_in at r)
   pub shown : shows r ≡ view (text_in at r) value
 
--- each row says one entry of the map, each another one, and none is left out
-pub record AreRowsOf {V : Type 0} (m : FinMap text_cmp V) (view : Text → V → Row) (at : ℕ) (shows : Row → Row) (rows : List Row) : Type 0 where
+-- each row says the value of one text, each of another one, and none is left out
+pub record AreRowsOf {V : Type 0} (value_of : Text → Option V) (view : Text → V → Row) (at : ℕ) (shows : Row → Row) (rows : List Row) : Type 0 where
   pub apart : IsAscending (λ a b. text_in at a ≢ text_in at b) rows
-  pub each : (r : Row) → Has rows r → Says m view at shows r
-  pub all : (q : Text) (v : V) → get m q ≡ Some v → (r : Row) × Has rows r × (text_in at r ≡ q)
+  pub each : (r : Row) → Has rows r → Says value_of view at shows r
+  pub all : (q : Text) (v : V) → value_of q ≡ Some v → (r : Row) × Has rows r × (text_in at r ≡ q)
 
 module _ (tree : ℕ) (tests project : List Term) (at : ℕ) (params : Row) where
   abbrev query : Query
@@ -187,7 +221,7 @@ module _ (tree : ℕ) (tests project : List Term) (at : ℕ) (params : Row) wher
     distinct rs apart.1,
   )
 
-  module _ {V : Type 0} (m : FinMap text_cmp V) (view : Text → V → Row) (db : Trees) (low : nat_le (2 ^ 31) tree ≡ false) (of : AreRowsOf m view at shows (filter (keeps tests params) (db tree))) (shown : List Row)
+  module _ {V : Type 0} (value_of : Text → Option V) (view : Text → V → Row) (db : Trees) (low : nat_le (2 ^ 31) tree ≡ false) (of : AreRowsOf value_of view at shows (filter (keeps tests params) (db tree))) (shown : List Row)
       (answer : IsAnswerAs Null query (overlay db []) params shown) where
     rows : List Row
     rows = filter (keeps tests params) (db tree)
@@ -198,7 +232,7 @@ module _ (tree : ℕ) (tests project : List Term) (at : ℕ) (params : Row) wher
     es : List Keyed
     es = map key answer.ordered
 
-    outputs_are : (rs : List Row) → ((r : Row) → Has rs r → Says m view at shows r) → map output_of rs ≡ map unkey (map keyed_of rs)
+    outputs_are : (rs : List Row) → ((r : Row) → Has rs r → Says value_of view at shows r) → map output_of rs ≡ map unkey (map keyed_of rs)
     outputs_are [] each = refl
     outputs_are (r ∷ rs) each = ap₂ (λ (x : Output) l. x ∷ l) (λ i. ((each r (inl refl)).named i ∷ [], shows r)) (outputs_are rs (λ x h. each x (inr h)))
 
@@ -224,35 +258,95 @@ module _ (tree : ℕ) (tests project : List Term) (at : ℕ) (params : Row) wher
     in_order = strictly es (subst (IsSorted (output_cmp query)) (sym ordered_is) answer.sorted) (IsDistinct-IsPermutation same_text flips _ _ (IsPermutation-map (λ (e : Keyed). e.0) qs es keyed_move) (distinct (filter (keeps tests params) (db tree)) of.apart))
 
     -- what is listed is what a row says
-    said : (e : Keyed) → Has es e → (v : V) × (get m e.0 ≡ Some v) × (e.1 ≡ view e.0 v)
+    said : (e : Keyed) → Has es e → (v : V) × (value_of e.0 ≡ Some v) × (e.1 ≡ view e.0 v)
     unfolding qs rows
     said e h =
         let r = mapped_has keyed_of rows e (moved es qs e (IsPermutation-sym _ _ keyed_move) h) in
         let it = of.each r.0 r.1 in
         let id : e.0 ≡ text_in at r.0 = ap (λ (x : Keyed). x.0) r.2 in
-        (it.value, ap (get m) id ∙ it.is, ap (λ (x : Keyed). x.1) r.2 ∙ it.shown ∙ ap (λ k. view k it.value) (sym id))
+        (it.value, ap value_of id ∙ it.is, ap (λ (x : Keyed). x.1) r.2 ∙ it.shown ∙ ap (λ k. view k it.value) (sym id))
 
-    -- what is in the map is listed
-    is_listed : (q : Text) (v : V) → get m q ≡ Some v → (w : Row) × Has es (q, w)
+    -- what has a value is listed
+    is_listed : (q : Text) (v : V) → value_of q ≡ Some v → (w : Row) × Has es (q, w)
     unfolding qs rows
     is_listed q v is =
         let r = of.all q v is in
         (shows r.0, subst (λ k. Has es (k, shows r.0)) r.2 (moved qs es (keyed_of r.0) keyed_move (has_mapped keyed_of rows r.0 r.1)))
 
-    entry_of : (q : Text) → find text_cmp q es ≡ option_map (view q) (get m q)
-    entry_of q = go (find text_cmp q es) refl (get m q) refl
+    entry_of : (q : Text) → find text_cmp q es ≡ option_map (view q) (value_of q)
+    entry_of q = go (find text_cmp q es) refl (value_of q) refl
       where
-        go : (o : Option Row) → find text_cmp q es ≡ o → (g : Option V) → get m q ≡ g → find text_cmp q es ≡ option_map (view q) (get m q)
+        go : (o : Option Row) → find text_cmp q es ≡ o → (g : Option V) → value_of q ≡ g → find text_cmp q es ≡ option_map (view q) (value_of q)
         go (Some w) some g is = let r = said (q, w) (found_in es q w some) in some ∙ ap Some r.2 ∙ sym (ap (option_map (view q)) r.1)
         go None none None is = none ∙ sym (ap (option_map (view q)) is)
         go None none (Some v) is = let r = is_listed q v is in absurd (let clash = sym none ∙ find_has es q r.0 in_order r.1 in cc)
 
-    -- the query shows the entries of the map, in order of their keys
-    pub shows_entries : shown ≡ map (λ e. view e.0 e.1) (entries m)
-    shows_entries =
-        let all : es ≡ viewed view (entries m) = same_entries text_cmp nat_list_cmp_total one_text es (viewed view (entries m)) in_order (sorted_viewed view (entries m) (entries_sorted m)) (λ q. entry_of q ∙ ap (option_map (view q)) (get-entries m q) ∙ sym (find_viewed view (entries m) q)) in
-        answer.shown ∙ ap (map (λ (o : Output). o.1)) (sym ordered_is) ∙ ap (λ l. map (λ (o : Output). o.1) (map unkey l)) all ∙ twice (viewed view (entries m)) ∙ rows_viewed view (entries m)
+    -- the query shows the entries whose values these are, in order of their texts
+    pub shows_entries : (kept : List (Text × V)) → T (is_sorted text_cmp kept) → ((q : Text) → value_of q ≡ find text_cmp q kept) → shown ≡ map (λ e. view e.0 e.1) kept
+    shows_entries kept up are =
+        let all : es ≡ viewed view kept = same_entries text_cmp nat_list_cmp_total one_text es (viewed view kept) in_order (sorted_viewed view kept up) (λ q. entry_of q ∙ ap (option_map (view q)) (are q) ∙ sym (find_viewed view kept q)) in
+        answer.shown ∙ ap (map (λ (o : Output). o.1)) (sym ordered_is) ∙ ap (λ l. map (λ (o : Output). o.1) (map unkey l)) all ∙ twice (viewed view kept) ∙ rows_viewed view kept
       where
         twice : (xs : List Keyed) → map (λ (o : Output). o.1) (map unkey xs) ≡ map (λ (e : Keyed). e.1) xs
         twice [] = refl
         twice (x ∷ xs) = ap (λ l. x.1 ∷ l) (twice xs)
+
+-- ---- entries that pass a test
+
+module _ {V : Type 0} (test : V → Bool) where
+  -- the value, where it passes
+  abbrev pub if_passes : Option V → Option V
+  if_passes None = None
+  if_passes (Some v) = cond (test v) (Some v) None
+
+  pub passed : (o : Option V) (v : V) → if_passes o ≡ Some v → (o ≡ Some v) × (test v ≡ true)
+  passed None v e = absurd (cc)
+  passed (Some w) v e = elim (cases_Bool (test w)) [
+    | inl here ↦ (let is : Some w ≡ Some v = sym (rw here refl) ∙ e in (is, (let same : w ≡ v = cc in ap test (sym same) ∙ here)))
+    | inr other ↦ absurd (let none : None ≡ Some v = sym (rw other refl) ∙ e in cc)
+  ]
+
+  abbrev pub passing : List (Text × V) → List (Text × V)
+  passing es = filter (λ e. test e.1) es
+
+  below_passing : (k : Text) (es : List (Text × V)) → T (below_all text_cmp k es) → T (below_all text_cmp k (passing es))
+  below_passing k [] h = tt
+  below_passing k (e ∷ es) h = elim (test e.1) as (λ b. T (below_all text_cmp k (cond b (e ∷ passing es) (passing es)))) [
+    | true ↦ both _ _ (first _ _ h) (below_passing k es (second _ _ h))
+    | false ↦ below_passing k es (second _ _ h)
+  ]
+
+  pub sorted_passing : (es : List (Text × V)) → T (is_sorted text_cmp es) → T (is_sorted text_cmp (passing es))
+  sorted_passing [] h = tt
+  sorted_passing (e ∷ es) h = elim (test e.1) as (λ b. T (is_sorted text_cmp (cond b (e ∷ passing es) (passing es)))) [
+    | true ↦ both _ _ (below_passing e.0 es (first _ _ h)) (sorted_passing es (second _ _ h))
+    | false ↦ sorted_passing es (second _ _ h)
+  ]
+
+  pub find_passing : (es : List (Text × V)) → T (is_sorted text_cmp es) → (q : Text) → if_passes (find text_cmp q es) ≡ find text_cmp q (passing es)
+  find_passing [] h q = refl
+  find_passing (e ∷ es) h q = elim (cases_Bool (same_text q e.0)) [
+    | inl here ↦ sym (here_is here ∙ ap if_passes (sym (now here)))
+    | inr other ↦ sym (later other ∙ sym (find_passing es (second _ _ h) q) ∙ ap if_passes (sym (past other)))
+  ]
+    where
+      now : same_text q e.0 ≡ true → find text_cmp q (e ∷ es) ≡ Some e.1
+      now here = rw here refl
+
+      past : same_text q e.0 ≡ false → find text_cmp q (e ∷ es) ≡ find text_cmp q es
+      past other = rw other refl
+
+      gone : same_text q e.0 ≡ true → find text_cmp q (passing es) ≡ None
+      gone here = subst (λ k. find text_cmp k (passing es) ≡ None) (sym (text_is q e.0 here)) (none_below e.0 (passing es) (below_passing e.0 es (first _ _ h)))
+
+      here_is : same_text q e.0 ≡ true → find text_cmp q (cond (test e.1) (e ∷ passing es) (passing es)) ≡ if_passes (Some e.1)
+      here_is here = elim (test e.1) as (λ b. find text_cmp q (cond b (e ∷ passing es) (passing es)) ≡ cond b (Some e.1) None) [
+        | true ↦ rw here refl
+        | false ↦ gone here
+      ]
+
+      later : same_text q e.0 ≡ false → find text_cmp q (cond (test e.1) (e ∷ passing es) (passing es)) ≡ find text_cmp q (passing es)
+      later other = elim (test e.1) as (λ b. find text_cmp q (cond b (e ∷ passing es) (passing es)) ≡ find text_cmp q (passing es)) [
+        | true ↦ rw other refl
+        | false ↦ refl
+      ]
