@@ -2,7 +2,7 @@ use Rattle.std.proofs.Common.{ap, sym}
 use Rattle.std.specs.FinMap.{entries, values}
 use Rattle.streetmap_geojson.specs.FeatureValue.{FeatureValue}
 use Rattle.streetmap_ledger.specs.Summaries.{all_vertices}
-use Rattle.streetmap_reading.proofs.Failing.{passed_on}
+use Rattle.streetmap_tables.proofs.Answering.{handed_on}
 use Rattle.streetmap_reading.proofs.Pages.{stays_by, survives_any}
 use Rattle.streetmap_listing.specs.Statements.{select_extents}
 use Rattle.streetmap_listing.specs.Telling.{features_in}
@@ -24,7 +24,7 @@ pub returns-in_err-fold_rows-clause-shows : goal.returns-in_err-fold_rows-clause
 returns-in_err-fold_rows-clause-shows g c clean = λ s limit keeps.
     let name = c.args.collection.now in
     let all = rw c.params-to_sql.ensures at (c.in_err-fold_rows.ensures.takes clean) in
-    passed_on _ _ _ _ c.from_residual.ensures.1 (all _ limit (extents_at _ s keeps name) (extent_rows _ s keeps name) (λ fs is fine. ap all_vertices (none_mapped (λ (f : FeatureValue). extent_row (feature_extent f)) fs is)))
+    handed_on _ _ _ _ c.from_residual.ensures.1 (all _ limit (extents_at _ s keeps name) (extent_rows _ s keeps name) (λ fs is fine. ap all_vertices (none_mapped (λ (f : FeatureValue). extent_row (feature_extent f)) fs is)))
 
 pub returns-clause-stays : goal.returns-clause-stays
 returns-clause-stays g c = stays_by select_extents _ _ _ c.fold_rows.ensures.survives (λ s keeps. (extents_at _ s keeps c.args.collection.now).plain)

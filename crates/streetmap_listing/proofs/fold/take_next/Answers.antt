@@ -1,7 +1,7 @@
 use Rattle.std.proofs.Common.{sym, subst, ◌∙◌, ap}
 use Rattle.std.specs.Option.{option_copied}
 use Rattle.std.specs.List.{AllByRecursion}
-use Rattle.streetmap_reading.proofs.Failing.{passed_on}
+use Rattle.streetmap_tables.proofs.Answering.{handed_on}
 use Rattle.sqlite.specs.Held.{state}
 use Rattle.streetmap_reading.specs.Taking.{Stopped}
 use Rattle.streetmap_reading.proofs.Given.{at_end, at_row, at_fault}
@@ -21,7 +21,7 @@ returns-in_err-take-clause-takes g c clean = λ sql params done rest limit shows
     let met = at_row g.S.Store c.args.rows.now.conn.now c.advance.new.self.conn.now sql params done rest shows given _ c.in-Some.row.now (sym c.get.ensures ∙ ap option_copied c.in-Some.is) same (c.in-Ok.ensures.ok clean) in
     let fine = (subst (AllByRecursion g.F.RowFold.is_readable) met.1 readable).0 in
     let stopped = subst (Stopped (state g.S.Store c.args.rows.now.conn.now) (state g.S.Store c.advance.new.self.conn.now)) (sym (c.in_err-take.ensures done fine held)) same in
-    passed_on _ _ _ _ c.from_residual.ensures.1 stopped
+    handed_on _ _ _ _ c.from_residual.ensures.1 stopped
 
 pub returns-clause-takes : goal.returns-clause-takes
 returns-clause-takes g c clean = λ sql params done rest limit shows readable given held.

@@ -2,7 +2,7 @@ use Rattle.std.proofs.Common.{◌≡◌, [], map, ap, sym, ◌∙◌}
 use Rattle.std.specs.FinMap.{entries}
 use Rattle.streetmap_ledger.specs.Outlines.{feature_outline_of}
 use Rattle.streetmap_ledger.specs.OutlineView.{feature_outline_values}
-use Rattle.streetmap_reading.proofs.Failing.{passed_on}
+use Rattle.streetmap_tables.proofs.Answering.{handed_on}
 use Rattle.streetmap_reading.proofs.Pages.{stays_by, survives_any}
 use Rattle.streetmap_listing.specs.Statements.{select_outlines}
 use Rattle.streetmap_listing.specs.Telling.{features_in}
@@ -24,7 +24,7 @@ returns-in_err-fold_rows-clause-shows g c clean = λ s limit keeps.
     let name = c.args.collection.now in
     let all = rw c.params-to_sql.ensures at (c.in_err-fold_rows.ensures.takes clean) in
     let none : feature_outline_values c.new-outlines.result.items ≡ [] = ap feature_outline_values c.new-outlines.ensures.items in
-    passed_on _ _ _ _ c.from_residual.ensures.1 (all _ limit (outlines_at _ s keeps name) (outline_rows _ s keeps name) (λ vs is fine. none ∙ sym (none_mapped outline_row vs is)))
+    handed_on _ _ _ _ c.from_residual.ensures.1 (all _ limit (outlines_at _ s keeps name) (outline_rows _ s keeps name) (λ vs is fine. none ∙ sym (none_mapped outline_row vs is)))
 
 pub returns-clause-stays : goal.returns-clause-stays
 returns-clause-stays g c = stays_by select_outlines _ _ _ c.fold_rows.ensures.survives (λ s keeps. (outlines_at _ s keeps c.args.collection.now).plain)

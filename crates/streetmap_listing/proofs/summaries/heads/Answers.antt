@@ -5,7 +5,7 @@ use Rattle.streetmap_ledger.specs.State.{Collection}
 use Rattle.streetmap_ledger.specs.SummaryView.{summary_values}
 use Rattle.streetmap_rows.specs.Rows.{collection_cells}
 use Rattle.streetmap_rows.specs.Statements.{select_collections}
-use Rattle.streetmap_reading.proofs.Failing.{passed_on}
+use Rattle.streetmap_tables.proofs.Answering.{handed_on}
 use Rattle.streetmap_reading.proofs.Pages.{stays_by, survives_any}
 use Rattle.streetmap_listing.specs.Held.{head_of}
 use Rattle.streetmap_listing.proofs.Lists.{none_mapped}
@@ -21,7 +21,7 @@ returns-clause-shows g c clean = λ s limit keeps.
 pub returns-in_err-fold_rows-clause-shows : goal.returns-in_err-fold_rows-clause-shows
 returns-in_err-fold_rows-clause-shows g c clean = λ s limit keeps.
     let none : summary_values c.new-heads.result.items ≡ [] = ap summary_values c.new-heads.ensures.items in
-    passed_on _ _ _ _ c.from_residual.ensures.1 (c.in_err-fold_rows.ensures.takes clean _ limit (collections_at _ s keeps) (head_rows _ s keeps) (λ es is fine. none ∙ sym (ap (map (λ (e : Text × Collection). head_of e.0 e.1)) (none_mapped (λ (e : Text × Collection). collection_cells e.0 e.1) es is))))
+    handed_on _ _ _ _ c.from_residual.ensures.1 (c.in_err-fold_rows.ensures.takes clean _ limit (collections_at _ s keeps) (head_rows _ s keeps) (λ es is fine. none ∙ sym (ap (map (λ (e : Text × Collection). head_of e.0 e.1)) (none_mapped (λ (e : Text × Collection). collection_cells e.0 e.1) es is))))
 
 pub returns-clause-stays : goal.returns-clause-stays
 returns-clause-stays g c = stays_by select_collections _ _ _ c.fold_rows.ensures.survives (λ s keeps. (collections_at _ s keeps).plain)

@@ -5,7 +5,7 @@ use Rattle.sqlite.specs.State.{HasCleanDisk}
 use Rattle.sqlite.proofs.Callers.{unchanged_then}
 use Rattle.streetmap_ledger.specs.Summaries.{summary_of}
 use Rattle.streetmap_reading.specs.Taking.{Stopped}
-use Rattle.streetmap_reading.proofs.Failing.{passed_on}
+use Rattle.streetmap_tables.proofs.Answering.{handed_on}
 use Rattle.streetmap_reading.proofs.Rests.{stopped_on}
 use Rattle.streetmap_reading.proofs.Pages.{there_is, keeps_still, survives_both}
 use Rattle.streetmap_listing.proofs.summaries.summary_of.Goals as goal
@@ -15,7 +15,7 @@ returns-in_err-head-clause-shows g c clean = λ s limit keeps.
     let found = c.in_ok-row.ensures.finds clean s limit keeps in
     let it = there_is (get s.collections c.args.id.now) c.in-Some.row (sym c.in-Some.is ∙ found.0) in
     let known = c.in_err-head.ensures it.0 it.2 (keeps.rows.readable.collections c.args.id.now it.0 it.1) in
-    passed_on _ _ _ _ c.from_residual-in_err-head.ensures.1 (subst (Stopped (state g.S.Store c.args.conn.now) (state g.S.Store c.collection_row.new.conn)) (sym known) found.1)
+    handed_on _ _ _ _ c.from_residual-in_err-head.ensures.1 (subst (Stopped (state g.S.Store c.args.conn.now) (state g.S.Store c.collection_row.new.conn)) (sym known) found.1)
 
 pub returns-clause-shows : goal.returns-clause-shows
 returns-clause-shows g c clean = λ s limit keeps.
@@ -36,7 +36,7 @@ returns-in_err-summary-clause-shows g c clean = λ s limit keeps.
     let new = state g.S.Store c.with_extent.new.conn in
     let early : HasCleanDisk mid = omega (arith, clean, c.with_extent.ensures.survives.clean) in
     let found = c.in_ok-row.ensures.finds early s limit keeps in
-    passed_on _ _ _ _ c.from_residual-in_err-summary.ensures.1 (stopped_on old mid new _ found.1 (c.in_err-summary.ensures.shows clean s (c.collection_row.ensures.survives.limit ∙ limit) (keeps_still s old mid found.1 keeps)))
+    handed_on _ _ _ _ c.from_residual-in_err-summary.ensures.1 (stopped_on old mid new _ found.1 (c.in_err-summary.ensures.shows clean s (c.collection_row.ensures.survives.limit ∙ limit) (keeps_still s old mid found.1 keeps)))
 
 pub returns-clause-stays : goal.returns-clause-stays
 returns-clause-stays g c = λ clean s limit keeps trees left.

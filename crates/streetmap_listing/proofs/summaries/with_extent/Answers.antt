@@ -1,4 +1,4 @@
-use Rattle.streetmap_reading.proofs.Failing.{passed_on}
+use Rattle.streetmap_tables.proofs.Answering.{handed_on}
 use Rattle.streetmap_listing.proofs.Taken.{extended}
 use Rattle.streetmap_listing.proofs.summaries.with_extent.Goals as goal
 
@@ -9,4 +9,4 @@ returns-clause-shows g c clean = λ s limit keeps.
 
 pub returns-in_err-extent-clause-shows : goal.returns-in_err-extent-clause-shows
 returns-in_err-extent-clause-shows g c clean = λ s limit keeps.
-    passed_on _ _ _ _ c.from_residual.ensures.1 (c.in_err-extent.ensures.shows clean s limit keeps)
+    handed_on _ _ _ _ c.from_residual.ensures.1 (c.in_err-extent.ensures.shows clean s limit keeps)

@@ -2,7 +2,7 @@ use Rattle.std.proofs.Common.{◌∙◌, ap, subst, length, arith, rules}
 use Rattle.std.specs.Vec.Iter.{into_iter_items}
 use Rattle.sqlite.specs.Held.{state}
 use Rattle.sqlite.proofs.Callers.{unchanged_then}
-use Rattle.streetmap_reading.proofs.Failing.{passed_on}
+use Rattle.streetmap_tables.proofs.Answering.{handed_on}
 use Rattle.streetmap_reading.proofs.Rests.{stopped_on}
 use Rattle.streetmap_reading.proofs.Pages.{survives_both}
 use Rattle.streetmap_listing.proofs.Told.{SoFar, begins, goes_on, told_all, none_left, early, limited, kept}
@@ -35,7 +35,7 @@ returns-in_err-summary-clause-shows g c clean = λ live s limit keeps.
     let so = subst (λ l. SoFar (state g.S.Store c.args.conn.now) (state g.S.Store c.loop-head.conn) c.args.heads.items l c.loop-head.summaries.items) c.in-Some.ensures.steps.0 c.loop-head.invariant.4 in
     let new = state g.S.Store c.with_extent.new.conn in
     let before = early _ _ new _ _ _ _ so c.with_extent.ensures.survives s limit keeps clean in
-    passed_on _ _ _ _ c.from_residual.ensures.1 (stopped_on _ _ new _ (so.unchanged before s limit keeps live)
+    handed_on _ _ _ _ c.from_residual.ensures.1 (stopped_on _ _ new _ (so.unchanged before s limit keeps live)
     (c.in_err-summary.ensures.shows clean s (limited _ _ new _ _ _ _ so c.with_extent.ensures.survives s limit keeps clean) (kept _ _ new _ _ _ _ so c.with_extent.ensures.survives s limit keeps clean)))
 
 pub returns-in_err-summary-clause-mode : goal.returns-in_err-summary-clause-mode

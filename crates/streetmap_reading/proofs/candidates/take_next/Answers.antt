@@ -6,7 +6,7 @@ use Rattle.streetmap_geojson.specs.FeatureValue.{FeatureValue}
 use Rattle.streetmap_ledger.specs.Folds.{Holds}
 use Rattle.streetmap_reading.specs.Candidates.{IsStored}
 use Rattle.streetmap_reading.specs.Taking.{Stopped}
-use Rattle.streetmap_reading.proofs.Failing.{passed_on}
+use Rattle.streetmap_tables.proofs.Answering.{handed_on}
 use Rattle.streetmap_reading.proofs.Rests.{at_end, at_row, at_fault}
 use Rattle.streetmap_reading.proofs.candidates.take_next.Goals as goal
 
@@ -32,4 +32,4 @@ returns-in_err-feature-clause-takes g c clean = λ sql params q done rest limit 
     let met = at_row g.S.Store c.args.rows.now.conn.now c.advance.new.self.conn.now sql params done rest shows given _ c.in-Some.row.now (sym c.get.ensures ∙ ap option_copied c.in-Some.is) same (c.in-Ok.ensures.ok clean) in
     let kept = (subst (AllByRecursion (IsStored (option_copied c.args.property))) met.2 stored).0 in
     let stopped = subst (Stopped (state g.S.Store c.args.rows.now.conn.now) (state g.S.Store c.advance.new.self.conn.now)) (sym (c.in_err-feature.ensures met.0 met.3 kept)) same in
-    passed_on _ _ _ _ c.from_residual.ensures.1 stopped
+    handed_on _ _ _ _ c.from_residual.ensures.1 stopped

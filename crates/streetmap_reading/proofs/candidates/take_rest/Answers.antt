@@ -6,7 +6,7 @@ use Rattle.sqlite.proofs.Callers.{unchanged_then}
 use Rattle.streetmap_ledger.specs.Folds.{Holds}
 use Rattle.streetmap_reading.specs.Candidates.{IsStored}
 use Rattle.streetmap_reading.specs.Taking.{TookNext}
-use Rattle.streetmap_reading.proofs.Failing.{passed_on}
+use Rattle.streetmap_tables.proofs.Answering.{handed_on}
 use Rattle.streetmap_reading.proofs.Rests.{given_open, survives_still, survives_on, shows_still, stopped_on, clean_before}
 use Rattle.streetmap_reading.proofs.candidates.take_rest.Goals as goal
 
@@ -50,7 +50,7 @@ pub returns-in_err-took-clause-takes : goal.returns-in_err-took-clause-takes
 returns-in_err-took-clause-takes g c clean = λ sql params q fs limit shows stored given held.
     let before = c.rows.invariant.1 in
     let t = before.took (clean_before _ _ _ c.take_next.ensures.survives clean) sql params q fs limit shows stored given held in
-    passed_on _ _ _ _ c.from_residual.ensures.1 (stopped_on _ _ _ _ t.same (c.in_err-took.ensures.takes clean sql params q t.done t.rest (before.survives.limit ∙ limit) (shows_still _ _ sql params fs (t.done ++ t.rest) t.same (sym t.are) shows) t.stored t.given t.held))
+    handed_on _ _ _ _ c.from_residual.ensures.1 (stopped_on _ _ _ _ t.same (c.in_err-took.ensures.takes clean sql params q t.done t.rest (before.survives.limit ∙ limit) (shows_still _ _ sql params fs (t.done ++ t.rest) t.same (sym t.are) shows) t.stored t.given t.held))
 
 pub returns-clause-takes : goal.returns-clause-takes
 returns-clause-takes g c clean = λ sql params q fs limit shows stored given held.

@@ -4,7 +4,7 @@ use Rattle.sqlite.specs.Held.{state}
 use Rattle.sqlite.specs.State.{HasCleanDisk}
 use Rattle.streetmap_reading.specs.Looking.{IsFeatureOf}
 use Rattle.streetmap_reading.specs.Taking.{Stopped}
-use Rattle.streetmap_reading.proofs.Failing.{passed_on}
+use Rattle.streetmap_tables.proofs.Answering.{handed_on}
 use Rattle.streetmap_reading.proofs.Features.{looked_on}
 use Rattle.streetmap_reading.proofs.Pages.{there_is, keeps_still, survives_both}
 use Rattle.streetmap_reading.proofs.feature.feature_of.Goals as goal
@@ -14,7 +14,7 @@ returns-in_err-time-clause-shows g c clean = λ s limit keeps.
     let found = c.in_ok-row.ensures.finds clean s limit keeps in
     let it = there_is (get s.collections c.args.collection.now) c.in-Some.row (sym c.in-Some.is ∙ found.0) in
     let known = c.in_err-time.ensures c.args.collection.now it.0 it.2 (keeps.rows.readable.collections c.args.collection.now it.0 it.1) in
-    passed_on _ _ _ _ c.from_residual-in_err-time.ensures.1 (subst (Stopped (state g.S.Store c.args.conn.now) (state g.S.Store c.collection_row.new.conn)) (sym known) found.1)
+    handed_on _ _ _ _ c.from_residual-in_err-time.ensures.1 (subst (Stopped (state g.S.Store c.args.conn.now) (state g.S.Store c.collection_row.new.conn)) (sym known) found.1)
 
 pub returns-clause-shows : goal.returns-clause-shows
 returns-clause-shows g c clean = λ s limit keeps.

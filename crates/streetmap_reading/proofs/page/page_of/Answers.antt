@@ -7,7 +7,7 @@ use Rattle.streetmap_query.specs.Views.{query_value}
 use Rattle.streetmap_ledger.specs.State.{Collection}
 use Rattle.streetmap_ledger.specs.Pages.{page_over}
 use Rattle.streetmap_reading.specs.Taking.{Stopped}
-use Rattle.streetmap_reading.proofs.Failing.{passed_on}
+use Rattle.streetmap_tables.proofs.Answering.{handed_on}
 use Rattle.streetmap_reading.proofs.Rests.{stopped_on}
 use Rattle.streetmap_reading.proofs.Pages.{there_is, keeps_still, survives_both}
 use Rattle.streetmap_reading.proofs.page.page_of.Goals as goal
@@ -17,7 +17,7 @@ returns-in_err-time-clause-shows g c clean = λ s limit keeps.
     let found = c.in_ok-row.ensures.finds clean s limit keeps in
     let it = there_is (get s.collections c.args.collection.now) c.in-Some.row (sym c.in-Some.is ∙ found.0) in
     let known = c.in_err-time.ensures c.args.collection.now it.0 it.2 (keeps.rows.readable.collections c.args.collection.now it.0 it.1) in
-    passed_on _ _ _ _ c.from_residual-in_err-time.ensures.1 (subst (Stopped (state g.S.Store c.args.conn.now) (state g.S.Store c.collection_row.new.conn)) (sym known) found.1)
+    handed_on _ _ _ _ c.from_residual-in_err-time.ensures.1 (subst (Stopped (state g.S.Store c.args.conn.now) (state g.S.Store c.collection_row.new.conn)) (sym known) found.1)
 
 pub returns-clause-shows : goal.returns-clause-shows
 returns-clause-shows g c clean = λ s limit keeps.
@@ -40,7 +40,7 @@ returns-in_err-page-clause-shows g c clean = λ s limit keeps.
     let found = c.in_ok-row.ensures.finds early s limit keeps in
     let it = there_is (get s.collections c.args.collection.now) c.in-Some.row (sym c.in-Some.is ∙ found.0) in
     let time = c.in_ok-time.ensures c.args.collection.now it.0 it.2 (keeps.rows.readable.collections c.args.collection.now it.0 it.1) in
-    passed_on _ _ _ _ c.from_residual-in_err-page.ensures.1 (stopped_on old mid new _ found.1 (c.in_err-page.ensures.shows clean s it.0 (c.collection_row.ensures.survives.limit ∙ limit) (keeps_still s old mid found.1 keeps) it.1 (sym (c.lent.ensures ∙ time))))
+    handed_on _ _ _ _ c.from_residual-in_err-page.ensures.1 (stopped_on old mid new _ found.1 (c.in_err-page.ensures.shows clean s it.0 (c.collection_row.ensures.survives.limit ∙ limit) (keeps_still s old mid found.1 keeps) it.1 (sym (c.lent.ensures ∙ time))))
 
 pub returns-clause-stays : goal.returns-clause-stays
 returns-clause-stays g c = λ clean s limit keeps trees left.
