@@ -9,31 +9,23 @@ ghost use Rattle.streetmap_grid.specs.Views.{box_value};
 ghost use Rattle.streetmap_grid.specs.WellFormed.{IsBox};
 ghost use Rattle.streetmap_listing.specs.Folding.{IsForMemory};
 
+use sqlite::Row;
 use sqlite::types::ValueRef;
-use sqlite::{Error, ErrorCode, Row};
 use streetmap_grid::GridBox;
-use streetmap_reading::ReadFault;
+use streetmap_reading::{ReadFault, unread};
 
 /// The text in a cell.
 pub fn text_at(row: &Row, at: usize) -> Result<String, ReadFault>
     ensures { (t : Text) → at < length row.now → column row.now at ≡ Words t → IsUtf8 t → MatchResult result (λ text. string_bytes text ≡ t) IsForMemory }
 {
-    match row.get::<String>(at) {
-        Ok(text) => Ok(text),
-        Err(Error::SqliteFailure(ErrorCode::OutOfMemory)) => Err(ReadFault::Memory),
-        Err(_) => Err(ReadFault::Unread),
-    }
+    row.get::<String>(at).map_err(|error| unread(error))
 }
 
 /// The text in a cell, or none.
 pub fn text_if_at(row: &Row, at: usize) -> Result<Option<String>, ReadFault>
     ensures { (t : Option Text) → at < length row.now → column row.now at ≡ or_null Words t → IfSome t IsUtf8 → MatchResult result (λ text. option_map string_bytes text ≡ t) IsForMemory }
 {
-    match row.get::<Option<String>>(at) {
-        Ok(text) => Ok(text),
-        Err(Error::SqliteFailure(ErrorCode::OutOfMemory)) => Err(ReadFault::Memory),
-        Err(_) => Err(ReadFault::Unread),
-    }
+    row.get::<Option<String>>(at).map_err(|error| unread(error))
 }
 
 /// The number in a cell, or none.

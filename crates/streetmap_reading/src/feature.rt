@@ -7,7 +7,7 @@ ghost use Rattle.streetmap_reading.specs.Looking.{LooksInto, Stays, IsTextRow, I
 
 use crate::candidates::read_row;
 use crate::fault::ReadFault;
-use crate::page::{collection_row, lent, time_in};
+use crate::page::{collection_row, property_in};
 use sqlite::{Alter, Connection, Row, params};
 use std::alloc::Global;
 use streetmap_geojson::Feature;
@@ -53,6 +53,10 @@ fn feature_under<S: Alter>(
 }
 
 /// A feature of a collection; `None` where the collection or the feature is not there.
+///
+/// # Errors
+///
+/// As `page_of`.
 pub fn feature_of<S: Alter>(
     alloc: Global,
     conn: &mut Connection<S>,
@@ -67,6 +71,6 @@ pub fn feature_of<S: Alter>(
     let Some(row) = collection_row(conn, collection)? else {
         return Ok(None);
     };
-    let time = time_in(&row)?;
-    feature_under(alloc, conn, collection, id, lent(&time))
+    let time = property_in(&row)?;
+    feature_under(alloc, conn, collection, id, time.as_deref())
 }

@@ -17,6 +17,6 @@ mod fault;
 mod feature;
 mod page;
 
-pub use fault::ReadFault;
+pub use fault::{ReadFault, unread};
 pub use feature::feature_of;
-pub use page::{collection_row, lent, page_of, time_in};
+pub use page::{collection_row, page_of};

@@ -19,13 +19,14 @@ ghost use Rattle.streetmap_reading.specs.Looking.{LooksInto, Stays, IsCollection
 ghost use Rattle.streetmap_rows.specs.Views.{collection_view};
 
 use crate::candidates::take_rows;
-use crate::fault::ReadFault;
-use sqlite::{Alter, Connection, Error, ErrorCode, Row, params};
+use crate::fault::{ReadFault, unread};
+use sqlite::{Alter, Connection, Row, params};
 use std::alloc::Global;
 use streetmap_grid::GridBox;
 use streetmap_ledger::{Page, PageFold};
 use streetmap_moment::Interval;
 use streetmap_query::Query;
+use streetmap_rows::time_in;
 
 /// Takes all features of a collection.
 fn take_all<S: Alter>(
@@ -182,14 +183,10 @@ pub fn collection_row<S: Alter>(
 }
 
 /// The time property in the row of a collection.
-pub fn time_in(row: &Row) -> Result<Option<String>, ReadFault>
+pub fn property_in(row: &Row) -> Result<Option<String>, ReadFault>
     ensures { (name : _) (c : Collection) → row.now ≡ collection_view c → IsReadable name c → MatchResult result (λ time. option_map string_bytes time ≡ c.time) (λ fault. fault ≡ ReadFault.Memory) }
 {
-    match row.get::<Option<String>>(1) {
-        Ok(time) => Ok(time),
-        Err(Error::SqliteFailure(ErrorCode::OutOfMemory)) => Err(ReadFault::Memory),
-        Err(_) => Err(ReadFault::Unread),
-    }
+    time_in(row).map_err(unread)
 }
 
 /// The page of a collection that is there, whose time property is known.
@@ -213,17 +210,13 @@ fn page_under<S: Alter>(
     }
 }
 
-/// The text, where there is one.
-pub fn lent(text: &Option<String>) -> Option<&str>
-    ensures { option_copied result ≡ option_map string_bytes text.now }
-{
-    match text {
-        Some(text) => Some(text.as_str()),
-        None => None,
-    }
-}
-
 /// A page of a collection; none where it is not there.
+///
+/// # Errors
+///
+/// `Memory` where memory was refused while a row was read or the page was made, `Store` where a statement
+/// failed, which tells a want of memory too by its error, and `Unread` at a row that is none that this
+/// product writes.
 pub fn page_of<S: Alter>(
     alloc: Global,
     conn: &mut Connection<S>,
@@ -238,7 +231,7 @@ pub fn page_of<S: Alter>(
     let Some(row) = collection_row(conn, collection)? else {
         return Ok(None);
     };
-    let time = time_in(&row)?;
-    let page = page_under(alloc, conn, collection, query, lent(&time))?;
+    let time = property_in(&row)?;
+    let page = page_under(alloc, conn, collection, query, time.as_deref())?;
     Ok(Some(page))
 }
