@@ -46,10 +46,7 @@ impl RowFold for Vec<FeatureOutline> {
 
     fn take(&mut self, row: &Row) -> Result<(), ReadFault> {
         let outline = outline_in(row)?;
-        match self.push(outline) {
-            Ok(()) => {}
-            Err(_) => return Err(ReadFault::Memory),
-        }
+        self.push(outline)?;
         Ok(())
     }
 }
@@ -77,6 +74,10 @@ fn outlines_in<S: Alter>(
 
 /// The outlines of the features of a collection, in byte order of ids; `None` where the collection is
 /// not there.
+///
+/// # Errors
+///
+/// As `summary_of`.
 pub fn outlines_of<S: Alter>(
     alloc: Global,
     conn: &mut Connection<S>,

@@ -27,15 +27,13 @@ fn head_under(alloc: Global, id: &str, row: &Row) -> Result<Summary, ReadFault>
 {
     let title = text_at(row, 0)?;
     let time = text_if_at(row, 1)?;
-    match String::from_str(alloc, id) {
-        Ok(id) => Ok(Summary {
-            id,
-            title,
-            time,
-            extent: None,
-        }),
-        Err(_) => Err(ReadFault::Memory),
-    }
+    let id = String::from_str(alloc, id)?;
+    Ok(Summary {
+        id,
+        title,
+        time,
+        extent: None,
+    })
 }
 
 /// What is told of a collection before its extent is known, from its row.
@@ -63,10 +61,7 @@ impl RowFold for Vec<Summary> {
 
     fn take(&mut self, row: &Row) -> Result<(), ReadFault> {
         let head = head_in(row)?;
-        match self.push(head) {
-            Ok(()) => {}
-            Err(_) => return Err(ReadFault::Memory),
-        }
+        self.push(head)?;
         Ok(())
     }
 }
@@ -83,6 +78,12 @@ fn with_extent<S: Alter>(conn: &mut Connection<S>, head: Summary) -> Result<Summ
 }
 
 /// What is told of a collection; `None` where it is not there.
+///
+/// # Errors
+///
+/// `Memory` where memory was refused while a row was read or what it says was kept, `Store` where a
+/// statement failed, by its error, which may be that memory was refused to it, and `Unread` at a row that
+/// is none that this product writes.
 pub fn summary_of<S: Alter>(
     alloc: Global,
     conn: &mut Connection<S>,
@@ -132,15 +133,16 @@ fn with_extents<S: Alter>(
     let mut summaries = Vec::new(alloc);
     for head in heads {
         let summary = with_extent(conn, head)?;
-        match summaries.push(summary) {
-            Ok(()) => {}
-            Err(_) => return Err(ReadFault::Memory),
-        }
+        summaries.push(summary)?;
     }
     Ok(summaries)
 }
 
 /// What is told of all collections, in byte order of ids.
+///
+/// # Errors
+///
+/// As `summary_of`.
 pub fn summaries_of<S: Alter>(
     alloc: Global,
     conn: &mut Connection<S>,

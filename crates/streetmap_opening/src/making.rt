@@ -130,7 +130,9 @@ fn make_alone<S: Alter>(conn: &mut Connection<S>) -> Result<(), Error>
 ///
 /// # Errors
 ///
-/// `Taken`, `Device` where the store fails or has no room, `Memory`.
+/// `Taken`; `Memory` where memory was refused and the connection is open and as it was; `Device` where
+/// the store fails or has no room, by the error that was met. After memory was refused the connection is
+/// looked at by `probe`: where memory is refused to that look too, it is `Device`, by that error.
 pub fn make_tables<S: Alter>(conn: &mut Connection<S>) -> Result<(), MakeFault>
     requires { conn.old.in_transaction ≡ false }
     ensures idle { conn.new.in_transaction ≡ false }
@@ -143,16 +145,14 @@ pub fn make_tables<S: Alter>(conn: &mut Connection<S>) -> Result<(), MakeFault>
     if is_one_used(conn.schema()) {
         return Err(MakeFault::Taken);
     }
-    match make_alone(conn) {
-        Ok(()) => Ok(()),
-        Err(error) => {
-            if !is_memory(error) {
-                return Err(MakeFault::Device(error));
-            }
-            match probe(conn) {
-                Ok(()) => Err(MakeFault::Memory),
-                Err(error) => Err(MakeFault::Device(error)),
-            }
-        }
+    let Err(error) = make_alone(conn) else {
+        return Ok(());
+    };
+    if !is_memory(error) {
+        return Err(MakeFault::Device(error));
+    }
+    match probe(conn) {
+        Ok(()) => Err(MakeFault::Memory),
+        Err(error) => Err(MakeFault::Device(error)),
     }
 }

@@ -27,14 +27,10 @@ pub fn act_inside<S: Alter>(
     ensures survives { Survives (state S.Store tx.old.conn.now) (state S.Store tx.new.conn.now) (λ _. ⊥) }
 {
     batch.facts();
-    match edit_each(tx, alloc, batch.edits()) {
-        Err(error) => return Err(error),
-        Ok(Some((place, why))) => return Ok(Reply::Refused(why, Some(place))),
-        Ok(None) => {}
+    if let Some((place, why)) = edit_each(tx, alloc, batch.edits())? {
+        return Ok(Reply::Refused(why, Some(place)));
     }
     let counts = Counts::of(batch.edits());
-    match insert_batch(tx, batch.key(), text, counts, count + 1) {
-        Ok(()) => Ok(Reply::Accepted(counts, count + 1)),
-        Err(error) => Err(error),
-    }
+    insert_batch(tx, batch.key(), text, counts, count + 1)?;
+    Ok(Reply::Accepted(counts, count + 1))
 }

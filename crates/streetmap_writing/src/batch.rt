@@ -42,10 +42,10 @@ fn act_alone<S: Alter>(
             tx.rollback();
             Err(error)
         }
-        Ok(Reply::Accepted(counts, serial)) => match tx.commit() {
-            Ok(()) => Ok(Reply::Accepted(counts, serial)),
-            Err(error) => Err(error),
-        },
+        Ok(Reply::Accepted(counts, serial)) => {
+            tx.commit()?;
+            Ok(Reply::Accepted(counts, serial))
+        }
         Ok(Reply::Refused(why, place)) => {
             tx.rollback();
             Ok(Reply::Refused(why, place))
@@ -72,19 +72,23 @@ fn act_by_key<S: Alter>(
     ensures ended { HasCleanDisk (state S.Store conn.new) → (s : State) → Rests (state S.Store conn.old) s → len s.keys ≡ count → Ended s (batch_value batch.now) (state S.Store conn.new) result }
     ensures crash { HasCleanDisk (state S.Store conn.new) → (s : State) → Rests (state S.Store conn.old) s → len s.keys ≡ count → MayBecome s (batch_value batch.now) (state S.Store conn.old) (state S.Store conn.new) }
 {
-    match kept_reply(conn, batch.key(), text) {
-        Err(error) => Err(error),
-        Ok(Some(reply)) => Ok(reply),
-        Ok(None) => {
-            if count >= MOST_BATCHES {
-                return Ok(Reply::Refused(Refusal::Full, None));
-            }
-            act_alone(alloc, conn, count, batch, text)
-        }
+    if let Some(reply) = kept_reply(conn, batch.key(), text)? {
+        return Ok(reply);
     }
+    if count >= MOST_BATCHES {
+        return Ok(Reply::Refused(Refusal::Full, None));
+    }
+    act_alone(alloc, conn, count, batch, text)
 }
 
 /// Acts on a batch whole or not at all.
+///
+/// # Errors
+///
+/// `Memory` where memory was refused, nothing changed and the connection is open; `Closed(Device(error))`
+/// where the store failed or has no room, by its error. After memory was refused, and before a reply that
+/// changed nothing is told, the connection is looked at by `probe`: where that look fails it is
+/// `Closed(Device(error))` by the error of the look, which may be that memory was refused to it.
 #[tactic(auto, using(crate::proofs::Told::told_by_cause, crate::proofs::Told::told_settled))]
 pub fn apply_batch<S: Alter>(
     alloc: Global,

@@ -22,10 +22,8 @@ fn has_collection<S: Alter>(tx: &mut Transaction<'_, S>, collection: &str) -> Re
     ensures looks { HasCleanDisk (state S.Store tx.new.conn.now) → Looks (λ s. is_some (get s.collections collection.now)) (state S.Store tx.old.conn.now) (state S.Store tx.new.conn.now) result }
     ensures survives { Survives (state S.Store tx.old.conn.now) (state S.Store tx.new.conn.now) (λ _. ⊥) }
 {
-    match collection_rows(tx, collection) {
-        Ok(rows) => Ok(!rows.is_empty()),
-        Err(error) => Err(error),
-    }
+    let rows = collection_rows(tx, collection)?;
+    Ok(!rows.is_empty())
 }
 
 /// Opens a collection, or tells that it is there.
@@ -40,15 +38,11 @@ fn open_in<S: Alter>(
     ensures edits { HasCleanDisk (state S.Store tx.new.conn.now) → Edits (edit.«open» collection.now title.now (option_copied time.entry)) (state S.Store tx.old.conn.now) (state S.Store tx.new.conn.now) result }
     ensures survives { Survives (state S.Store tx.old.conn.now) (state S.Store tx.new.conn.now) (λ _. ⊥) }
 {
-    match has_collection(tx, collection) {
-        Err(error) => return Err(error),
-        Ok(true) => return Ok(Some(Refusal::CollectionExists)),
-        Ok(false) => {}
+    if has_collection(tx, collection)? {
+        return Ok(Some(Refusal::CollectionExists));
     }
-    match insert_collection(tx, collection, title, time) {
-        Ok(()) => Ok(None),
-        Err(error) => Err(error),
-    }
+    insert_collection(tx, collection, title, time)?;
+    Ok(None)
 }
 
 /// Inserts a feature, or tells why not.
@@ -62,15 +56,11 @@ fn insert_in<S: Alter>(
     ensures edits { HasCleanDisk (state S.Store tx.new.conn.now) → Edits (edit.insert collection.now feature.now) (state S.Store tx.old.conn.now) (state S.Store tx.new.conn.now) result }
     ensures survives { Survives (state S.Store tx.old.conn.now) (state S.Store tx.new.conn.now) (λ _. ⊥) }
 {
-    let property = match time_property(tx, collection) {
-        Err(error) => return Err(error),
-        Ok(None) => return Ok(Some(Refusal::NoCollection)),
-        Ok(Some(property)) => property,
+    let Some(property) = time_property(tx, collection)? else {
+        return Ok(Some(Refusal::NoCollection));
     };
-    match has_feature(tx, collection, feature.id()) {
-        Err(error) => return Err(error),
-        Ok(true) => return Ok(Some(Refusal::FeatureExists)),
-        Ok(false) => {}
+    if has_feature(tx, collection, feature.id())? {
+        return Ok(Some(Refusal::FeatureExists));
     }
     put_feature(tx, alloc, collection, property.as_deref(), feature)
 }
@@ -86,20 +76,13 @@ fn replace_in<S: Alter>(
     ensures edits { HasCleanDisk (state S.Store tx.new.conn.now) → Edits (edit.replace collection.now feature.now) (state S.Store tx.old.conn.now) (state S.Store tx.new.conn.now) result }
     ensures survives { Survives (state S.Store tx.old.conn.now) (state S.Store tx.new.conn.now) (λ _. ⊥) }
 {
-    let property = match time_property(tx, collection) {
-        Err(error) => return Err(error),
-        Ok(None) => return Ok(Some(Refusal::NoCollection)),
-        Ok(Some(property)) => property,
+    let Some(property) = time_property(tx, collection)? else {
+        return Ok(Some(Refusal::NoCollection));
     };
-    match has_feature(tx, collection, feature.id()) {
-        Err(error) => return Err(error),
-        Ok(false) => return Ok(Some(Refusal::NoFeature)),
-        Ok(true) => {}
+    if !has_feature(tx, collection, feature.id())? {
+        return Ok(Some(Refusal::NoFeature));
     }
-    match delete_feature(tx, collection, feature.id()) {
-        Err(error) => return Err(error),
-        Ok(()) => {}
-    }
+    delete_feature(tx, collection, feature.id())?;
     put_feature(tx, alloc, collection, property.as_deref(), feature)
 }
 
@@ -114,20 +97,14 @@ fn delete_in<S: Alter>(
     ensures edits { HasCleanDisk (state S.Store tx.new.conn.now) → Edits (edit.delete collection.now id.now) (state S.Store tx.old.conn.now) (state S.Store tx.new.conn.now) result }
     ensures survives { Survives (state S.Store tx.old.conn.now) (state S.Store tx.new.conn.now) (λ _. ⊥) }
 {
-    match has_collection(tx, collection) {
-        Err(error) => return Err(error),
-        Ok(false) => return Ok(Some(Refusal::NoCollection)),
-        Ok(true) => {}
+    if !has_collection(tx, collection)? {
+        return Ok(Some(Refusal::NoCollection));
     }
-    match has_feature(tx, collection, id) {
-        Err(error) => return Err(error),
-        Ok(false) => return Ok(Some(Refusal::NoFeature)),
-        Ok(true) => {}
+    if !has_feature(tx, collection, id)? {
+        return Ok(Some(Refusal::NoFeature));
     }
-    match delete_feature(tx, collection, id) {
-        Ok(()) => Ok(None),
-        Err(error) => Err(error),
-    }
+    delete_feature(tx, collection, id)?;
+    Ok(None)
 }
 
 /// The name of a time property, where one is given.
@@ -180,10 +157,8 @@ pub fn edit_each<S: Alter>(
 {
     let mut place: u64 = 1;
     'edits: for edit in edits {
-        match edit_in(tx, alloc, edit) {
-            Err(error) => return Err(error),
-            Ok(Some(why)) => return Ok(Some((place, why))),
-            Ok(None) => {}
+        if let Some(why) = edit_in(tx, alloc, edit)? {
+            return Ok(Some((place, why)));
         }
         place += 1;
     }

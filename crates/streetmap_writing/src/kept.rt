@@ -21,10 +21,9 @@ use streetmap_rows::kept_rows;
 fn number_at(row: &Row, at: usize) -> Result<u64, Error>
     ensures { (n : ℕ) → at < length row.now → column row.now at ≡ Int (pos n) → result ≡ Ok n }
 {
-    match row.get_ref(at) {
-        Ok(ValueRef::Int(number)) if number >= 0 => Ok(number as u64),
-        Ok(_) => Err(Error::IntegralValueOutOfRange(at)),
-        Err(error) => Err(error),
+    match row.get_ref(at)? {
+        ValueRef::Int(number) if number >= 0 => Ok(number as u64),
+        _ => Err(Error::IntegralValueOutOfRange(at)),
     }
 }
 
@@ -45,14 +44,11 @@ fn counts_in(row: &Row) -> Result<Counts, Error>
 fn reply_in(row: &Row, text: &str) -> Result<Reply, Error>
     ensures { (kept : AcceptedBatch) → row.now ≡ kept_view kept → result ≡ Ok (kept_answer text.now kept) }
 {
-    match row.get_ref(0) {
-        Ok(ValueRef::Text(kept)) => {
-            if kept != text.as_bytes() {
-                return Ok(Reply::Refused(Refusal::KeyUsed, None));
-            }
-        }
-        Ok(_) => return Err(Error::Utf8Error(0)),
-        Err(error) => return Err(error),
+    let ValueRef::Text(kept) = row.get_ref(0)? else {
+        return Err(Error::Utf8Error(0));
+    };
+    if kept != text.as_bytes() {
+        return Ok(Reply::Refused(Refusal::KeyUsed, None));
     }
     let counts = counts_in(row)?;
     Ok(Reply::Repeated(counts, number_at(row, 5)?))
@@ -78,11 +74,9 @@ pub fn kept_reply<S: Alter>(
             return Err(error);
         }
     };
-    match rows.first() {
-        Some(row) => match reply_in(row, text) {
-            Ok(reply) => Ok(Some(reply)),
-            Err(error) => Err(error),
-        },
-        None => Ok(None),
-    }
+    let Some(row) = rows.first() else {
+        return Ok(None);
+    };
+    let reply = reply_in(row, text)?;
+    Ok(Some(reply))
 }

@@ -43,15 +43,13 @@ pub fn put_feature<S: Alter>(
     let Ok(text) = text_of(alloc, feature) else {
         return Err(Error::SqliteFailure(ErrorCode::OutOfMemory));
     };
-    match insert_feature(
+    insert_feature(
         tx,
         collection,
         feature.id(),
         text.as_str(),
         feature.extent(),
         seconds,
-    ) {
-        Ok(()) => Ok(None),
-        Err(error) => Err(error),
-    }
+    )?;
+    Ok(None)
 }

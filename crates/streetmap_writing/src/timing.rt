@@ -21,17 +21,12 @@ pub fn time_property<S: Alter>(
     ensures finds { HasCleanDisk (state S.Store tx.new.conn.now) → FindsTime collection.now (state S.Store tx.old.conn.now) (state S.Store tx.new.conn.now) result }
     ensures survives { Survives (state S.Store tx.old.conn.now) (state S.Store tx.new.conn.now) (λ _. ⊥) }
 {
-    let rows = match collection_rows(tx, collection) {
-        Ok(rows) => rows,
-        Err(error) => return Err(error),
+    let rows = collection_rows(tx, collection)?;
+    let Some(row) = rows.first() else {
+        return Ok(None);
     };
-    match rows.first() {
-        Some(row) => match time_in(row) {
-            Ok(time) => Ok(Some(time)),
-            Err(error) => Err(error),
-        },
-        None => Ok(None),
-    }
+    let time = time_in(row)?;
+    Ok(Some(time))
 }
 
 /// The seconds of the time that the property tells of a feature, where it tells one.
@@ -43,9 +38,8 @@ pub fn seconds_under(
     ensures refused { OnErr result (timed (option_copied property.entry) feature.now ≡ Err BadTime) }
 {
     feature.facts();
-    match feature.time_under(property) {
-        Ok(Some(time)) => Ok(Some(time.seconds())),
-        Ok(None) => Ok(None),
-        Err(fault) => Err(fault),
+    match feature.time_under(property)? {
+        Some(time) => Ok(Some(time.seconds())),
+        None => Ok(None),
     }
 }

@@ -1,5 +1,6 @@
 use Rattle.std.proofs.Common.{◌∙◌, ap, subst, length, arith, rules}
 use Rattle.std.specs.Vec.Iter.{into_iter_items}
+use Rattle.std.proofs.lemmas.Result.{err_from_is_err_and}
 use Rattle.sqlite.specs.Held.{state}
 use Rattle.sqlite.proofs.Callers.{unchanged_then}
 use Rattle.streetmap_tables.proofs.Answering.{handed_on}
@@ -27,7 +28,7 @@ loop-head-preserved g c =
       search rules,
       omega (arith, long, c.in-Some.ensures.steps.1, c.loop-head.invariant.2),
       λ h. c.with_extent.ensures.mode (c.loop-head.invariant.3 h),
-      goes_on _ _ (state g.S.Store c.with_extent.new.conn) _ c.in-Some.head _ _ c.push.new.self.items c.in_ok-summary.summary so c.with_extent.ensures.survives c.with_extent.ensures.stays c.in_ok-summary.ensures.shows c.in-Ok.ensures.items,
+      goes_on _ _ (state g.S.Store c.with_extent.new.conn) _ c.in-Some.head _ _ c.push.new.self.items c.in_ok-summary.summary so c.with_extent.ensures.survives c.with_extent.ensures.stays c.in_ok-summary.ensures.shows c.in_ok-push.ensures.items,
     )
 
 pub returns-in_err-summary-clause-shows : goal.returns-in_err-summary-clause-shows
@@ -51,22 +52,23 @@ returns-in_err-summary-clause-stays g c = λ clean s limit keeps trees leaves.
     so.stays (early _ _ new _ _ _ _ so c.with_extent.ensures.survives s limit keeps clean) s limit keeps trees
     (c.with_extent.ensures.stays clean s (limited _ _ new _ _ _ _ so c.with_extent.ensures.survives s limit keeps clean) (kept _ _ new _ _ _ _ so c.with_extent.ensures.survives s limit keeps clean) trees leaves)
 
-pub returns-in-Err-clause-shows : goal.returns-in-Err-clause-shows
-returns-in-Err-clause-shows g c clean = λ live s limit keeps.
+pub returns-in_err-push-clause-shows : goal.returns-in_err-push-clause-shows
+returns-in_err-push-clause-shows g c clean = λ live s limit keeps.
     let so = subst (λ l. SoFar (state g.S.Store c.args.conn.now) (state g.S.Store c.loop-head.conn) c.args.heads.items l c.loop-head.summaries.items) c.in-Some.ensures.steps.0 c.loop-head.invariant.4 in
     let new = state g.S.Store c.with_extent.new.conn in
     let before = early _ _ new _ _ _ _ so c.with_extent.ensures.survives s limit keeps clean in
-    unchanged_then _ _ new (so.unchanged before s limit keeps live)
-    (c.in_ok-summary.ensures.shows clean s (limited _ _ new _ _ _ _ so c.with_extent.ensures.survives s limit keeps clean) (kept _ _ new _ _ _ _ so c.with_extent.ensures.survives s limit keeps clean)).1
+    let same = unchanged_then _ _ new (so.unchanged before s limit keeps live)
+    (c.in_ok-summary.ensures.shows clean s (limited _ _ new _ _ _ _ so c.with_extent.ensures.survives s limit keeps clean) (kept _ _ new _ _ _ _ so c.with_extent.ensures.survives s limit keeps clean)).1 in
+    let p = err_from_is_err_and c.from_residual-in_err-push.result c.from_residual-in_err-push.ensures.1 in rw (p.1, p.2) same
 
-pub returns-in-Err-clause-mode : goal.returns-in-Err-clause-mode
-returns-in-Err-clause-mode g c = λ h. c.with_extent.ensures.mode (c.loop-head.invariant.3 h)
+pub returns-in_err-push-clause-mode : goal.returns-in_err-push-clause-mode
+returns-in_err-push-clause-mode g c = λ h. c.with_extent.ensures.mode (c.loop-head.invariant.3 h)
 
-pub returns-in-Err-clause-survives : goal.returns-in-Err-clause-survives
-returns-in-Err-clause-survives g c = survives_both _ _ _ c.loop-head.invariant.4.survives c.with_extent.ensures.survives
+pub returns-in_err-push-clause-survives : goal.returns-in_err-push-clause-survives
+returns-in_err-push-clause-survives g c = survives_both _ _ _ c.loop-head.invariant.4.survives c.with_extent.ensures.survives
 
-pub returns-in-Err-clause-stays : goal.returns-in-Err-clause-stays
-returns-in-Err-clause-stays g c = λ clean s limit keeps trees leaves.
+pub returns-in_err-push-clause-stays : goal.returns-in_err-push-clause-stays
+returns-in_err-push-clause-stays g c = λ clean s limit keeps trees leaves.
     let so = subst (λ l. SoFar (state g.S.Store c.args.conn.now) (state g.S.Store c.loop-head.conn) c.args.heads.items l c.loop-head.summaries.items) c.in-Some.ensures.steps.0 c.loop-head.invariant.4 in
     let new = state g.S.Store c.with_extent.new.conn in
     so.stays (early _ _ new _ _ _ _ so c.with_extent.ensures.survives s limit keeps clean) s limit keeps trees

@@ -4,10 +4,10 @@ use Rattle.streetmap_rows.proofs.Leaving.{leaves_only}
 use Rattle.streetmap_opening.proofs.Stopping.{clean_back, may_leave_it, same_if_settled}
 use Rattle.streetmap_opening.proofs.making.make_tables.Goals as goal
 
-pub returns-in-Ok-clause-made : goal.returns-in-Ok-clause-made
-returns-in-Ok-clause-made g c clean ready =
+pub returns-in_default-clause-made : goal.returns-in_default-clause-made
+returns-in_default-clause-made g c clean ready =
     let seen = state g.S.Store c.make_alone.new.conn in
-    let rests = c.in-Ok.ensures.made clean ready in
+    let rests = c.in_default.ensures.made clean ready in
     let store = c.make_alone.new.conn.store in
     (rests, may_leave_it seen opening_state rests (g.met.S.Store.stays store rests.live), leaves_only seen opening_state rests (λ trees may. g.met.S.Store.settled store trees rests.live may))
 

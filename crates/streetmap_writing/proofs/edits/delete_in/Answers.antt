@@ -1,56 +1,58 @@
 use Rattle.std.proofs.Common.{rules, ◌∙◌, arith, IsTrue}
 use Rattle.sqlite.specs.Held.{state}
 use Rattle.sqlite.specs.State.{HasCleanDisk}
+use Rattle.streetmap_tables.proofs.Answering.{handed_on}
 use Rattle.streetmap_writing.proofs.Joining.{keeps, keeps_then, stands_still}
 use Rattle.streetmap_writing.proofs.Deciding.{may_delete}
 use Rattle.streetmap_writing.proofs.edits.delete_in.Goals as goal
 
-pub returns-in-Err-clause-edits : goal.returns-in-Err-clause-edits
-returns-in-Err-clause-edits g c clean limit inside s stands = c.in-Err.ensures.looks clean limit s stands
+pub returns-in_err-has_collection-clause-edits : goal.returns-in_err-has_collection-clause-edits
+returns-in_err-has_collection-clause-edits g c clean limit inside s stands = handed_on _ _ _ _ c.from_residual.ensures.1 (c.in_err-has_collection.ensures.looks clean limit s stands)
 
-pub returns-in-Err-has_feature-clause-edits : goal.returns-in-Err-has_feature-clause-edits
-returns-in-Err-has_feature-clause-edits g c clean limit inside s stands =
+pub returns-in_err-has_feature-clause-edits : goal.returns-in_err-has_feature-clause-edits
+returns-in_err-has_feature-clause-edits g c clean limit inside s stands =
     let a = state g.S.Store c.args.tx.now.conn.now in
     let b = state g.S.Store c.has_collection.new.tx.conn.now in
     let e = state g.S.Store c.has_feature.new.tx.conn.now in
     let early : HasCleanDisk b = omega (arith, clean, c.has_feature.ensures.survives.clean) in
-    let first = c.in-Ok-true.ensures.looks early limit s stands in
-    let r = c.in-Err-has_feature.ensures.looks clean (c.has_collection.ensures.survives.limit ∙ limit) s (stands_still a b s first.1 stands) in
-    (r.0, keeps_then a b e (keeps a b first.1) r.1)
+    let first = c.in_ok-has_collection.ensures.looks early limit s stands in
+    let r = c.in_err-has_feature.ensures.looks clean (c.has_collection.ensures.survives.limit ∙ limit) s (stands_still a b s first.1 stands) in
+    handed_on _ _ _ _ c.from_residual-in_err-has_feature.ensures.1 (r.0, keeps_then a b e (keeps a b first.1) r.1)
 
-pub returns-in-Ok-clause-edits : goal.returns-in-Ok-clause-edits
-returns-in-Ok-clause-edits g c clean limit inside s stands =
+pub returns-clause-edits : goal.returns-clause-edits
+returns-clause-edits g c clean limit inside s stands =
     let a = state g.S.Store c.args.tx.now.conn.now in
     let b = state g.S.Store c.has_collection.new.tx.conn.now in
     let e = state g.S.Store c.has_feature.new.tx.conn.now in
     let f = state g.S.Store c.delete_feature.new.tx.conn.now in
     let later : HasCleanDisk e = omega (arith, clean, c.delete_feature.ensures.survives.clean) in
     let early : HasCleanDisk b = omega (arith, later, c.has_feature.ensures.survives.clean) in
-    let first = c.in-Ok-true.ensures.looks early limit s stands in
+    let first = c.in_ok-has_collection.ensures.looks early limit s stands in
     let mid = stands_still a b s first.1 stands in
-    let second = c.in-Ok-true-has_feature.ensures.looks later (c.has_collection.ensures.survives.limit ∙ limit) s mid in
+    let second = c.in_ok-has_feature.ensures.looks later (c.has_collection.ensures.survives.limit ∙ limit) s mid in
     let last = stands_still b e s second.1 mid in
     let may = may_delete s c.args.collection.now c.args.id.now (search rules) (search rules) in
     let within : IsTrue e.in_transaction = second.1.0.mode ∙ first.1.0.mode ∙ inside in (
-      (may.0, may.1, c.in-Ok.ensures.writes clean within (c.has_feature.ensures.survives.limit ∙ c.has_collection.ensures.survives.limit ∙ limit) s may.0 last may.2),
-      c.in-Ok.ensures.inside clean within,
-      keeps_then a b f (keeps a b first.1) (keeps_then b e f (keeps b e second.1) (c.in-Ok.ensures.kept clean within)),
+      (may.0, may.1, c.in_ok-delete_feature.ensures.writes clean within (c.has_feature.ensures.survives.limit ∙ c.has_collection.ensures.survives.limit ∙ limit) s may.0 last may.2),
+      c.in_ok-delete_feature.ensures.inside clean within,
+      keeps_then a b f (keeps a b first.1) (keeps_then b e f (keeps b e second.1) (c.in_ok-delete_feature.ensures.kept clean within)),
     )
 
-pub returns-in-Err-delete_feature-clause-edits : goal.returns-in-Err-delete_feature-clause-edits
-returns-in-Err-delete_feature-clause-edits g c clean limit inside s stands =
+pub returns-in_err-delete_feature-clause-edits : goal.returns-in_err-delete_feature-clause-edits
+returns-in_err-delete_feature-clause-edits g c clean limit inside s stands =
     let a = state g.S.Store c.args.tx.now.conn.now in
     let b = state g.S.Store c.has_collection.new.tx.conn.now in
     let e = state g.S.Store c.has_feature.new.tx.conn.now in
     let f = state g.S.Store c.delete_feature.new.tx.conn.now in
     let later : HasCleanDisk e = omega (arith, clean, c.delete_feature.ensures.survives.clean) in
     let early : HasCleanDisk b = omega (arith, later, c.has_feature.ensures.survives.clean) in
-    let first = c.in-Ok-true.ensures.looks early limit s stands in
+    let first = c.in_ok-has_collection.ensures.looks early limit s stands in
     let mid = stands_still a b s first.1 stands in
-    let second = c.in-Ok-true-has_feature.ensures.looks later (c.has_collection.ensures.survives.limit ∙ limit) s mid in
+    let second = c.in_ok-has_feature.ensures.looks later (c.has_collection.ensures.survives.limit ∙ limit) s mid in
     let last = stands_still b e s second.1 mid in
     let may = may_delete s c.args.collection.now c.args.id.now (search rules) (search rules) in
-    let within : IsTrue e.in_transaction = second.1.0.mode ∙ first.1.0.mode ∙ inside in (
-      c.in-Err-delete_feature.ensures.writes clean within (c.has_feature.ensures.survives.limit ∙ c.has_collection.ensures.survives.limit ∙ limit) s may.0 last may.2,
-      keeps_then a b f (keeps a b first.1) (keeps_then b e f (keeps b e second.1) (c.in-Err-delete_feature.ensures.kept clean within)),
+    let within : IsTrue e.in_transaction = second.1.0.mode ∙ first.1.0.mode ∙ inside in
+    handed_on _ _ _ _ c.from_residual-in_err-delete_feature.ensures.1 (
+      c.in_err-delete_feature.ensures.writes clean within (c.has_feature.ensures.survives.limit ∙ c.has_collection.ensures.survives.limit ∙ limit) s may.0 last may.2,
+      keeps_then a b f (keeps a b first.1) (keeps_then b e f (keeps b e second.1) (c.in_err-delete_feature.ensures.kept clean within)),
     )

@@ -6,6 +6,7 @@ use Rattle.sqlite.proofs.StateLemmas.{survives_then}
 use Rattle.streetmap_batch.specs.BatchView.{edit_value}
 use Rattle.streetmap_ledger.specs.Batches.{edited}
 use Rattle.streetmap_rows.specs.Stands.{Answered}
+use Rattle.streetmap_tables.proofs.Answering.{handed_on}
 use Rattle.streetmap_writing.proofs.Editing.{edited_more, edited_stops}
 use Rattle.streetmap_writing.proofs.Joining.{keeps_then}
 use Rattle.streetmap_writing.proofs.edits.edit_each.Goals as goal
@@ -18,16 +19,16 @@ edits-init g c = (
   λ clean limit inside s stands. (s, refl, stands, inside, record { was_open = λ o. o; committed = λ _. refl }),
 )
 
-pub returns-in-Err-clause-edits : goal.returns-in-Err-clause-edits
-returns-in-Err-clause-edits g c clean limit inside s stands =
+pub returns-in_err-why-clause-edits : goal.returns-in_err-why-clause-edits
+returns-in_err-why-clause-edits g c clean limit inside s stands =
     let inv = c.edits.invariant in
     let early : HasCleanDisk (state g.S.Store c.edits.tx.conn.now) = omega (arith, clean, c.edit_in.ensures.survives.clean) in
     let r = inv.3 early limit inside s stands in
-    let e = c.in-Err.ensures.edits clean (inv.1.limit ∙ limit) r.3 r.0 r.2 in
-    (e.0, keeps_then (state g.S.Store c.args.tx.now.conn.now) (state g.S.Store c.edits.tx.conn.now) (state g.S.Store c.edit_in.new.tx.conn.now) r.4 e.1)
+    let e = c.in_err-why.ensures.edits clean (inv.1.limit ∙ limit) r.3 r.0 r.2 in
+    handed_on _ _ _ _ c.from_residual.ensures.1 (e.0, keeps_then (state g.S.Store c.args.tx.now.conn.now) (state g.S.Store c.edits.tx.conn.now) (state g.S.Store c.edit_in.new.tx.conn.now) r.4 e.1)
 
-pub returns-in-Ok-Some-clause-edits : goal.returns-in-Ok-Some-clause-edits
-returns-in-Ok-Some-clause-edits g c clean limit inside s stands =
+pub returns-in-Some-clause-edits : goal.returns-in-Some-clause-edits
+returns-in-Some-clause-edits g c clean limit inside s stands =
     let inv = c.edits.invariant in
     let i = c.edits.edit-index in
     let edit = c.edit-item.result in
@@ -35,8 +36,8 @@ returns-in-Ok-Some-clause-edits g c clean limit inside s stands =
     let new = state g.S.Store c.edit_in.new.tx.conn.now in
     let early : HasCleanDisk mid = omega (arith, clean, c.edit_in.ensures.survives.clean) in
     let r = inv.3 early limit inside s stands in
-    let e = c.in-Ok-Some.ensures.edits clean (inv.1.limit ∙ limit) r.3 r.0 r.2 in
-    let why = subst (Answered r.0 (edit_value edit) new) c.in-Ok-Some.field-0-is e.0 in (
+    let e = c.in_ok-why.ensures.edits clean (inv.1.limit ∙ limit) r.3 r.0 r.2 in
+    let why = subst (Answered r.0 (edit_value edit) new) c.in-Some.is e.0 in (
       r.1 ∙ ap (λ es. edited c.edits.place r.0 (map edit_value es)) (drop_more c.args.edits.now i edit (omega arith) ∙ ap (λ x. x ∷ drop (i + 1) c.args.edits.now) (sym c.edit-item.is))
           ∙ edited_stops r.0 c.edits.place (edit_value edit) (map edit_value (drop (i + 1) c.args.edits.now)) _ why,
       keeps_then (state g.S.Store c.args.tx.now.conn.now) mid new r.4 e.2,
@@ -56,8 +57,8 @@ edits-preserved g c =
       λ clean limit inside s stands.
           let early : HasCleanDisk mid = omega (arith, clean, c.edit_in.ensures.survives.clean) in
           let r = inv.3 early limit inside s stands in
-          let e = c.in-Ok-None.ensures.edits clean (inv.1.limit ∙ limit) r.3 r.0 r.2 in
-          let did = subst (Answered r.0 (edit_value edit) new) c.in-Ok-None.field-0-is e.0 in (
+          let e = c.in_ok-why.ensures.edits clean (inv.1.limit ∙ limit) r.3 r.0 r.2 in
+          let did = subst (Answered r.0 (edit_value edit) new) c.in_default.is e.0 in (
             did.0,
             r.1 ∙ ap (λ es. edited c.edits.place r.0 (map edit_value es)) (drop_more c.args.edits.now i edit (omega arith) ∙ ap (λ x. x ∷ drop (i + 1) c.args.edits.now) (sym c.edit-item.is))
                 ∙ edited_more r.0 did.0 c.edits.place (edit_value edit) (map edit_value (drop (i + 1) c.args.edits.now)) did.1,

@@ -7,42 +7,43 @@ use Rattle.streetmap_ledger.specs.State.{Collection}
 use Rattle.streetmap_rows.specs.Rows.{feature_at}
 use Rattle.streetmap_rows.specs.Stands.{Answered}
 use Rattle.streetmap_writing.specs.Storing.{WasPut}
+use Rattle.streetmap_tables.proofs.Answering.{handed_on}
 use Rattle.streetmap_writing.proofs.Joining.{keeps, keeps_then, stands_still, answered_on}
 use Rattle.streetmap_writing.proofs.Deciding.{is_there, not_there, no_insert, free_id, is_taken, was_inserted}
 use Rattle.streetmap_writing.proofs.edits.insert_in.Goals as goal
 
-pub returns-in-Err-clause-edits : goal.returns-in-Err-clause-edits
-returns-in-Err-clause-edits g c clean limit inside s stands = c.in-Err.ensures.finds clean limit s stands
+pub returns-in_err-property-clause-edits : goal.returns-in_err-property-clause-edits
+returns-in_err-property-clause-edits g c clean limit inside s stands = handed_on _ _ _ _ c.from_residual.ensures.1 (c.in_err-property.ensures.finds clean limit s stands)
 
-pub returns-in-Ok-None-clause-edits : goal.returns-in-Ok-None-clause-edits
-returns-in-Ok-None-clause-edits g c clean limit inside s stands =
+pub returns-in_default-clause-edits : goal.returns-in_default-clause-edits
+returns-in_default-clause-edits g c clean limit inside s stands =
     let a = state g.S.Store c.args.tx.now.conn.now in
     let b = state g.S.Store c.time_property.new.tx.conn.now in
-    let first = c.in-Ok-None.ensures.finds clean limit s stands in
-    let told : None ≡ option_map (λ (x : Collection). x.time) (get s.collections c.args.collection.now) = ap (option_map (option_map string_bytes)) (sym c.in-Ok-None.field-0-is) ∙ first.0 in
+    let first = c.in_ok-property.ensures.finds clean limit s stands in
+    let told : None ≡ option_map (λ (x : Collection). x.time) (get s.collections c.args.collection.now) = ap (option_map (option_map string_bytes)) (sym c.in_default.is) ∙ first.0 in
     (no_insert s c.args.collection.now c.args.feature.now (not_there (get s.collections c.args.collection.now) told), first.1.0.mode ∙ inside, keeps a b first.1)
 
-pub returns-in-Err-has_feature-clause-edits : goal.returns-in-Err-has_feature-clause-edits
-returns-in-Err-has_feature-clause-edits g c clean limit inside s stands =
+pub returns-in_err-has_feature-clause-edits : goal.returns-in_err-has_feature-clause-edits
+returns-in_err-has_feature-clause-edits g c clean limit inside s stands =
     let a = state g.S.Store c.args.tx.now.conn.now in
     let b = state g.S.Store c.time_property.new.tx.conn.now in
     let e = state g.S.Store c.has_feature.new.tx.conn.now in
     let early : HasCleanDisk b = omega (arith, clean, c.has_feature.ensures.survives.clean) in
-    let first = c.in-Ok-Some.ensures.finds early limit s stands in
-    let r = c.in-Err-has_feature.ensures.looks clean (c.time_property.ensures.survives.limit ∙ limit) s (stands_still a b s first.1 stands) in
-    (r.0, keeps_then a b e (keeps a b first.1) r.1)
+    let first = c.in_ok-property.ensures.finds early limit s stands in
+    let r = c.in_err-has_feature.ensures.looks clean (c.time_property.ensures.survives.limit ∙ limit) s (stands_still a b s first.1 stands) in
+    handed_on _ _ _ _ c.from_residual-in_err-has_feature.ensures.1 (r.0, keeps_then a b e (keeps a b first.1) r.1)
 
-pub returns-in-Ok-true-clause-edits : goal.returns-in-Ok-true-clause-edits
-returns-in-Ok-true-clause-edits g c clean limit inside s stands =
+pub returns-then-branch-clause-edits : goal.returns-then-branch-clause-edits
+returns-then-branch-clause-edits g c clean limit inside s stands =
     let a = state g.S.Store c.args.tx.now.conn.now in
     let b = state g.S.Store c.time_property.new.tx.conn.now in
     let e = state g.S.Store c.has_feature.new.tx.conn.now in
     let early : HasCleanDisk b = omega (arith, clean, c.has_feature.ensures.survives.clean) in
-    let first = c.in-Ok-Some.ensures.finds early limit s stands in
-    let told : Some (option_map string_bytes c.in-Ok-Some.property) ≡ option_map (λ (x : Collection). x.time) (get s.collections c.args.collection.now) = ap (option_map (option_map string_bytes)) (sym c.in-Ok-Some.field-0-is) ∙ first.0 in
-    let col = is_there (get s.collections c.args.collection.now) (option_map string_bytes c.in-Ok-Some.property) told in
+    let first = c.in_ok-property.ensures.finds early limit s stands in
+    let told : Some (option_map string_bytes c.in-Some.property) ≡ option_map (λ (x : Collection). x.time) (get s.collections c.args.collection.now) = ap (option_map (option_map string_bytes)) (sym c.in-Some.is) ∙ first.0 in
+    let col = is_there (get s.collections c.args.collection.now) (option_map string_bytes c.in-Some.property) told in
     let mid = stands_still a b s first.1 stands in
-    let second = c.in-Ok-true.ensures.looks clean (c.time_property.ensures.survives.limit ∙ limit) s mid in
+    let second = c.in_ok-has_feature.ensures.looks clean (c.time_property.ensures.survives.limit ∙ limit) s mid in
     let seen : true ≡ is_some (feature_at s (c.args.collection.now, c.id.result.now)) = search rules in
     let held = seen ∙ ap (λ id. is_some (feature_at s (c.args.collection.now, id))) c.id.ensures in
     (is_taken s c.args.collection.now c.args.feature.now col.0 col.1 held, second.1.0.mode ∙ first.1.0.mode ∙ inside, keeps_then a b e (keeps a b first.1) (keeps b e second.1))
@@ -55,11 +56,11 @@ returns-clause-edits g c clean limit inside s stands =
     let f = state g.S.Store c.put_feature.new.tx.conn.now in
     let later : HasCleanDisk e = omega (arith, clean, c.put_feature.ensures.survives.clean) in
     let early : HasCleanDisk b = omega (arith, later, c.has_feature.ensures.survives.clean) in
-    let first = c.in-Ok-Some.ensures.finds early limit s stands in
-    let told : Some (option_map string_bytes c.in-Ok-Some.property) ≡ option_map (λ (x : Collection). x.time) (get s.collections c.args.collection.now) = ap (option_map (option_map string_bytes)) (sym c.in-Ok-Some.field-0-is) ∙ first.0 in
-    let col = is_there (get s.collections c.args.collection.now) (option_map string_bytes c.in-Ok-Some.property) told in
+    let first = c.in_ok-property.ensures.finds early limit s stands in
+    let told : Some (option_map string_bytes c.in-Some.property) ≡ option_map (λ (x : Collection). x.time) (get s.collections c.args.collection.now) = ap (option_map (option_map string_bytes)) (sym c.in-Some.is) ∙ first.0 in
+    let col = is_there (get s.collections c.args.collection.now) (option_map string_bytes c.in-Some.property) told in
     let mid = stands_still a b s first.1 stands in
-    let second = c.in-Ok-false.ensures.looks later (c.time_property.ensures.survives.limit ∙ limit) s mid in
+    let second = c.in_ok-has_feature.ensures.looks later (c.time_property.ensures.survives.limit ∙ limit) s mid in
     let seen : false ≡ is_some (feature_at s (c.args.collection.now, c.id.result.now)) = search rules in
     let held = seen ∙ ap (λ id. is_some (feature_at s (c.args.collection.now, id))) c.id.ensures in
     let none = free_id s c.args.collection.now c.args.feature.now col.0 col.1 held in

@@ -3,18 +3,9 @@ use Rattle.std.specs.FinMap.{get, insert}
 use Rattle.streetmap_ledger.specs.State.{timed, with_feature, with_features}
 use Rattle.streetmap_grid.specs.Views.{box_value}
 use Rattle.streetmap_rows.specs.Calls.{IsWritten, PutsFeature}
+use Rattle.streetmap_tables.proofs.Answering.{handed_on}
 use Rattle.streetmap_writing.proofs.Timed.{extent_is}
 use Rattle.streetmap_writing.proofs.storing.put_feature.Goals as goal
-
-pub returns-in-Ok-insert_feature-clause-puts : goal.returns-in-Ok-insert_feature-clause-puts
-returns-in-Ok-insert_feature-clause-puts g c clean limit inside s d stands there property absent =
-    let f = c.args.feature.now in
-    let it = c.in-Ok.ensures.told in
-    let same : c.id.result.now ≡ it.kept.id = c.id.ensures ∙ sym it.named in
-    let written : IsWritten it.kept c.as_str.result.now (option_map box_value c.extent.result) c.in-Ok.seconds = record { text_is = c.as_str.ensures.value ∙ c.in-Ok-text_of.ensures ∙ it.text_is; extent_is = c.extent.ensures ∙ extent_is f ∙ it.extent_is; seconds_are = it.seconds_are } in
-    let leads : PutsFeature (c.args.collection.now, c.id.result.now) it.kept s (with_feature s c.args.collection.now d it.kept) = record { collection = d; there = there; absent = ap (get d.features) c.id.ensures ∙ absent; fine = it.fine; is = ap (λ id. with_features s c.args.collection.now d (insert d.features id it.kept)) (sym same) } in
-    let rows = c.in-Ok-insert_feature.ensures.writes clean inside it.kept written limit s (with_feature s c.args.collection.now d it.kept) stands leads in
-    ((it.kept, ap (λ p. timed p f) property ∙ it.is, rows), c.in-Ok-insert_feature.ensures.inside clean inside, c.in-Ok-insert_feature.ensures.kept clean inside)
 
 pub returns-clause-puts : goal.returns-clause-puts
 returns-clause-puts g c clean limit inside s d stands there property absent =
@@ -23,4 +14,14 @@ returns-clause-puts g c clean limit inside s d stands there property absent =
     let same : c.id.result.now ≡ it.kept.id = c.id.ensures ∙ sym it.named in
     let written : IsWritten it.kept c.as_str.result.now (option_map box_value c.extent.result) c.in-Ok.seconds = record { text_is = c.as_str.ensures.value ∙ c.in-Ok-text_of.ensures ∙ it.text_is; extent_is = c.extent.ensures ∙ extent_is f ∙ it.extent_is; seconds_are = it.seconds_are } in
     let leads : PutsFeature (c.args.collection.now, c.id.result.now) it.kept s (with_feature s c.args.collection.now d it.kept) = record { collection = d; there = there; absent = ap (get d.features) c.id.ensures ∙ absent; fine = it.fine; is = ap (λ id. with_features s c.args.collection.now d (insert d.features id it.kept)) (sym same) } in
-    (c.in-Err.ensures.writes clean inside it.kept written limit s (with_feature s c.args.collection.now d it.kept) stands leads, c.in-Err.ensures.kept clean inside)
+    let rows = c.in_ok-insert_feature.ensures.writes clean inside it.kept written limit s (with_feature s c.args.collection.now d it.kept) stands leads in
+    ((it.kept, ap (λ p. timed p f) property ∙ it.is, rows), c.in_ok-insert_feature.ensures.inside clean inside, c.in_ok-insert_feature.ensures.kept clean inside)
+
+pub returns-in_err-insert_feature-clause-puts : goal.returns-in_err-insert_feature-clause-puts
+returns-in_err-insert_feature-clause-puts g c clean limit inside s d stands there property absent =
+    let f = c.args.feature.now in
+    let it = c.in-Ok.ensures.told in
+    let same : c.id.result.now ≡ it.kept.id = c.id.ensures ∙ sym it.named in
+    let written : IsWritten it.kept c.as_str.result.now (option_map box_value c.extent.result) c.in-Ok.seconds = record { text_is = c.as_str.ensures.value ∙ c.in-Ok-text_of.ensures ∙ it.text_is; extent_is = c.extent.ensures ∙ extent_is f ∙ it.extent_is; seconds_are = it.seconds_are } in
+    let leads : PutsFeature (c.args.collection.now, c.id.result.now) it.kept s (with_feature s c.args.collection.now d it.kept) = record { collection = d; there = there; absent = ap (get d.features) c.id.ensures ∙ absent; fine = it.fine; is = ap (λ id. with_features s c.args.collection.now d (insert d.features id it.kept)) (sym same) } in
+    handed_on _ _ _ _ c.from_residual.ensures.1 (c.in_err-insert_feature.ensures.writes clean inside it.kept written limit s (with_feature s c.args.collection.now d it.kept) stands leads, c.in_err-insert_feature.ensures.kept clean inside)
