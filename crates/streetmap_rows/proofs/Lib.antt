@@ -9,5 +9,6 @@ pub mod Readable
 pub mod Bound
 pub mod Deleting
 pub mod DeleteRuns
+pub mod Elsewhere
 pub mod Writing
 pub mod Looking

@@ -29,6 +29,7 @@ use Rattle.streetmap_rows.specs.Tables.{Roots, IsOurs, collections, meta, batche
 use Rattle.streetmap_rows.specs.Statements.{insert_collection, insert_feature, insert_batch, delete_feature}
 use Rattle.streetmap_rows.specs.Rows.{AreOf, feature_cells, batch_cells, extent_in, seconds_in}
 use Rattle.streetmap_rows.specs.Stands.{StandsFor}
+use Rattle.streetmap_rows.specs.Elsewhere.{IsSameElsewhere}
 use Rattle.streetmap_tables.specs.Failing.{IsOfStore}
 use Rattle.streetmap_tables.proofs.Casts.{cast_null, cast_int, whole_null, word_null}
 use Rattle.streetmap_tables.specs.Queries.{program}
@@ -44,6 +45,7 @@ use Rattle.streetmap_tables.proofs.Inserting.{concluded}
 use Rattle.streetmap_tables.proofs.Running as run
 use Rattle.streetmap_tables.proofs.Running.{never_misplaced, never_ends}
 use Rattle.streetmap_tables.proofs.Refusing.{refused_as}
+use Rattle.streetmap_rows.proofs.Elsewhere.{same_elsewhere, collections_ours, batches_ours, features_ours}
 use Rattle.streetmap_rows.proofs.PutCollection as collection
 use Rattle.streetmap_rows.proofs.PutFeature as feature
 use Rattle.streetmap_rows.proofs.PutBatch as batch
@@ -91,18 +93,20 @@ module _ (old new : Seen) (s : State) (stands : StandsFor s old.now) (limit : ol
     row : Row
     row = collection.row s schema roots ours db stands.of name title time absent
 
-    pub open_stands : IsUtf8 name → IsUtf8 title → IfSome time IsUtf8 → (count : ℕ) → Executes insert_collection (open_params name title time) old new (Ok count) → StandsFor (opened s name title time) new.now
+    pub open_stands : IsUtf8 name → IsUtf8 title → IfSome time IsUtf8 → (count : ℕ) → Executes insert_collection (open_params name title time) old new (Ok count) → StandsFor (opened s name title time) new.now × IsSameElsewhere old.now new.now
     unfolding row
     open_stands a b c count h =
         let r = run.inserted _ roots.collections _ _ _ _ _ in_collections.at compile.insert_collection_terms 4 insert_collection (open_params name title time) old new schema row refl limit (command_is schema insert_collection 3 _ (compile.insert_collection_means schema roots.collections in_collections)) (is_plain schema insert_collection 3 _ (compile.insert_collection_means schema roots.collections in_collections)) (is_fit schema insert_collection 3 _ (compile.insert_collection_means schema roots.collections in_collections) refl) (rw ((word_null time).classed) refl)
-        in_collections.listed (rw (cast_null, (word_null time).cast_is) refl) count h in
-        record {
-          roots = roots;
-          ours = subst (IsOurs roots) (sym r.same_schema) ours;
-          of = collection.of_after s schema roots ours db stands.of name title time absent new.now.trees r.step.rows (kept_rows new.now.trees roots.collections r.step.tables (meta roots.meta) (placing.meta_there roots schema ours) (placing.meta_collections roots schema ours)) (kept_rows new.now.trees roots.collections r.step.tables (batches roots.batches) (placing.batches_there roots schema ours) (placing.batches_collections roots schema ours)) (kept_rows new.now.trees roots.collections r.step.tables (features roots.features) (placing.features_there roots schema ours) (λ e. placing.collections_features roots schema ours (sym e)));
-          readable = open_read s name title time stands.readable a b c;
-          sound = r.sound;
-        }
+        in_collections.listed (rw (cast_null, (word_null time).cast_is) refl) count h in (
+          record {
+            roots = roots;
+            ours = subst (IsOurs roots) (sym r.same_schema) ours;
+            of = collection.of_after s schema roots ours db stands.of name title time absent new.now.trees r.step.rows (kept_rows new.now.trees roots.collections r.step.tables (meta roots.meta) (placing.meta_there roots schema ours) (placing.meta_collections roots schema ours)) (kept_rows new.now.trees roots.collections r.step.tables (batches roots.batches) (placing.batches_there roots schema ours) (placing.batches_collections roots schema ours)) (kept_rows new.now.trees roots.collections r.step.tables (features roots.features) (placing.features_there roots schema ours) (λ e. placing.collections_features roots schema ours (sym e)));
+            readable = open_read s name title time stands.readable a b c;
+            sound = r.sound;
+          },
+          same_elsewhere old.now new.now _ _ ours.apart (placing.collections_there roots schema ours) collections_ours r.same_schema r.step,
+        )
 
     pub open_told : (e : Error) → ExecutesInside 0 insert_collection (open_params name title time) old new (Err e) → IsOfStore e
     unfolding row
@@ -135,19 +139,21 @@ module _ (old new : Seen) (s : State) (stands : StandsFor s old.now) (limit : ol
       abbrev feature_row : Row
       feature_row = feature.row s schema roots ours db stands.of p c collected f new_id
 
-      pub insert_stands : IsFeature f → (count : ℕ) → Executes insert_feature (feature_cells p f) old new (Ok count) → StandsFor (with_features s p.0 c (insert c.features p.1 f)) new.now
+      pub insert_stands : IsFeature f → (count : ℕ) → Executes insert_feature (feature_cells p f) old new (Ok count) → StandsFor (with_features s p.0 c (insert c.features p.1 f)) new.now × IsSameElsewhere old.now new.now
       unfolding x0 y0 x1 y1 s0 s1
       insert_stands fine count h =
           let r = run.inserted _ roots.features _ _ _ _ _ in_features.at compile.insert_feature_terms 10 insert_feature (feature_cells p f) old new schema feature_row refl limit (command_is schema insert_feature 9 _ (compile.insert_feature_means schema roots.features in_features)) (is_plain schema insert_feature 9 _ (compile.insert_feature_means schema roots.features in_features)) (is_fit schema insert_feature 9 _ (compile.insert_feature_means schema roots.features in_features) refl)
           (rw ((whole_null x0).classed, (whole_null y0).classed, (whole_null x1).classed, (whole_null y1).classed, (whole_null s0).classed, (whole_null s1).classed) refl)
-          in_features.listed (rw (cast_null, (whole_null x0).cast_is, (whole_null y0).cast_is, (whole_null x1).cast_is, (whole_null y1).cast_is, (whole_null s0).cast_is, (whole_null s1).cast_is) refl) count h in
-          record {
-            roots = roots;
-            ours = subst (IsOurs roots) (sym r.same_schema) ours;
-            of = feature.of_after s schema roots ours db stands.of p c collected f new_id new.now.trees r.step.rows (kept_rows new.now.trees roots.features r.step.tables (collections roots.collections) (placing.collections_there roots schema ours) (placing.collections_features roots schema ours)) (kept_rows new.now.trees roots.features r.step.tables (meta roots.meta) (placing.meta_there roots schema ours) (placing.meta_features roots schema ours)) (kept_rows new.now.trees roots.features r.step.tables (batches roots.batches) (placing.batches_there roots schema ours) (placing.batches_features roots schema ours));
-            readable = insert_read s stands.readable p.0 c collected p.1 f fine;
-            sound = r.sound;
-          }
+          in_features.listed (rw (cast_null, (whole_null x0).cast_is, (whole_null y0).cast_is, (whole_null x1).cast_is, (whole_null y1).cast_is, (whole_null s0).cast_is, (whole_null s1).cast_is) refl) count h in (
+            record {
+              roots = roots;
+              ours = subst (IsOurs roots) (sym r.same_schema) ours;
+              of = feature.of_after s schema roots ours db stands.of p c collected f new_id new.now.trees r.step.rows (kept_rows new.now.trees roots.features r.step.tables (collections roots.collections) (placing.collections_there roots schema ours) (placing.collections_features roots schema ours)) (kept_rows new.now.trees roots.features r.step.tables (meta roots.meta) (placing.meta_there roots schema ours) (placing.meta_features roots schema ours)) (kept_rows new.now.trees roots.features r.step.tables (batches roots.batches) (placing.batches_there roots schema ours) (placing.batches_features roots schema ours));
+              readable = insert_read s stands.readable p.0 c collected p.1 f fine;
+              sound = r.sound;
+            },
+            same_elsewhere old.now new.now _ _ ours.apart (placing.features_there roots schema ours) features_ours r.same_schema r.step,
+          )
 
       pub insert_told : (e : Error) → ExecutesInside 0 insert_feature (feature_cells p f) old new (Err e) → IsOfStore e
       unfolding x0 y0 x1 y1 s0 s1
@@ -161,7 +167,7 @@ module _ (old new : Seen) (s : State) (stands : StandsFor s old.now) (limit : ol
       abbrev deletes : Means schema delete_feature 2 (Delete in_features.at (program (cut.delete_query roots.features)))
       deletes = compile.delete_feature_means schema roots.features in_features
 
-      pub delete_stands : (count : ℕ) → Executes delete_feature (cut.keys_of p) old new (Ok count) → StandsFor (with_features s p.0 c (remove c.features p.1)) new.now
+      pub delete_stands : (count : ℕ) → Executes delete_feature (cut.keys_of p) old new (Ok count) → StandsFor (with_features s p.0 c (remove c.features p.1)) new.now × IsSameElsewhere old.now new.now
       delete_stands count h =
           let w = runs_as delete_feature (cut.keys_of p) old new schema refl (Delete in_features.at (program (cut.delete_query roots.features))) (command_is schema delete_feature 2 _ deletes) (is_plain schema delete_feature 2 _ deletes) count h in
           let text = statement_of delete_feature (understood schema delete_feature) in
@@ -169,15 +175,17 @@ module _ (old new : Seen) (s : State) (stands : StandsFor s old.now) (limit : ol
           let done = went (gone.at_table s schema roots ours db stands.of p c collected f is in_features text (Ok (w.tally, new.now)) ran) in
           let end = concluded (gone.task_of s schema roots ours db stands.of p c collected f is in_features (mode_of old)) (mode_of old) done.0 w.tally new.now done.2 in
           let step = gone.made s schema roots ours db stands.of p c collected f is in_features (mode_of old) refl done.0 done.1 in
-          let trees = ap (λ (x : Database). x.trees) end in
-          record {
-            roots = roots;
-            ours = subst (IsOurs roots) (sym (ap (λ (x : Database). x.schema) end)) ours;
-            of = subst (AreOf (with_features s p.0 c (remove c.features p.1)) roots) (sym trees)
-                (cut.of_after s schema roots ours db stands.of p c collected f is done.0.trees step.rows (kept_rows done.0.trees roots.features step.tables (collections roots.collections) (placing.collections_there roots schema ours) (placing.collections_features roots schema ours)) (kept_rows done.0.trees roots.features step.tables (meta roots.meta) (placing.meta_there roots schema ours) (placing.meta_features roots schema ours)) (kept_rows done.0.trees roots.features step.tables (batches roots.batches) (placing.batches_there roots schema ours) (placing.batches_features roots schema ours)));
-            readable = delete_read s stands.readable p.0 c collected p.1;
-            sound = w.sound;
-          }
+          let trees = ap (λ (x : Database). x.trees) end in (
+            record {
+              roots = roots;
+              ours = subst (IsOurs roots) (sym (ap (λ (x : Database). x.schema) end)) ours;
+              of = subst (AreOf (with_features s p.0 c (remove c.features p.1)) roots) (sym trees)
+                  (cut.of_after s schema roots ours db stands.of p c collected f is done.0.trees step.rows (kept_rows done.0.trees roots.features step.tables (collections roots.collections) (placing.collections_there roots schema ours) (placing.collections_features roots schema ours)) (kept_rows done.0.trees roots.features step.tables (meta roots.meta) (placing.meta_there roots schema ours) (placing.meta_features roots schema ours)) (kept_rows done.0.trees roots.features step.tables (batches roots.batches) (placing.batches_there roots schema ours) (placing.batches_features roots schema ours)));
+              readable = delete_read s stands.readable p.0 c collected p.1;
+              sound = w.sound;
+            },
+            subst (λ d. IsSameElsewhere old.now d) (sym end) (same_elsewhere old.now (record { schema = schema; trees = done.0.trees }) _ _ ours.apart (placing.features_there roots schema ours) features_ours refl step),
+          )
 
       pub delete_told : (e : Error) → ExecutesInside 0 delete_feature (cut.keys_of p) old new (Err e) → IsOfStore e
       delete_told e (inr ended) = absurd (never_ends delete_feature (cut.keys_of p) old schema _ refl (command_is schema delete_feature 2 _ deletes) (λ q. absurd (cc)) (λ q. absurd (cc)) (λ n q. absurd (cc)) (λ n q. absurd (cc)) ended.0)
@@ -196,17 +204,19 @@ module _ (old new : Seen) (s : State) (stands : StandsFor s old.now) (limit : ol
     abbrev kept_row : Row
     kept_row = batch.row s schema roots ours db stands.of key kept absent next_serial counted
 
-    pub keep_stands : (count : ℕ) → Executes insert_batch (batch_cells key kept) old new (Ok count) → StandsFor (record s { keys = insert s.keys key kept }) new.now
+    pub keep_stands : (count : ℕ) → Executes insert_batch (batch_cells key kept) old new (Ok count) → StandsFor (record s { keys = insert s.keys key kept }) new.now × IsSameElsewhere old.now new.now
     keep_stands count h =
         let r = run.inserted _ roots.batches _ _ _ _ _ in_batches.at compile.insert_batch_terms 8 insert_batch (batch_cells key kept) old new schema kept_row refl limit (command_is schema insert_batch 7 _ (compile.insert_batch_means schema roots.batches in_batches)) (is_plain schema insert_batch 7 _ (compile.insert_batch_means schema roots.batches in_batches)) (is_fit schema insert_batch 7 _ (compile.insert_batch_means schema roots.batches in_batches) refl)
-        refl in_batches.listed (rw (cast_null, cast_int (pos kept.counts.opened), cast_int (pos kept.counts.inserted), cast_int (pos kept.counts.replaced), cast_int (pos kept.counts.deleted), cast_int (pos kept.serial)) refl) count h in
-        record {
-          roots = roots;
-          ours = subst (IsOurs roots) (sym r.same_schema) ours;
-          of = batch.of_after s schema roots ours db stands.of key kept absent next_serial counted new.now.trees r.step.rows (kept_rows new.now.trees roots.batches r.step.tables (collections roots.collections) (placing.collections_there roots schema ours) (λ e. placing.batches_collections roots schema ours (sym e))) (kept_rows new.now.trees roots.batches r.step.tables (meta roots.meta) (placing.meta_there roots schema ours) (placing.meta_batches roots schema ours)) (kept_rows new.now.trees roots.batches r.step.tables (features roots.features) (placing.features_there roots schema ours) (λ e. placing.batches_features roots schema ours (sym e)));
-          readable = keep_read s (insert s.keys key kept) stands.readable;
-          sound = r.sound;
-        }
+        refl in_batches.listed (rw (cast_null, cast_int (pos kept.counts.opened), cast_int (pos kept.counts.inserted), cast_int (pos kept.counts.replaced), cast_int (pos kept.counts.deleted), cast_int (pos kept.serial)) refl) count h in (
+          record {
+            roots = roots;
+            ours = subst (IsOurs roots) (sym r.same_schema) ours;
+            of = batch.of_after s schema roots ours db stands.of key kept absent next_serial counted new.now.trees r.step.rows (kept_rows new.now.trees roots.batches r.step.tables (collections roots.collections) (placing.collections_there roots schema ours) (λ e. placing.batches_collections roots schema ours (sym e))) (kept_rows new.now.trees roots.batches r.step.tables (meta roots.meta) (placing.meta_there roots schema ours) (placing.meta_batches roots schema ours)) (kept_rows new.now.trees roots.batches r.step.tables (features roots.features) (placing.features_there roots schema ours) (λ e. placing.batches_features roots schema ours (sym e)));
+            readable = keep_read s (insert s.keys key kept) stands.readable;
+            sound = r.sound;
+          },
+          same_elsewhere old.now new.now _ _ ours.apart (placing.batches_there roots schema ours) batches_ours r.same_schema r.step,
+        )
 
     pub keep_told : (e : Error) → ExecutesInside 0 insert_batch (batch_cells key kept) old new (Err e) → IsOfStore e
     keep_told =

@@ -12,6 +12,7 @@ use Rattle.streetmap_batch.specs.Text.{Text}
 use Rattle.streetmap_ledger.specs.State.{State, Collection, AcceptedBatch, with_features, opened}
 use Rattle.streetmap_rows.specs.Rows.{feature_text, extent_in, seconds_in}
 use Rattle.streetmap_rows.specs.Stands.{StandsFor}
+use Rattle.streetmap_rows.specs.Elsewhere.{IsSameElsewhere}
 use Rattle.streetmap_tables.specs.Failing.{IsOfStore}
 use Rattle.streetmap_tables.specs.Holds.{KeyPair}
 
@@ -19,9 +20,9 @@ use Rattle.streetmap_tables.specs.Holds.{KeyPair}
 abbrev pub LooksAll : (State → List Row) → Seen → Seen → Result (Vec Row Global) Error → Type 0
 LooksAll f old new r = old.step_limit ≡ None → (s : State) → StandsFor s old.now → MatchResult r (λ rows. (rows.items ≡ f s) × IsUnchanged old new) (λ e. IsOfStore e × KeepsCommit old new)
 
--- a write that leads from a state to another: the database becomes the other's, or the store has no room or fails
+-- a write that leads from a state to another: the database becomes the other's and is the same beside our tables, or the store has no room or fails
 abbrev pub Writes : (State → State → Type 0) → Seen → Seen → Result (Unit {0}) Error → Type 0
-Writes Leads old new r = old.step_limit ≡ None → (s t : State) → StandsFor s old.now → Leads s t → MatchResult r (λ _. StandsFor t new.now) IsOfStore
+Writes Leads old new r = old.step_limit ≡ None → (s t : State) → StandsFor s old.now → Leads s t → MatchResult r (λ _. StandsFor t new.now × IsSameElsewhere old.now new.now) IsOfStore
 
 -- a collection that is not there is opened
 pub record OpensCollection (name title : Text) (time : Option Text) (s t : State) : Type 0 where

@@ -3,5 +3,6 @@ pub mod Rows
 pub mod Stands
 pub mod Keeping
 pub mod Statements
+pub mod Elsewhere
 pub mod Calls
 pub mod Views

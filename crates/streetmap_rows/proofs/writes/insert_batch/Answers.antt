@@ -4,6 +4,7 @@ use Rattle.sqlite_value.specs.Value.{owned}
 use Rattle.sqlite.specs.State.{ExecutesInside}
 use Rattle.sqlite.specs.declared.types.Value.TheVariants.{Int}
 use Rattle.streetmap_rows.specs.Stands.{StandsFor}
+use Rattle.streetmap_rows.specs.Elsewhere.{IsSameElsewhere}
 use Rattle.streetmap_rows.specs.Statements.{insert_batch}
 use Rattle.streetmap_tables.proofs.Answering.{handed_on}
 use Rattle.streetmap_rows.proofs.Writing.{keep_stands, keep_told}
@@ -20,7 +21,7 @@ returns-clause-writes g c clean inside limit s t stands leads =
     let e6 : owned c.params-to_sql-6.result ≡ Int (pos c.args.counts.deleted) = search rules in
     let e7 : owned c.params-to_sql-7.result ≡ Int (pos c.args.serial) = search rules in
     let ran = subst (λ row. ExecutesInside 0 insert_batch row old new (Ok c.in_ok-execute.field-0)) (seven c.params-to_sql.ensures c.params-to_sql-2.ensures e3 e4 e5 e6 e7) (c.in_ok-execute.ensures.runs clean inside) in
-    subst (λ x. StandsFor x new.now) (sym leads.is) (keep_stands old new s stands limit c.args.key.now (record { text = c.args.text.now; counts = c.args.counts; serial = c.args.serial }) leads.absent leads.next leads.counted _ ran.0)
+    subst (λ x. StandsFor x new.now × IsSameElsewhere old.now new.now) (sym leads.is) (keep_stands old new s stands limit c.args.key.now (record { text = c.args.text.now; counts = c.args.counts; serial = c.args.serial }) leads.absent leads.next leads.counted _ ran.0)
 
 pub returns-in_err-execute-clause-writes : goal.returns-in_err-execute-clause-writes
 returns-in_err-execute-clause-writes g c clean inside limit s t stands leads =

@@ -1,6 +1,7 @@
 use Rattle.std.proofs.Common.{sym, subst}
 use Rattle.sqlite.specs.Held.{state}
 use Rattle.streetmap_rows.specs.Stands.{StandsFor}
+use Rattle.streetmap_rows.specs.Elsewhere.{IsSameElsewhere}
 use Rattle.streetmap_tables.proofs.Answering.{handed_on}
 use Rattle.streetmap_rows.proofs.Writing.{open_stands, open_told}
 use Rattle.streetmap_rows.proofs.Bound.{text_bound}
@@ -11,7 +12,7 @@ returns-clause-writes g c clean inside limit s t stands leads =
     let old = state g.S.Store c.args.tx.now.conn.now in
     let new = state g.S.Store c.execute.new.self.conn.now in
     let ran = rw (c.params-to_sql.ensures, c.params-to_sql-2.ensures, c.params-to_sql-3.ensures, text_bound c.args.time) at (c.in_ok-execute.ensures.runs clean inside) in
-    subst (λ x. StandsFor x new.now) (sym leads.is) (open_stands old new s stands limit c.args.name.now c.args.title.now _ leads.absent leads.id leads.words leads.property _ ran.0)
+    subst (λ x. StandsFor x new.now × IsSameElsewhere old.now new.now) (sym leads.is) (open_stands old new s stands limit c.args.name.now c.args.title.now _ leads.absent leads.id leads.words leads.property _ ran.0)
 
 pub returns-in_err-execute-clause-writes : goal.returns-in_err-execute-clause-writes
 returns-in_err-execute-clause-writes g c clean inside limit s t stands leads =

@@ -39,7 +39,7 @@ returns-clause-acts g c clean limit inside s kept awaits =
     let row : ◌≡◌ {A = AcceptedBatch} (kept_for b (len s.keys + 1)) (record { text = c.args.text.now; counts = c.of-counts.result; serial = c.args.count + 1 }) =
     λ i. record { text = sym c.requires.its_text i; counts = sym counts i; serial = awaits.counted i + 1 } in
     let lead = subst₂ (λ key k. KeepsBatch key k did.0 (act s b).state) (sym c.key.ensures.value) row (leads s b c.args.count awaits did.0 is kept.well) in
-    let rows = c.in_ok-insert_batch.ensures.writes clean did.3 (c.edit_each.ensures.survives.limit ∙ limit) did.0 (act s b).state did.2 lead in (
+    let rows = (c.in_ok-insert_batch.ensures.writes clean did.3 (c.edit_each.ensures.survives.limit ∙ limit) did.0 (act s b).state did.2 lead).0 in (
       (λ i. Accepted (counts i) (sym awaits.counted i + 1)) ∙ sym (ap (λ (o : Outcome). o.reply) at),
       (keeps_act s b c.args.count awaits new.now kept.well c.facts.ensures rows, c.in_ok-insert_batch.ensures.inside clean did.3),
       keeps_then old mid new e.1 (c.in_ok-insert_batch.ensures.kept clean did.3),

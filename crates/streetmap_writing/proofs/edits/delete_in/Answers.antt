@@ -33,7 +33,7 @@ returns-clause-edits g c clean limit inside s stands =
     let last = stands_still b e s second.1 mid in
     let may = may_delete s c.args.collection.now c.args.id.now (search rules) (search rules) in
     let within : IsTrue e.in_transaction = second.1.0.mode ∙ first.1.0.mode ∙ inside in (
-      (may.0, may.1, c.in_ok-delete_feature.ensures.writes clean within (c.has_feature.ensures.survives.limit ∙ c.has_collection.ensures.survives.limit ∙ limit) s may.0 last may.2),
+      (may.0, may.1, (c.in_ok-delete_feature.ensures.writes clean within (c.has_feature.ensures.survives.limit ∙ c.has_collection.ensures.survives.limit ∙ limit) s may.0 last may.2).0),
       c.in_ok-delete_feature.ensures.inside clean within,
       keeps_then a b f (keeps a b first.1) (keeps_then b e f (keeps b e second.1) (c.in_ok-delete_feature.ensures.kept clean within)),
     )

@@ -19,7 +19,7 @@ returns-clause-edits g c clean limit inside s stands =
     let first = c.in_ok-has_collection.ensures.looks early limit s stands in
     let may = may_open s c.args.collection.now c.args.title.now (option_copied c.args.time) (search rules) c.utf8.collection c.utf8.title (search rules) in
     let within : IsTrue b.in_transaction = first.1.0.mode ∙ inside in (
-      (_, may.0, c.in_ok-insert_collection.ensures.writes clean within (c.has_collection.ensures.survives.limit ∙ limit) s _ (stands_still a b s first.1 stands) may.1),
+      (_, may.0, (c.in_ok-insert_collection.ensures.writes clean within (c.has_collection.ensures.survives.limit ∙ limit) s _ (stands_still a b s first.1 stands) may.1).0),
       c.in_ok-insert_collection.ensures.inside clean within,
       keeps_then a b f (keeps a b first.1) (c.in_ok-insert_collection.ensures.kept clean within),
     )

@@ -94,7 +94,7 @@ returns-clause-edits g c clean limit inside s stands =
     let old = is_found s name x col.0 col.1 held in
     let within : IsTrue e.in_transaction = second.1.0.mode ∙ first.1.0.mode ∙ inside in
     let cut = rw c.id-2.ensures at c.in_ok-delete_feature.ensures.writes last within (c.has_feature.ensures.survives.limit ∙ c.time_property.ensures.survives.limit ∙ limit) s in
-    let gone = cut (between s name x col.0 col.1) (stands_still b e s second.1 mid) (cuts s name x col.0 col.1 old.0 old.1) in
+    let gone = (cut (between s name x col.0 col.1) (stands_still b e s second.1 mid) (cuts s name x col.0 col.1 old.0 old.1)).0 in
     let put = c.put_feature.ensures.puts clean (c.delete_feature.ensures.survives.limit ∙ c.has_feature.ensures.survives.limit ∙ c.time_property.ensures.survives.limit ∙ limit) (c.in_ok-delete_feature.ensures.inside last within)
     (between s name x col.0 col.1) (without s name x col.0 col.1) gone (between_has s name x col.0 col.1) (col.2 ∙ sym c.as_deref.ensures.value) (without_lacks s name x col.0 col.1) in
     answered_on a d f (WasPut (between s name x col.0 col.1) name (without s name x col.0 col.1) x f) (Answered s (edit.replace name x) f) c.put_feature.result
