@@ -44,7 +44,7 @@ open_told root (shut why) ask asked starved h = let e : true ≡ false = fault_c
 open_told root (of_state s) ask asked failed h = let e : true ≡ false = fault_closes asked Device ∙ h in cc
 open_told root (shut why) ask asked failed h = let e : true ≡ false = fault_closes asked Device ∙ h in cc
 
-batch_acts : (s : State) (ask : AskValue) (bs : List BatchValue) → after_all s (with_batch ask bs) ≡ after_all (state_in s ask) bs
+pub batch_acts : (s : State) (ask : AskValue) (bs : List BatchValue) → after_all s (with_batch ask bs) ≡ after_all (state_in s ask) bs
 batch_acts s (faulty fault) bs = refl
 batch_acts s landing_page bs = refl
 batch_acts s api_text bs = refl

@@ -3,3 +3,4 @@ pub mod Standing
 pub mod Responds
 pub mod Turns
 pub mod Exchanges
+pub mod Beginnings

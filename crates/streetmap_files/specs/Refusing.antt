@@ -1,0 +1,51 @@
+-- What refusals are called, and what they come from.
+use Rattle.std.specs.Prelude.{ℕ, List, codes}
+use Rattle.sqlite.specs.declared.error.Error.{Error}
+use Rattle.sqlite.specs.declared.error.Error.TheVariants.{SqliteFailure}
+use Rattle.sqlite.specs.declared.error.ErrorCode.TheVariants.{NotADatabase, OutOfMemory}
+use Rattle.streetmap_opening.specs.declared.adopting.AdoptFault.{AdoptFault}
+use Rattle.streetmap_opening.specs.declared.adopting.AdoptFault.TheVariants as adopting
+use Rattle.streetmap_opening.specs.declared.making.MakeFault.{MakeFault}
+use Rattle.streetmap_opening.specs.declared.making.MakeFault.TheVariants as making
+use Rattle.streetmap_files.specs.declared.fault.OpenFault.{OpenFault}
+use Rattle.streetmap_files.specs.declared.fault.OpenFault.TheVariants as opened
+use Rattle.streetmap_files.specs.declared.fault.CreateFault.{CreateFault}
+use Rattle.streetmap_files.specs.declared.fault.CreateFault.TheVariants as created
+
+-- their names
+abbrev pub open_code : OpenFault → List ℕ
+open_code opened.NotOurs = codes "not_ours"
+open_code opened.OldFormat = codes "old_format"
+open_code opened.NewFormat = codes "new_format"
+open_code (opened.Device e) = codes "device"
+open_code opened.Memory = codes "memory"
+
+abbrev pub create_code : CreateFault → List ℕ
+create_code created.NotOurs = codes "not_ours"
+create_code created.Taken = codes "taken"
+create_code (created.Device e) = codes "device"
+create_code created.Memory = codes "memory"
+
+-- files that a connection is refused for: no database, want of memory, or a failure of the device
+abbrev pub refused_to_open : Error → OpenFault
+refused_to_open (SqliteFailure NotADatabase) = opened.NotOurs
+refused_to_open (SqliteFailure OutOfMemory) = opened.Memory
+refused_to_open e = opened.Device e
+
+abbrev pub refused_to_create : Error → CreateFault
+refused_to_create (SqliteFailure NotADatabase) = created.NotOurs
+refused_to_create (SqliteFailure OutOfMemory) = created.Memory
+refused_to_create e = created.Device e
+
+-- tables that are not opened, or not made
+abbrev pub not_adopted : AdoptFault → OpenFault
+not_adopted adopting.NotOurs = opened.NotOurs
+not_adopted adopting.OldFormat = opened.OldFormat
+not_adopted adopting.NewFormat = opened.NewFormat
+not_adopted (adopting.Device e) = opened.Device e
+not_adopted adopting.Memory = opened.Memory
+
+abbrev pub not_made : MakeFault → CreateFault
+not_made making.Taken = created.Taken
+not_made (making.Device e) = created.Device e
+not_made making.Memory = created.Memory

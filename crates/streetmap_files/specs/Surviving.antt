@@ -1,0 +1,27 @@
+-- What a stop leaves of batches over tables.
+use Rattle.std.specs.Prelude.{ℕ, ◌++◌, List, length}
+use Rattle.sqlite.specs.Effect.{Database, IsDatabase}
+use Rattle.sqlite.specs.State.{State as Seen}
+use Rattle.streetmap_batch.specs.Text.{Text}
+use Rattle.streetmap_batch.specs.BatchValue.{BatchValue}
+use Rattle.streetmap_ledger.specs.State.{State}
+use Rattle.streetmap_rows.specs.Keeping.{Keeps}
+use Rattle.streetmap_web.specs.Standing.{of_state}
+use Rattle.streetmap_web.specs.Exchanges.{Around, Serves, batches_of}
+use Rattle.streetmap_web.specs.Beginnings.{IsAfterBeginning, last_of, batches_acted}
+use Rattle.streetmap_web.specs.declared.serving.End.{End}
+
+-- The database is that of one of these states: it is of no other, and it cannot be that it is of none.
+pub record IsOfOne (P : State → Type 0) (db : Database) : Type 0 where
+  pub only : (t : State) → Keeps t db → P t
+  pub some : ((t : State) → Keeps t db → ⊥) → ⊥
+
+-- Whatever database is opened again after a stop holds the state of a beginning of the batches that contains each acknowledged one.
+abbrev pub Survives : State → List BatchValue → ℕ → Seen → Type 0
+Survives s batches acknowledged seen = (db : Database) → seen.may_leave db.trees → IsDatabase db → IsOfOne (IsAfterBeginning s batches acknowledged) db
+
+-- Over tables of a state these requests were served with these answers, and a stop leaves the state of a beginning of the batches acted on that contains each that was answered without a fault.
+pub record ServesTables (root : Text) (end : End) (count : ℕ) (s : State) (a : Around) (seen : Seen) : Type 0 where
+  pub serves : Serves root end count (of_state s) a
+  pub survives : let last = last_of serves.turn root _ _ serves.ends in
+      Survives s (batches_of serves.exchanges ++ batches_acted last) (length (batches_of serves.exchanges ++ batches_of last)) seen

@@ -1,0 +1,109 @@
+//! Why a file is not made or opened.
+ghost use Rattle.std.specs.Prelude.{◌≡◌};
+ghost use Rattle.streetmap_files.specs.Refusing.{open_code, create_code, refused_to_open, refused_to_create, not_adopted, not_made};
+
+use sqlite::{Error, ErrorCode};
+use streetmap_opening::{AdoptFault, MakeFault};
+
+/// Why a file was not opened.
+#[derive(Debug, Drop)]
+pub enum OpenFault {
+    /// `not_ours`: it is no database of SQLite, or none with the tables of this product.
+    NotOurs,
+    /// `old_format`: its tables are of format 1.
+    OldFormat,
+    /// `new_format`: its tables are of a format above 2.
+    NewFormat,
+    /// `device`: it cannot be opened, is in use, or the store failed: the error that told it.
+    Device(Error),
+    /// `memory`: memory was refused.
+    Memory,
+}
+
+/// Why the tables were not made in a file.
+#[derive(Debug, Drop)]
+pub enum CreateFault {
+    /// `not_ours`: the file is no database of SQLite.
+    NotOurs,
+    /// `taken`: a table, an index or a view of the database has one of the four names.
+    Taken,
+    /// `device`: it cannot be opened, is in use, or the store failed: the error that told it.
+    Device(Error),
+    /// `memory`: memory was refused.
+    Memory,
+}
+
+impl OpenFault {
+    /// Its name.
+    pub fn code(&self) -> &'static str
+        ensures { result.now ≡ open_code self.now }
+    {
+        match self {
+            OpenFault::NotOurs => "not_ours",
+            OpenFault::OldFormat => "old_format",
+            OpenFault::NewFormat => "new_format",
+            OpenFault::Device(_) => "device",
+            OpenFault::Memory => "memory",
+        }
+    }
+
+    /// The fault of files that a connection was refused for.
+    pub(crate) fn of_files(error: Error) -> OpenFault
+        ensures { result ≡ refused_to_open error }
+    {
+        match error {
+            Error::SqliteFailure(ErrorCode::NotADatabase) => OpenFault::NotOurs,
+            Error::SqliteFailure(ErrorCode::OutOfMemory) => OpenFault::Memory,
+            _ => OpenFault::Device(error),
+        }
+    }
+
+    /// The fault of tables that were not opened.
+    pub(crate) fn of_tables(fault: AdoptFault) -> OpenFault
+        ensures { result ≡ not_adopted fault }
+    {
+        match fault {
+            AdoptFault::NotOurs => OpenFault::NotOurs,
+            AdoptFault::OldFormat => OpenFault::OldFormat,
+            AdoptFault::NewFormat => OpenFault::NewFormat,
+            AdoptFault::Device(error) => OpenFault::Device(error),
+            AdoptFault::Memory => OpenFault::Memory,
+        }
+    }
+}
+
+impl CreateFault {
+    /// Its name.
+    pub fn code(&self) -> &'static str
+        ensures { result.now ≡ create_code self.now }
+    {
+        match self {
+            CreateFault::NotOurs => "not_ours",
+            CreateFault::Taken => "taken",
+            CreateFault::Device(_) => "device",
+            CreateFault::Memory => "memory",
+        }
+    }
+
+    /// The fault of files that a connection was refused for.
+    pub(crate) fn of_files(error: Error) -> CreateFault
+        ensures { result ≡ refused_to_create error }
+    {
+        match error {
+            Error::SqliteFailure(ErrorCode::NotADatabase) => CreateFault::NotOurs,
+            Error::SqliteFailure(ErrorCode::OutOfMemory) => CreateFault::Memory,
+            _ => CreateFault::Device(error),
+        }
+    }
+
+    /// The fault of tables that were not made.
+    pub(crate) fn of_tables(fault: MakeFault) -> CreateFault
+        ensures { result ≡ not_made fault }
+    {
+        match fault {
+            MakeFault::Taken => CreateFault::Taken,
+            MakeFault::Device(error) => CreateFault::Device(error),
+            MakeFault::Memory => CreateFault::Memory,
+        }
+    }
+}
