@@ -1,0 +1,46 @@
+-- Why a text is not read into a batch: the names of the refusals, and what a reader answers beside what it reads.
+use Rattle.std.specs.Prelude.{◌≡◌, ℕ, codes, Option, None, Some, Result, Ok, Err}
+use Rattle.streetmap_geojson.specs.declared.fault.Fault.{Fault}
+use Rattle.streetmap_batch.specs.Text.{Text}
+use Rattle.streetmap_batch.specs.declared.batch_fault.BatchFault.{BatchFault}
+use Rattle.streetmap_batch.specs.declared.batch_fault.BatchFault.TheVariants as batch
+use Rattle.streetmap_exchange.specs.declared.fault.ImportFault.{ImportFault}
+use Rattle.streetmap_exchange.specs.declared.fault.ImportFault.TheVariants.{BadKey, BadBatch, TextTooLarge, NotJson, WrongType, BadFeature, TooManyEdits, Memory}
+
+unfoldable pub code_of : ImportFault → Text
+code_of BadKey = codes "bad_key"
+code_of BadBatch = codes "bad_batch"
+code_of TextTooLarge = codes "text_too_large"
+code_of NotJson = codes "not_json"
+code_of WrongType = codes "wrong_type"
+code_of (BadFeature place cause) = codes "bad_feature"
+code_of TooManyEdits = codes "too_many_edits"
+code_of Memory = codes "memory"
+
+-- the place of the feature at fault, counted from 1
+abbrev pub place_of : ImportFault → Option ℕ
+place_of (BadFeature place cause) = Some place
+place_of _ = None
+
+-- what is wrong with it
+abbrev pub cause_of : ImportFault → Option Fault
+cause_of (BadFeature place cause) = Some cause
+cause_of _ = None
+
+-- the refusal of a batch, told of the text that it is made of
+abbrev pub of_batch : BatchFault → ImportFault
+of_batch (batch.BadBatch place) = BadBatch
+of_batch batch.BadKey = BadKey
+of_batch batch.TooManyEdits = TooManyEdits
+of_batch (batch.BadFeature place cause) = BadFeature place cause
+of_batch batch.Memory = Memory
+
+-- a fault beside memory is that of what is read
+abbrev pub Fails : {Y : Type 0} → ImportFault → Result Y ImportFault → Type 0
+Fails Memory read = Unit {0}
+Fails e read = read ≡ Err e
+
+-- what was answered, seen by view, is what is read, unless memory ran out
+abbrev pub Gives : {X Y : Type 0} → (X → Y) → Result X ImportFault → Result Y ImportFault → Type 0
+Gives view (Ok x) read = read ≡ Ok (view x)
+Gives view (Err e) read = Fails e read

@@ -1,0 +1,3 @@
+pub mod ImportFaults
+pub mod Imports
+pub mod ImportMeaning

@@ -1,0 +1,101 @@
+//! Why a text is not read.
+ghost use Rattle.std.specs.Prelude.{◌≡◌};
+
+use std::alloc::{AllocError, AllocFailed};
+use streetmap_batch::BatchFault;
+use streetmap_geojson::Fault;
+
+/// Why a text is not read into a batch.
+#[derive(Clone, Copy, Debug, PartialEq, Drop)]
+pub enum ImportFault {
+    /// The key is none.
+    BadKey,
+    /// The id of the collection is none.
+    BadBatch,
+    /// The text has more than 8,388,608 bytes.
+    TextTooLarge,
+    /// The text is no JSON.
+    NotJson,
+    /// The text is no FeatureCollection (RFC 7946, section 3.3).
+    WrongType,
+    /// The feature of that place, counted from 1, cannot be read.
+    BadFeature { place: u64, cause: Fault },
+    /// There are more than 10,000 features.
+    TooManyEdits,
+    /// Memory was refused. The call may be made again.
+    Memory,
+}
+
+impl ImportFault {
+    ghost use Rattle.streetmap_exchange.specs.ImportFaults.{code_of, place_of, cause_of, of_batch};
+
+    /// The name of the refusal.
+    #[tactic(auto, unfolding(crate::specs::ImportFaults::code_of))]
+    pub fn code(&self) -> &'static str
+        ensures { result.now ≡ code_of self.now }
+    {
+        match self {
+            ImportFault::BadKey => "bad_key",
+            ImportFault::BadBatch => "bad_batch",
+            ImportFault::TextTooLarge => "text_too_large",
+            ImportFault::NotJson => "not_json",
+            ImportFault::WrongType => "wrong_type",
+            ImportFault::BadFeature { place: _, cause: _ } => "bad_feature",
+            ImportFault::TooManyEdits => "too_many_edits",
+            ImportFault::Memory => "memory",
+        }
+    }
+
+    /// The place of the feature at fault, counted from 1.
+    pub fn place(&self) -> Option<u64>
+        ensures { result ≡ place_of self.now }
+    {
+        match self {
+            ImportFault::BadFeature { place, cause: _ } => Some(*place),
+            _ => None,
+        }
+    }
+
+    /// What is wrong with that feature.
+    pub fn cause(&self) -> Option<Fault>
+        ensures { result ≡ cause_of self.now }
+    {
+        match self {
+            ImportFault::BadFeature { place: _, cause } => Some(*cause),
+            _ => None,
+        }
+    }
+
+    /// The refusal of the batch, told of the text that it is made of.
+    pub(crate) fn of_batch(fault: BatchFault) -> ImportFault
+        ensures { result ≡ of_batch fault }
+    {
+        match fault {
+            BatchFault::BadBatch { place: _ } => ImportFault::BadBatch,
+            BatchFault::BadKey => ImportFault::BadKey,
+            BatchFault::TooManyEdits => ImportFault::TooManyEdits,
+            BatchFault::BadFeature { place, cause } => ImportFault::BadFeature { place, cause },
+            BatchFault::Memory => ImportFault::Memory,
+        }
+    }
+}
+
+impl From<AllocError> for ImportFault {
+    ghost use Rattle.streetmap_exchange.specs.declared.fault.ImportFault.TheVariants.{Memory};
+
+    ghost from_gives = { λ _ e. e ≡ Memory };
+
+    fn from(_: AllocError) -> ImportFault {
+        ImportFault::Memory
+    }
+}
+
+impl<T: Drop> From<AllocFailed<T>> for ImportFault {
+    ghost use Rattle.streetmap_exchange.specs.declared.fault.ImportFault.TheVariants.{Memory};
+
+    ghost from_gives = { λ _ e. e ≡ Memory };
+
+    fn from(_: AllocFailed<T>) -> ImportFault {
+        ImportFault::Memory
+    }
+}
