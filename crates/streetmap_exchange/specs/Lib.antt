@@ -1,3 +1,5 @@
 pub mod ImportFaults
 pub mod Imports
 pub mod ImportMeaning
+pub mod ExportFaults
+pub mod Exports

@@ -1,9 +1,11 @@
-//! Why a text is not read.
+//! Why a text is not read, or not written.
 ghost use Rattle.std.specs.Prelude.{◌≡◌};
 
 use std::alloc::{AllocError, AllocFailed};
+use std::io::{Error, ErrorKind};
 use streetmap_batch::BatchFault;
 use streetmap_geojson::Fault;
+use streetmap_ledger::Fault as KeeperFault;
 
 /// Why a text is not read into a batch.
 #[derive(Clone, Copy, Debug, PartialEq, Drop)]
@@ -97,5 +99,54 @@ impl<T: Drop> From<AllocFailed<T>> for ImportFault {
 
     fn from(_: AllocFailed<T>) -> ImportFault {
         ImportFault::Memory
+    }
+}
+
+/// Why a collection is not exported to its end.
+#[derive(Clone, Copy, Debug, PartialEq, Drop)]
+pub enum ExportFault {
+    /// The collection is not there.
+    NoCollection,
+    /// The keeper did not answer, or memory was refused.
+    Stopped(KeeperFault),
+    /// The text could not be written.
+    WriteFailed,
+}
+
+impl ExportFault {
+    ghost use Rattle.streetmap_exchange.specs.ExportFaults.{export_code_of, IsWriteFault};
+
+    /// The name of the refusal.
+    #[tactic(auto, unfolding(crate::specs::ExportFaults::export_code_of))]
+    pub fn code(&self) -> &'static str
+        ensures { result.now ≡ export_code_of self.now }
+    {
+        match self {
+            ExportFault::NoCollection => "no_collection",
+            ExportFault::Stopped(fault) => fault.code(),
+            ExportFault::WriteFailed => "write_failed",
+        }
+    }
+
+    /// The fault of a write that failed. A buffer that finds no memory fails so too.
+    pub(crate) fn of_write(error: &Error) -> ExportFault
+        ensures { IsWriteFault result }
+    {
+        if error.kind() == ErrorKind::OutOfMemory {
+            ExportFault::Stopped(KeeperFault::Memory)
+        } else {
+            ExportFault::WriteFailed
+        }
+    }
+}
+
+impl From<AllocError> for ExportFault {
+    ghost use Rattle.streetmap_ledger.specs.declared.reply.Fault.TheVariants.{Memory};
+    ghost use Rattle.streetmap_exchange.specs.declared.fault.ExportFault.TheVariants.{Stopped};
+
+    ghost from_gives = { λ _ e. e ≡ Stopped Memory };
+
+    fn from(_: AllocError) -> ExportFault {
+        ExportFault::Stopped(KeeperFault::Memory)
     }
 }

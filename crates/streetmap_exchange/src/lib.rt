@@ -3,11 +3,15 @@
 //! `import_batch` makes of the text of a FeatureCollection the batch that puts its features into a
 //! collection; which batch, and which refusal comes first, is `specs/Imports`.
 //!
-//! Modules, in the order of reading: `fault`, `import`.
+//! `export` writes the text of a whole collection, page by page, over any keeper; which text, and what
+//! was written where it ends early, is `specs/Exports`.
+//!
+//! Modules, in the order of reading: `fault`, `import`, `part`, `export`.
 #![tactic(auto)]
 
 mod fault;
 mod import;
+mod part;
 
-pub use fault::ImportFault;
+pub use fault::{ExportFault, ImportFault};
 pub use import::{MAX_TEXT, import_batch};

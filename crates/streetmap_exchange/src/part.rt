@@ -1,0 +1,126 @@
+//! Parts of an export: its pages, and their texts.
+ghost use Rattle.std.specs.Prelude.{◌≡◌, ◌++◌, OnOk, OnErr, IfErr, IsErrOf, map, string_bytes, codes};
+ghost use Rattle.std.specs.Io.KnownBytes.{Appends};
+ghost use Rattle.streetmap_geojson.specs.FeatureView.{feature_value};
+ghost use Rattle.streetmap_ledger.specs.Keep.{LeavesOnly, AsBefore};
+ghost use Rattle.streetmap_ledger.specs.PageView.{page_value};
+ghost use Rattle.streetmap_ledger.specs.State.{State};
+ghost use Rattle.streetmap_ledger.specs.declared.reply.Fault.TheVariants.{Reopen};
+ghost use Rattle.streetmap_exchange.specs.ExportFaults.{IsWriteFault, ExportShuts};
+ghost use Rattle.streetmap_exchange.specs.Exports.{AppendsFirst, ShowsPart, part_text};
+
+use crate::fault::ExportFault;
+use std::alloc::{AllocError, Global};
+use std::io::{ErrorKind, Write};
+use streetmap_feature_text::{push_comma, push_feature};
+use streetmap_geojson::{Feature, Id};
+use streetmap_ledger::{Keeper, Page};
+use streetmap_query::Query;
+
+/// The page of a thousand features behind an id.
+pub(crate) fn page_behind<K: Keeper>(
+    keeper: &mut K,
+    collection: &str,
+    after: Option<Id>,
+) -> Result<Page, ExportFault>
+    ensures began_clean { K.is_clean keeper.new → K.is_clean keeper.old }
+    ensures faults { ExportShuts result (K.cause keeper.old) (K.cause keeper.new) }
+    ensures shows { K.is_clean keeper.new → (s : State) → K.stands keeper.old s → ShowsPart s collection.now after result (K.stands keeper.new) }
+    ensures leaves { K.is_clean keeper.new → (s : State) → K.stands keeper.old s → LeavesOnly (K.may_leave keeper.old) (Some s) → LeavesOnly (K.may_leave keeper.new) (Some s) }
+    ensures reopen { IsErrOf result (ExportFault.Stopped Reopen) → AsBefore (K.stands keeper.old) (K.stands keeper.new) (K.may_leave keeper.old) (K.may_leave keeper.new) }
+{
+    let query = Query {
+        bbox: None,
+        datetime: None,
+        limit: 1000,
+        after,
+    };
+    match keeper.page(collection, &query) {
+        Ok(Some(page)) => Ok(page),
+        Ok(None) => Err(ExportFault::NoCollection),
+        Err(fault) => Err(ExportFault::Stopped(fault)),
+    }
+}
+
+/// The last id of a page, where more features follow.
+pub(crate) fn next_id(page: Page) -> Option<Id>
+    ensures { result ≡ (page_value page).next }
+{
+    let next = page.next;
+    match next {
+        Some(text) => match Id::new(text) {
+            Ok(id) => Some(id),
+            Err(_) => None,
+        },
+        None => None,
+    }
+}
+
+/// Appends features as they stand in an array, each behind a comma; before the first there is one
+/// where others stand before it.
+fn push_part(
+    alloc: Global,
+    out: &mut String,
+    features: &[Feature],
+    later: bool,
+) -> Result<(), AllocError>
+    ensures { OnOk result (string_bytes out.new ≡ string_bytes out.old ++ part_text later (map feature_value features.now)) }
+{
+    let mut behind = later;
+    for feature in features {
+        push_comma(out, behind)?;
+        push_feature(alloc, out, feature)?;
+        behind = true;
+    }
+    Ok(())
+}
+
+/// Writes bytes, as often as the writer takes some of them.
+pub(crate) fn write_bytes<W: Write>(writer: &mut W, bytes: &[u8]) -> Result<(), ExportFault>
+    ensures ok { OnOk result (Appends (W.contents writer.old) (W.contents writer.new) bytes.now) }
+    ensures err { OnErr result (AppendsFirst (W.contents writer.old) (W.contents writer.new) bytes.now) }
+    ensures fault { IfErr result IsWriteFault }
+{
+    let mut rest = bytes;
+    for _turn in 0..u64::MAX {
+        if rest.is_empty() {
+            return Ok(());
+        }
+        match writer.write(rest) {
+            Ok(0) => return Err(ExportFault::WriteFailed),
+            Ok(count) => rest = &rest[count..],
+            Err(error) if error.kind() == ErrorKind::Interrupted => {}
+            Err(error) => return Err(ExportFault::of_write(&error)),
+        }
+    }
+    Err(ExportFault::WriteFailed)
+}
+
+/// Writes features as they stand in an array.
+pub(crate) fn write_part<W: Write>(
+    alloc: Global,
+    writer: &mut W,
+    features: &[Feature],
+    later: bool,
+) -> Result<(), ExportFault>
+    ensures ok { OnOk result (Appends (W.contents writer.old) (W.contents writer.new) (part_text later (map feature_value features.now))) }
+    ensures err { OnErr result (AppendsFirst (W.contents writer.old) (W.contents writer.new) (part_text later (map feature_value features.now))) }
+    ensures fault { IfErr result IsWriteFault }
+{
+    let mut text = String::new(alloc);
+    push_part(alloc, &mut text, features, later)?;
+    write_bytes(writer, text.as_str().as_bytes())
+}
+
+/// Writes what stands behind the features, and lets the reader of the text see it.
+pub(crate) fn write_end<W: Write>(writer: &mut W) -> Result<(), ExportFault>
+    ensures ok { OnOk result (Appends (W.contents writer.old) (W.contents writer.new) (codes "],\"type\":\"FeatureCollection\"}\n")) }
+    ensures err { OnErr result (AppendsFirst (W.contents writer.old) (W.contents writer.new) (codes "],\"type\":\"FeatureCollection\"}\n")) }
+    ensures fault { IfErr result IsWriteFault }
+{
+    write_bytes(writer, b"],\"type\":\"FeatureCollection\"}\n")?;
+    match writer.flush() {
+        Ok(()) => Ok(()),
+        Err(error) => Err(ExportFault::of_write(&error)),
+    }
+}
