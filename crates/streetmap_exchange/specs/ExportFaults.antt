@@ -1,11 +1,10 @@
 -- Why an export ends early: the names of the refusals, and what comes of its parts.
-use Rattle.std.specs.Prelude.{◌≡◌, Option, None, Some, Result, Ok, Err, codes, ⊤}
+use Rattle.std.specs.Prelude.{◌≡◌, Option, None, Result, Ok, Err, codes, ⊤}
 use Rattle.streetmap_batch.specs.Text.{Text}
 use Rattle.streetmap_ledger.specs.Keep.{ShutsBy}
 use Rattle.streetmap_ledger.specs.Refusals.{fault_code}
 use Rattle.streetmap_ledger.specs.declared.reply.Cause.{Cause}
-use Rattle.streetmap_ledger.specs.declared.reply.Fault.{Fault}
-use Rattle.streetmap_ledger.specs.declared.reply.Fault.TheVariants.{Memory, Device, Damaged, Reopen}
+use Rattle.streetmap_ledger.specs.declared.reply.Fault.TheVariants.{Memory}
 use Rattle.streetmap_exchange.specs.declared.fault.ExportFault.{ExportFault}
 use Rattle.streetmap_exchange.specs.declared.fault.ExportFault.TheVariants.{NoCollection, Stopped, WriteFailed}
 

@@ -6,12 +6,14 @@
 //! `export` writes the text of a whole collection, page by page, over any keeper; which text, and what
 //! was written where it ends early, is `specs/Exports`.
 //!
-//! Modules, in the order of reading: `fault`, `import`, `part`, `export`.
+//! Modules, in the order of reading: `fault`, `importing`, `part`, `exporting`.
 #![tactic(auto)]
 
+mod exporting;
 mod fault;
-mod import;
+mod importing;
 mod part;
 
+pub use exporting::export;
 pub use fault::{ExportFault, ImportFault};
-pub use import::{MAX_TEXT, import_batch};
+pub use importing::{MAX_TEXT, import_batch};

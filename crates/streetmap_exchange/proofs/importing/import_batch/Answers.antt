@@ -1,6 +1,6 @@
 use Rattle.streetmap_batch.specs.BatchView.{batch_value}
 use Rattle.streetmap_exchange.proofs.ImportLemmas.{is_import, is_made}
-use Rattle.streetmap_exchange.proofs.import.import_batch.Goals as goal
+use Rattle.streetmap_exchange.proofs.importing.import_batch.Goals as goal
 
 pub returns-clause-found : goal.returns-clause-found
 returns-clause-found c = is_import batch_value c.read_import.result _ _ _ _ c.read_import.ensures

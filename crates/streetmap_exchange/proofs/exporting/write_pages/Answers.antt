@@ -1,0 +1,90 @@
+use Rattle.std.proofs.Common.{◌≡◌, ◌||◌, Some, Err, arith, vec_len, ap, sym, subst, ◌∙◌}
+use Rattle.std.proofs.lemmas.Result.{err_from_is_err_and}
+use Rattle.std.specs.Io.KnownBytes.{Appends}
+use Rattle.streetmap_ledger.specs.PageView.{page_value}
+use Rattle.streetmap_exchange.specs.Exports.{AppendsFirst}
+use Rattle.streetmap_exchange.proofs.ExportLemmas.{Underway, is_any, begins, begins_early, breaks_off, stands_still, stands_between, goes_further, write_ends, page_ends, end_exports, page_part, some_before, some_here}
+use Rattle.streetmap_exchange.proofs.exporting.write_pages.Goals as goal
+use Rattle.streetmap_exchange.proofs.exporting.write_pages.Goals.{then-later, else-later}
+
+pub returns-in_err-write_bytes-clause-exports : goal.returns-in_err-write_bytes-clause-exports
+returns-in_err-write_bytes-clause-exports g c = λ clean s stands first.
+    let p = err_from_is_err_and c.from_residual.result c.from_residual.ensures.1 in
+    write_ends s _ c.from_residual.result c.in_err-write_bytes.field-0.0 _ _ (g.K.Keeper.stands c.args.keeper.now) (p.1 ∙ ap (λ x. Err x) p.2) c.in_err-write_bytes.ensures.fault (begins_early s _ _ _ _ first c.in_err-write_bytes.ensures.err) stands
+
+pub loop-turn-init : goal.loop-turn-init
+loop-turn-init g c = record {
+  clean = λ h. h;
+  open_before = c.requires;
+  open_now = c.requires;
+  stands = λ h s e. e;
+  underway = λ h s e first. begins s _ _ _ _ (g.met.K.Keeper.well_formed c.args.keeper.now s e) first c.in_ok-write_bytes.ensures.ok;
+  leaves = λ h s e only. only;
+}
+
+pub returns-in_err-write_part-clause-exports : goal.returns-in_err-write_part-clause-exports
+returns-in_err-write_part-clause-exports g c = λ clean s stands first.
+    let inv = c.loop-turn.invariant in
+    let p = err_from_is_err_and c.from_residual-in_err-write_part.result c.from_residual-in_err-write_part.ensures.1 in
+    let before = g.W.Write.contents c.loop-turn.writer in
+    let after = g.W.Write.contents c.write_part.new.writer in
+    let part = subst (AppendsFirst before after) (page_part c.loop-turn.later c.as_slice.result.now _ c.as_slice.ensures.value) c.in_err-write_part.ensures.err in
+    write_ends s _ c.from_residual-in_err-write_part.result c.in_err-write_part.field-0.0 _ _ (g.K.Keeper.stands c.loop-turn.keeper) (p.1 ∙ ap (λ x. Err x) p.2) c.in_err-write_part.ensures.fault (breaks_off s _ _ before after _ _ (inv.underway clean s stands first) part) (inv.stands clean s stands)
+
+pub returns-in_err-page-in-Some-clause-exports : goal.returns-in_err-page-in-Some-clause-exports
+returns-in_err-page-in-Some-clause-exports g c = λ clean s stands first.
+    let inv = c.loop-turn.invariant in
+    let r = c.from_residual-in_err-page-in-Some in
+    let p = err_from_is_err_and r.result r.ensures.1 in
+    let says = c.in_err-page-in-Some.ensures in
+    let began = says.began_clean clean in
+    let before = g.W.Write.contents c.loop-turn.writer in
+    let after = g.W.Write.contents c.write_part.new.writer in
+    let part = subst (Appends before after) (page_part c.loop-turn.later c.as_slice.result.now _ c.as_slice.ensures.value) c.in_ok-write_part.ensures.ok in
+    page_ends s _ (Some c.in-Some.id) r.result c.in_err-page-in-Some.field-0.0 _ _ (g.K.Keeper.stands c.page_behind.new.keeper) (p.1 ∙ ap (λ x. Err x) p.2) (says.shows clean s (inv.stands began s stands)) (stands_between s _ _ before after _ _ (inv.underway began s stands first) part)
+
+pub returns-in_err-page-in-Some-clause-leaves : goal.returns-in_err-page-in-Some-clause-leaves
+returns-in_err-page-in-Some-clause-leaves g c = λ h s e only.
+    let inv = c.loop-turn.invariant in
+    let says = c.in_err-page-in-Some.ensures in
+    let began = says.began_clean h in
+    says.leaves h s (inv.stands began s e) (inv.leaves began s e only)
+
+pub returns-in-None-clause-exports : goal.returns-in-None-clause-exports
+returns-in-None-clause-exports g c = λ clean s stands first.
+    let inv = c.loop-turn.invariant in
+    let before = g.W.Write.contents c.loop-turn.writer in
+    let after = g.W.Write.contents c.write_part.new.writer in
+    let part = subst (Appends before after) (page_part c.loop-turn.later c.as_slice.result.now _ c.as_slice.ensures.value) c.in_ok-write_part.ensures.ok in
+    end_exports s _ _ before after (g.W.Write.contents c.write_end.new.writer) _ _ c.write_end.result (g.K.Keeper.stands c.loop-turn.keeper) (inv.underway clean s stands first) (sym c.next_id.ensures ∙ c.in-None.is) part c.write_end.ensures.ok c.write_end.ensures.err c.write_end.ensures.fault (inv.stands clean s stands)
+
+pub loop-turn-preserved : goal.loop-turn-preserved
+loop-turn-preserved g c =
+    let inv = c.loop-turn.invariant in
+    let says = c.in_ok-page-in-Some.ensures in
+    let before = g.W.Write.contents c.loop-turn.writer in
+    let after = g.W.Write.contents c.write_part.new.writer in
+    let page = page_value c.loop-turn.page in
+    let part = subst (Appends before after) (page_part c.loop-turn.later c.as_slice.result.now _ c.as_slice.ensures.value) c.in_ok-write_part.ensures.ok in
+    let more : page.next ≡ Some c.in-Some.id = sym c.next_id.ensures ∙ c.in-Some.is in
+    let later : (c.loop-turn.later || is_any page.features) ≡ c.if-later.later = elim c.if-later.branch [
+      | then-later w ↦ some_before c.loop-turn.later c.if-later.later (is_any page.features) w.if-later.true w.later-is
+      | else-later w ↦ some_here c.loop-turn.later c.if-later.later w.is_empty.result page.features (vec_len c.loop-turn.page.features) w.if-later.false (omega (arith, c.loop-turn.page.features.ok.0)) w.is_empty.ensures w.later-is
+    ] in
+    record {
+      clean = λ h. inv.clean (says.began_clean h);
+      open_before = inv.open_before;
+      open_now = says.faults.1;
+      stands = λ h s e. (says.shows h s (inv.stands (says.began_clean h) s e)).1;
+      underway = λ h s e first.
+          let began = says.began_clean h in
+          let shown = says.shows h s (inv.stands began s e) in
+          subst (λ b. Underway s c.args.collection.now (g.W.Write.contents c.args.writer.now) after b (page_value c.in_ok-page-in-Some.page)) later
+          (goes_further s c.args.collection.now _ before after _ page _ c.in-Some.id (inv.underway began s e first) more shown.0 part);
+      leaves = λ h s e only. let began = says.began_clean h in says.leaves h s (inv.stands began s e) (inv.leaves began s e only);
+    }
+
+pub returns-clause-exports : goal.returns-clause-exports
+returns-clause-exports g c = λ clean s stands first.
+    let inv = c.loop-turn.invariant in
+    (stands_still s _ _ _ _ _ (inv.underway clean s stands first), inv.stands clean s stands)

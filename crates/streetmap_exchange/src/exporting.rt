@@ -1,0 +1,73 @@
+//! Collections, written as texts.
+ghost use Rattle.std.specs.Prelude.{◌≡◌, Some, None, IsErrOf};
+ghost use Rattle.streetmap_ledger.specs.Keep.{LeavesOnly, AsBefore};
+ghost use Rattle.streetmap_ledger.specs.Pages.{page_in};
+ghost use Rattle.streetmap_ledger.specs.PageView.{page_value};
+ghost use Rattle.streetmap_ledger.specs.State.{State};
+ghost use Rattle.streetmap_ledger.specs.declared.reply.Fault.TheVariants.{Reopen};
+ghost use Rattle.streetmap_exchange.specs.ExportFaults.{ExportShuts};
+ghost use Rattle.streetmap_exchange.specs.Exports.{Exports, part_query};
+
+use crate::fault::ExportFault;
+use crate::part::{next_id, page_behind, write_bytes, write_end, write_part};
+use std::alloc::Global;
+use std::io::Write;
+use streetmap_ledger::{Keeper, Page};
+
+/// Writes the text of a collection, of which this is the first page.
+fn write_pages<K: Keeper, W: Write>(
+    alloc: Global,
+    keeper: &mut K,
+    collection: &str,
+    writer: &mut W,
+    first: Page,
+) -> Result<(), ExportFault>
+    requires { K.cause keeper.old ≡ None }
+    ensures began_clean { K.is_clean keeper.new → K.is_clean keeper.old }
+    ensures faults { ExportShuts result (K.cause keeper.old) (K.cause keeper.new) }
+    ensures exports { K.is_clean keeper.new → (s : State) → K.stands keeper.old s → page_in s collection.now (part_query None) ≡ Some (page_value first)
+        → Exports s collection.now result (W.contents writer.old) (W.contents writer.new) (K.stands keeper.new) }
+    ensures leaves { K.is_clean keeper.new → (s : State) → K.stands keeper.old s → LeavesOnly (K.may_leave keeper.old) (Some s) → LeavesOnly (K.may_leave keeper.new) (Some s) }
+{
+    write_bytes(writer, b"{\"features\":[")?;
+    let mut page = first;
+    let mut later = false;
+    for _turn in 0..u64::MAX {
+        write_part(alloc, writer, page.features.as_slice(), later)?;
+        later = later || !page.features.is_empty();
+        match next_id(page) {
+            Some(id) => page = page_behind(keeper, collection, Some(id))?,
+            None => return write_end(writer),
+        }
+    }
+    Err(ExportFault::WriteFailed)
+}
+
+/// Writes the FeatureCollection (RFC 7946, section 3.3) of all features of a collection, in byte order of
+/// their ids, as compact JSON text with a line feed behind it. It asks the keeper for pages of a
+/// thousand features.
+///
+/// # Errors
+///
+/// `NoCollection` where the collection is not there, and then nothing is written; a fault of the keeper, want of
+/// memory, or a write that failed, and then a beginning of the text is. After 2^64 - 1 pages it ends as
+/// after a failed write.
+pub fn export<K: Keeper, W: Write>(
+    alloc: Global,
+    keeper: &mut K,
+    collection: &str,
+    writer: &mut W,
+) -> Result<(), ExportFault>
+    ensures began_clean { K.is_clean keeper.new → K.is_clean keeper.old }
+    // A shut keeper answers `Reopen` and no other does; `Device` and `Damaged` shut it.
+    ensures faults { ExportShuts result (K.cause keeper.old) (K.cause keeper.new) }
+    // What is written is the text of the collection, or a beginning of it, and the state stays.
+    ensures exports { K.is_clean keeper.new → (s : State) → K.stands keeper.old s
+        → Exports s collection.now result (W.contents writer.old) (W.contents writer.new) (K.stands keeper.new) }
+    // A stop may leave the same state alone.
+    ensures leaves { K.is_clean keeper.new → (s : State) → K.stands keeper.old s → LeavesOnly (K.may_leave keeper.old) (Some s) → LeavesOnly (K.may_leave keeper.new) (Some s) }
+    ensures reopen { IsErrOf result (ExportFault.Stopped Reopen) → AsBefore (K.stands keeper.old) (K.stands keeper.new) (K.may_leave keeper.old) (K.may_leave keeper.new) }
+{
+    let first = page_behind(keeper, collection, None)?;
+    write_pages(alloc, keeper, collection, writer, first)
+}
