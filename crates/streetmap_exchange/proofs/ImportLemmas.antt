@@ -67,7 +67,7 @@ told d fs (Err faults.Memory) h g = absurd (no_memory d h)
 told d fs (Err (faults.Fault f)) h g = absurd cc
 told d fs (Err (faults.At n f)) h g = absurd cc
 
-again : (d : Data) (fs : List FeatureValue) → AreFeatures None d fs → features None d ≡ Ok fs
+pub again : (d : Data) (fs : List FeatureValue) → AreFeatures None d fs → features None d ≡ Ok fs
 again d fs h = told d fs (features None d) refl (are_read (λ (x : List FeatureValue). x) (features None d) None d (itself d (features None d) refl) fs h)
 
 -- ---- what passes a step
@@ -120,7 +120,7 @@ text_found replace key collection text b keyed placed short h =
       made = same_batch (batch_of_features replace key collection fs.0) b few.1;
     }
 
-import_found : (replace : Bool) (key collection : Text) (text : List ℕ) (b : BatchValue) → import_of replace key collection text ≡ Ok b → IsImport replace key collection text b
+pub import_found : (replace : Bool) (key collection : Text) (text : List ℕ) (b : BatchValue) → import_of replace key collection text ≡ Ok b → IsImport replace key collection text b
 unfolding import_of
 import_found replace key collection text b h =
     let keyed = passed (is_key key) _ _ b h in

@@ -1,3 +1,4 @@
 pub mod ImportLemmas
 pub mod WriteLemmas
 pub mod ExportLemmas
+pub mod LawLemmas

@@ -3,3 +3,4 @@ pub mod Imports
 pub mod ImportMeaning
 pub mod ExportFaults
 pub mod Exports
+pub mod Laws

@@ -6,12 +6,13 @@
 //! `export` writes the text of a whole collection, page by page, over any keeper; which text, and what
 //! was written where it ends early, is `specs/Exports`.
 //!
-//! Modules, in the order of reading: `fault`, `importing`, `part`, `exporting`.
+//! Modules, in the order of reading: `fault`, `importing`, `part`, `exporting`, `laws`.
 #![tactic(auto)]
 
 mod exporting;
 mod fault;
 mod importing;
+pub mod laws;
 mod part;
 
 pub use exporting::export;
