@@ -1,36 +1,37 @@
 -- What is exported of a collection, imported again.
-use Rattle.std.proofs.Common.{◌≡◌, ℕ, ◌+◌, ◌≤◌, List, [], ◌∷◌, ◌++◌, map, Bool, true, false, cond, T, All, Option, None, Some, Result, Ok, Err, ok_or, IsTrue, refl, sym, ap, subst, ◌∙◌, nat_lt, nat_eq, append_assoc, append-nil}
+use Rattle.std.proofs.Common.{◌≡◌, ℕ, ◌+◌, List, [], ◌∷◌, ◌++◌, map, Bool, true, false, cond, T, All, Option, None, Some, Result, Ok, Err, ok_or, IsTrue, refl, sym, ap, subst, ◌∙◌, nat_lt, nat_eq, append_assoc, append-nil}
 use Rattle.std.specs.Ordering.{is_eq, is_lt}
 use Rattle.std.specs.declared.cmp.Ordering.{Ordering}
 use Rattle.std.specs.declared.cmp.Ordering.TheVariants.{Less, Equal, Greater}
 use Rattle.std.specs.Cmp.Lexicographic.{pointwise, nat_list_cmp_total}
-use Rattle.std.specs.FinMap.{FinMap, get, insert, len, empty, entries, values, entries_sorted, find, is_sorted, get-entries, get-insert, from_entries, get-from_entries, from_entries_push, same_map}
+use Rattle.std.specs.FinMap.{get, insert, len, entries, values, entries_sorted, find, is_sorted, get-entries, get-insert, from_entries, get-from_entries, from_entries_push, same_map}
 use Rattle.std.specs.FinMap.Entries.{below_all}
 use Rattle.std.proofs.lemmas.Cmp.{tied_itself}
 use Rattle.std.proofs.lemmas.List.Elements.{All-nil, All-cons}
 use Rattle.serde_json.specs.Data.{Data}
-use Rattle.serde_json.specs.Written.{compact_text}
-use Rattle.streetmap_moment.specs.declared.faults.TimeFault.{TimeFault}
 use Rattle.streetmap_geojson.specs.FeatureValue.{FeatureValue, untimed}
 use Rattle.streetmap_geojson.specs.FeatureInvariant.{IsFeature}
 use Rattle.streetmap_geojson.specs.JsonText.{json_of}
-use Rattle.streetmap_geojson.specs.Times.{time_of, with_time}
+use Rattle.streetmap_geojson.specs.Times.{time_of}
 use Rattle.streetmap_geojson.specs.Collection.{features, AreFeatures}
-use Rattle.streetmap_feature_text.specs.Written.{collection_data}
+use Rattle.streetmap_feature_text.specs.Written.{collection_data, feature_data}
 use Rattle.streetmap_feature_text.proofs.WrittenCollections.{collection_again, collection_is_json}
+use Rattle.streetmap_feature_text.proofs.ExactFeatures.{exact_collection, exact_each, exact_feature}
 use Rattle.streetmap_batch.specs.Text.{Text, text_cmp}
 use Rattle.streetmap_batch.specs.BatchText.{batch_text}
 use Rattle.streetmap_batch.specs.BatchValue.{EditValue, BatchValue}
 use Rattle.streetmap_ledger.specs.State.{State, Collection, AcceptedBatch, Features, step, ◌>>=◌, absent, timed, inserted, with_feature}
-use Rattle.streetmap_ledger.specs.WellFormed.{IsState, IsPlaced}
+use Rattle.streetmap_ledger.specs.WellFormed.{IsPlaced}
 use Rattle.streetmap_ledger.specs.Batches.{Outcome, placed, edited, act, by_key, fresh, most_batches}
 use Rattle.streetmap_ledger.specs.Laws.{is_accepted}
 use Rattle.streetmap_ledger.specs.declared.reply.Refusal.{Refusal}
 use Rattle.streetmap_ledger.specs.declared.reply.Refusal.TheVariants.{NoCollection, FeatureExists, KeyUsed, Full}
 use Rattle.streetmap_ledger.specs.declared.reply.Reply.TheVariants.{Repeated, Refused}
 use Rattle.streetmap_ledger.proofs.TextMaps.{one_text, first, second}
+use Rattle.streetmap_exchange.specs.Exports.{export_text}
 use Rattle.streetmap_exchange.specs.Imports.{edit_of, batch_of_features, import_of}
 use Rattle.streetmap_exchange.specs.Laws.{ImportOfExport}
+use Rattle.streetmap_exchange.proofs.LineFeeds.{json_fed}
 use Rattle.streetmap_exchange.proofs.ImportLemmas.{again, import_found}
 
 -- ---- the entries of a map
@@ -163,6 +164,10 @@ accepts t b h = let a = accepts_by t b (get t.keys b.key) h in record { after = 
 
 -- ---- the law
 
+-- what is exported reads as its features
+written_reads : (fs : List FeatureValue) → All IsFeature fs → json_of (export_text fs) ≡ Ok (collection_data fs)
+written_reads fs h = json_fed (collection_data fs) (exact_collection fs (exact_each feature_data IsFeature exact_feature fs h)) ∙ collection_is_json fs h
+
 same_features : (fs gs : List FeatureValue) (d : Data) → AreFeatures None d fs → AreFeatures None d gs → gs ≡ fs
 same_features fs gs d h k = let both = sym (again d gs k) ∙ again d fs h in cc
 
@@ -170,10 +175,10 @@ same_data : (d e : Data) (text : List ℕ) → json_of text ≡ Ok d → json_of
 same_data d e text h k = let both = sym k ∙ h in cc
 
 -- the batch inserts the exported features, their times left out
-exported_batch : (fs : List FeatureValue) (key to : Text) (b : BatchValue) → All IsFeature fs → import_of false key to (compact_text (collection_data fs)) ≡ Ok b → b ≡ batch_of_features false key to (map untimed fs)
+exported_batch : (fs : List FeatureValue) (key to : Text) (b : BatchValue) → All IsFeature fs → import_of false key to (export_text fs) ≡ Ok b → b ≡ batch_of_features false key to (map untimed fs)
 exported_batch fs key to b sound h =
-    let i = import_found false key to (compact_text (collection_data fs)) b h in
-    let value = same_data (collection_data fs) i.value (compact_text (collection_data fs)) (collection_is_json fs sound) i.told in
+    let i = import_found false key to (export_text fs) b h in
+    let value = same_data (collection_data fs) i.value (export_text fs) (written_reads fs sound) i.told in
     let read : AreFeatures None (collection_data fs) i.features = subst (λ v. AreFeatures None v i.features) value i.read in
     i.made ∙ ap (batch_of_features false key to) (same_features (map untimed fs) i.features (collection_data fs) (collection_again fs sound) read)
 

@@ -2,3 +2,4 @@ pub mod ImportLemmas
 pub mod WriteLemmas
 pub mod ExportLemmas
 pub mod LawLemmas
+pub mod LineFeeds
