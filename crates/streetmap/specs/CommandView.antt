@@ -1,7 +1,11 @@
 -- A command as a value.
+use Rattle.std.specs.Prelude.{string_bytes}
 use Rattle.streetmap.specs.declared.command.Command.{Command}
-use Rattle.streetmap.specs.declared.command.Command.TheVariants.{Lines}
-use Rattle.streetmap.specs.Program.{CommandValue, lines_command}
+use Rattle.streetmap.specs.declared.command.Command.TheVariants.{Lines, Create, Pipe, Serve}
+use Rattle.streetmap.specs.Program.{CommandValue, lines_command, create_command, pipe_command, serve_command}
 
 abbrev pub command_value : Command → CommandValue
 command_value Lines = lines_command
+command_value (Create file) = create_command file.now
+command_value (Pipe file base) = pipe_command file.now (string_bytes base)
+command_value (Serve file port count base) = serve_command file.now port count (string_bytes base)

@@ -1,25 +1,90 @@
 -- The command line, as `clap` reads it.
-use Rattle.std.specs.Prelude.{codes, List, Option, Some, None, option_and_then, if◌then◌else◌}
-use Rattle.std.specs.Str.{bytes_eq}
-use Rattle.clap.specs.Words.{App, Row, Text, new_app, with_subcommand, takes, subcommand_of}
+use Rattle.std.specs.Prelude.{ℕ, codes, decimal, List, Option, Some, None, length, unwrap_or, option_map, option_and_then, if◌then◌else◌, nat_lt, nat_le, true, ◌&&◌, ◌++◌}
+use Rattle.std.specs.Str.{bytes_eq, all_ascii_digits}
+use Rattle.std.specs.Str.Parse.{digits_value}
+use Rattle.clap.specs.Words.{App, Rule, Row, Text, new_app, new_rule, with_rule, with_subcommand, first_of, takes, subcommand_of}
+use Rattle.clap.specs.declared.builder.action.ArgAction.TheVariants.{Set}
+
+-- the file, which has to be there
+abbrev pub file : Rule
+file = record (new_rule (codes "file")) { required = true; action = Some Set }
+
+-- an option with a value, which may be left out
+abbrev pub option : Text → Rule
+option name = record (new_rule name) { long = Some name; action = Some Set }
+
+abbrev pub port : Rule
+port = record (option (codes "port")) { required = true }
 
 abbrev pub lines : App
 lines = new_app (codes "lines")
 
+abbrev pub create : App
+create = with_rule (new_app (codes "create")) file
+
+abbrev pub pipe : App
+pipe = with_rule (with_rule (new_app (codes "pipe")) file) (option (codes "base"))
+
+abbrev pub serve : App
+serve = with_rule (with_rule (with_rule (with_rule (new_app (codes "serve")) file) port) (option (codes "count"))) (option (codes "base"))
+
 -- the program with its subcommands
 abbrev pub program : App
-program = with_subcommand (new_app (codes "streetmap")) lines.top
+program = with_subcommand (with_subcommand (with_subcommand (with_subcommand (new_app (codes "streetmap")) lines.top) create.top) pipe.top) serve.top
 
 -- what a command line asks for
 pub data CommandValue : Type 0 where
   lines_command : CommandValue
+  create_command : (file : Text) → CommandValue
+  pipe_command : (file base : Text) → CommandValue
+  serve_command : (file : Text) (port : ℕ) (count : Option ℕ) (base : Text) → CommandValue
 
--- by the subcommand's name
-abbrev pub command_named : Text → Option CommandValue
-command_named name = if bytes_eq name (codes "lines") then Some lines_command else None
+-- decimal digits that write a number from 1 to `most`
+abbrev pub number_up_to : ℕ → Text → Option ℕ
+number_up_to most text =
+    if nat_lt 0 (length text) && all_ascii_digits text && nat_lt 0 (digits_value 10 text) && nat_le (digits_value 10 text) most
+    then Some (digits_value 10 text) else None
+
+-- the base of links, where none is given
+abbrev pub plain_base : Text
+plain_base = codes "http://localhost/"
+
+abbrev pub base_at : ℕ → Text
+base_at port = codes "http://localhost:" ++ decimal port ++ codes "/"
+
+-- a port is 1 to 65535
+abbrev pub port_given : Option Text → Option ℕ
+port_given given = option_and_then (number_up_to 65535) given
+
+-- 1 to 2^32 - 1 connections, or any number of them where none is given
+abbrev pub count_given : Option Text → Option (Option ℕ)
+count_given None = Some None
+count_given (Some text) = option_map Some (number_up_to 4294967295 text)
+
+abbrev pub create_by : List Row → Option CommandValue
+create_by rows = option_map create_command (first_of (codes "file") rows)
+
+abbrev pub pipe_by : List Row → Option CommandValue
+pipe_by rows = option_map (λ f. pipe_command f (unwrap_or (first_of (codes "base") rows) plain_base)) (first_of (codes "file") rows)
+
+-- what serves, of what is given for its file, port, count and base
+abbrev pub serve_given : (file port count base : Option Text) → Option CommandValue
+serve_given file port count base =
+    option_and_then (λ f. option_and_then (λ p. option_map (λ n. serve_command f p n (unwrap_or base (base_at p))) (count_given count)) (port_given port)) file
+
+abbrev pub serve_by : List Row → Option CommandValue
+serve_by rows = serve_given (first_of (codes "file") rows) (first_of (codes "port") rows) (first_of (codes "count") rows) (first_of (codes "base") rows)
+
+-- by the subcommand's name and what is given with it
+abbrev pub command_named : Text → List Row → Option CommandValue
+command_named name rows =
+    if bytes_eq name (codes "lines") then Some lines_command
+    else (if bytes_eq name (codes "create") then create_by rows
+    else (if bytes_eq name (codes "pipe") then pipe_by rows
+    else (if bytes_eq name (codes "serve") then serve_by rows else None)))
 
 abbrev pub command_by : Option (Text × List Row) → Option CommandValue
-command_by found = option_and_then (λ p. command_named p.0) found
+command_by found = option_and_then (λ p. command_named p.0 p.1) found
 
 -- what the words ask for, of which the first is the program's name: nothing where `clap` does not take them, or where they name no command
 abbrev pub asked_by : List Text → Option CommandValue

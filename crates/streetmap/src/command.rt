@@ -1,18 +1,38 @@
 //! The command line.
-ghost use Rattle.std.specs.Prelude.{◌≡◌, ◌≢◌, [], map, IfOk, IfErr, Some, string_bytes, IsSome, option_map};
-ghost use Rattle.clap.specs.Words.{app_of, fault_of as fault_of_words, subcommand_of, subcommand_rows_of, kind_of};
-ghost use Rattle.streetmap.specs.Program.{program, command_by, asked_by};
+ghost use Rattle.std.specs.Prelude.{◌≡◌, ◌≢◌, [], map, IfOk, IfErr, Some, string_bytes, IsSome, IfSome, ◌≤◌, unwrap_or, option_map, codes, false};
+ghost use Rattle.clap.specs.Words.{app_of, fault_of as fault_of_words, subcommand_of, subcommand_rows_of, kind_of, rule_of, rows_of, found_of, first_of};
+ghost use Rattle.clap.specs.declared.builder.command.Command.TheViews.{out-Command as fields_of};
+ghost use Rattle.std.specs.List.{list_all};
+ghost use Rattle.std.specs.Char.{is_ascii_digit};
+ghost use Rattle.streetmap.specs.Program.{program, file, option, lines, create, pipe, serve, command_by, create_by, pipe_by, serve_by, number_up_to, base_at, port_given, count_given, asked_by};
 ghost use Rattle.streetmap.specs.CommandView.{command_value};
 
 use clap::error::ErrorKind;
-use clap::{ArgMatches, Command as Parser, Error};
+use clap::{Arg, ArgAction, ArgMatches, Command as Parser, Error};
 use std::alloc::{AllocError, Global};
 
 /// What the program is to do.
-#[derive(Clone, Copy, Debug, PartialEq, Eq)]
-pub enum Command {
+#[derive(Debug, Drop)]
+pub enum Command<'a> {
     /// `streetmap lines`: answer the lines of standard input, over a ledger in memory.
     Lines,
+    /// `streetmap create FILE`: make an empty file.
+    Create {
+        file: &'a str,
+    },
+    /// `streetmap pipe FILE`: serve one stream of requests on standard input and output, with links
+    /// under the base.
+    Pipe {
+        file: &'a str,
+        base: String,
+    },
+    /// `streetmap serve FILE`: serve so many connections to a port of this host, or any number of them.
+    Serve {
+        file: &'a str,
+        port: u16,
+        count: Option<u32>,
+        base: String,
+    },
 }
 
 /// Why words are no command.
@@ -24,21 +44,179 @@ pub enum CommandFault {
     Memory,
 }
 
+impl From<AllocError> for CommandFault {
+    ghost use Rattle.streetmap.specs.declared.command.CommandFault.TheVariants.{Memory};
+
+    ghost from_gives = { λ _ fault. fault ≡ Memory };
+
+    fn from(_: AllocError) -> CommandFault {
+        CommandFault::Memory
+    }
+}
+
+/// The file that has to be given.
+fn file_arg<'a>(alloc: Global) -> Arg<'a>
+    ensures rule { rule_of result ≡ file }
+    ensures local { result.global ≡ false }
+{
+    Arg::new(alloc, "file")
+        .required(true)
+        .action(ArgAction::Set)
+}
+
+/// An option with a value.
+fn option_arg<'a>(alloc: Global, name: &'a str) -> Arg<'a>
+    ensures rule { rule_of result ≡ option name.entry.now }
+    ensures local { result.global ≡ false }
+{
+    Arg::new(alloc, name).long(name).action(ArgAction::Set)
+}
+
+fn make_create<'a>(alloc: Global) -> Result<Parser<'a>, AllocError>
+    ensures app { IfOk result (λ c. app_of c ≡ create) }
+    ensures local { IfOk result (λ c. (fields_of c).has_globals ≡ false) }
+{
+    Parser::new(alloc, "create").arg(file_arg(alloc))
+}
+
+fn make_pipe<'a>(alloc: Global) -> Result<Parser<'a>, AllocError>
+    ensures app { IfOk result (λ c. app_of c ≡ pipe) }
+    ensures local { IfOk result (λ c. (fields_of c).has_globals ≡ false) }
+{
+    Parser::new(alloc, "pipe")
+        .arg(file_arg(alloc))?
+        .arg(option_arg(alloc, "base"))
+}
+
+fn make_serve<'a>(alloc: Global) -> Result<Parser<'a>, AllocError>
+    ensures app { IfOk result (λ c. app_of c ≡ serve) }
+    ensures local { IfOk result (λ c. (fields_of c).has_globals ≡ false) }
+{
+    Parser::new(alloc, "serve")
+        .arg(file_arg(alloc))?
+        .arg(option_arg(alloc, "port").required(true))?
+        .arg(option_arg(alloc, "count"))?
+        .arg(option_arg(alloc, "base"))
+}
+
 /// The program's command line, as `clap` describes it.
 fn make_parser<'a>(alloc: Global) -> Result<Parser<'a>, AllocError>
     ensures { IfOk result (λ c. app_of c ≡ program) }
 {
-    Parser::new(alloc, "streetmap").subcommand(Parser::new(alloc, "lines"))
+    Parser::new(alloc, "streetmap")
+        .subcommand(Parser::new(alloc, "lines"))?
+        .subcommand(make_create(alloc)?)?
+        .subcommand(make_pipe(alloc)?)?
+        .subcommand(make_serve(alloc)?)
 }
 
-/// The command that was found, by its name.
-fn command_of(matches: &ArgMatches<'_>) -> Option<Command>
-    ensures { option_map command_value result ≡ command_by (subcommand_rows_of matches.now) }
+/// Whether a text is digits alone.
+fn is_digits(text: &str) -> bool
+    ensures { result ≡ list_all is_ascii_digit text.now }
 {
-    let (name, _) = matches.subcommand()?;
+    text.bytes().all(|byte| byte.is_ascii_digit())
+}
+
+/// The number from 1 to `most` that decimal digits write.
+fn read_number(text: &str, most: u32) -> Option<u32>
+    ensures value { result ≡ number_up_to most text.now }
+    ensures bound { IfSome result (λ n. n ≤ most) }
+{
+    if !is_digits(text) {
+        return None;
+    }
+    let number = text.parse::<u32>().ok()?;
+    if 1 <= number && number <= most {
+        Some(number)
+    } else {
+        None
+    }
+}
+
+/// The value that is given for a name.
+fn value_of<'a>(found: &ArgMatches<'a>, name: &str) -> Option<&'a str>
+    ensures { option_map (λ s. s.now) result ≡ first_of name.now (rows_of (found_of found.now)) }
+{
+    found.get_str(name)
+}
+
+/// The base that is given, or else `other`.
+fn read_base(alloc: Global, given: Option<&str>, other: &str) -> Result<String, AllocError>
+    ensures { IfOk result (λ base. string_bytes base ≡ unwrap_or (option_map (λ s. s.now) given.entry) other.now) }
+{
+    match given {
+        Some(base) => String::from_str(alloc, base),
+        None => String::from_str(alloc, other),
+    }
+}
+
+fn read_port(given: Option<&str>) -> Option<u16>
+    ensures { result ≡ port_given (option_map (λ s. s.now) given.entry) }
+{
+    let number = read_number(given?, 65535)?;
+    Some(number as u16)
+}
+
+fn read_count(given: Option<&str>) -> Option<Option<u32>>
+    ensures { result ≡ count_given (option_map (λ s. s.now) given.entry) }
+{
+    match given {
+        Some(text) => Some(Some(read_number(text, u32::MAX)?)),
+        None => Some(None),
+    }
+}
+
+/// The command `serve`, of what is given with it.
+fn read_serve<'a>(alloc: Global, found: &ArgMatches<'a>) -> Result<Command<'a>, CommandFault>
+    ensures found { IfOk result (λ c. Some (command_value c) ≡ serve_by (rows_of (found_of found.now))) }
+    ensures refused { IfErr result (λ e. IsSome (serve_by (rows_of (found_of found.now))) → e ≡ CommandFault.Memory) }
+{
+    let file = value_of(found, "file").ok_or(CommandFault::Usage)?;
+    let port = read_port(value_of(found, "port")).ok_or(CommandFault::Usage)?;
+    let count = read_count(value_of(found, "count")).ok_or(CommandFault::Usage)?;
+    let default = format!(in alloc; "http://localhost:{port}/")?;
+    let base = read_base(alloc, value_of(found, "base"), default.as_str())?;
+    Ok(Command::Serve {
+        file,
+        port,
+        count,
+        base,
+    })
+}
+
+/// The command `create`, of what is given with it.
+fn read_create<'a>(found: &ArgMatches<'a>) -> Result<Command<'a>, CommandFault>
+    ensures found { IfOk result (λ c. Some (command_value c) ≡ create_by (rows_of (found_of found.now))) }
+    ensures refused { IfErr result (λ e. IsSome (create_by (rows_of (found_of found.now))) → e ≡ CommandFault.Memory) }
+{
+    let file = value_of(found, "file").ok_or(CommandFault::Usage)?;
+    Ok(Command::Create { file })
+}
+
+/// The command `pipe`, of what is given with it.
+fn read_pipe<'a>(alloc: Global, found: &ArgMatches<'a>) -> Result<Command<'a>, CommandFault>
+    ensures found { IfOk result (λ c. Some (command_value c) ≡ pipe_by (rows_of (found_of found.now))) }
+    ensures refused { IfErr result (λ e. IsSome (pipe_by (rows_of (found_of found.now))) → e ≡ CommandFault.Memory) }
+{
+    let file = value_of(found, "file").ok_or(CommandFault::Usage)?;
+    let base = read_base(alloc, value_of(found, "base"), "http://localhost/")?;
+    Ok(Command::Pipe { file, base })
+}
+
+/// The command that was found, by its name and what is given with it.
+fn command_of<'a>(alloc: Global, matches: &ArgMatches<'a>) -> Result<Command<'a>, CommandFault>
+    ensures found { IfOk result (λ c. Some (command_value c) ≡ command_by (subcommand_rows_of matches.now)) }
+    ensures refused { IfErr result (λ e. IsSome (command_by (subcommand_rows_of matches.now)) → e ≡ CommandFault.Memory) }
+{
+    let Some((name, found)) = matches.subcommand() else {
+        return Err(CommandFault::Usage);
+    };
     match name {
-        "lines" => Some(Command::Lines),
-        _ => None,
+        "lines" => Ok(Command::Lines),
+        "create" => read_create(found),
+        "pipe" => read_pipe(alloc, found),
+        "serve" => read_serve(alloc, found),
+        _ => Err(CommandFault::Usage),
     }
 }
 
@@ -57,20 +235,21 @@ fn fault_of(error: &Error) -> CommandFault
 ///
 /// # Errors
 ///
-/// `Usage` where `clap` does not take the words, and `Memory` where memory was refused.
-pub fn read_command(alloc: Global, words: &[String]) -> Result<Command, CommandFault>
+/// `Usage` where `clap` does not take the words or a port or a count is out of its range, and `Memory`
+/// where memory was refused.
+pub fn read_command<'a>(alloc: Global, words: &'a [String]) -> Result<Command<'a>, CommandFault>
     // What is read is what the words ask for, and `clap` finds no fault in them.
-    ensures found { IfOk result (λ c. Some (command_value c) ≡ command_by (subcommand_of program (map string_bytes words.now))) }
-    ensures faultless { IfOk result (λ _. fault_of_words program (map string_bytes words.now) ≡ []) }
+    ensures found { IfOk result (λ c. Some (command_value c) ≡ command_by (subcommand_of program (map string_bytes words.entry.now))) }
+    ensures faultless { IfOk result (λ _. fault_of_words program (map string_bytes words.entry.now) ≡ []) }
     // Words that ask for a command are refused for memory alone.
-    ensures asked { IfErr result (λ e. IsSome (asked_by (map string_bytes words.now)) → e ≡ CommandFault.Memory) }
+    ensures asked { IfErr result (λ e. IsSome (asked_by (map string_bytes words.entry.now)) → e ≡ CommandFault.Memory) }
 {
     let parser = match make_parser(alloc) {
         Ok(parser) => parser,
         Err(_) => return Err(CommandFault::Memory),
     };
     match parser.try_get_matches_from(words) {
-        Ok(matches) => command_of(&matches).ok_or(CommandFault::Usage),
+        Ok(matches) => command_of(alloc, &matches),
         Err(error) => Err(fault_of(&error)),
     }
 }

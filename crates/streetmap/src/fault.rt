@@ -1,24 +1,46 @@
 //! What the program ends with when it is not done.
 ghost use Rattle.std.specs.Prelude.{◌≡◌, ◌≢◌};
 ghost use Rattle.std.specs.IoError.{error_kind};
-ghost use Rattle.streetmap.specs.Faults.{code_of, status_of, fault_of_command, fault_of_lines};
+ghost use Rattle.streetmap.specs.Faults.{code_of, status_of, fault_of_command, fault_of_base, fault_of_make, fault_of_adopt, fault_of_lines, end_of_stream, fault_of_serve};
 
 use crate::command::CommandFault;
 use std::alloc::AllocError;
 use std::io::{Error, ErrorKind};
 use streetmap_lines::LinesFault;
+use streetmap_opening::{AdoptFault, MakeFault};
+use streetmap_routes::BaseFault;
+use streetmap_serving::ServeFault;
+use streetmap_web::End;
 
 /// Why the program ends before it is done.
 #[derive(Clone, Copy, Debug, PartialEq, Eq)]
 pub enum ProgramFault {
     /// `usage`: the words of the command line are none that the program takes.
     Usage,
+    /// `bad_base`: the base of links is no `http` or `https` URL with the path `/` alone.
+    BadBase,
+    /// `exists`: the file that is to be made is there.
+    Exists,
+    /// `no_file`: the file is not there.
+    NoFile,
+    /// `not_ours`: the file is none of this product.
+    NotOurs,
+    /// `old_format`: the file has format 1.
+    OldFormat,
+    /// `new_format`: the file has a format above 2.
+    NewFormat,
+    /// `taken`: a table, an index or a view of the file has one of the names of its tables.
+    Taken,
     /// `line_too_long`: a line of input has more than 8,388,608 bytes, its line feed not counted.
     LineTooLong,
     /// `read_failed`: the input could not be read.
     ReadFailed,
     /// `write_failed`: an answer could not be written.
     WriteFailed,
+    /// `net`: the port could not be bound, or no connection be accepted.
+    Net,
+    /// `device`: the file could not be read, written or locked.
+    Device,
     /// `memory`: memory was refused.
     Memory,
 }
@@ -30,22 +52,35 @@ impl ProgramFault {
     {
         match self {
             ProgramFault::Usage => "usage",
+            ProgramFault::BadBase => "bad_base",
+            ProgramFault::Exists => "exists",
+            ProgramFault::NoFile => "no_file",
+            ProgramFault::NotOurs => "not_ours",
+            ProgramFault::OldFormat => "old_format",
+            ProgramFault::NewFormat => "new_format",
+            ProgramFault::Taken => "taken",
             ProgramFault::LineTooLong => "line_too_long",
             ProgramFault::ReadFailed => "read_failed",
             ProgramFault::WriteFailed => "write_failed",
+            ProgramFault::Net => "net",
+            ProgramFault::Device => "device",
             ProgramFault::Memory => "memory",
         }
     }
 
-    /// The exit status: 1 refused, 2 usage, 3 a read or a write that failed, 4 want of memory.
+    /// The exit status: 1 refused, 2 usage, 3 a device, a socket, a read or a write that failed, 4 want of
+    /// memory.
     pub fn status(self) -> u8
         ensures { result ≡ status_of self }
     {
         match self {
             ProgramFault::Usage => 2,
-            ProgramFault::LineTooLong => 1,
-            ProgramFault::ReadFailed | ProgramFault::WriteFailed => 3,
+            ProgramFault::ReadFailed
+            | ProgramFault::WriteFailed
+            | ProgramFault::Net
+            | ProgramFault::Device => 3,
             ProgramFault::Memory => 4,
+            _ => 1,
         }
     }
 
@@ -58,6 +93,17 @@ impl ProgramFault {
             ProgramFault::Memory
         } else {
             ProgramFault::Usage
+        }
+    }
+
+    /// How the program ends where a stream of requests ended so.
+    pub(crate) fn of_stream(end: End) -> Result<(), ProgramFault>
+        ensures { result ≡ end_of_stream end }
+    {
+        match end {
+            End::Ended | End::Truncated => Ok(()),
+            End::ReadFailed => Err(ProgramFault::ReadFailed),
+            End::WriteFailed => Err(ProgramFault::WriteFailed),
         }
     }
 }
@@ -92,6 +138,54 @@ impl From<LinesFault> for ProgramFault {
             LinesFault::ReadFailed => ProgramFault::ReadFailed,
             LinesFault::WriteFailed => ProgramFault::WriteFailed,
             LinesFault::Memory => ProgramFault::Memory,
+        }
+    }
+}
+
+impl From<BaseFault> for ProgramFault {
+    ghost from_gives = { λ given fault. fault ≡ fault_of_base given };
+
+    fn from(fault: BaseFault) -> ProgramFault {
+        match fault {
+            BaseFault::BadBase => ProgramFault::BadBase,
+            BaseFault::Memory => ProgramFault::Memory,
+        }
+    }
+}
+
+impl From<MakeFault> for ProgramFault {
+    ghost from_gives = { λ given fault. fault ≡ fault_of_make given };
+
+    fn from(fault: MakeFault) -> ProgramFault {
+        match fault {
+            MakeFault::Taken => ProgramFault::Taken,
+            MakeFault::Device(_) => ProgramFault::Device,
+            MakeFault::Memory => ProgramFault::Memory,
+        }
+    }
+}
+
+impl From<AdoptFault> for ProgramFault {
+    ghost from_gives = { λ given fault. fault ≡ fault_of_adopt given };
+
+    fn from(fault: AdoptFault) -> ProgramFault {
+        match fault {
+            AdoptFault::NotOurs => ProgramFault::NotOurs,
+            AdoptFault::OldFormat => ProgramFault::OldFormat,
+            AdoptFault::NewFormat => ProgramFault::NewFormat,
+            AdoptFault::Device(_) => ProgramFault::Device,
+            AdoptFault::Memory => ProgramFault::Memory,
+        }
+    }
+}
+
+impl From<ServeFault> for ProgramFault {
+    ghost from_gives = { λ given fault. fault ≡ fault_of_serve given };
+
+    fn from(fault: ServeFault) -> ProgramFault {
+        match fault {
+            ServeFault::Net => ProgramFault::Net,
+            ServeFault::Memory => ProgramFault::Memory,
         }
     }
 }

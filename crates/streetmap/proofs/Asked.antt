@@ -1,0 +1,28 @@
+-- What the words ask for.
+use Rattle.std.proofs.Common.{◌≡◌, List, Bool, true, false, Option, None, IsSome, Result, Ok, Err, IfErr, refl, sym, subst, if◌then◌else◌}
+use Rattle.clap.specs.Words.{App, Row, Text, HasMatchesOf, takes, subcommand_of, subcommand_rows_of}
+use Rattle.clap.specs.declared.parser.matches.ArgMatches.{ArgMatches}
+use Rattle.streetmap.specs.declared.command.CommandFault.{CommandFault}
+use Rattle.streetmap.specs.declared.command.CommandFault.TheVariants.{Memory}
+use Rattle.streetmap.specs.Program.{CommandValue, program, asked_by, command_by}
+
+-- words that are taken, and ask for something
+parts : (b : Bool) (o : Option CommandValue) → IsSome (if b then o else None) → (b ≡ true) × IsSome o
+parts true o h = (refl, h)
+parts false o h = absurd (let no : false ≡ true = h in cc)
+
+pub asked_parts : (words : List Text) → IsSome (asked_by words) → (takes program words ≡ true) × IsSome (command_by (subcommand_of program words))
+asked_parts words h = parts (takes program words) (command_by (subcommand_of program words)) h
+
+-- what was found is what the words ask for
+pub found_asked : (a : App) (words : List Text) (m : ArgMatches) → a ≡ program → HasMatchesOf a words m → subcommand_rows_of m ≡ subcommand_of program words
+found_asked a words m e h =
+    let P : App → Type 0 = λ x. HasMatchesOf x words m in
+    (subst P e h refl).1
+
+pub refused_asked : {T : Type 0} (r : Result T CommandFault) (words : List Text) (found : Option (Text × List Row)) → found ≡ subcommand_of program words
+    → IfErr r (λ e. IsSome (command_by found) → e ≡ Memory) → IfErr r (λ e. IsSome (asked_by words) → e ≡ Memory)
+refused_asked (Ok x) words found eq h = tt
+refused_asked (Err e) words found eq h =
+    let P : Option (Text × List Row) → Type 0 = λ f. IsSome (command_by f) in
+    λ s. h (subst P (sym eq) (asked_parts words s).1)
