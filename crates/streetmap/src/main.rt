@@ -1,18 +1,24 @@
-//! The program `streetmap`: features of a map office, read and changed by lines.
+//! The program `streetmap`: features of a map office, kept in a file and served over HTTP, or read and
+//! changed by lines.
 //!
 //! Modules, in the order of reading: `command` (the command line), `fault` (what is printed, and the exit
-//! status). What the commands do stands in the crates below.
+//! status), `files` (the keeper of a file). What the commands do stands in the crates below.
 #![tactic(auto)]
 
 pub mod command;
 pub mod fault;
+mod files;
 
 use crate::command::{Command, read_command};
 use crate::fault::ProgramFault;
 use std::env;
 use std::io::{BufReader, BufWriter, writer};
+use std::net::{Ipv4Addr, TcpListener};
 use std::process::ExitCode;
 use streetmap_lines::{LinesFault, lines};
+use streetmap_routes::Base;
+use streetmap_serving::serve_count;
+use streetmap_web::serve;
 
 /// Does what the command line asks for.
 fn run(rt: &HostRuntime) -> Result<(), ProgramFault> {
@@ -22,6 +28,14 @@ fn run(rt: &HostRuntime) -> Result<(), ProgramFault> {
     }
     match read_command(rt.alloc(), words.as_slice())? {
         Command::Lines => Ok(run_lines(rt)?),
+        Command::Create { file } => create_file(rt, file),
+        Command::Pipe { file, base } => pipe_file(rt, file, base.as_str()),
+        Command::Serve {
+            file,
+            port,
+            count,
+            base,
+        } => serve_file(rt, file, port, count, base.as_str()),
     }
 }
 
@@ -36,6 +50,42 @@ fn run_lines(rt: &HostRuntime) -> Result<(), LinesFault> {
         Err(error) => return Err(LinesFault::of_write(&error)),
     };
     lines(rt.alloc(), &mut reader, &mut output)
+}
+
+/// Makes an empty file.
+fn create_file(rt: &HostRuntime, file: &str) -> Result<(), ProgramFault> {
+    let _keeper = files::create(rt, file)?;
+    Ok(())
+}
+
+/// Serves the requests of standard input on standard output.
+fn pipe_file(rt: &HostRuntime, file: &str, base: &str) -> Result<(), ProgramFault> {
+    let base = Base::new(rt.alloc(), base)?;
+    let mut keeper = files::open(rt, file)?;
+    let Ok(mut reader) = BufReader::new(rt.alloc(), rt.reader()) else {
+        return Err(ProgramFault::Memory);
+    };
+    let mut output = writer(rt);
+    let served = serve(rt.alloc(), &mut keeper, &base, &mut reader, &mut output);
+    ProgramFault::of_stream(served.end)
+}
+
+/// Serves so many connections to a port of this host, or any number of them.
+fn serve_file(
+    rt: &HostRuntime,
+    file: &str,
+    port: u16,
+    count: Option<u32>,
+    base: &str,
+) -> Result<(), ProgramFault> {
+    let base = Base::new(rt.alloc(), base)?;
+    let mut keeper = files::open(rt, file)?;
+    let listener = TcpListener::bind(rt, (Ipv4Addr::LOCALHOST, port))
+        .map_err(|_| ProgramFault::Net)?;
+    println!(rt; "listening 127.0.0.1:{port}").map_err(|_| ProgramFault::WriteFailed)?;
+    let count = count.map_or(u64::MAX, u64::from);
+    serve_count(rt.alloc(), &listener, count, &mut keeper, &base)?;
+    Ok(())
 }
 
 fn main(rt: HostRuntime) -> ExitCode {
