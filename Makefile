@@ -2,7 +2,7 @@
 SHELL := /bin/bash
 PROGRAM := crates/streetmap/out/streetmap
 
-.PHONY: try demo build test rows refusals bench
+.PHONY: try demo build test rows program refusals bench
 
 # Runs the program on the sample input with no proof: about a minute.
 try: toolchain
@@ -31,6 +31,10 @@ test: toolchain
 # The rows of the formats, run through the built program, each over a ledger of its own.
 rows: build
 	python3 tests/rows.py $(PROGRAM)
+
+# The commands that serve a file, run as the built program: answers over a pipe and over sockets, exit statuses, a hard stop.
+program: build
+	python3 tests/program.py $(PROGRAM)
 
 # Each allocation refused in turn: of the program on three lines, and of tests that make each refused call again. It needs
 # a C compiler.

@@ -1,9 +1,10 @@
 //! The keeper of a file.
-ghost use Rattle.std.specs.Prelude.{◌≡◌, ◌≢◌};
+ghost use Rattle.std.specs.Prelude.{IfOk};
+ghost use Rattle.sqlite.specs.Held.{IsNew};
 
 use crate::fault::ProgramFault;
-use sqlite::{Connection, Error, ErrorCode, FileStore};
-use std::fs::{File, exists};
+use sqlite::{Connection, Error, ErrorCode, File, FileStore};
+use std::fs::exists;
 use streetmap_store::TableKeeper;
 
 /// A keeper over the tables of a file.
@@ -13,7 +14,9 @@ pub(crate) type FileKeeper = TableKeeper<FileStore<File>>;
 fn fault_of(error: Error) -> ProgramFault {
     match error {
         Error::SqliteFailure(ErrorCode::OutOfMemory) => ProgramFault::Memory,
-        Error::SqliteFailure(ErrorCode::DatabaseCorrupt) => ProgramFault::NotOurs,
+        Error::SqliteFailure(ErrorCode::NotADatabase | ErrorCode::DatabaseCorrupt) => {
+            ProgramFault::NotOurs
+        }
         _ => ProgramFault::Device,
     }
 }
@@ -22,8 +25,13 @@ fn is_there(rt: &HostRuntime, path: &str) -> Result<bool, ProgramFault> {
     exists(rt, path).map_err(|_| ProgramFault::Device)
 }
 
-fn connect(rt: &HostRuntime, path: &str) -> Result<Connection<FileStore<File>>, ProgramFault> {
-    Connection::open(rt, path).map_err(fault_of)
+fn connect(rt: &HostRuntime, path: &str) -> Result<Connection<FileStore<File>>, ProgramFault>
+    ensures { IfOk result IsNew }
+{
+    match Connection::open(rt, path) {
+        Ok(conn) => Ok(conn),
+        Err(error) => Err(fault_of(error)),
+    }
 }
 
 /// Makes an empty file, and the keeper over it.

@@ -80,8 +80,9 @@ fn serve_file(
 ) -> Result<(), ProgramFault> {
     let base = Base::new(rt.alloc(), base)?;
     let mut keeper = files::open(rt, file)?;
-    let listener = TcpListener::bind(rt, (Ipv4Addr::LOCALHOST, port))
-        .map_err(|_| ProgramFault::Net)?;
+    let listener = TcpListener::bind(rt, (Ipv4Addr::LOCALHOST, port)).map_err(
+        |_| ProgramFault::Net,
+    )?;
     println!(rt; "listening 127.0.0.1:{port}").map_err(|_| ProgramFault::WriteFailed)?;
     let count = count.map_or(u64::MAX, u64::from);
     serve_count(rt.alloc(), &listener, count, &mut keeper, &base)?;

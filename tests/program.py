@@ -1,0 +1,225 @@
+"""Runs the commands that serve a file: what is answered, the exit statuses, what is printed, and a hard stop.
+
+    python3 tests/program.py PROGRAM
+"""
+import json
+import os
+import signal
+import socket
+import subprocess
+import sys
+import tempfile
+from pathlib import Path
+
+PROGRAM = str(Path(sys.argv[1]).resolve())
+failures = []
+
+
+def check(what, got, wanted):
+    if got != wanted:
+        failures.append(what)
+        print(f"{what}: {got!r} is not {wanted!r}")
+
+
+def run(*words, sent=b"", status=0, code=None):
+    """Runs a command to its end; what it wrote to standard output."""
+    ended = subprocess.run([PROGRAM, *words], input=sent, capture_output=True, timeout=60)
+    what = f"{' '.join(words)[:90]}"
+    check(f"{what}: status", ended.returncode, status)
+    check(f"{what}: fault", ended.stderr, b"" if code is None else f"streetmap: {code}\n".encode())
+    return ended.stdout
+
+
+def request(method, target, body=b"", close=False):
+    head = [f"{method} {target} HTTP/1.1", "Host: localhost"]
+    if method == "POST":
+        head.append(f"Content-Length: {len(body)}")
+    if close:
+        head.append("Connection: close")
+    return "\r\n".join([*head, "", ""]).encode() + body
+
+
+def batch(key, edits, close=False):
+    return request("POST", "/batches", json.dumps({"key": key, "edits": edits}).encode(), close)
+
+
+def insert(number):
+    return {"op": "insert", "collection": "lamps", "feature": {
+        "type": "Feature", "id": f"L{number}", "properties": None,
+        "geometry": {"type": "Point", "coordinates": [number, number]}}}
+
+
+OPEN = {"op": "open", "collection": "lamps"}
+
+
+def answers(stream):
+    """The answers of a stream of bytes: their statuses and bodies."""
+    found = []
+    while stream:
+        head, _, rest = stream.partition(b"\r\n\r\n")
+        fields = dict(line.split(b": ", 1) for line in head.split(b"\r\n")[1:])
+        size = int(fields[b"Content-Length"])
+        found.append((int(head.split(b" ")[1]), rest[:size]))
+        stream = rest[size:]
+    return found
+
+
+class Server:
+    """`streetmap serve` on a port that was free."""
+
+    def __init__(self, file, *words):
+        with socket.socket() as free:
+            free.bind(("127.0.0.1", 0))
+            self.port = free.getsockname()[1]
+        self.run = subprocess.Popen([PROGRAM, "serve", file, "--port", str(self.port), *words],
+                                    stdout=subprocess.PIPE, stderr=subprocess.PIPE)
+        check("listening", self.run.stdout.readline(), f"listening 127.0.0.1:{self.port}\n".encode())
+
+    def connect(self):
+        return socket.create_connection(("127.0.0.1", self.port), timeout=30)
+
+    def ask(self, sent):
+        """What one connection answers."""
+        with self.connect() as stream:
+            stream.sendall(sent)
+            stream.shutdown(socket.SHUT_WR)
+            return answers(read_all(stream))
+
+    def ends(self, status):
+        check("serve ends", self.run.wait(timeout=60), status)
+        check("serve prints no fault", self.run.stderr.read(), b"")
+
+
+def read_all(stream):
+    parts = []
+    while part := stream.recv(65536):
+        parts.append(part)
+    return b"".join(parts)
+
+
+def read_answer(stream):
+    """One answer of a connection that stays open."""
+    came = b""
+    while b"\r\n\r\n" not in came:
+        came += stream.recv(65536)
+    size = int(came.partition(b"Content-Length: ")[2].partition(b"\r\n")[0])
+    wanted = came.index(b"\r\n\r\n") + 4 + size
+    while len(came) < wanted:
+        came += stream.recv(65536)
+    return answers(came)[0]
+
+
+def words_of_the_command_line():
+    for words in ([], ["lines", "x"], ["create"], ["pipe"], ["serve", "a"], ["export", "a"],
+                  ["serve", "a", "--port", "0"], ["serve", "a", "--port", "65536"], ["serve", "a", "--port", "+80"],
+                  ["serve", "a", "--port", "80", "--count", "0"], ["serve", "a", "--port", "80", "--count", "4294967296"],
+                  ["serve", "a", "--port", "80", "--port", "81"], ["pipe", "a", "--port", "80"], ["create", "a", "b"], ["--help"]):
+        run(*words, status=2, code="usage")
+
+
+def faults_of_files(folder):
+    file = f"{folder}/first.db"
+    run("pipe", file, status=1, code="no_file")
+    run("serve", file, "--port", "9", status=1, code="no_file")
+    run("pipe", file, "--base", "localhost", status=1, code="bad_base")
+    run("pipe", file, "--base", "http://localhost/a", status=1, code="bad_base")
+    run("create", f"{folder}/none/first.db", status=3, code="device")
+    check("create prints nothing", run("create", file), b"")
+    run("create", file, status=1, code="exists")
+    check("nothing asked", run("pipe", file), b"")
+    text = Path(folder) / "text"
+    text.write_text("no tables\n" * 200)
+    run("pipe", str(text), status=1, code="not_ours")
+    empty = Path(folder) / "empty"
+    empty.touch()
+    run("pipe", str(empty), status=1, code="not_ours")
+    run("create", str(empty), status=1, code="exists")
+
+
+def a_pipe(folder):
+    file = f"{folder}/pipe.db"
+    run("create", file)
+    sent = batch("b1", [OPEN, insert(1)]) + batch("b1", [OPEN, insert(1)]) + request("GET", "/collections/lamps/items")
+    first, again, page = answers(run("pipe", file, sent=sent))
+    check("a batch", first, (200, b'{"deleted":0,"inserted":1,"key":"b1","opened":1,"replaced":0,"serial":1}'))
+    check("the batch again", again, first)
+    check("a page", json.loads(page[1])["numberMatched"], 1)
+    check("the default base", b'"http://localhost/collections/lamps/items' in page[1], True)
+    (based,) = answers(run("pipe", file, "--base", "https://maps.example:8443/", sent=request("GET", "/collections/lamps")))
+    check("a base", b'"https://maps.example:8443/collections/lamps' in based[1], True)
+    check("a request that is cut", run("pipe", file, sent=batch("b2", [insert(2)])[:-1]), b"")
+    (left,) = answers(run("pipe", file, sent=request("GET", "/collections/lamps/items")))
+    check("nothing of it is applied", json.loads(left[1])["numberMatched"], 1)
+
+
+def faults_of_a_pipe(folder):
+    file = f"{folder}/pipe.db"
+    ended = subprocess.run([PROGRAM, "pipe", file], stdin=os.open(folder, os.O_RDONLY), capture_output=True, timeout=60)
+    check("a folder as input", (ended.returncode, ended.stderr), (3, b"streetmap: read_failed\n"))
+    with open("/dev/full", "wb") as full:
+        ended = subprocess.run([PROGRAM, "pipe", file], input=request("GET", "/"), stdout=full, stderr=subprocess.PIPE, timeout=60)
+    check("a full output", (ended.returncode, ended.stderr), (3, b"streetmap: write_failed\n"))
+
+
+def connections(folder):
+    file = f"{folder}/served.db"
+    run("create", file)
+    server = Server(file, "--count", "4")
+    (opened,) = server.ask(batch("b1", [OPEN, insert(1)]))
+    check("a batch over a socket", opened[0], 200)
+    with server.connect() as broken:
+        broken.sendall(batch("b2", [insert(2)])[:-5])
+        broken.setsockopt(socket.SOL_SOCKET, socket.SO_LINGER, b"\1\0\0\0\0\0\0\0")
+    check("rubbish is answered", [status for status, _ in server.ask(b"rubbish\r\n\r\n")], [400])
+    page, unknown = server.ask(request("GET", "/collections/lamps/items") + request("GET", "/nothing", close=True) + request("GET", "/"))
+    check("a page over a socket", json.loads(page[1])["numberMatched"], 1)
+    check("the base of the port", f'"http://localhost:{server.port}/collections/lamps'.encode() in page[1], True)
+    check("the last before the close", unknown[0], 404)
+    server.ends(0)
+    busy = Server(file, "--count", "1")
+    run("pipe", file, status=3, code="device")
+    other = f"{folder}/other.db"
+    run("create", other)
+    run("serve", other, "--port", str(busy.port), status=3, code="net")
+    check("after all", busy.ask(request("GET", "/conformance"))[0][0], 200)
+    busy.ends(0)
+
+
+def a_hard_stop(folder):
+    """Batches on one connection until the server is killed: each that was acknowledged is there."""
+    file = f"{folder}/stopped.db"
+    run("create", file)
+    acknowledged = 0
+    for round_ in range(3):
+        server = Server(file)
+        with server.connect() as stream:
+            if round_ == 0:
+                stream.sendall(batch("open", [OPEN]))
+                check("opened", read_answer(stream)[0], 200)
+            for _ in range(20):
+                acknowledged += 1
+                stream.sendall(batch(f"k{acknowledged}", [insert(acknowledged)]))
+                check("acknowledged", read_answer(stream)[0], 200)
+            stream.sendall(batch(f"k{acknowledged + 1}", [insert(acknowledged + 1)]))
+            server.run.send_signal(signal.SIGKILL)
+            server.run.wait(timeout=60)
+        (page,) = answers(run("pipe", file, sent=request("GET", "/collections/lamps/items?limit=1000")))
+        kept = {feature["id"] for feature in json.loads(page[1])["features"]}
+        check("each acknowledged batch", {f"L{n}" for n in range(1, acknowledged + 1)} - kept, set())
+        check("and one more at most", kept - {f"L{n}" for n in range(1, acknowledged + 1)} <= {f"L{acknowledged + 1}"}, True)
+        acknowledged = len(kept)
+
+
+def main():
+    words_of_the_command_line()
+    with tempfile.TemporaryDirectory() as folder:
+        faults_of_files(folder)
+        a_pipe(folder)
+        faults_of_a_pipe(folder)
+        connections(folder)
+        a_hard_stop(folder)
+    print("all as wanted" if not failures else f"{len(failures)} failed")
+    sys.exit(1 if failures else 0)
+
+
+main()
