@@ -4,10 +4,10 @@ use Rattle.streetmap_lines.specs.declared.fault.LinesFault.{LinesFault}
 use Rattle.streetmap_lines.specs.declared.fault.LinesFault.TheVariants as lines
 use Rattle.streetmap_routes.specs.declared.base.BaseFault.{BaseFault}
 use Rattle.streetmap_routes.specs.declared.base.BaseFault.TheVariants as base
-use Rattle.streetmap_opening.specs.declared.making.MakeFault.{MakeFault}
-use Rattle.streetmap_opening.specs.declared.making.MakeFault.TheVariants as make
-use Rattle.streetmap_opening.specs.declared.adopting.AdoptFault.{AdoptFault}
-use Rattle.streetmap_opening.specs.declared.adopting.AdoptFault.TheVariants as adopt
+use Rattle.streetmap_files.specs.declared.fault.CreateFault.{CreateFault}
+use Rattle.streetmap_files.specs.declared.fault.CreateFault.TheVariants as create
+use Rattle.streetmap_files.specs.declared.fault.OpenFault.{OpenFault}
+use Rattle.streetmap_files.specs.declared.fault.OpenFault.TheVariants as open
 use Rattle.streetmap_web.specs.declared.serving.End.{End}
 use Rattle.streetmap_web.specs.declared.serving.End.TheVariants as stream
 use Rattle.streetmap_serving.specs.declared.connections.ServeFault.{ServeFault}
@@ -61,19 +61,20 @@ abbrev pub fault_of_base : BaseFault → ProgramFault
 fault_of_base base.BadBase = BadBase
 fault_of_base base.Memory = Memory
 
--- where no tables can be made
-abbrev pub fault_of_make : MakeFault → ProgramFault
-fault_of_make make.Taken = Taken
-fault_of_make (make.Device error) = Device
-fault_of_make make.Memory = Memory
+-- where no file is made
+abbrev pub fault_of_create : CreateFault → ProgramFault
+fault_of_create create.NotOurs = NotOurs
+fault_of_create create.Taken = Taken
+fault_of_create (create.Device error) = Device
+fault_of_create create.Memory = Memory
 
--- where the tables are none that can be opened
-abbrev pub fault_of_adopt : AdoptFault → ProgramFault
-fault_of_adopt adopt.NotOurs = NotOurs
-fault_of_adopt adopt.OldFormat = OldFormat
-fault_of_adopt adopt.NewFormat = NewFormat
-fault_of_adopt (adopt.Device error) = Device
-fault_of_adopt adopt.Memory = Memory
+-- where a file is not opened
+abbrev pub fault_of_open : OpenFault → ProgramFault
+fault_of_open open.NotOurs = NotOurs
+fault_of_open open.OldFormat = OldFormat
+fault_of_open open.NewFormat = NewFormat
+fault_of_open (open.Device error) = Device
+fault_of_open open.Memory = Memory
 
 -- where lines are not answered to their end
 abbrev pub fault_of_lines : LinesFault → ProgramFault

@@ -1,13 +1,13 @@
 //! What the program ends with when it is not done.
 ghost use Rattle.std.specs.Prelude.{◌≡◌, ◌≢◌};
 ghost use Rattle.std.specs.IoError.{error_kind};
-ghost use Rattle.streetmap.specs.Faults.{code_of, status_of, fault_of_command, fault_of_base, fault_of_make, fault_of_adopt, fault_of_lines, end_of_stream, fault_of_serve};
+ghost use Rattle.streetmap.specs.Faults.{code_of, status_of, fault_of_command, fault_of_base, fault_of_create, fault_of_open, fault_of_lines, end_of_stream, fault_of_serve};
 
 use crate::command::CommandFault;
 use std::alloc::AllocError;
 use std::io::{Error, ErrorKind};
+use streetmap_files::{CreateFault, OpenFault};
 use streetmap_lines::LinesFault;
-use streetmap_opening::{AdoptFault, MakeFault};
 use streetmap_routes::BaseFault;
 use streetmap_serving::ServeFault;
 use streetmap_web::End;
@@ -153,28 +153,29 @@ impl From<BaseFault> for ProgramFault {
     }
 }
 
-impl From<MakeFault> for ProgramFault {
-    ghost from_gives = { λ given fault. fault ≡ fault_of_make given };
+impl From<CreateFault> for ProgramFault {
+    ghost from_gives = { λ given fault. fault ≡ fault_of_create given };
 
-    fn from(fault: MakeFault) -> ProgramFault {
+    fn from(fault: CreateFault) -> ProgramFault {
         match fault {
-            MakeFault::Taken => ProgramFault::Taken,
-            MakeFault::Device(_) => ProgramFault::Device,
-            MakeFault::Memory => ProgramFault::Memory,
+            CreateFault::NotOurs => ProgramFault::NotOurs,
+            CreateFault::Taken => ProgramFault::Taken,
+            CreateFault::Device(_) => ProgramFault::Device,
+            CreateFault::Memory => ProgramFault::Memory,
         }
     }
 }
 
-impl From<AdoptFault> for ProgramFault {
-    ghost from_gives = { λ given fault. fault ≡ fault_of_adopt given };
+impl From<OpenFault> for ProgramFault {
+    ghost from_gives = { λ given fault. fault ≡ fault_of_open given };
 
-    fn from(fault: AdoptFault) -> ProgramFault {
+    fn from(fault: OpenFault) -> ProgramFault {
         match fault {
-            AdoptFault::NotOurs => ProgramFault::NotOurs,
-            AdoptFault::OldFormat => ProgramFault::OldFormat,
-            AdoptFault::NewFormat => ProgramFault::NewFormat,
-            AdoptFault::Device(_) => ProgramFault::Device,
-            AdoptFault::Memory => ProgramFault::Memory,
+            OpenFault::NotOurs => ProgramFault::NotOurs,
+            OpenFault::OldFormat => ProgramFault::OldFormat,
+            OpenFault::NewFormat => ProgramFault::NewFormat,
+            OpenFault::Device(_) => ProgramFault::Device,
+            OpenFault::Memory => ProgramFault::Memory,
         }
     }
 }

@@ -15,10 +15,10 @@ use std::env;
 use std::io::{BufReader, BufWriter, writer};
 use std::net::{Ipv4Addr, TcpListener};
 use std::process::ExitCode;
+use streetmap_files::serve_over_tables;
 use streetmap_lines::{LinesFault, lines};
 use streetmap_routes::Base;
 use streetmap_serving::serve_count;
-use streetmap_web::serve;
 
 /// Does what the command line asks for.
 fn run(rt: &HostRuntime) -> Result<(), ProgramFault> {
@@ -66,7 +66,7 @@ fn pipe_file(rt: &HostRuntime, file: &str, base: &str) -> Result<(), ProgramFaul
         return Err(ProgramFault::Memory);
     };
     let mut output = writer(rt);
-    let served = serve(rt.alloc(), &mut keeper, &base, &mut reader, &mut output);
+    let served = serve_over_tables(rt.alloc(), &mut keeper, &base, &mut reader, &mut output);
     ProgramFault::of_stream(served.end)
 }
 
