@@ -5,9 +5,9 @@ use Rattle.streetmap_lines.specs.declared.fault.LinesFault.TheVariants as lines
 use Rattle.streetmap_routes.specs.declared.base.BaseFault.{BaseFault}
 use Rattle.streetmap_routes.specs.declared.base.BaseFault.TheVariants as base
 use Rattle.streetmap_files.specs.declared.fault.CreateFault.{CreateFault}
-use Rattle.streetmap_files.specs.declared.fault.CreateFault.TheVariants as create
+use Rattle.streetmap_files.specs.declared.fault.CreateFault.TheVariants as creation
 use Rattle.streetmap_files.specs.declared.fault.OpenFault.{OpenFault}
-use Rattle.streetmap_files.specs.declared.fault.OpenFault.TheVariants as open
+use Rattle.streetmap_files.specs.declared.fault.OpenFault.TheVariants as opening
 use Rattle.streetmap_web.specs.declared.serving.End.{End}
 use Rattle.streetmap_web.specs.declared.serving.End.TheVariants as stream
 use Rattle.streetmap_serving.specs.declared.connections.ServeFault.{ServeFault}
@@ -63,18 +63,18 @@ fault_of_base base.Memory = Memory
 
 -- where no file is made
 abbrev pub fault_of_create : CreateFault → ProgramFault
-fault_of_create create.NotOurs = NotOurs
-fault_of_create create.Taken = Taken
-fault_of_create (create.Device error) = Device
-fault_of_create create.Memory = Memory
+fault_of_create creation.NotOurs = NotOurs
+fault_of_create creation.Taken = Taken
+fault_of_create (creation.Device error) = Device
+fault_of_create creation.Memory = Memory
 
 -- where a file is not opened
 abbrev pub fault_of_open : OpenFault → ProgramFault
-fault_of_open open.NotOurs = NotOurs
-fault_of_open open.OldFormat = OldFormat
-fault_of_open open.NewFormat = NewFormat
-fault_of_open (open.Device error) = Device
-fault_of_open open.Memory = Memory
+fault_of_open opening.NotOurs = NotOurs
+fault_of_open opening.OldFormat = OldFormat
+fault_of_open opening.NewFormat = NewFormat
+fault_of_open (opening.Device error) = Device
+fault_of_open opening.Memory = Memory
 
 -- where lines are not answered to their end
 abbrev pub fault_of_lines : LinesFault → ProgramFault
