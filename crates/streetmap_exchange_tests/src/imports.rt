@@ -1,5 +1,6 @@
 //! Rows of imports.
 use crate::texts::{exported, import_into, opened};
+use std::alloc::Global;
 use std::test::Fail;
 use streetmap_exchange::{ImportFault, MAX_TEXT, import_batch};
 use streetmap_geojson::Fault;
@@ -119,7 +120,7 @@ fn texts_are_limited(rt: HostRuntime) -> Result<(), Fail> {
 }
 
 /// A collection of so many features, and one feature at fault behind them where asked.
-fn many(alloc: std::alloc::Global, count: u32, faulty: bool) -> Result<String, Fail> {
+fn many(alloc: Global, count: u32, faulty: bool) -> Result<String, Fail> {
     let mut text = String::from_str(alloc, r#"{"type":"FeatureCollection","features":["#)?;
     for turn in 0..count {
         if turn > 0 {
