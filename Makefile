@@ -2,7 +2,14 @@
 SHELL := /bin/bash
 PROGRAM := crates/streetmap/out/streetmap
 
-.PHONY: try demo build test rows program refusals bench
+.PHONY: serve try demo build test rows program refusals bench
+
+# Proves and builds the program, makes the file where it is missing, and serves it: make serve FILE=town.streetmap PORT=8080
+FILE ?= town.streetmap
+PORT ?= 8080
+serve: build
+	@test -e $(FILE) || $(PROGRAM) create $(FILE)
+	$(PROGRAM) serve $(FILE) --port $(PORT)
 
 # Runs the program on the sample input with no proof: about a minute.
 try: toolchain
@@ -43,6 +50,8 @@ refusals: build
 	@mkdir -p tests/out && cc -shared -fPIC -O1 -o tests/out/refuse.so tests/refuse.c
 	@echo "The program on examples/three.lines:"
 	@$(REFUSED) PART examples/three.lines $(PROGRAM) lines
+	@echo "The program over a file:"
+	@python3 tests/file_refusals.py $(PROGRAM)
 	@echo "Proving and building the tests: some minutes the first time."
 	@for crate in streetmap_feature_tests streetmap_ledger_tests; do \
 	    (cd crates/$$crate && rt test > out.log 2>&1 || { cat out.log; rm -f out.log; exit 1; }; rm -f out.log) || exit 1; done
@@ -59,6 +68,7 @@ refusals: build
 # Speed and memory beside plain Python and Rust programs, on this machine.
 bench: build
 	python3 bench/lines.py $(PROGRAM)
+	python3 bench/tables.py $(PROGRAM)
 	@cd crates/streetmap_bench && rt run < stdin > /dev/null 2>&1
 	python3 bench/collections.py crates/streetmap_bench/out/streetmap_bench
 	python3 bench/serving.py crates/streetmap_bench/out/streetmap_bench

@@ -1,0 +1,104 @@
+"""Refuses each allocation of `streetmap pipe` over a file in turn, counting upwards until a run meets none.
+
+    python3 tests/file_refusals.py PROGRAM
+
+Each run begins with a copy of the same file, and is asked for a batch of three edits, a page and a feature. It must answer as
+with memory, or a beginning of that and then the 503 or 500 that closes the connection, or end for want of memory before. Opened
+again with memory, the file must hold the state before the batch or the one behind it, and the latter where its 200 was begun.
+`tests/out/refuse.so` is made of `tests/refuse.c`, as `make refusals` does.
+"""
+import json
+import os
+import shutil
+import subprocess
+import sys
+import tempfile
+from collections import Counter
+from pathlib import Path
+
+LIBRARY = Path(__file__).parent / "out" / "refuse.so"
+
+
+def post(batch):
+    body = json.dumps(batch).encode()
+    return b"POST /batches HTTP/1.1\r\nHost: localhost\r\nContent-Length: %d\r\n\r\n" % len(body) + body
+
+
+def get(target):
+    return f"GET {target} HTTP/1.1\r\nHost: localhost\r\n\r\n".encode()
+
+
+def lamp(name, x, y):
+    return {"type": "Feature", "id": name, "geometry": {"type": "Point", "coordinates": [x, y]}, "properties": {"when": "2024-05-01"}}
+
+
+FIRST = post({"key": "first", "edits": [{"op": "open", "collection": "lamps", "time": "when"}]
+              + [{"op": "insert", "collection": "lamps", "feature": lamp(f"L{at}", at, at)} for at in range(3)]})
+BATCH = post({"key": "second", "edits": [{"op": "delete", "collection": "lamps", "id": "L0"},
+                                         {"op": "replace", "collection": "lamps", "feature": lamp("L1", 7, 7)},
+                                         {"op": "insert", "collection": "lamps", "feature": lamp("L9", 8, 8)}]})
+PAGE = get("/collections/lamps/items?bbox=0,0,9,9&datetime=2024-05-01T12:00:00Z")
+ASKED = BATCH + PAGE + get("/collections/lamps/items/L9")
+
+
+def run(program, path, stream, number=0):
+    environment = {**os.environ, "LD_PRELOAD": str(LIBRARY.resolve()), "REFUSE": str(number)}
+    return subprocess.run([program, "pipe", path], input=stream, capture_output=True, env=environment, timeout=60, check=False)
+
+
+def ends_as_it_may(got, whole):
+    """The answers are a beginning of those with memory, and then nothing or one that closes the connection."""
+    if got.stdout == whole.stdout and got.returncode == 0:
+        return "as with memory"
+    if got.returncode == 4 and not got.stdout and got.stderr.endswith(b"streetmap: memory\n"):
+        return "ended for want of memory before the first answer"
+    if got.returncode == 3 and not got.stdout and got.stderr.endswith(b"streetmap: device\n"):
+        return "the file was not opened"
+    answers = whole.stdout.split(b"HTTP/1.1 ")
+    for count in range(len(answers)):
+        begun = b"HTTP/1.1 ".join(answers[:count + 1])
+        rest = got.stdout[len(begun):]
+        if got.stdout.startswith(begun) and rest[:12] in (b"HTTP/1.1 503", b"HTTP/1.1 500"):
+            return f"{rest[9:12].decode()} behind {count} answers"
+    return None
+
+
+def main():
+    program = sys.argv[1]
+    with tempfile.TemporaryDirectory() as folder:
+        first = os.path.join(folder, "first")
+        subprocess.run([program, "create", first], check=True)
+        run(program, first, FIRST)
+        before = run(program, first, PAGE).stdout
+
+        def copy():
+            for end in ("", "-wal"):
+                if os.path.exists(first + end):
+                    shutil.copy(first + end, os.path.join(folder, "town") + end)
+            return os.path.join(folder, "town")
+
+        path = copy()
+        whole = run(program, path, ASKED)
+        after = run(program, path, PAGE).stdout
+        assert whole.returncode == 0 and before != after, whole
+        number = failed = 0
+        kinds = Counter()
+        while True:
+            number += 1
+            path = copy()
+            got = run(program, path, ASKED, number)
+            if b"refused\n" not in got.stderr:
+                break
+            kind = ends_as_it_may(got, whole)
+            found = run(program, path, PAGE).stdout
+            kept = found == after or (found == before and not got.stdout.startswith(b"HTTP/1.1 200"))
+            if kind is None or not kept:
+                failed += 1
+                print(f"at allocation {number}: status {got.returncode}, {got.stdout!r}, {got.stderr!r}, kept {kept}")
+            else:
+                kinds[kind] += 1
+        print(f"{number - 1} allocations refused in turn over a file: " + ", ".join(f"{count} {kind}" for kind, count in kinds.items()) + f", {failed} failed")
+        sys.exit(1 if failed or number == 1 else 0)
+
+
+main()
