@@ -3,7 +3,9 @@ use sqlite::Unknown;
 use std::alloc::Global;
 use std::fs;
 use std::test::Fail;
-use streetmap_files::{CreateFault, FileKeeper, OpenFault, create, open, run_over_tables, serve_over_tables};
+use streetmap_files::{
+    CreateFault, FileKeeper, OpenFault, create, open, run_over_tables, serve_over_tables,
+};
 use streetmap_ledger::{Batch, read_batch};
 use streetmap_routes::Base;
 
@@ -16,7 +18,8 @@ const BATCHES: [&str; 2] = [
 ];
 
 /// A page, and the page of a box.
-const LOOKS: &str = "GET /collections/lamps/items HTTP/1.1\r\nHost: localhost\r\n\r\nGET /collections/lamps/items?bbox=0,0,1000,2000 HTTP/1.1\r\nHost: localhost\r\n\r\n";
+const LOOKS: &str =
+    "GET /collections/lamps/items HTTP/1.1\r\nHost: localhost\r\n\r\nGET /collections/lamps/items?bbox=0,0,1000,2000 HTTP/1.1\r\nHost: localhost\r\n\r\n";
 
 /// An empty folder.
 fn clear(rt: &HostRuntime, folder: &str) -> Result<(), Fail> {
@@ -74,11 +77,25 @@ fn other_files_are_refused(rt: HostRuntime) -> Result<(), Fail> {
     let folder = "streetmap_files_tests_others";
     clear(&rt, folder)?;
     let path = "streetmap_files_tests_others/notes";
-    fs::write(&rt, path, b"A text, and no database of SQLite's.".as_slice())?;
+    fs::write(
+        &rt,
+        path,
+        b"A text, and no database of SQLite's.".as_slice(),
+    )?;
     assert!(rt; matches!(open(&rt, path, Unknown), Err(OpenFault::NotOurs)));
     assert!(rt; matches!(create(&rt, path, Unknown), Err(CreateFault::NotOurs)));
-    assert!(rt; matches!(open(&rt, "streetmap_files_tests_others/missing", Unknown), Err(OpenFault::NotOurs)));
-    assert!(rt; matches!(open(&rt, "streetmap_files_tests_others/no/folder", Unknown), Err(OpenFault::Device(_))));
+    assert!(rt;
+        matches!(
+            open(&rt, "streetmap_files_tests_others/missing", Unknown),
+            Err(OpenFault::NotOurs)
+        )
+    );
+    assert!(rt;
+        matches!(
+            open(&rt, "streetmap_files_tests_others/no/folder", Unknown),
+            Err(OpenFault::Device(_))
+        )
+    );
     fs::remove_dir_all(&rt, folder)?;
     Ok(())
 }

@@ -30,7 +30,9 @@ fn answer(rt: &HostRuntime, client: &TcpStream) -> Result<Vec<u8>, Fail> {
 
 #[test]
 fn so_many_connections_are_served(rt: HostRuntime) -> Result<(), Fail> {
-    let base = Base::new(rt.alloc(), "http://localhost/").ok().ok_or("no base")?;
+    let base = Base::new(rt.alloc(), "http://localhost/")
+        .ok()
+        .ok_or("no base")?;
     let listener = TcpListener::bind(&rt, "127.0.0.1:0")?;
     let mut keeper = PlainKeeper::new(rt.alloc());
     let first = ask(&rt, &listener, ASKED)?;
