@@ -12,8 +12,8 @@ use Rattle.streetmap_web.specs.declared.serving.End.{End}
 use Rattle.streetmap_web.specs.declared.serving.End.TheVariants as stream
 use Rattle.streetmap_serving.specs.declared.connections.ServeFault.{ServeFault}
 use Rattle.streetmap_serving.specs.declared.connections.ServeFault.TheVariants as serve
-use Rattle.streetmap.specs.declared.command.CommandFault.{CommandFault}
-use Rattle.streetmap.specs.declared.command.CommandFault.TheVariants as command
+use Rattle.streetmap_command.specs.declared.command.CommandFault.{CommandFault}
+use Rattle.streetmap_command.specs.declared.command.CommandFault.TheVariants as command
 use Rattle.streetmap.specs.declared.fault.ProgramFault.{ProgramFault}
 use Rattle.streetmap.specs.declared.fault.ProgramFault.TheVariants.{Usage, BadBase, Exists, NoFile, NotOurs, OldFormat, NewFormat, Taken, LineTooLong, ReadFailed, WriteFailed, Net, Device, Memory}
 

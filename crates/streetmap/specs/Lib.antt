@@ -1,3 +1,1 @@
-pub mod CommandView
 pub mod Faults
-pub mod Program

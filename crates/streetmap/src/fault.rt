@@ -3,9 +3,9 @@ ghost use Rattle.std.specs.Prelude.{◌≡◌, ◌≢◌};
 ghost use Rattle.std.specs.IoError.{error_kind};
 ghost use Rattle.streetmap.specs.Faults.{code_of, status_of, fault_of_command, fault_of_base, fault_of_create, fault_of_open, fault_of_lines, end_of_stream, fault_of_serve};
 
-use crate::command::CommandFault;
 use std::alloc::AllocError;
 use std::io::{Error, ErrorKind};
+use streetmap_command::CommandFault;
 use streetmap_files::{CreateFault, OpenFault};
 use streetmap_lines::LinesFault;
 use streetmap_routes::BaseFault;

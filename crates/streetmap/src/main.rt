@@ -1,20 +1,19 @@
 //! The program `streetmap`: features of a map office, kept in a file and served over HTTP, or read and
 //! changed by lines.
 //!
-//! Modules, in the order of reading: `command` (the command line), `fault` (what is printed, and the exit
-//! status), `files` (the keeper of a file). What the commands do stands in the crates below.
+//! Modules, in the order of reading: `fault` (what is printed, and the exit status), `files` (the keeper of a
+//! file). The command line and what the commands do stand in the crates below.
 #![tactic(auto)]
 
-pub mod command;
 pub mod fault;
 mod files;
 
-use crate::command::{Command, read_command};
 use crate::fault::ProgramFault;
 use std::env;
 use std::io::{BufReader, BufWriter, writer};
 use std::net::{Ipv4Addr, TcpListener};
 use std::process::ExitCode;
+use streetmap_command::{Command, read_command};
 use streetmap_files::serve_over_tables;
 use streetmap_lines::{LinesFault, lines};
 use streetmap_routes::Base;

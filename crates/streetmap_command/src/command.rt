@@ -4,8 +4,8 @@ ghost use Rattle.clap.specs.Words.{app_of, fault_of as fault_of_words, subcomman
 ghost use Rattle.clap.specs.declared.builder.command.Command.TheViews.{out-Command as fields_of};
 ghost use Rattle.std.specs.List.{list_all};
 ghost use Rattle.std.specs.Char.{is_ascii_digit};
-ghost use Rattle.streetmap.specs.Program.{program, file, option, lines, create, pipe, serve, command_by, create_by, pipe_by, serve_by, number_up_to, base_at, port_given, count_given, asked_by};
-ghost use Rattle.streetmap.specs.CommandView.{command_value};
+ghost use Rattle.streetmap_command.specs.Program.{program, file, option, lines, create, pipe, serve, command_by, create_by, pipe_by, serve_by, number_up_to, base_at, port_given, count_given, asked_by};
+ghost use Rattle.streetmap_command.specs.CommandView.{command_value};
 
 use clap::error::ErrorKind;
 use clap::{Arg, ArgAction, ArgMatches, Command as Parser, Error};
@@ -45,7 +45,7 @@ pub enum CommandFault {
 }
 
 impl From<AllocError> for CommandFault {
-    ghost use Rattle.streetmap.specs.declared.command.CommandFault.TheVariants.{Memory};
+    ghost use Rattle.streetmap_command.specs.declared.command.CommandFault.TheVariants.{Memory};
 
     ghost from_gives = { λ _ fault. fault ≡ Memory };
 

@@ -3,7 +3,7 @@ use Rattle.std.specs.declared.alloc.AllocError.{AllocError}
 use Rattle.clap.specs.Words.{App, Shape, app_of, shape_of, with_subcommand, AddsSubcommand}
 use Rattle.clap.specs.declared.builder.command.Command.{Command}
 use Rattle.clap.specs.declared.builder.command.Command.TheViews.{out-Command}
-use Rattle.streetmap.proofs.command.make_parser.Goals as goal
+use Rattle.streetmap_command.proofs.command.make_parser.Goals as goal
 
 -- a subcommand added behind others
 added : (old sub new : Command) (a : App) (s : Shape) → AddsSubcommand old sub new → app_of old ≡ a → (out-Command sub).has_globals ≡ false → shape_of sub ≡ s

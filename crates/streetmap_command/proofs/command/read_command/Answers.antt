@@ -1,8 +1,8 @@
 use Rattle.std.proofs.Common.{◌≡◌, true, map, string_bytes, subst, sym}
 use Rattle.std.proofs.Common.{Global}
 use Rattle.clap.specs.Words.{App, app_of, takes}
-use Rattle.streetmap.proofs.Asked.{asked_parts, found_asked, refused_asked}
-use Rattle.streetmap.proofs.command.read_command.Goals as goal
+use Rattle.streetmap_command.proofs.Asked.{asked_parts, found_asked, refused_asked}
+use Rattle.streetmap_command.proofs.command.read_command.Goals as goal
 
 pub returns-in-Ok-try_get_matches_from-clause-asked : goal.returns-in-Ok-try_get_matches_from-clause-asked
 returns-in-Ok-try_get_matches_from-clause-asked c =

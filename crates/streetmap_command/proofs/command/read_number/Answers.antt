@@ -1,6 +1,6 @@
 use Rattle.std.proofs.Common.{sym, ◌∙◌, arith}
-use Rattle.streetmap.proofs.Numbers.{none_read}
-use Rattle.streetmap.proofs.command.read_number.Goals as goal
+use Rattle.streetmap_command.proofs.Numbers.{none_read}
+use Rattle.streetmap_command.proofs.command.read_number.Goals as goal
 
 pub returns-in_err-number-clause-value : goal.returns-in_err-number-clause-value
 returns-in_err-number-clause-value c =

@@ -2,9 +2,9 @@
 use Rattle.std.proofs.Common.{◌≡◌, List, Bool, true, false, Option, None, IsSome, Result, Ok, Err, IfErr, refl, sym, subst, if◌then◌else◌}
 use Rattle.clap.specs.Words.{App, Row, Text, HasMatchesOf, takes, subcommand_of, subcommand_rows_of}
 use Rattle.clap.specs.declared.parser.matches.ArgMatches.{ArgMatches}
-use Rattle.streetmap.specs.declared.command.CommandFault.{CommandFault}
-use Rattle.streetmap.specs.declared.command.CommandFault.TheVariants.{Memory}
-use Rattle.streetmap.specs.Program.{CommandValue, program, asked_by, command_by}
+use Rattle.streetmap_command.specs.declared.command.CommandFault.{CommandFault}
+use Rattle.streetmap_command.specs.declared.command.CommandFault.TheVariants.{Memory}
+use Rattle.streetmap_command.specs.Program.{CommandValue, program, asked_by, command_by}
 
 -- words that are taken, and ask for something
 parts : (b : Bool) (o : Option CommandValue) → IsSome (if b then o else None) → (b ≡ true) × IsSome o

@@ -1,8 +1,8 @@
 -- A command as a value.
 use Rattle.std.specs.Prelude.{string_bytes}
-use Rattle.streetmap.specs.declared.command.Command.{Command}
-use Rattle.streetmap.specs.declared.command.Command.TheVariants.{Lines, Create, Pipe, Serve}
-use Rattle.streetmap.specs.Program.{CommandValue, lines_command, create_command, pipe_command, serve_command}
+use Rattle.streetmap_command.specs.declared.command.Command.{Command}
+use Rattle.streetmap_command.specs.declared.command.Command.TheVariants.{Lines, Create, Pipe, Serve}
+use Rattle.streetmap_command.specs.Program.{CommandValue, lines_command, create_command, pipe_command, serve_command}
 
 abbrev pub command_value : Command → CommandValue
 command_value Lines = lines_command
