@@ -26,7 +26,7 @@ demo: build
 
 # Leaves the proved program, and prints where it is.
 build: toolchain
-	@echo "Proving and building the program: some 15 minutes the first time on four cores, seconds once it is built."
+	@echo "Proving and building the program: some half an hour the first time on four cores, seconds once it is built."
 	@set -o pipefail; cd crates/streetmap && rt run -- lines < /dev/null 2>&1 | tee out.log | { grep --line-buffered -E '^(so far|library)' || true; } || { cat out.log; rm -f out.log; exit 1; }
 	@rm -f crates/streetmap/out.log
 	@echo "The program: $(PROGRAM)"
