@@ -2,7 +2,7 @@
 SHELL := /bin/bash
 PROGRAM := crates/streetmap/out/streetmap
 
-.PHONY: serve try demo build test rows program refusals bench
+.PHONY: serve try demo build test rows program file refusals bench
 
 # Proves and builds the program, makes the file where it is missing, and serves it: make serve FILE=town.streetmap PORT=8080
 FILE ?= town.streetmap
@@ -42,6 +42,10 @@ rows: build
 # The commands that serve a file, run as the built program: answers over a pipe and over sockets, exit statuses, a hard stop.
 program: build
 	python3 tests/program.py $(PROGRAM)
+
+# A file that the program wrote, read by SQLite itself (Python's sqlite3): its integrity, its tables and their rows.
+file: build
+	python3 tests/file.py $(PROGRAM)
 
 # Each allocation refused in turn: of the program on three lines, and of tests that make each refused call again. It needs
 # a C compiler.
