@@ -31,9 +31,15 @@ build: toolchain
 	@rm -f crates/streetmap/out.log
 	@echo "The program: $(PROGRAM)"
 
-# The whole gate: every proof from nothing, the must-fail edits, the tests and the program.
+# The whole gate: every proof from nothing, the must-fail edits, the tests and the program; then the program that it has built,
+# through the rows of the formats, over pipes and sockets, and its file as SQLite reads it. As many checks run side by side
+# as there are processors; each takes 1 to 4 GB, so with less memory say fewer: make test LANES=2.
+LANES ?= $(shell nproc)
 test: toolchain
-	rt ci
+	RT_JOBS=$(LANES) rt ci
+	python3 tests/rows.py $(PROGRAM)
+	python3 tests/program.py $(PROGRAM)
+	python3 tests/file.py $(PROGRAM)
 
 # The rows of the formats, run through the built program, each over a ledger of its own.
 rows: build

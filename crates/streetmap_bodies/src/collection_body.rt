@@ -7,7 +7,7 @@ ghost use Rattle.streetmap_grid.specs.Views.{box_value};
 ghost use Rattle.streetmap_ledger.specs.SummaryView.{summary_value, summary_values};
 ghost use Rattle.streetmap_bodies.specs.Bodies as spec;
 
-use crate::links::{add, collection_href, items_href, joined};
+use crate::links::{add, collection_href, items_href, joined, link};
 use serde_json::{Value, json};
 use std::alloc::{AllocError, Global};
 use streetmap_feature_text::{push_comma, push_quoted};
@@ -40,10 +40,9 @@ fn extent_text(alloc: Global, extent: Option<GridBox>) -> Result<String, AllocEr
 fn links_of_collection(alloc: Global, here: &str, items: &str) -> Result<Value, AllocError>
     ensures { IfOk result (λ v. view v ≡ spec.links_of_collection here.now items.now) }
 {
-    json!(in alloc; [
-        {"href": here, "rel": "self", "type": "application/json"},
-        {"href": items, "rel": "items", "type": "application/geo+json"}
-    ])
+    let here = link(alloc, here, "self", "application/json")?;
+    let items = link(alloc, items, "items", "application/geo+json")?;
+    json!(in alloc; [here, items])
 }
 
 /// Appends the links of a collection.
@@ -118,7 +117,8 @@ fn add_collections(
 fn self_link(alloc: Global, here: &str) -> Result<Value, AllocError>
     ensures { IfOk result (λ v. view v ≡ spec.self_link here.now) }
 {
-    json!(in alloc; [{"href": here, "rel": "self", "type": "application/json"}])
+    let here = link(alloc, here, "self", "application/json")?;
+    json!(in alloc; [here])
 }
 
 /// Appends the links of the collections.

@@ -6,7 +6,7 @@ ghost use Rattle.serde_json.specs.Written.{compact_text};
 ghost use Rattle.streetmap_geojson.specs.FeatureView.{feature_value};
 ghost use Rattle.streetmap_bodies.specs.Bodies as spec;
 
-use crate::links::{collection_href, feature_href};
+use crate::links::{collection_href, feature_href, link};
 use serde_json::{Map, Value, json, put};
 use std::alloc::{AllocError, Global};
 use streetmap_feature_text::write_feature;
@@ -16,10 +16,9 @@ use streetmap_geojson::Feature;
 fn links_of_feature(alloc: Global, here: &str, collection: &str) -> Result<Value, AllocError>
     ensures { IfOk result (λ v. view v ≡ spec.links_of_feature here.now collection.now) }
 {
-    json!(in alloc; [
-        {"href": here, "rel": "self", "type": "application/geo+json"},
-        {"href": collection, "rel": "collection", "type": "application/json"}
-    ])
+    let here = link(alloc, here, "self", "application/geo+json")?;
+    let collection = link(alloc, collection, "collection", "application/json")?;
+    json!(in alloc; [here, collection])
 }
 
 /// The links of a feature with this id.

@@ -4,7 +4,7 @@ ghost use Rattle.serde_json.specs.View.{view};
 ghost use Rattle.serde_json.specs.Written.{compact_text};
 ghost use Rattle.streetmap_bodies.specs.Bodies as spec;
 
-use crate::links::joined;
+use crate::links::{joined, link};
 use serde_json::{Value, json};
 use std::alloc::{AllocError, Global};
 
@@ -18,12 +18,11 @@ fn landing_links(
 ) -> Result<Value, AllocError>
     ensures { IfOk result (λ v. view v ≡ spec.landing_links here.now api.now conformance.now collections.now) }
 {
-    json!(in alloc; [
-        {"href": here, "rel": "self", "type": "application/json"},
-        {"href": api, "rel": "service-doc", "type": "text/html"},
-        {"href": conformance, "rel": "conformance", "type": "application/json"},
-        {"href": collections, "rel": "data", "type": "application/json"}
-    ])
+    let here = link(alloc, here, "self", "application/json")?;
+    let api = link(alloc, api, "service-doc", "text/html")?;
+    let conformance = link(alloc, conformance, "conformance", "application/json")?;
+    let collections = link(alloc, collections, "data", "application/json")?;
+    json!(in alloc; [here, api, conformance, collections])
 }
 
 /// The value of the landing page with these links.

@@ -1,9 +1,11 @@
 //! Texts that are appended where memory is taken as it is needed, and the addresses in links.
 ghost use Rattle.std.specs.Prelude.{◌≡◌, ◌++◌, IfOk, OnOk, decimal, string_bytes};
 ghost use Rattle.percent_encoding.specs.Percent.{percent_encode};
+ghost use Rattle.serde_json.specs.View.{view};
 ghost use Rattle.streetmap_bodies.specs.Bodies as spec;
 
 use percent_encoding::{AsciiSet, NON_ALPHANUMERIC, utf8_percent_encode};
+use serde_json::{Value, json};
 use std::alloc::{AllocError, Global};
 
 /// Appends a text.
@@ -29,6 +31,18 @@ pub(crate) fn joined(alloc: Global, root: &str, path: &str) -> Result<String, Al
     out.push_str(root)?;
     out.push_str(path)?;
     Ok(out)
+}
+
+/// A link: where it leads, its relation, and the media type that is found there.
+pub(crate) fn link(
+    alloc: Global,
+    href: &str,
+    relation: &str,
+    media: &str,
+) -> Result<Value, AllocError>
+    ensures { IfOk result (λ v. view v ≡ spec.link href.now relation.now media.now) }
+{
+    json!(in alloc; {"href": href, "rel": relation, "type": media})
 }
 
 /// The address of a collection.

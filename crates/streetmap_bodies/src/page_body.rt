@@ -9,7 +9,7 @@ ghost use Rattle.streetmap_ledger.specs.PageView.{page_value};
 ghost use Rattle.streetmap_bodies.specs.Bodies as spec;
 ghost use Rattle.streetmap_bodies.specs.Bodies.{page_data, page_links};
 
-use crate::links::{add, add_number, page_href};
+use crate::links::{add, add_number, link, page_href};
 use serde_json::{Value, json};
 use std::alloc::{AllocError, Global};
 use streetmap_feature_text::push_features;
@@ -20,12 +20,13 @@ use streetmap_query::{Query, next_query, self_query};
 fn links_value(alloc: Global, here: &str, next: Option<&str>) -> Result<Value, AllocError>
     ensures { IfOk result (λ v. view v ≡ page_links here.now (option_copied next.entry)) }
 {
+    let here = link(alloc, here, "self", "application/geo+json")?;
     match next {
-        None => { json!(in alloc; [{"href": here, "rel": "self", "type": "application/geo+json"}]) }
-        Some(next) => json!(in alloc; [
-            {"href": here, "rel": "self", "type": "application/geo+json"},
-            {"href": next, "rel": "next", "type": "application/geo+json"}
-        ]),
+        None => json!(in alloc; [here]),
+        Some(next) => {
+            let next = link(alloc, next, "next", "application/geo+json")?;
+            json!(in alloc; [here, next])
+        }
     }
 }
 

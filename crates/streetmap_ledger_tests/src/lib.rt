@@ -1,13 +1,17 @@
-//! Tests of the ledger over the keeper in memory, and of lines: worked rows of batches, pages, look-ups and
-//! walks, the rows of the formats through `lines`, what is answered where memory, reads or writes are
-//! refused, and a large collection. They use public items alone.
+//! Tests of the ledger over the keeper in memory, of lines, and of import and export: worked rows of batches,
+//! pages, look-ups and walks, what is answered where memory, reads or writes are refused, and a large
+//! collection. They use public items alone. The rows of the formats run through the built program (`tests/rows.py`).
 #![tactic(auto)]
 
 #[cfg(test)]
 mod answers;
 #[cfg(test)]
+mod exports;
+#[cfg(test)]
+mod imports;
+#[cfg(test)]
 mod ledger;
 #[cfg(test)]
 mod lines;
 #[cfg(test)]
-mod rows;
+mod texts;

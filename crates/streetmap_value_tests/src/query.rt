@@ -324,50 +324,6 @@ fn parameters_are_found(rt: HostRuntime) {
     }
 }
 
-#[test]
-fn faults_have_names_and_sentences(rt: HostRuntime) {
-    for (fault, code, description) in [
-        (
-            QueryFault::UnknownParameter,
-            "unknown_parameter",
-            "A parameter is not known here.",
-        ),
-        (
-            QueryFault::RepeatedParameter,
-            "repeated_parameter",
-            "A parameter stands twice.",
-        ),
-        (
-            QueryFault::BadLimit,
-            "bad_limit",
-            "The limit must be a whole number from 1.",
-        ),
-        (
-            QueryFault::BadBbox,
-            "bad_bbox",
-            "The box must be four whole numbers in order.",
-        ),
-        (
-            QueryFault::BadDatetime,
-            "bad_datetime",
-            "The date-time or interval cannot be read.",
-        ),
-        (
-            QueryFault::BadAfter,
-            "bad_after",
-            "The value of after is no id.",
-        ),
-        (
-            QueryFault::Memory,
-            "memory",
-            "Memory was refused; the call may be made again.",
-        ),
-    ] {
-        assert!(rt; fault.code() == code, "at {code}");
-        assert!(rt; fault.description() == description, "at {code}");
-    }
-}
-
 // Whether the answer is the text, or memory.
 fn is_written_or_memory(got: Result<String, QueryFault>, want: &str) -> bool {
     match got {

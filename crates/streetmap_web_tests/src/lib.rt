@@ -7,6 +7,8 @@ mod answers;
 #[cfg(test)]
 mod batches;
 #[cfg(test)]
+mod connections;
+#[cfg(test)]
 mod failing;
 #[cfg(test)]
 mod hostile;
