@@ -15,14 +15,9 @@ serve: build
 try: toolchain
 	@cd crates/streetmap && rt try -- lines < ../../examples/first.lines
 
-# Proves and builds the program, and runs it on the sample input.
+# Proves and builds the program, and shows it: a file is made, a sample town imported, served, asked, changed, stopped hard, and served again.
 demo: build
-	@echo
-	@echo "The sample input, examples/first.lines:"
-	@sed 's/^/  /' examples/first.lines | cut -c1-150
-	@echo
-	@echo "What streetmap lines answers, a line each:"
-	@$(PROGRAM) lines < examples/first.lines
+	@bash examples/demo.sh $(PROGRAM)
 
 # Leaves the proved program, and prints where it is.
 build: toolchain
