@@ -40,7 +40,7 @@ test: toolchain
 rows: build
 	python3 tests/rows.py $(PROGRAM)
 
-# The commands that serve a file, run as the built program: answers over a pipe and over sockets, exit statuses, a hard stop.
+# The commands over a file, run as the built program: imports and exports, answers over a pipe and over sockets, exit statuses, a hard stop.
 program: build
 	python3 tests/program.py $(PROGRAM)
 

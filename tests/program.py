@@ -1,4 +1,4 @@
-"""Runs the commands that serve a file: what is answered, the exit statuses, what is printed, and a hard stop.
+"""Runs the commands over a file: what is answered, the exit statuses, what is printed, and a hard stop.
 
     python3 tests/program.py PROGRAM
 """
@@ -113,7 +113,10 @@ def words_of_the_command_line():
     for words in ([], ["lines", "x"], ["create"], ["pipe"], ["serve", "a"], ["export", "a"],
                   ["serve", "a", "--port", "0"], ["serve", "a", "--port", "65536"], ["serve", "a", "--port", "+80"],
                   ["serve", "a", "--port", "80", "--count", "0"], ["serve", "a", "--port", "80", "--count", "4294967296"],
-                  ["serve", "a", "--port", "80", "--port", "81"], ["pipe", "a", "--port", "80"], ["create", "a", "b"], ["--help"]):
+                  ["serve", "a", "--port", "80", "--port", "81"], ["pipe", "a", "--port", "80"], ["create", "a", "b"], ["--help"],
+                  ["import", "a", "t", "--collection", "c"], ["import", "a", "t", "--key", "k"],
+                  ["import", "a", "--key", "k", "--collection", "c"], ["import", "a", "t", "u", "--key", "k", "--collection", "c"],
+                  ["import", "a", "t", "--key", "k", "--collection", "c", "--replace=true"], ["export", "a", "t", "--collection", "c"]):
         run(*words, status=2, code="usage")
 
 
@@ -159,6 +162,61 @@ def faults_of_a_pipe(folder):
     with open("/dev/full", "wb") as full:
         ended = subprocess.run([PROGRAM, "pipe", file], input=request("GET", "/"), stdout=full, stderr=subprocess.PIPE, timeout=60)
     check("a full output", (ended.returncode, ended.stderr), (3, b"streetmap: write_failed\n"))
+
+
+NAMELESS = (b'{"type":"FeatureCollection","name":"lamps","features":[{"type":"Feature","properties":{"no":7},'
+            b'"geometry":{"type":"Point","coordinates":[5,6]}}]}')
+SHORT_RING = (b'{"type":"FeatureCollection","features":[{"type":"Feature"},'
+              b'{"type":"Feature","geometry":{"type":"Polygon","coordinates":[[[0,0],[9,0],[0,0]]]}}]}')
+EXPORTED = (b'{"features":[{"geometry":{"coordinates":[5,6],"type":"Point"},"id":"1","properties":{"no":7},"type":"Feature"}],'
+            b'"type":"FeatureCollection"}\n')
+
+
+def imports_and_exports(folder):
+    file = f"{folder}/exchanged.db"
+    text = Path(folder) / "lamps.json"
+    text.write_bytes(NAMELESS)
+
+    def import_(key, *words, of=text, into="lamps", **wanted):
+        return run("import", file, str(of), "--key", key, "--collection", into, *words, **wanted)
+
+    import_("i1", status=1, code="no_file")
+    run("export", file, "--collection", "lamps", status=1, code="no_file")
+    check("no file is made", Path(file).exists(), False)
+    run("create", file)
+    import_("i1", status=1, code="no_collection 1")
+    ((status, _),) = answers(run("pipe", file, sent=batch("b1", [OPEN])))
+    check("a collection is opened", status, 200)
+    check("an empty collection", run("export", file, "--collection", "lamps"), b'{"features":[],"type":"FeatureCollection"}\n')
+    reply = b'{"deleted":0,"inserted":1,"key":"i1","opened":0,"replaced":0,"serial":2}\n'
+    check("an import", import_("i1"), reply)
+    check("the import again", import_("i1"), reply)
+    check("a used id", import_("i2", status=1, code="feature_exists 1"), b"")
+    check("a used key", import_("i1", "--replace", status=1, code="key_used"), b"")
+    check("a replacing import", import_("i3", "--replace"),
+          b'{"deleted":0,"inserted":0,"key":"i3","opened":0,"replaced":1,"serial":3}\n')
+    check("an export", run("export", "--collection=lamps", file), EXPORTED)
+    exported = Path(folder) / "exported.json"
+    exported.write_bytes(EXPORTED)
+    run("pipe", file, sent=batch("b2", [{"op": "open", "collection": "copy"}]))
+    import_("i4", of=exported, into="copy")
+    check("an export of an import of an export", run("export", file, "--collection", "copy"), EXPORTED)
+    short_ring = Path(folder) / "short_ring.json"
+    short_ring.write_bytes(SHORT_RING)
+    import_("i5", of=short_ring, status=1, code="bad_feature 2 short_ring")
+    check("nothing is written", run("export", file, "--collection", "trees", status=1, code="no_collection"), b"")
+    import_("i6", of=f"{folder}/none.json", status=1, code="no_text")
+    import_("i 6", of=f"{folder}/none.json", status=1, code="no_text")
+    import_("i 6", status=1, code="bad_key")
+    import_("i6", of=folder, status=3, code="read_failed")
+    large = Path(folder) / "large.json"
+    large.write_bytes(NAMELESS + b" " * (8_388_609 - len(NAMELESS)))
+    import_("i6", of=large, status=1, code="text_too_large")
+    large.write_bytes(NAMELESS + b" " * (8_388_608 - len(NAMELESS)))
+    import_("i6", "--replace", of=large)
+    with open("/dev/full", "wb") as full:
+        ended = subprocess.run([PROGRAM, "export", file, "--collection", "lamps"], stdout=full, stderr=subprocess.PIPE, timeout=60)
+    check("an export to a full output", (ended.returncode, ended.stderr), (3, b"streetmap: write_failed\n"))
 
 
 def connections(folder):
@@ -216,6 +274,7 @@ def main():
         faults_of_files(folder)
         a_pipe(folder)
         faults_of_a_pipe(folder)
+        imports_and_exports(folder)
         connections(folder)
         a_hard_stop(folder)
     print("all as wanted" if not failures else f"{len(failures)} failed")

@@ -1,5 +1,17 @@
 -- What the program prints and answers when it is not done.
-use Rattle.std.specs.Prelude.{ℕ, List, codes, Result, Ok, Err}
+use Rattle.std.specs.Prelude.{ℕ, List, codes, Option, None, Result, Ok, Err}
+use Rattle.std.specs.declared.io.ErrorKind.{ErrorKind}
+use Rattle.std.specs.declared.io.ErrorKind.TheVariants as kinds
+use Rattle.streetmap_geojson.specs.declared.fault.Fault.{Fault as FeatureFault}
+use Rattle.streetmap_ledger.specs.declared.reply.Fault.{Fault as KeeperFault}
+use Rattle.streetmap_ledger.specs.declared.reply.Fault.TheVariants as keeper
+use Rattle.streetmap_exchange.specs.declared.fault.ImportFault.TheVariants as reading
+use Rattle.streetmap_exchange.specs.declared.fault.ImportStop.{ImportStop}
+use Rattle.streetmap_exchange.specs.declared.fault.ImportStop.TheVariants as importing
+use Rattle.streetmap_exchange.specs.declared.fault.ExportFault.{ExportFault}
+use Rattle.streetmap_exchange.specs.declared.fault.ExportFault.TheVariants as exporting
+use Rattle.streetmap_exchange.specs.ImportStops.{stop_code_of, stop_place_of, stop_cause_of}
+use Rattle.streetmap_exchange.specs.ExportFaults.{export_code_of}
 use Rattle.streetmap_lines.specs.declared.fault.LinesFault.{LinesFault}
 use Rattle.streetmap_lines.specs.declared.fault.LinesFault.TheVariants as lines
 use Rattle.streetmap_routes.specs.declared.base.BaseFault.{BaseFault}
@@ -15,7 +27,7 @@ use Rattle.streetmap_serving.specs.declared.connections.ServeFault.TheVariants a
 use Rattle.streetmap_command.specs.declared.command.CommandFault.{CommandFault}
 use Rattle.streetmap_command.specs.declared.command.CommandFault.TheVariants as command
 use Rattle.streetmap.specs.declared.fault.ProgramFault.{ProgramFault}
-use Rattle.streetmap.specs.declared.fault.ProgramFault.TheVariants.{Usage, BadBase, Exists, NoFile, NotOurs, OldFormat, NewFormat, Taken, LineTooLong, ReadFailed, WriteFailed, Net, Device, Memory}
+use Rattle.streetmap.specs.declared.fault.ProgramFault.TheVariants.{Usage, BadBase, Exists, NoFile, NotOurs, OldFormat, NewFormat, Taken, NoText, Import, Export, LineTooLong, ReadFailed, WriteFailed, Net, Device, Memory}
 
 -- the name that is printed
 abbrev pub code_of : ProgramFault → List ℕ
@@ -27,6 +39,9 @@ code_of NotOurs = codes "not_ours"
 code_of OldFormat = codes "old_format"
 code_of NewFormat = codes "new_format"
 code_of Taken = codes "taken"
+code_of NoText = codes "no_text"
+code_of (Import stop) = stop_code_of stop
+code_of (Export fault) = export_code_of fault
 code_of LineTooLong = codes "line_too_long"
 code_of ReadFailed = codes "read_failed"
 code_of WriteFailed = codes "write_failed"
@@ -34,7 +49,27 @@ code_of Net = codes "net"
 code_of Device = codes "device"
 code_of Memory = codes "memory"
 
--- the exit status: 1 refused, 2 usage, 3 a device, a socket, a read or a write that failed, 4 want of memory
+-- the exit status where a keeper does not answer
+abbrev pub keeper_status : KeeperFault → ℕ
+keeper_status keeper.Memory = 4
+keeper_status keeper.Device = 3
+keeper_status keeper.Damaged = 3
+keeper_status keeper.Reopen = 3
+
+-- where a text is not imported
+abbrev pub import_status : ImportStop → ℕ
+import_status (importing.NotRead reading.Memory) = 4
+import_status (importing.NotRead fault) = 1
+import_status (importing.Refused why place) = 1
+import_status (importing.Stopped fault) = keeper_status fault
+
+-- where a collection is not exported to its end
+abbrev pub export_status : ExportFault → ℕ
+export_status exporting.NoCollection = 1
+export_status (exporting.Stopped fault) = keeper_status fault
+export_status exporting.WriteFailed = 3
+
+-- the exit status: 1 refused, 2 usage, 3 a device, damage, a socket, a read or a write that failed, 4 want of memory
 abbrev pub status_of : ProgramFault → ℕ
 status_of Usage = 2
 status_of BadBase = 1
@@ -44,12 +79,25 @@ status_of NotOurs = 1
 status_of OldFormat = 1
 status_of NewFormat = 1
 status_of Taken = 1
+status_of NoText = 1
+status_of (Import stop) = import_status stop
+status_of (Export fault) = export_status fault
 status_of LineTooLong = 1
 status_of ReadFailed = 3
 status_of WriteFailed = 3
 status_of Net = 3
 status_of Device = 3
 status_of Memory = 4
+
+-- the place of the feature at fault in the text that is imported, counted from 1
+abbrev pub place_of : ProgramFault → Option ℕ
+place_of (Import stop) = stop_place_of stop
+place_of _ = None
+
+-- what is wrong with it, where it cannot be read
+abbrev pub cause_of : ProgramFault → Option FeatureFault
+cause_of (Import stop) = stop_cause_of stop
+cause_of _ = None
 
 -- what the program ends with where there is no command
 abbrev pub fault_of_command : CommandFault → ProgramFault
@@ -94,3 +142,9 @@ end_of_stream stream.WriteFailed = Err WriteFailed
 abbrev pub fault_of_serve : ServeFault → ProgramFault
 fault_of_serve serve.Net = Net
 fault_of_serve serve.Memory = Memory
+
+-- where a text cannot be had
+abbrev pub fault_of_text : ErrorKind → ProgramFault
+fault_of_text kinds.NotFound = NoText
+fault_of_text kinds.OutOfMemory = Memory
+fault_of_text _ = ReadFailed

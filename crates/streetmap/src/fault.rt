@@ -1,19 +1,22 @@
 //! What the program ends with when it is not done.
 ghost use Rattle.std.specs.Prelude.{◌≡◌, ◌≢◌};
 ghost use Rattle.std.specs.IoError.{error_kind};
-ghost use Rattle.streetmap.specs.Faults.{code_of, status_of, fault_of_command, fault_of_base, fault_of_create, fault_of_open, fault_of_lines, end_of_stream, fault_of_serve};
+ghost use Rattle.streetmap.specs.Faults.{code_of, status_of, keeper_status, import_status, export_status, place_of, cause_of, fault_of_command, fault_of_base, fault_of_create, fault_of_open, fault_of_lines, fault_of_text, end_of_stream, fault_of_serve};
 
 use std::alloc::AllocError;
 use std::io::{Error, ErrorKind};
 use streetmap_command::CommandFault;
+use streetmap_exchange::{ExportFault, ImportFault, ImportStop};
 use streetmap_files::{CreateFault, OpenFault};
+use streetmap_geojson::Fault as FeatureFault;
+use streetmap_ledger::Fault as KeeperFault;
 use streetmap_lines::LinesFault;
 use streetmap_routes::BaseFault;
 use streetmap_serving::ServeFault;
 use streetmap_web::End;
 
 /// Why the program ends before it is done.
-#[derive(Clone, Copy, Debug, PartialEq, Eq)]
+#[derive(Clone, Copy, Debug, PartialEq)]
 pub enum ProgramFault {
     /// `usage`: the words of the command line are none that the program takes.
     Usage,
@@ -31,6 +34,12 @@ pub enum ProgramFault {
     NewFormat,
     /// `taken`: a table, an index or a view of the file has one of the names of its tables.
     Taken,
+    /// `no_text`: the file of the text that is to be imported is not there.
+    NoText,
+    /// The text is not imported: the name of the refusal or fault.
+    Import(ImportStop),
+    /// The collection is not exported to its end: the name of the refusal or fault.
+    Export(ExportFault),
     /// `line_too_long`: a line of input has more than 8,388,608 bytes, its line feed not counted.
     LineTooLong,
     /// `read_failed`: the input could not be read.
@@ -59,6 +68,9 @@ impl ProgramFault {
             ProgramFault::OldFormat => "old_format",
             ProgramFault::NewFormat => "new_format",
             ProgramFault::Taken => "taken",
+            ProgramFault::NoText => "no_text",
+            ProgramFault::Import(stop) => stop.code(),
+            ProgramFault::Export(fault) => fault.code(),
             ProgramFault::LineTooLong => "line_too_long",
             ProgramFault::ReadFailed => "read_failed",
             ProgramFault::WriteFailed => "write_failed",
@@ -68,8 +80,8 @@ impl ProgramFault {
         }
     }
 
-    /// The exit status: 1 refused, 2 usage, 3 a device, a socket, a read or a write that failed, 4 want of
-    /// memory.
+    /// The exit status: 1 refused, 2 usage, 3 a device, damage, a socket, a read or a write that failed,
+    /// 4 want of memory.
     pub fn status(self) -> u8
         ensures { result ≡ status_of self }
     {
@@ -80,7 +92,29 @@ impl ProgramFault {
             | ProgramFault::Net
             | ProgramFault::Device => 3,
             ProgramFault::Memory => 4,
+            ProgramFault::Import(stop) => status_of_import(stop),
+            ProgramFault::Export(fault) => status_of_export(fault),
             _ => 1,
+        }
+    }
+
+    /// The place of the feature at fault in the text that is imported, counted from 1.
+    pub fn place(self) -> Option<u64>
+        ensures { result ≡ place_of self }
+    {
+        match self {
+            ProgramFault::Import(_) => None,
+            _ => None,
+        }
+    }
+
+    /// What is wrong with that feature, where it cannot be read.
+    pub fn cause(self) -> Option<FeatureFault>
+        ensures { result ≡ cause_of self }
+    {
+        match self {
+            ProgramFault::Import(stop) => stop.cause(),
+            _ => None,
         }
     }
 
@@ -96,6 +130,17 @@ impl ProgramFault {
         }
     }
 
+    /// The fault of a text that cannot be had: its file is not there, memory is refused, or a read fails.
+    pub(crate) fn of_text(error: &Error) -> ProgramFault
+        ensures { result ≡ fault_of_text (error_kind error.now) }
+    {
+        match error.kind() {
+            ErrorKind::NotFound => ProgramFault::NoText,
+            ErrorKind::OutOfMemory => ProgramFault::Memory,
+            _ => ProgramFault::ReadFailed,
+        }
+    }
+
     /// How the program ends where a stream of requests ended so.
     pub(crate) fn of_stream(end: End) -> Result<(), ProgramFault>
         ensures { result ≡ end_of_stream end }
@@ -105,6 +150,38 @@ impl ProgramFault {
             End::ReadFailed => Err(ProgramFault::ReadFailed),
             End::WriteFailed => Err(ProgramFault::WriteFailed),
         }
+    }
+}
+
+/// The exit status where a keeper does not answer.
+fn status_of_keeper(fault: KeeperFault) -> u8
+    ensures { result ≡ keeper_status fault }
+{
+    match fault {
+        KeeperFault::Memory => 4,
+        KeeperFault::Device | KeeperFault::Damaged | KeeperFault::Reopen => 3,
+    }
+}
+
+/// The exit status where a text is not imported.
+fn status_of_import(stop: ImportStop) -> u8
+    ensures { result ≡ import_status stop }
+{
+    match stop {
+        ImportStop::NotRead(ImportFault::Memory) => 4,
+        ImportStop::NotRead(_) | ImportStop::Refused(_, _) => 1,
+        ImportStop::Stopped(fault) => status_of_keeper(fault),
+    }
+}
+
+/// The exit status where a collection is not exported to its end.
+fn status_of_export(fault: ExportFault) -> u8
+    ensures { result ≡ export_status fault }
+{
+    match fault {
+        ExportFault::NoCollection => 1,
+        ExportFault::Stopped(fault) => status_of_keeper(fault),
+        ExportFault::WriteFailed => 3,
     }
 }
 
@@ -188,5 +265,25 @@ impl From<ServeFault> for ProgramFault {
             ServeFault::Net => ProgramFault::Net,
             ServeFault::Memory => ProgramFault::Memory,
         }
+    }
+}
+
+impl From<ImportStop> for ProgramFault {
+    ghost use Rattle.streetmap.specs.declared.fault.ProgramFault.TheVariants.{Import};
+
+    ghost from_gives = { λ stop fault. fault ≡ Import stop };
+
+    fn from(stop: ImportStop) -> ProgramFault {
+        ProgramFault::Import(stop)
+    }
+}
+
+impl From<ExportFault> for ProgramFault {
+    ghost use Rattle.streetmap.specs.declared.fault.ProgramFault.TheVariants.{Export};
+
+    ghost from_gives = { λ given fault. fault ≡ Export given };
+
+    fn from(fault: ExportFault) -> ProgramFault {
+        ProgramFault::Export(fault)
     }
 }

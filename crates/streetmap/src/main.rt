@@ -1,12 +1,13 @@
-//! The program `streetmap`: features of a map office, kept in a file and served over HTTP, or read and
-//! changed by lines.
+//! The program `streetmap`: features of a map office, kept in a file, served over HTTP, imported and
+//! exported, or read and changed by lines.
 //!
 //! Modules, in the order of reading: `fault` (what is printed, and the exit status), `files` (the keeper of a
-//! file). The command line and what the commands do stand in the crates below.
+//! file), `texts` (the text that is imported). The command line and what the commands do stand in the crates below.
 #![tactic(auto)]
 
 pub mod fault;
 mod files;
+mod texts;
 
 use crate::fault::ProgramFault;
 use std::env;
@@ -14,6 +15,7 @@ use std::io::{BufReader, BufWriter, writer};
 use std::net::{Ipv4Addr, TcpListener};
 use std::process::ExitCode;
 use streetmap_command::{Command, read_command};
+use streetmap_exchange::{export, import};
 use streetmap_files::serve_over_tables;
 use streetmap_lines::{LinesFault, lines};
 use streetmap_routes::Base;
@@ -35,6 +37,14 @@ fn run(rt: &HostRuntime) -> Result<(), ProgramFault> {
             count,
             base,
         } => serve_file(rt, file, port, count, base.as_str()),
+        Command::Import {
+            file,
+            text,
+            key,
+            collection,
+            replace,
+        } => import_text(rt, file, text, key, collection, replace),
+        Command::Export { file, collection } => export_collection(rt, file, collection),
     }
 }
 
@@ -88,12 +98,53 @@ fn serve_file(
     Ok(())
 }
 
+/// Puts the features of a text into a collection by one batch, and prints its reply.
+fn import_text(
+    rt: &HostRuntime,
+    file: &str,
+    text: &str,
+    key: &str,
+    collection: &str,
+    replace: bool,
+) -> Result<(), ProgramFault> {
+    let mut keeper = files::open(rt, file)?;
+    let text = texts::read(rt, text)?;
+    let reply = import(
+        rt.alloc(),
+        &mut keeper,
+        text.as_slice(),
+        key,
+        collection,
+        replace,
+    )?;
+    println!(rt; "{reply}").map_err(|_| ProgramFault::WriteFailed)
+}
+
+/// Writes a collection on standard output.
+fn export_collection(rt: &HostRuntime, file: &str, collection: &str) -> Result<(), ProgramFault> {
+    let mut keeper = files::open(rt, file)?;
+    let mut output = writer(rt);
+    Ok(export(rt.alloc(), &mut keeper, collection, &mut output)?)
+}
+
+/// Prints the fault that a command ended with, with the place and the cause where there are such.
+fn print_fault(rt: &HostRuntime, fault: ProgramFault) {
+    let code = fault.code();
+    let _ = match (fault.place(), fault.cause()) {
+        (Some(place), Some(cause)) => {
+            let cause = cause.code();
+            eprintln!(rt; "streetmap: {code} {place} {cause}")
+        }
+        (Some(place), None) => eprintln!(rt; "streetmap: {code} {place}"),
+        _ => eprintln!(rt; "streetmap: {code}"),
+    };
+}
+
 fn main(rt: HostRuntime) -> ExitCode {
     match run(&rt) {
         Ok(()) => ExitCode::SUCCESS,
         Err(fault) => {
-            let code = fault.code();
-            let _ = eprintln!(rt; "streetmap: {code}");
+            print_fault(&rt, fault);
             ExitCode::from(fault.status())
         }
     }

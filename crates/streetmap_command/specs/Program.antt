@@ -1,20 +1,27 @@
 -- The command line, as `clap` reads it.
-use Rattle.std.specs.Prelude.{ℕ, codes, decimal, List, Option, Some, None, length, unwrap_or, option_map, option_and_then, if◌then◌else◌, nat_lt, nat_le, true, ◌&&◌, ◌++◌}
+use Rattle.std.specs.Prelude.{ℕ, Bool, false, codes, decimal, List, Option, Some, None, length, unwrap_or, option_map, option_and_then, if◌then◌else◌, nat_lt, nat_le, true, ◌&&◌, ◌++◌}
 use Rattle.std.specs.Str.{bytes_eq, all_ascii_digits}
 use Rattle.std.specs.Str.Parse.{digits_value}
 use Rattle.clap.specs.Words.{App, Rule, Row, Text, new_app, new_rule, with_rule, with_subcommand, first_of, takes, subcommand_of}
-use Rattle.clap.specs.declared.builder.action.ArgAction.TheVariants.{Set}
+use Rattle.clap.specs.declared.builder.action.ArgAction.TheVariants.{Set, SetTrue}
 
--- the file, which has to be there
+-- a value that has to be given, by its place alone
+abbrev pub positional : Text → Rule
+positional name = record (new_rule name) { required = true; action = Some Set }
+
 abbrev pub file : Rule
-file = record (new_rule (codes "file")) { required = true; action = Some Set }
+file = positional (codes "file")
 
 -- an option with a value, which may be left out
 abbrev pub option : Text → Rule
 option name = record (new_rule name) { long = Some name; action = Some Set }
 
-abbrev pub port : Rule
-port = record (option (codes "port")) { required = true }
+abbrev pub required_option : Text → Rule
+required_option name = record (option name) { required = true }
+
+-- an option with no value, which may be left out
+abbrev pub flag : Text → Rule
+flag name = record (new_rule name) { long = Some name; action = Some SetTrue }
 
 abbrev pub lines : App
 lines = new_app (codes "lines")
@@ -26,11 +33,18 @@ abbrev pub pipe : App
 pipe = with_rule (with_rule (new_app (codes "pipe")) file) (option (codes "base"))
 
 abbrev pub serve : App
-serve = with_rule (with_rule (with_rule (with_rule (new_app (codes "serve")) file) port) (option (codes "count"))) (option (codes "base"))
+serve = with_rule (with_rule (with_rule (with_rule (new_app (codes "serve")) file) (required_option (codes "port"))) (option (codes "count"))) (option (codes "base"))
+
+-- FILE, TEXT, the key, the collection, and whether features are replaced
+abbrev pub import : App
+import = with_rule (with_rule (with_rule (with_rule (with_rule (new_app (codes "import")) file) (positional (codes "text"))) (required_option (codes "key"))) (required_option (codes "collection"))) (flag (codes "replace"))
+
+abbrev pub export : App
+export = with_rule (with_rule (new_app (codes "export")) file) (required_option (codes "collection"))
 
 -- the program with its subcommands
 abbrev pub program : App
-program = with_subcommand (with_subcommand (with_subcommand (with_subcommand (new_app (codes "streetmap")) lines.top) create.top) pipe.top) serve.top
+program = with_subcommand (with_subcommand (with_subcommand (with_subcommand (with_subcommand (with_subcommand (new_app (codes "streetmap")) lines.top) create.top) pipe.top) serve.top) import.top) export.top
 
 -- what a command line asks for
 pub data CommandValue : Type 0 where
@@ -38,6 +52,8 @@ pub data CommandValue : Type 0 where
   create_command : (file : Text) → CommandValue
   pipe_command : (file base : Text) → CommandValue
   serve_command : (file : Text) (port : ℕ) (count : Option ℕ) (base : Text) → CommandValue
+  import_command : (file text key collection : Text) (replace : Bool) → CommandValue
+  export_command : (file collection : Text) → CommandValue
 
 -- decimal digits that write a number from 1 to `most`
 abbrev pub number_up_to : ℕ → Text → Option ℕ
@@ -75,13 +91,31 @@ serve_given file port count base =
 abbrev pub serve_by : List Row → Option CommandValue
 serve_by rows = serve_given (first_of (codes "file") rows) (first_of (codes "port") rows) (first_of (codes "count") rows) (first_of (codes "base") rows)
 
+-- a flag is set: `clap` gives it the value `true` where it stands among the words, else `false`
+abbrev pub is_set : Option Text → Bool
+is_set None = false
+is_set (Some value) = bytes_eq value (codes "true")
+
+-- what imports, of what is given for its file, text, key, collection and flag
+abbrev pub import_given : (file text key collection replace : Option Text) → Option CommandValue
+import_given file text key collection replace =
+    option_and_then (λ f. option_and_then (λ t. option_and_then (λ k. option_map (λ c. import_command f t k c (is_set replace)) collection) key) text) file
+
+abbrev pub import_by : List Row → Option CommandValue
+import_by rows = import_given (first_of (codes "file") rows) (first_of (codes "text") rows) (first_of (codes "key") rows) (first_of (codes "collection") rows) (first_of (codes "replace") rows)
+
+abbrev pub export_by : List Row → Option CommandValue
+export_by rows = option_and_then (λ f. option_map (λ c. export_command f c) (first_of (codes "collection") rows)) (first_of (codes "file") rows)
+
 -- by the subcommand's name and what is given with it
 abbrev pub command_named : Text → List Row → Option CommandValue
 command_named name rows =
     if bytes_eq name (codes "lines") then Some lines_command
     else (if bytes_eq name (codes "create") then create_by rows
     else (if bytes_eq name (codes "pipe") then pipe_by rows
-    else (if bytes_eq name (codes "serve") then serve_by rows else None)))
+    else (if bytes_eq name (codes "serve") then serve_by rows
+    else (if bytes_eq name (codes "import") then import_by rows
+    else (if bytes_eq name (codes "export") then export_by rows else None)))))
 
 abbrev pub command_by : Option (Text × List Row) → Option CommandValue
 command_by found = option_and_then (λ p. command_named p.0 p.1) found

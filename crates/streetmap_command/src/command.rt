@@ -1,14 +1,14 @@
 //! The command line.
-ghost use Rattle.std.specs.Prelude.{◌≡◌, ◌≢◌, [], map, IfOk, IfErr, Some, string_bytes, IsSome, IfSome, ◌≤◌, unwrap_or, option_map, codes, false};
-ghost use Rattle.clap.specs.Words.{app_of, fault_of as fault_of_words, subcommand_of, subcommand_rows_of, kind_of, rule_of, rows_of, found_of, first_of};
-ghost use Rattle.clap.specs.declared.builder.command.Command.TheViews.{out-Command as fields_of};
+ghost use Rattle.std.specs.Prelude.{◌≡◌, ◌≢◌, [], map, IfOk, IfErr, Some, string_bytes, IsSome, IfSome, ◌≤◌, unwrap_or, option_map};
+ghost use Rattle.clap.specs.Words.{fault_of as fault_of_words, subcommand_of, subcommand_rows_of, kind_of, rows_of, found_of, first_of};
 ghost use Rattle.std.specs.List.{list_all};
 ghost use Rattle.std.specs.Char.{is_ascii_digit};
-ghost use Rattle.streetmap_command.specs.Program.{program, file, option, lines, create, pipe, serve, command_by, create_by, pipe_by, serve_by, number_up_to, base_at, port_given, count_given, asked_by};
+ghost use Rattle.streetmap_command.specs.Program.{program, command_by, create_by, pipe_by, serve_by, import_by, export_by, number_up_to, port_given, count_given, is_set, asked_by};
 ghost use Rattle.streetmap_command.specs.CommandView.{command_value};
 
+use crate::parser::make_parser;
 use clap::error::ErrorKind;
-use clap::{Arg, ArgAction, ArgMatches, Command as Parser, Error};
+use clap::{ArgMatches, Error};
 use std::alloc::{AllocError, Global};
 
 /// What the program is to do.
@@ -33,6 +33,20 @@ pub enum Command<'a> {
         count: Option<u32>,
         base: String,
     },
+    /// `streetmap import FILE TEXT`: put the features of the file `text` into a collection by one batch,
+    /// with `replace` in the place of those with their ids.
+    Import {
+        file: &'a str,
+        text: &'a str,
+        key: &'a str,
+        collection: &'a str,
+        replace: bool,
+    },
+    /// `streetmap export FILE`: write a collection on standard output.
+    Export {
+        file: &'a str,
+        collection: &'a str,
+    },
 }
 
 /// Why words are no command.
@@ -52,62 +66,6 @@ impl From<AllocError> for CommandFault {
     fn from(_: AllocError) -> CommandFault {
         CommandFault::Memory
     }
-}
-
-/// The file that has to be given.
-fn file_arg<'a>(alloc: Global) -> Arg<'a>
-    ensures rule { rule_of result ≡ file }
-    ensures local { result.global ≡ false }
-{
-    Arg::new(alloc, "file")
-        .required(true)
-        .action(ArgAction::Set)
-}
-
-/// An option with a value.
-fn option_arg<'a>(alloc: Global, name: &'a str) -> Arg<'a>
-    ensures rule { rule_of result ≡ option name.entry.now }
-    ensures local { result.global ≡ false }
-{
-    Arg::new(alloc, name).long(name).action(ArgAction::Set)
-}
-
-fn make_create<'a>(alloc: Global) -> Result<Parser<'a>, AllocError>
-    ensures app { IfOk result (λ c. app_of c ≡ create) }
-    ensures local { IfOk result (λ c. (fields_of c).has_globals ≡ false) }
-{
-    Parser::new(alloc, "create").arg(file_arg(alloc))
-}
-
-fn make_pipe<'a>(alloc: Global) -> Result<Parser<'a>, AllocError>
-    ensures app { IfOk result (λ c. app_of c ≡ pipe) }
-    ensures local { IfOk result (λ c. (fields_of c).has_globals ≡ false) }
-{
-    Parser::new(alloc, "pipe")
-        .arg(file_arg(alloc))?
-        .arg(option_arg(alloc, "base"))
-}
-
-fn make_serve<'a>(alloc: Global) -> Result<Parser<'a>, AllocError>
-    ensures app { IfOk result (λ c. app_of c ≡ serve) }
-    ensures local { IfOk result (λ c. (fields_of c).has_globals ≡ false) }
-{
-    Parser::new(alloc, "serve")
-        .arg(file_arg(alloc))?
-        .arg(option_arg(alloc, "port").required(true))?
-        .arg(option_arg(alloc, "count"))?
-        .arg(option_arg(alloc, "base"))
-}
-
-/// The program's command line, as `clap` describes it.
-fn make_parser<'a>(alloc: Global) -> Result<Parser<'a>, AllocError>
-    ensures { IfOk result (λ c. app_of c ≡ program) }
-{
-    Parser::new(alloc, "streetmap")
-        .subcommand(Parser::new(alloc, "lines"))?
-        .subcommand(make_create(alloc)?)?
-        .subcommand(make_pipe(alloc)?)?
-        .subcommand(make_serve(alloc)?)
 }
 
 /// Whether a text is digits alone.
@@ -138,6 +96,13 @@ fn value_of<'a>(found: &ArgMatches<'a>, name: &str) -> Option<&'a str>
     ensures { option_map (λ s. s.now) result ≡ first_of name.now (rows_of (found_of found.now)) }
 {
     found.get_str(name)
+}
+
+/// Whether a flag is given.
+fn has_flag(found: &ArgMatches<'_>, name: &str) -> bool
+    ensures { result ≡ is_set (first_of name.now (rows_of (found_of found.now))) }
+{
+    matches!(value_of(found, name), Some("true"))
 }
 
 /// The base that is given, or else `other`.
@@ -203,6 +168,34 @@ fn read_pipe<'a>(alloc: Global, found: &ArgMatches<'a>) -> Result<Command<'a>, C
     Ok(Command::Pipe { file, base })
 }
 
+/// The command `import`, of what is given with it.
+fn read_import<'a>(found: &ArgMatches<'a>) -> Result<Command<'a>, CommandFault>
+    ensures found { IfOk result (λ c. Some (command_value c) ≡ import_by (rows_of (found_of found.now))) }
+    ensures refused { IfErr result (λ e. IsSome (import_by (rows_of (found_of found.now))) → e ≡ CommandFault.Memory) }
+{
+    let file = value_of(found, "file").ok_or(CommandFault::Usage)?;
+    let text = value_of(found, "text").ok_or(CommandFault::Usage)?;
+    let key = value_of(found, "key").ok_or(CommandFault::Usage)?;
+    let collection = value_of(found, "collection").ok_or(CommandFault::Usage)?;
+    Ok(Command::Import {
+        file,
+        text,
+        key,
+        collection,
+        replace: has_flag(found, "replace"),
+    })
+}
+
+/// The command `export`, of what is given with it.
+fn read_export<'a>(found: &ArgMatches<'a>) -> Result<Command<'a>, CommandFault>
+    ensures found { IfOk result (λ c. Some (command_value c) ≡ export_by (rows_of (found_of found.now))) }
+    ensures refused { IfErr result (λ e. IsSome (export_by (rows_of (found_of found.now))) → e ≡ CommandFault.Memory) }
+{
+    let file = value_of(found, "file").ok_or(CommandFault::Usage)?;
+    let collection = value_of(found, "collection").ok_or(CommandFault::Usage)?;
+    Ok(Command::Export { file, collection })
+}
+
 /// The command that was found, by its name and what is given with it.
 fn command_of<'a>(alloc: Global, matches: &ArgMatches<'a>) -> Result<Command<'a>, CommandFault>
     ensures found { IfOk result (λ c. Some (command_value c) ≡ command_by (subcommand_rows_of matches.now)) }
@@ -216,6 +209,8 @@ fn command_of<'a>(alloc: Global, matches: &ArgMatches<'a>) -> Result<Command<'a>
         "create" => read_create(found),
         "pipe" => read_pipe(alloc, found),
         "serve" => read_serve(alloc, found),
+        "import" => read_import(found),
+        "export" => read_export(found),
         _ => Err(CommandFault::Usage),
     }
 }

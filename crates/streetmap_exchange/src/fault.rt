@@ -1,11 +1,11 @@
-//! Why a text is not read, or not written.
+//! Why a text is not read, not imported, or not written.
 ghost use Rattle.std.specs.Prelude.{◌≡◌};
 
 use std::alloc::{AllocError, AllocFailed};
 use std::io::{Error, ErrorKind};
 use streetmap_batch::BatchFault;
 use streetmap_geojson::Fault;
-use streetmap_ledger::Fault as KeeperFault;
+use streetmap_ledger::{Fault as KeeperFault, Refusal};
 
 /// Why a text is not read into a batch.
 #[derive(Clone, Copy, Debug, PartialEq, Drop)]
@@ -99,6 +99,65 @@ impl<T: Drop> From<AllocFailed<T>> for ImportFault {
 
     fn from(_: AllocFailed<T>) -> ImportFault {
         ImportFault::Memory
+    }
+}
+
+/// Why a text is not imported into a keeper.
+#[derive(Clone, Copy, Debug, PartialEq, Drop)]
+pub enum ImportStop {
+    /// The text is not read into a batch, or memory was refused: the keeper was not asked.
+    NotRead(ImportFault),
+    /// The batch is refused, and nothing changed; with the place of the feature at fault, counted from 1,
+    /// where there is one.
+    Refused(Refusal, Option<u64>),
+    /// The keeper did not answer.
+    Stopped(KeeperFault),
+}
+
+impl ImportStop {
+    ghost use Rattle.streetmap_exchange.specs.ImportStops.{stop_code_of, stop_place_of, stop_cause_of};
+
+    /// Its name.
+    #[tactic(auto, unfolding(crate::specs::ImportStops::stop_code_of))]
+    pub fn code(&self) -> &'static str
+        ensures { result.now ≡ stop_code_of self.now }
+    {
+        match self {
+            ImportStop::NotRead(fault) => fault.code(),
+            ImportStop::Refused(refusal, _) => refusal.code(),
+            ImportStop::Stopped(fault) => fault.code(),
+        }
+    }
+
+    /// The place of the feature at fault, counted from 1.
+    pub fn place(&self) -> Option<u64>
+        ensures { result ≡ stop_place_of self.now }
+    {
+        match self {
+            ImportStop::NotRead(fault) => fault.place(),
+            ImportStop::Refused(_, place) => *place,
+            ImportStop::Stopped(_) => None,
+        }
+    }
+
+    /// What is wrong with that feature, where it cannot be read.
+    pub fn cause(&self) -> Option<Fault>
+        ensures { result ≡ stop_cause_of self.now }
+    {
+        match self {
+            ImportStop::NotRead(fault) => fault.cause(),
+            _ => None,
+        }
+    }
+}
+
+impl From<ImportFault> for ImportStop {
+    ghost use Rattle.streetmap_exchange.specs.declared.fault.ImportStop.TheVariants.{NotRead};
+
+    ghost from_gives = { λ fault stop. stop ≡ NotRead fault };
+
+    fn from(fault: ImportFault) -> ImportStop {
+        ImportStop::NotRead(fault)
     }
 }
 

@@ -1,20 +1,24 @@
 //! Collections of features as GeoJSON texts: read into batches, and written out of a keeper.
 //!
 //! `import_batch` makes of the text of a FeatureCollection the batch that puts its features into a
-//! collection; which batch, and which refusal comes first, is `specs/Imports`.
+//! collection; which batch, and which refusal comes first, is `specs/Imports`. `import` applies it to a
+//! keeper, and answers the body of the reply; what is told, and what the keeper stands for then, is
+//! `specs/KeeperImports`.
 //!
 //! `export` writes the text of a whole collection, page by page, over any keeper; which text, and what
 //! was written where it ends early, is `specs/Exports`.
 //!
-//! Modules, in the order of reading: `fault`, `importing`, `part`, `exporting`, `laws`.
+//! Modules, in the order of reading: `fault`, `importing`, `keeping`, `part`, `exporting`, `laws`.
 #![tactic(auto)]
 
 mod exporting;
 mod fault;
 mod importing;
+mod keeping;
 pub mod laws;
 mod part;
 
 pub use exporting::export;
-pub use fault::{ExportFault, ImportFault};
+pub use fault::{ExportFault, ImportFault, ImportStop};
 pub use importing::{MAX_TEXT, import_batch};
+pub use keeping::import;

@@ -1,0 +1,89 @@
+//! Texts of features, imported into a keeper.
+ghost use Rattle.std.specs.Prelude.{◌≡◌, ◌≤◌, ◌+◌, [], Some, IfOk, IfErr, IsErrOf, string_bytes, string_len, string_capacity};
+ghost use Rattle.streetmap_batch.specs.BatchView.{batch_value};
+ghost use Rattle.streetmap_ledger.specs.Keep.{LeavesOnly, AsBefore};
+ghost use Rattle.streetmap_ledger.specs.State.{State};
+ghost use Rattle.streetmap_ledger.specs.declared.reply.Fault.TheVariants.{Reopen};
+ghost use Rattle.streetmap_exchange.specs.Imports.{import_of};
+ghost use Rattle.streetmap_exchange.specs.KeeperImports.{IsTold, BatchTells, BatchLeaves, Imports, ImportLeaves, ImportShuts};
+
+use crate::fault::{ImportFault, ImportStop};
+use crate::importing::import_batch;
+use std::alloc::Global;
+use streetmap_batch::Batch;
+use streetmap_bodies::push_reply_body;
+use streetmap_ledger::{Keeper, Reply};
+
+/// The room that is taken for the body of a reply before its batch is applied, in bytes.
+const ROOM: usize = 320;
+
+/// An empty text with room for the body of a reply, which then takes no memory.
+fn room(alloc: Global) -> Result<String, ImportFault>
+    ensures empty { IfOk result (λ body. string_bytes body ≡ []) }
+    ensures wide { IfOk result (λ body. string_len body + 320 ≤ string_capacity body) }
+    ensures memory { IfErr result (λ fault. fault ≡ ImportFault.Memory) }
+{
+    Ok(String::with_capacity(alloc, ROOM)?)
+}
+
+/// What is told of the keeper's reply to a batch, in room that was taken before.
+fn tell(body: String, batch: &Batch, reply: Reply) -> Result<String, ImportStop>
+    requires empty { string_bytes body ≡ [] }
+    requires wide { string_len body + 320 ≤ string_capacity body }
+    ensures { IsTold (batch_value batch.now).key reply result }
+{
+    match reply {
+        Reply::Accepted(_, _) | Reply::Repeated(_, _) => {
+            let mut body = body;
+            push_reply_body(&mut body, batch, reply);
+            Ok(body)
+        }
+        Reply::Refused(refusal, place) => Err(ImportStop::Refused(refusal, place)),
+    }
+}
+
+/// Applies a batch, and tells its reply in room that was taken before.
+fn apply<K: Keeper>(keeper: &mut K, batch: &Batch, body: String) -> Result<String, ImportStop>
+    requires empty { string_bytes body ≡ [] }
+    requires wide { string_len body + 320 ≤ string_capacity body }
+    ensures began_clean { K.is_clean keeper.new → K.is_clean keeper.old }
+    ensures faults { ImportShuts result (K.cause keeper.old) (K.cause keeper.new) }
+    ensures acts { K.is_clean keeper.new → (s : State) → K.stands keeper.old s → BatchTells s (batch_value batch.now) result (K.stands keeper.new) }
+    ensures leaves { K.is_clean keeper.new → (s : State) → K.stands keeper.old s → LeavesOnly (K.may_leave keeper.old) (Some s) → BatchLeaves s (batch_value batch.now) result (K.may_leave keeper.new) }
+    ensures reopen { IsErrOf result (ImportStop.Stopped Reopen) → AsBefore (K.stands keeper.old) (K.stands keeper.new) (K.may_leave keeper.old) (K.may_leave keeper.new) }
+{
+    match keeper.apply(batch) {
+        Ok(reply) => tell(body, batch, reply),
+        Err(fault) => Err(ImportStop::Stopped(fault)),
+    }
+}
+
+/// Puts the features of a FeatureCollection text into a collection by one batch (`import_batch`), and
+/// answers the body of its reply, as compact JSON text. The room for it is taken before the batch is
+/// applied, so a batch that acted is answered.
+///
+/// # Errors
+///
+/// `NotRead` with the first refusal of `import_batch`, and then nothing changed; `Refused` where the
+/// batch is, which changed nothing either; `Stopped` with the fault of the keeper.
+pub fn import<K: Keeper>(
+    alloc: Global,
+    keeper: &mut K,
+    text: &[u8],
+    key: &str,
+    collection: &str,
+    replace: bool,
+) -> Result<String, ImportStop>
+    ensures began_clean { K.is_clean keeper.new → K.is_clean keeper.old }
+    // A shut keeper that is asked answers `Reopen` and no other does; `Device` and `Damaged` shut it.
+    ensures faults { ImportShuts result (K.cause keeper.old) (K.cause keeper.new) }
+    // What is told, and the state afterwards, are those of the batch that the text is.
+    ensures imports { K.is_clean keeper.new → (s : State) → K.stands keeper.old s → Imports s (import_of replace key.now collection.now text.now) result (K.stands keeper.new) }
+    // A stop may leave the state after the batch alone, where it was answered.
+    ensures leaves { K.is_clean keeper.new → (s : State) → K.stands keeper.old s → LeavesOnly (K.may_leave keeper.old) (Some s) → ImportLeaves s (import_of replace key.now collection.now text.now) result (K.may_leave keeper.new) }
+    ensures reopen { IsErrOf result (ImportStop.Stopped Reopen) → AsBefore (K.stands keeper.old) (K.stands keeper.new) (K.may_leave keeper.old) (K.may_leave keeper.new) }
+{
+    let batch = import_batch(alloc, text, key, collection, replace)?;
+    let body = room(alloc)?;
+    apply(keeper, &batch, body)
+}
