@@ -14,7 +14,10 @@ pub(crate) fn create(rt: &HostRuntime, path: &str) -> Result<FileKeeper<Unknown>
     if is_there(rt, path)? {
         return Err(ProgramFault::Exists);
     }
-    Ok(streetmap_files::create(rt, path, Unknown)?)
+    match streetmap_files::create(rt, path, Unknown) {
+        Ok(keeper) => Ok(keeper),
+        Err((fault, _)) => Err(ProgramFault::from(fault)),
+    }
 }
 
 /// Opens a file, and the keeper over it.
@@ -22,5 +25,8 @@ pub(crate) fn open(rt: &HostRuntime, path: &str) -> Result<FileKeeper<Unknown>, 
     if !is_there(rt, path)? {
         return Err(ProgramFault::NoFile);
     }
-    Ok(streetmap_files::open(rt, path, Unknown)?)
+    match streetmap_files::open(rt, path, Unknown) {
+        Ok(keeper) => Ok(keeper),
+        Err((fault, _)) => Err(ProgramFault::from(fault)),
+    }
 }

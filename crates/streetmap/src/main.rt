@@ -16,10 +16,9 @@ use std::net::{Ipv4Addr, TcpListener};
 use std::process::ExitCode;
 use streetmap_command::{Command, read_command};
 use streetmap_exchange::{export, import};
-use streetmap_files::serve_over_tables;
+use streetmap_files::{serve_count_over_tables, serve_over_tables};
 use streetmap_lines::{LinesFault, lines};
 use streetmap_routes::Base;
-use streetmap_serving::serve_count;
 
 /// Does what the command line asks for.
 fn run(rt: &HostRuntime) -> Result<(), ProgramFault> {
@@ -94,7 +93,7 @@ fn serve_file(
     )?;
     println!(rt; "listening 127.0.0.1:{port}").map_err(|_| ProgramFault::WriteFailed)?;
     let count = count.map_or(u64::MAX, u64::from);
-    serve_count(rt.alloc(), &listener, count, &mut keeper, &base)?;
+    serve_count_over_tables(rt.alloc(), &listener, count, &mut keeper, &base)?;
     Ok(())
 }
 

@@ -1,2 +1,4 @@
+pub mod New
 pub mod Opened
+pub mod Refusals
 pub mod Surviving

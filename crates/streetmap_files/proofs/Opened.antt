@@ -1,8 +1,7 @@
 -- A connection that was just opened on files rests at the state that they held.
-use Rattle.std.proofs.Common.{◌≡◌, Some, IsTrue, sym, subst, refl}
+use Rattle.std.proofs.Common.{◌≡◌, IsTrue, sym, subst}
 use Rattle.sqlite_disk.specs.declared.Disk as disk
 use Rattle.sqlite_wal.specs.Recovery.{Image}
-use Rattle.sqlite_trees.specs.Tree.{Trees}
 use Rattle.sqlite_catalog.specs.Listing.{IsSound}
 use Rattle.sqlite_store.specs.declared.store.FileStore.{FileStore}
 use Rattle.sqlite.specs.State.{HasCleanDisk}
@@ -11,9 +10,11 @@ use Rattle.sqlite.specs.Held.{Held}
 use Rattle.sqlite.specs.Files.{file_state}
 use Rattle.streetmap_ledger.specs.State.{State}
 use Rattle.streetmap_rows.specs.Keeping.{Keeps, Rests}
-use Rattle.streetmap_opening.specs.Making.{HasRoom, IsReady}
+use Rattle.streetmap_opening.specs.Making.{HasRoom, IsReady, is_taken}
 use Rattle.streetmap_store.proofs.Reopened.{keeps_too}
 use Rattle.streetmap_files.specs.Holding.{IsJustOpenedOn, HoldsState, LeavesRoom}
+use Rattle.streetmap_files.specs.Reasons.{RefusesToCreate}
+use Rattle.streetmap_files.specs.declared.fault.CreateFault.TheVariants.{Taken}
 
 module _ {D : Type 0} {g : disk.Ghosts D} (image : Image) (c : Held (FileStore D g)) (on : IsJustOpenedOn image c) (clean : HasCleanDisk (file_state c)) where
   sound : IsSound (file_state c).committed.schema (file_state c).committed.trees
@@ -31,3 +32,8 @@ module _ {D : Type 0} {g : disk.Ghosts D} (image : Image) (c : Held (FileStore D
       let it = on.opened clean in
       let has = room (file_state c).committed.trees (file_state c).committed.schema (on.found clean).reads sound in
       record { settled = it.0.clean; live = it.0.is_open; unlimited = on.fresh.unlimited; room = subst (λ (db : Database). HasRoom db.schema) (sym it.0.clean) has }
+
+  pub taken : IsTrue (is_taken (file_state c).now.schema) → RefusesToCreate image Taken
+  taken is =
+      let it = on.opened clean in
+      ((file_state c).committed.trees, (file_state c).committed.schema, (on.found clean).reads, sound, subst (λ (db : Database). IsTrue (is_taken db.schema)) it.0.clean is)

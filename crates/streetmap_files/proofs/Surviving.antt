@@ -1,5 +1,5 @@
 -- What a stop leaves, opened again.
-use Rattle.std.proofs.Common.{◌≡◌, ◌⊎◌, inl, inr, ℕ, ◌+◌, ◌≤◌, List, take, Option, None, Some, refl, sym, subst, arith}
+use Rattle.std.proofs.Common.{◌≡◌, inl, inr, ℕ, ◌+◌, List, take, Option, None, Some, refl, sym, subst, arith}
 use Rattle.sqlite.specs.Effect.{Database, IsDatabase}
 use Rattle.sqlite.specs.State.{State as Seen}
 use Rattle.streetmap_batch.specs.BatchValue.{BatchValue}
@@ -8,15 +8,16 @@ use Rattle.streetmap_ledger.specs.Batches.{after_all}
 use Rattle.streetmap_ledger.specs.Keep.{LeavesOnly, LeavesEither, RunLeaves}
 use Rattle.streetmap_ledger.specs.declared.reply.Fault.{Fault}
 use Rattle.streetmap_ledger.specs.declared.reply.Fault.TheVariants.{Memory, Device, Damaged, Reopen}
-use Rattle.streetmap_rows.specs.Keeping.{Keeps, MayLeave}
+use Rattle.streetmap_rows.specs.Keeping.{MayLeave}
 use Rattle.streetmap_store.proofs.Reopened.{keeps_too}
 use Rattle.streetmap_batch.specs.Text.{Text}
 use Rattle.streetmap_web.specs.Standing.{of_state}
 use Rattle.streetmap_web.specs.Exchanges.{Around, Serves}
-use Rattle.streetmap_web.specs.Beginnings.{IsAfterBeginning}
 use Rattle.streetmap_web.specs.declared.serving.End.{End}
 use Rattle.streetmap_web.proofs.Beginnings.{served_leaves}
-use Rattle.streetmap_files.specs.Surviving.{IsOfOne, Survives, ServesTables}
+use Rattle.streetmap_serving.specs.Connections.{Sight}
+use Rattle.streetmap_serving.specs.Surviving.{SurvivesInTurn}
+use Rattle.streetmap_files.specs.Surviving.{IsOfOne, Survives, ServesTables, ServesTablesInTurn}
 
 -- where a stop may leave these states alone, a database that is opened again is of one of them
 pub opens : (seen : Seen) (P : State → Type 0) → ((o : Option State) → MayLeave seen o → (t : State) × (o ≡ Some t) × P t) → (db : Database) → seen.may_leave db.trees → IsDatabase db → IsOfOne P db
@@ -52,4 +53,14 @@ pub served_survives : (root : Text) (end : End) (count : ℕ) (s : State) (a : A
 served_survives root end count s a seen serves known bound = record {
   serves = serves;
   survives = opens seen _ λ o left. served_leaves root end count s a serves known o (bound o left);
+}
+
+-- and of connections in turn
+pub turns_survive : {K : Type 0} (sight : Sight K) (root : Text) (n : ℕ) (s : State) (old new : K) (seen : Seen) → SurvivesInTurn sight root n s old new
+    → ((o : Option State) → MayLeave seen o → sight.may_leave new o) → ServesTablesInTurn sight root n s old new seen
+turns_survive sight root n s old new seen it bound = record {
+  batches = it.batches;
+  answered = it.answered;
+  brings = it.brings;
+  survives = opens seen _ λ o left. it.leaves o (bound o left);
 }

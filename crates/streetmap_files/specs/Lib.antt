@@ -1,3 +1,4 @@
 pub mod Holding
 pub mod Refusing
 pub mod Surviving
+pub mod Reasons

@@ -10,6 +10,8 @@ use Rattle.streetmap_web.specs.Standing.{of_state}
 use Rattle.streetmap_web.specs.Exchanges.{Around, Serves, batches_of}
 use Rattle.streetmap_web.specs.Beginnings.{IsAfterBeginning, last_of, batches_acted}
 use Rattle.streetmap_web.specs.declared.serving.End.{End}
+use Rattle.streetmap_serving.specs.Connections.{Sight}
+use Rattle.streetmap_serving.specs.Surviving.{Brings}
 
 -- The database is that of one of these states: it is of no other, and it cannot be that it is of none.
 pub record IsOfOne (P : State → Type 0) (db : Database) : Type 0 where
@@ -25,3 +27,10 @@ pub record ServesTables (root : Text) (end : End) (count : ℕ) (s : State) (a :
   pub serves : Serves root end count (of_state s) a
   pub survives : let last = last_of serves.turn root _ _ serves.ends in
       Survives s (batches_of serves.exchanges ++ batches_acted last) (length (batches_of serves.exchanges ++ batches_of last)) seen
+
+-- Over tables of a state so many connections were served in turn, and a stop leaves the state of a beginning of all the batches acted on that contains each that was answered without a fault.
+pub record ServesTablesInTurn {K : Type 0} (sight : Sight K) (root : Text) (n : ℕ) (s : State) (old new : K) (seen : Seen) : Type 0 where
+  pub batches : List BatchValue
+  pub answered : ℕ
+  pub brings : Brings sight root n old new batches answered
+  pub survives : Survives s batches answered seen

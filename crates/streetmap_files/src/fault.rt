@@ -1,4 +1,4 @@
-//! Why a file is not made or opened.
+//! Why a file is not made or opened, and what is left of it.
 ghost use Rattle.std.specs.Prelude.{◌≡◌};
 ghost use Rattle.streetmap_files.specs.Refusing.{open_code, create_code, refused_to_open, refused_to_create, not_adopted, not_made};
 
@@ -31,6 +31,17 @@ pub enum CreateFault {
     Device(Error),
     /// `memory`: memory was refused.
     Memory,
+}
+
+/// What is left of files that were refused. They are closed when it is dropped, and locked until then.
+#[derive(Drop)]
+pub enum Left<F, C> {
+    /// Nothing: they were not opened.
+    Nothing,
+    /// The files, on which no connection was opened.
+    Files(F),
+    /// The connection to them.
+    Connection(C),
 }
 
 impl OpenFault {

@@ -1,5 +1,5 @@
 //! Batches over tables, and what a stop leaves of them.
-ghost use Rattle.std.specs.Prelude.{◌≡◌, ◌<◌, Some, IsNone, IsSome, length, take, map};
+ghost use Rattle.std.specs.Prelude.{◌≡◌, ◌<◌, ◌≤◌, ℕ, IsOk, Some, IsNone, IsSome, length, take, map};
 ghost use Rattle.std.specs.Option.{option_map};
 ghost use Rattle.sqlite.specs.Held.{state};
 ghost use Rattle.sqlite.specs.State.{HasCleanDisk};
@@ -11,13 +11,15 @@ ghost use Rattle.streetmap_rows.specs.Keeping.{MayLeave};
 ghost use Rattle.streetmap_store.specs.Serving.{Serves, cause_in};
 ghost use Rattle.streetmap_routes.specs.BaseView.{root_of};
 ghost use Rattle.streetmap_web.specs.Standing.{Stands};
-ghost use Rattle.streetmap_files.specs.Surviving.{Survives, ServesTables};
+ghost use Rattle.streetmap_files.specs.Surviving.{Survives, ServesTables, ServesTablesInTurn};
 
 use sqlite::Alter;
 use std::alloc::Global;
 use std::io::{BufRead, Write};
+use std::net::TcpListener;
 use streetmap_ledger::{Batch, Run, run};
 use streetmap_routes::Base;
+use streetmap_serving::{ServeFault, serve_count};
 use streetmap_store::TableKeeper;
 use streetmap_web::{Served, serve};
 
@@ -58,4 +60,27 @@ pub fn serve_over_tables<S: Alter, R: BufRead, W: Write>(
         ServesTables (root_of base.now) result.end result.answers s (record { old_left = R.remaining reader.old; new_left = R.remaining reader.new; old_held = W.contents writer.old; new_held = W.contents writer.new; stands = Stands (Serves keeper.new.shut (state S.Store keeper.new.conn) keeper.new.count) (option_map cause_in keeper.new.shut); known = LeavesOnly (MayLeave (state S.Store keeper.old.conn)) (Some s); old_leaves = MayLeave (state S.Store keeper.old.conn); new_leaves = MayLeave (state S.Store keeper.new.conn) }) (state S.Store keeper.new.conn) }
 {
     serve(alloc, keeper, base, reader, writer)
+}
+
+/// Serves so many connections of a listener over tables, one after the other
+/// (`streetmap_serving::serve_count`).
+///
+/// After a stop, before or within any write, whatever is opened again holds the state of a beginning of
+/// the batches of all connections, in order, that contains each that was answered without a fault.
+///
+/// # Errors
+///
+/// `Net` where no connection can be accepted, and `Memory` where there is no room to read one.
+pub fn serve_count_over_tables<S: Alter>(
+    alloc: Global,
+    listener: &TcpListener,
+    count: u64,
+    keeper: &mut TableKeeper<S>,
+    base: &Base,
+) -> Result<(), ServeFault>
+    ensures { HasCleanDisk (state S.Store keeper.new.conn) → (s : State) → Serves keeper.old.shut (state S.Store keeper.old.conn) keeper.old.count s → LeavesOnly (MayLeave (state S.Store keeper.old.conn)) (Some s) →
+        (n : ℕ) × (n ≤ count) × (IsOk result → n ≡ count)
+        × ServesTablesInTurn (record { stands = λ k. Serves k.shut (state S.Store k.conn) k.count; cause = λ k. option_map cause_in k.shut; may_leave = λ k. MayLeave (state S.Store k.conn) }) (root_of base.now) n s keeper.old keeper.new (state S.Store keeper.new.conn) }
+{
+    serve_count(alloc, listener, count, keeper, base)
 }

@@ -1,8 +1,11 @@
 //! The connections of a listener, each a stream of requests.
-ghost use Rattle.std.specs.Prelude.{◌≡◌, ◌≤◌, ℕ, IsOk, OnErr, OnOk};
+ghost use Rattle.std.specs.Prelude.{◌≡◌, ◌≤◌, ℕ, Some, IsOk, OnErr, OnOk};
 ghost use Rattle.streetmap_routes.specs.BaseView.{root_of};
 ghost use Rattle.streetmap_web.specs.Standing.{Standing, Stands};
+ghost use Rattle.streetmap_ledger.specs.State.{State};
+ghost use Rattle.streetmap_ledger.specs.Keep.{LeavesOnly};
 ghost use Rattle.streetmap_serving.specs.Connections.{ServesOne, ServesInTurn};
+ghost use Rattle.streetmap_serving.specs.Surviving.{SurvivesInTurn};
 
 use std::alloc::Global;
 use std::io;
@@ -58,11 +61,14 @@ fn serve_connection<K: Keeper>(
 /// Serves so many connections of a listener, one after the other.
 ///
 /// A connection ends where its stream of requests does, or where a read or a write of it fails or waits
-/// for half a minute, and the next one follows.
+/// for half a minute, and the next one follows. After a stop, before or within any write, whatever is
+/// opened again holds the state of a beginning of the batches of all connections, in order, that contains
+/// each that was answered without a fault.
 ///
 /// # Errors
 ///
 /// `Net` where no connection can be accepted, and `Memory` where there is no room to read one.
+#[tactic(auto, using(crate::proofs::Surviving::survives))]
 pub fn serve_count<K: Keeper>(
     alloc: Global,
     listener: &TcpListener,
@@ -74,6 +80,10 @@ pub fn serve_count<K: Keeper>(
     // stream of requests, served over the keeper that the one before left.
     ensures serves { K.is_clean keeper.new → (n : ℕ) × (n ≤ count) × (IsOk result → n ≡ count)
         × ServesInTurn (record { stands = K.stands; cause = K.cause; may_leave = K.may_leave }) (root_of base.now) n keeper.old keeper.new }
+    // Where a stop could leave only the state that the keeper stood for, it may leave the state of a beginning of
+    // the batches of all these connections, in order, that contains each that was answered without a fault.
+    ensures survives { K.is_clean keeper.new → (s : State) → K.stands keeper.old s → LeavesOnly (K.may_leave keeper.old) (Some s) → (n : ℕ) × (n ≤ count) × (IsOk result → n ≡ count)
+        × SurvivesInTurn (record { stands = K.stands; cause = K.cause; may_leave = K.may_leave }) (root_of base.now) n s keeper.old keeper.new }
     ensures began_clean { K.is_clean keeper.new → K.is_clean keeper.old }
 {
     for _served in 0..count {

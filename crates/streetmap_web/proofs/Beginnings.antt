@@ -1,17 +1,17 @@
 -- What a stop may leave of a stream of requests.
-use Rattle.std.proofs.Common.{◌≡◌, ◌⊎◌, inl, inr, ℕ, ◌+◌, ◌≤◌, ◌++◌, List, [], ◌∷◌, length, take, Option, None, Some, refl, sym, subst, ap, ◌∙◌, arith, append-nil}
+use Rattle.std.proofs.Common.{◌≡◌, inl, inr, ℕ, ◌+◌, ◌++◌, List, [], length, take, Option, Some, sym, subst, ap, ◌∙◌, arith, append-nil}
 use Rattle.std.proofs.Math.Seq.{take-append_seam, take-length}
 use Rattle.std.proofs.lemmas.List.{length-append}
 use Rattle.streetmap_batch.specs.Text.{Text}
 use Rattle.streetmap_batch.specs.BatchValue.{BatchValue}
 use Rattle.streetmap_ledger.specs.State.{State}
 use Rattle.streetmap_ledger.specs.Batches.{after_all}
-use Rattle.streetmap_ledger.specs.Keep.{LeavesOnly, LeavesEither}
+use Rattle.streetmap_ledger.specs.Keep.{LeavesOnly}
 use Rattle.streetmap_ledger.proofs.Repeat.{after_append}
 use Rattle.streetmap_routes.specs.Ask.{AskValue}
 use Rattle.streetmap_web.specs.Standing.{Standing, Outcome, told, starved, failed, of_state, Leaves, Stays, StateLeaves}
 use Rattle.streetmap_web.specs.Exchanges.{Around, TurnSays, Serves, with_batch, with_answered, batches_of}
-use Rattle.streetmap_web.specs.Beginnings.{IsAfterBeginning, LeavesBeginning, ServedLeaves, last_of, with_acted, batches_acted}
+use Rattle.streetmap_web.specs.Beginnings.{LeavesBeginning, ServedLeaves, last_of, with_acted, batches_acted}
 use Rattle.streetmap_web.specs.declared.serving.End.{End}
 use Rattle.streetmap_web.specs.declared.serving.Turn.{Turn}
 use Rattle.streetmap_web.specs.declared.serving.Turn.TheVariants.{Open, Closed, Ended, Truncated, ReadFailed, WriteFailed}
