@@ -103,7 +103,7 @@ impl ProgramFault {
         ensures { result ≡ place_of self }
     {
         match self {
-            ProgramFault::Import(_) => None,
+            ProgramFault::Import(stop) => stop.place(),
             _ => None,
         }
     }

@@ -1,5 +1,5 @@
 -- What an import into a keeper does, by its parts.
-use Rattle.std.proofs.Common.{◌≡◌, Option, None, Some, Result, Ok, Err, String, sym, subst}
+use Rattle.std.proofs.Common.{◌≡◌, Option, None, Some, Result, Ok, Err, String, subst}
 use Rattle.std.specs.declared.alloc.Global.{Global}
 use Rattle.streetmap_batch.specs.Text.{Text}
 use Rattle.streetmap_batch.specs.BatchValue.{BatchValue}
