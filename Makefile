@@ -9,7 +9,7 @@ FILE ?= town.streetmap
 PORT ?= 8080
 serve: build
 	@test -e $(FILE) || $(PROGRAM) create $(FILE)
-	$(PROGRAM) serve $(FILE) --port $(PORT)
+	$(PROGRAM) serve $(FILE) --port $(PORT) --clients 64
 
 # Runs the program on the sample input with no proof: about a minute.
 try: toolchain

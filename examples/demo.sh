@@ -18,8 +18,8 @@ streetmap() {
 
 # Serves the file until it is stopped.
 serve() {
-    echo "\$ streetmap serve town.streetmap --port $port &"
-    "$program" serve town.streetmap --port "$port" > out &
+    echo "\$ streetmap serve town.streetmap --port $port --clients 64 &"
+    "$program" serve town.streetmap --port "$port" --clients 64 > out &
     server=$!
     until grep -q listening out; do sleep 0.1; done
     cat out

@@ -113,6 +113,7 @@ def words_of_the_command_line():
     for words in ([], ["lines", "x"], ["create"], ["pipe"], ["serve", "a"], ["export", "a"],
                   ["serve", "a", "--port", "0"], ["serve", "a", "--port", "65536"], ["serve", "a", "--port", "+80"],
                   ["serve", "a", "--port", "80", "--count", "0"], ["serve", "a", "--port", "80", "--count", "4294967296"],
+                  ["serve", "a", "--port", "80", "--clients", "0"], ["serve", "a", "--port", "80", "--clients", "1025"],
                   ["serve", "a", "--port", "80", "--port", "81"], ["pipe", "a", "--port", "80"], ["create", "a", "b"], ["--help"],
                   ["import", "a", "t", "--collection", "c"], ["import", "a", "t", "--key", "k"],
                   ["import", "a", "--key", "k", "--collection", "c"], ["import", "a", "t", "u", "--key", "k", "--collection", "c"],
@@ -243,13 +244,46 @@ def connections(folder):
     busy.ends(0)
 
 
+def clients_at_once(folder):
+    """Idle and slow clients hold up nobody, and each client gets the answers to its own requests."""
+    file = f"{folder}/clients.db"
+    run("create", file)
+    server = Server(file, "--clients", "8", "--count", "11")
+    idle, slow = server.connect(), server.connect()
+    slow.sendall(request("GET", "/conformance")[:20])
+    (opened,) = server.ask(batch("b1", [OPEN, insert(1)]))
+    check("a batch beside an idle client", opened[0], 200)
+    open_ones = [server.connect() for _ in range(4)]
+    for number, stream in enumerate(open_ones):
+        stream.sendall(batch(f"c{number}", [insert(10 + number)]) + request("GET", f"/collections/lamps/items/L{10 + number}"))
+    for number, stream in enumerate(open_ones):
+        stream.shutdown(socket.SHUT_WR)
+        (status, _), (found, body) = answers(read_all(stream))
+        check("a batch of many clients", (status, found), (200, 200))
+        check("its own answer", json.loads(body)["id"], f"L{10 + number}")
+        stream.close()
+    slow.sendall(request("GET", "/conformance")[20:])
+    check("the slow client at last", read_answer(slow)[0], 200)
+    with server.connect() as broken:
+        broken.sendall(batch("b9", [insert(99)])[:-5])
+        broken.setsockopt(socket.SOL_SOCKET, socket.SO_LINGER, b"\1\0\0\0\0\0\0\0")
+    check("rubbish is answered", [status for status, _ in server.ask(b"rubbish\r\n\r\n")], [400])
+    (page,) = server.ask(request("GET", "/collections/lamps/items"))
+    check("the batches of all clients", json.loads(page[1])["numberMatched"], 5)
+    idle.close()
+    slow.close()
+    (last,) = server.ask(request("GET", "/conformance"))
+    check("one more client", last[0], 200)
+    server.ends(0)
+
+
 def a_hard_stop(folder):
     """Batches on one connection until the server is killed: each that was acknowledged is there."""
     file = f"{folder}/stopped.db"
     run("create", file)
     acknowledged = 0
     for round_ in range(3):
-        server = Server(file)
+        server = Server(file, *(["--clients", "4"] if round_ == 1 else []))
         with server.connect() as stream:
             if round_ == 0:
                 stream.sendall(batch("open", [OPEN]))
@@ -276,6 +310,7 @@ def main():
         faults_of_a_pipe(folder)
         imports_and_exports(folder)
         connections(folder)
+        clients_at_once(folder)
         a_hard_stop(folder)
     print("all as wanted" if not failures else f"{len(failures)} failed")
     sys.exit(1 if failures else 0)

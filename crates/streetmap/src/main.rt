@@ -10,13 +10,16 @@ mod files;
 mod texts;
 
 use crate::fault::ProgramFault;
+use sqlite::Unknown;
 use std::env;
 use std::io::{BufReader, BufWriter, writer};
 use std::net::{Ipv4Addr, TcpListener};
 use std::process::ExitCode;
+use streetmap_clients::{KeeperService, serve_clients};
 use streetmap_command::{Command, read_command};
+use streetmap_connections::{Clients, Limits};
 use streetmap_exchange::{export, import};
-use streetmap_files::{serve_count_over_tables, serve_over_tables};
+use streetmap_files::{FileKeeper, serve_count_over_tables, serve_over_tables};
 use streetmap_lines::{LinesFault, lines};
 use streetmap_routes::Base;
 
@@ -34,8 +37,9 @@ fn run(rt: &HostRuntime) -> Result<(), ProgramFault> {
             file,
             port,
             count,
+            clients,
             base,
-        } => serve_file(rt, file, port, count, base.as_str()),
+        } => serve_file(rt, file, port, count, clients, base.as_str()),
         Command::Import {
             file,
             text,
@@ -78,23 +82,46 @@ fn pipe_file(rt: &HostRuntime, file: &str, base: &str) -> Result<(), ProgramFaul
     ProgramFault::of_stream(served.end)
 }
 
-/// Serves so many connections to a port of this host, or any number of them.
+/// Serves so many connections to a port of this host, or any number of them, of so many clients at once.
 fn serve_file(
     rt: &HostRuntime,
     file: &str,
     port: u16,
     count: Option<u32>,
+    clients: u32,
     base: &str,
 ) -> Result<(), ProgramFault> {
     let base = Base::new(rt.alloc(), base)?;
-    let mut keeper = files::open(rt, file)?;
+    let keeper = files::open(rt, file)?;
     let listener = TcpListener::bind(rt, (Ipv4Addr::LOCALHOST, port)).map_err(
         |_| ProgramFault::Net,
     )?;
     println!(rt; "listening 127.0.0.1:{port}").map_err(|_| ProgramFault::WriteFailed)?;
     let count = count.map_or(u64::MAX, u64::from);
-    serve_count_over_tables(rt.alloc(), &listener, count, &mut keeper, &base)?;
-    Ok(())
+    if clients == 1 {
+        let mut keeper = keeper;
+        Ok(serve_count_over_tables(rt.alloc(), &listener, count, &mut keeper, &base)?)
+    } else {
+        serve_at_once(rt, &listener, count, clients, keeper, base)
+    }
+}
+
+/// Serves so many connections of a listener, of so many clients at once.
+fn serve_at_once(
+    rt: &HostRuntime,
+    listener: &TcpListener,
+    count: u64,
+    clients: u32,
+    keeper: FileKeeper<Unknown>,
+    base: Base,
+) -> Result<(), ProgramFault> {
+    let mut clients = Clients::new(rt.alloc(), Limits::of(clients as usize))?;
+    let mut service = KeeperService {
+        alloc: rt.alloc(),
+        keeper,
+        base,
+    };
+    Ok(serve_clients(rt, listener, count, &mut clients, &mut service)?)
 }
 
 /// Puts the features of a text into a collection by one batch, and prints its reply.

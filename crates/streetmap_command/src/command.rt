@@ -3,7 +3,7 @@ ghost use Rattle.std.specs.Prelude.{◌≡◌, ◌≢◌, [], map, IfOk, IfErr, 
 ghost use Rattle.clap.specs.Words.{fault_of as fault_of_words, subcommand_of, subcommand_rows_of, kind_of, rows_of, found_of, first_of};
 ghost use Rattle.std.specs.List.{list_all};
 ghost use Rattle.std.specs.Char.{is_ascii_digit};
-ghost use Rattle.streetmap_command.specs.Program.{program, command_by, create_by, pipe_by, serve_by, import_by, export_by, number_up_to, port_given, count_given, is_set, asked_by};
+ghost use Rattle.streetmap_command.specs.Program.{program, command_by, create_by, pipe_by, serve_by, import_by, export_by, number_up_to, port_given, count_given, clients_given, is_set, asked_by};
 ghost use Rattle.streetmap_command.specs.CommandView.{command_value};
 
 use crate::parser::make_parser;
@@ -26,11 +26,13 @@ pub enum Command<'a> {
         file: &'a str,
         base: String,
     },
-    /// `streetmap serve FILE`: serve so many connections to a port of this host, or any number of them.
+    /// `streetmap serve FILE`: serve so many connections to a port of this host, or any number of them; so many
+    /// clients at once, 1 to 1,024.
     Serve {
         file: &'a str,
         port: u16,
         count: Option<u32>,
+        clients: u32,
         base: String,
     },
     /// `streetmap import FILE TEXT`: put the features of the file `text` into a collection by one batch,
@@ -131,6 +133,15 @@ fn read_count(given: Option<&str>) -> Option<Option<u32>>
     }
 }
 
+fn read_clients(given: Option<&str>) -> Option<u32>
+    ensures { result ≡ clients_given (option_map (λ s. s.now) given.entry) }
+{
+    match given {
+        Some(text) => read_number(text, 1024),
+        None => Some(1),
+    }
+}
+
 /// The command `serve`, of what is given with it.
 fn read_serve<'a>(alloc: Global, found: &ArgMatches<'a>) -> Result<Command<'a>, CommandFault>
     ensures found { IfOk result (λ c. Some (command_value c) ≡ serve_by (rows_of (found_of found.now))) }
@@ -139,12 +150,14 @@ fn read_serve<'a>(alloc: Global, found: &ArgMatches<'a>) -> Result<Command<'a>, 
     let file = value_of(found, "file").ok_or(CommandFault::Usage)?;
     let port = read_port(value_of(found, "port")).ok_or(CommandFault::Usage)?;
     let count = read_count(value_of(found, "count")).ok_or(CommandFault::Usage)?;
+    let clients = read_clients(value_of(found, "clients")).ok_or(CommandFault::Usage)?;
     let default = format!(in alloc; "http://localhost:{port}/")?;
     let base = read_base(alloc, value_of(found, "base"), default.as_str())?;
     Ok(Command::Serve {
         file,
         port,
         count,
+        clients,
         base,
     })
 }

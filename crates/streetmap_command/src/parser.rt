@@ -63,6 +63,7 @@ fn make_serve<'a>(alloc: Global) -> Result<Command<'a>, AllocError>
         .arg(positional_arg(alloc, "file"))?
         .arg(required_arg(alloc, "port"))?
         .arg(option_arg(alloc, "count"))?
+        .arg(option_arg(alloc, "clients"))?
         .arg(option_arg(alloc, "base"))
 }
 

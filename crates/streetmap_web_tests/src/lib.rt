@@ -1,11 +1,13 @@
 //! Tests of HTTP over the keeper in memory, by public items alone: rows of bytes, streams that are cut or fail,
-//! and hostile streams.
+//! hostile streams, connections in turn, and many clients at once.
 #![tactic(auto)]
 
 #[cfg(test)]
 mod answers;
 #[cfg(test)]
 mod batches;
+#[cfg(test)]
+mod clients;
 #[cfg(test)]
 mod connections;
 #[cfg(test)]

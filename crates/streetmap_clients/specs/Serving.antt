@@ -1,0 +1,34 @@
+-- Many clients served over one keeper.
+use Rattle.std.specs.Prelude.{◌≡◌, List, [], ◌∷◌, map, All}
+use Rattle.mio.specs.declared.net.stream.TcpStream.{TcpStream}
+use Rattle.streetmap_batch.specs.Text.{Text}
+use Rattle.streetmap_connections.specs.declared.client.Client.{Client}
+use Rattle.streetmap_connections.specs.Clients.{exchanges_of, IsOrderly}
+use Rattle.streetmap_connections.specs.History.{Exchange}
+use Rattle.streetmap_connections.specs.Interleaving.{GoesOnAs}
+use Rattle.streetmap_web.specs.Exchanges as web
+use Rattle.streetmap_web.specs.Standing.{Standing}
+
+-- the exchange is this request of the web, answered over a keeper that stands so
+pub record IsAnswerTo (root : Text) (x : Standing) (e : Exchange) (w : web.Exchange) : Type 0 where
+  pub is : web.IsExchange x w
+  pub request : w.bytes ≡ e.request
+  pub text : e.text ≡ web.answer_bytes root x w
+  pub closes : e.closes ≡ web.closes root x w
+
+-- each request was answered for what the keeper stood for behind the one before
+abbrev pub AnsweredInTurn : Text → Standing → List Exchange → Standing → Type 0
+AnsweredInTurn root x [] last = last ≡ x
+AnsweredInTurn root x (e ∷ es) last = (w : web.Exchange) × IsAnswerTo root x e w × AnsweredInTurn root (web.standing_after x w) es last
+
+-- There is one list of requests with their answers, each answered for what the keeper stood for behind the one before.
+-- It is an interleaving of the clients' own lists: it goes on from those before as one of those after. What a client
+-- sent is, in order, the requests of its list and what was not answered; what it was sent are their answers, as far as
+-- they were sent.
+pub record ServesClients (root : Text) (x : Standing) (stands : Standing → Type 0) (before after : List (Client TcpStream)) : Type 0 where
+  pub exchanges : List Exchange
+  pub interleaved : GoesOnAs (map exchanges_of before) exchanges (map exchanges_of after)
+  pub in_order : All IsOrderly after
+  pub last : Standing
+  pub answered : AnsweredInTurn root x exchanges last
+  pub standing : stands last

@@ -1,0 +1,52 @@
+//! A keeper as the service of many clients.
+ghost use Rattle.std.specs.Prelude.{◌≡◌};
+ghost use Rattle.streetmap_http.specs.Arrivals.{IsAnswered};
+ghost use Rattle.streetmap_routes.specs.BaseView.{root_of};
+ghost use Rattle.streetmap_connections.specs.Answers.{answer_text as sent_text};
+ghost use Rattle.streetmap_web.specs.Responds.{answer_text};
+ghost use Rattle.streetmap_clients.specs.Answering.{AnswersOne};
+
+use std::alloc::Global;
+use streetmap_connections::{Answer, Cut, Service};
+use streetmap_http::{Arrival, arrival_of};
+use streetmap_ledger::Keeper;
+use streetmap_routes::Base;
+use streetmap_web::answer_request;
+
+/// A keeper, and the base of the links in its answers.
+#[derive(Drop)]
+pub struct KeeperService<K> {
+    pub alloc: Global,
+    pub keeper: K,
+    pub base: Base,
+}
+
+impl<K: Keeper> Service for KeeperService<K> {
+    ghost is_request = { IsAnswered };
+
+    ghost answers = { λ old request text closes new. (new.base ≡ old.base)
+        × AnswersOne (record { stands = K.stands; cause = K.cause; may_leave = K.may_leave; is_clean = K.is_clean; applies = K.applies }) (root_of old.base) old.keeper request text closes new.keeper };
+
+    fn cut(&self, input: &[u8]) -> Cut {
+        match arrival_of(input) {
+            Arrival::Request(len) => Cut::Whole(len),
+            Arrival::Head => Cut::Waits(input.len().saturating_add(1)),
+            Arrival::Body(missing) => Cut::Waits(input.len().saturating_add(missing)),
+        }
+    }
+
+    fn answer(&mut self, request: &[u8]) -> (Answer, bool) {
+        let (answer, closes) = answer_request(self.alloc, &mut self.keeper, &self.base, request);
+        (passed_on(answer), closes)
+    }
+}
+
+/// The same answer, in the form that is sent.
+fn passed_on(answer: streetmap_web::Answer) -> Answer
+    ensures { sent_text result ≡ answer_text answer }
+{
+    match answer {
+        streetmap_web::Answer::Made(head, body) => Answer::Made(head, body),
+        streetmap_web::Answer::Fixed(head, body) => Answer::Fixed(head, body),
+    }
+}

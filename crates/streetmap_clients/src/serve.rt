@@ -1,0 +1,40 @@
+//! Many clients over a listener.
+ghost use Rattle.std.specs.Prelude.{◌≡◌, ◌≤◌, IsOk};
+ghost use Rattle.streetmap_routes.specs.BaseView.{root_of};
+ghost use Rattle.streetmap_web.specs.Standing.{Standing, Stands};
+ghost use Rattle.streetmap_connections.specs.Slots.{clients_of};
+ghost use Rattle.streetmap_clients.specs.Serving.{ServesClients};
+
+use crate::keeper_service::KeeperService;
+use mio::net::TcpStream;
+use std::net::{Net, TcpListener};
+use std::time::Clock;
+use streetmap_connections::{Clients, ServeFault, serve_connections};
+use streetmap_ledger::Keeper;
+
+/// Serves clients of a listener over a keeper, many at once, until so many of them ended.
+///
+/// A client that fails, or takes longer than the limits of `clients` allow, ends alone. From here on a call of `accept`
+/// on the listener does not wait.
+///
+/// # Errors
+///
+/// `Net` where no client can be accepted while there is none, or sockets cannot be waited for, and `Memory` where there
+/// is no room for what is waited for.
+pub fn serve_clients<R: Net + Clock, K: Keeper>(
+    rt: &R,
+    listener: &TcpListener,
+    count: u64,
+    clients: &mut Clients<TcpStream>,
+    service: &mut KeeperService<K>,
+) -> Result<(), ServeFault>
+    // Where the store was clean: one list of requests, answered one behind the other, which is an interleaving of the
+    // clients' own lists.
+    ensures serves { K.is_clean service.new.keeper → (x : Standing) → Stands (K.stands service.old.keeper) (K.cause service.old.keeper) x →
+        ServesClients (root_of service.old.base) x (Stands (K.stands service.new.keeper) (K.cause service.new.keeper)) (clients_of clients.old) (clients_of clients.new) }
+    ensures began_clean { K.is_clean service.new.keeper → K.is_clean service.old.keeper }
+    ensures base { service.new.base ≡ service.old.base }
+    ensures counted { IsOk result → count ≤ clients.new.ended }
+{
+    serve_connections(rt, listener, count, clients, service)
+}

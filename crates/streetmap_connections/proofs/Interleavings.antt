@@ -1,0 +1,38 @@
+-- How interleavings go on.
+use Rattle.std.proofs.Common.{List, [], ◌∷◌, ◌++◌}
+use Rattle.streetmap_connections.specs.Interleaving.{IsInterleaving, Merges}
+use Rattle.streetmap_connections.specs.Interleaving.IsInterleaving.{more}
+use Rattle.streetmap_connections.specs.Interleaving.Merges.{none, left, right}
+
+left_only : {A : Type 0} (xs : List A) → Merges xs [] xs
+left_only [] = none
+left_only (x ∷ xs) = left (left_only xs)
+
+right_only : {A : Type 0} (xs : List A) → Merges [] xs xs
+right_only [] = none
+right_only (x ∷ xs) = right (right_only xs)
+
+left_more : {A : Type 0} {xs ys zs : List A} (made : List A) → Merges xs ys zs → Merges (xs ++ made) ys (zs ++ made)
+left_more made none = left_only made
+left_more made (left m) = left (left_more made m)
+left_more made (right m) = right (left_more made m)
+
+right_more : {A : Type 0} {xs ys zs : List A} (made : List A) → Merges xs ys zs → Merges xs (ys ++ made) (zs ++ made)
+right_more made none = right_only made
+right_more made (left m) = left (right_more made m)
+right_more made (right m) = right (right_more made m)
+
+first_of : {A : Type 0} {xs : List A} {xss : List (List A)} {all : List A} → IsInterleaving (xs ∷ xss) all
+    → (rest : List A) × Merges xs rest all × IsInterleaving xss rest
+first_of (more {rest = rest} m i) = (rest, m, i)
+
+-- one more list, of nothing yet
+pub begins : {A : Type 0} (front back : List (List A)) (all : List A) → IsInterleaving (front ++ back) all → IsInterleaving (front ++ ([] ∷ back)) all
+begins [] back all i = more (right_only all) i
+begins (xs ∷ front) back all i = let s = first_of i in more s.1 (begins front back s.0 s.2)
+
+-- one of the lists goes on
+pub goes_on : {A : Type 0} (front back : List (List A)) (own made all : List A) → IsInterleaving (front ++ (own ∷ back)) all
+    → IsInterleaving (front ++ ((own ++ made) ∷ back)) (all ++ made)
+goes_on [] back own made all i = let s = first_of i in more (left_more made s.1) s.2
+goes_on (xs ∷ front) back own made all i = let s = first_of i in more (right_more made s.1) (goes_on front back own made s.0 s.2)

@@ -1,0 +1,6 @@
+pub mod Answering
+pub mod InOrder
+pub mod Interleavings
+pub mod MoveLemmas
+pub mod ServingLemmas
+pub mod Sending

@@ -1,0 +1,167 @@
+-- What a client does, one step after another.
+use Rattle.std.proofs.Common.{◌≡◌, ℕ, Bool, false, List, [], ◌∷◌, ◌++◌, take, Option, Some, None, refl, sym, subst, ◌∙◌, ap, append_assoc, arith, rules, true, Result, Ok, Err, IfOk, OnErr}
+use Rattle.std.proofs.lemmas.Grind.{common_steps}
+use Rattle.std.specs.Bool.{OnTrue, OnFalse}
+use Rattle.std.specs.Io.KnownBytes.{Appends, Consumes, Keeps}
+use Rattle.http_server.proofs.KnownLemmas.{Appends-then, Consumes-then}
+use Rattle.streetmap_connections.specs.History.{Exchange, History, MayFollow, after_receive, after_answer, after_send}
+use Rattle.streetmap_connections.specs.Leads.{Answering, Calls, Leads}
+use Rattle.streetmap_connections.specs.Moves.{Moves, Place}
+
+nothing_more : (xs : List ℕ) → xs ≡ xs ++ []
+nothing_more xs = grind (arith, common_steps)
+
+no_exchange : (es : List Exchange) → es ≡ es ++ []
+no_exchange es = grind (arith, common_steps)
+
+consumes_none : (u v : Option (List ℕ)) → v ≡ u → Consumes u v []
+consumes_none None v e = tt
+consumes_none (Some xs) v e = rw e refl
+
+keeps_none : (u v : Option (List ℕ)) → Keeps u v → Consumes u v []
+keeps_none None v k = tt
+keeps_none (Some xs) None k = absurd k
+keeps_none (Some xs) (Some ys) k = sym k
+
+appends_none : (u v : Option (List ℕ)) → v ≡ u → Appends u v []
+appends_none None v e = tt
+appends_none (Some xs) v e = rw e (nothing_more xs)
+
+kept_appends : (u v : Option (List ℕ)) → Keeps u v → Appends u v []
+kept_appends None v k = tt
+kept_appends (Some xs) None k = absurd k
+kept_appends (Some xs) (Some ys) k = k ∙ nothing_more xs
+
+pub stays_put : (p : Place) → Moves p p
+stays_put p = record {
+  more = [];
+  received = nothing_more p.history.received;
+  consumed = λ stays. (stays, consumes_none p.left p.left refl);
+  gone = [];
+  sent = nothing_more p.history.sent;
+  appended = appends_none p.held p.held refl;
+}
+
+pub moves_then : (p q r : Place) → Moves p q → Moves q r → Moves p r
+moves_then p q r a b = record {
+  more = a.more ++ b.more;
+  received = b.received ∙ (ap (λ (xs : List ℕ). xs ++ b.more) a.received ∙ append_assoc p.history.received a.more b.more);
+  consumed = λ stays. let later = b.consumed stays in let earlier = a.consumed later.0 in (earlier.0, Consumes-then p.left q.left r.left a.more b.more earlier.1 later.1);
+  gone = a.gone ++ b.gone;
+  sent = b.sent ∙ (ap (λ (xs : List ℕ). xs ++ b.gone) a.sent ∙ append_assoc p.history.sent a.gone b.gone);
+  appended = Appends-then p.held q.held r.held a.gone b.gone a.appended b.appended;
+}
+
+pub moves_to : (p q r : Place) → Moves p q → r ≡ q → Moves p r
+moves_to p q r a e = subst (λ (x : Place). Moves p x) (sym e) a
+
+-- nothing was answered
+pub no_calls : {V : Type 0} (answers : Answering V) (s : V) (es : List Exchange) → Calls answers s s es es
+no_calls answers s es = ([], no_exchange es, refl)
+
+pub leads_then : {V : Type 0} (answers : Answering V) (xs ys : List Exchange) (a b c : V) → Leads answers a xs b → Leads answers b ys c → Leads answers a (xs ++ ys) c
+leads_then answers [] ys a b c x y = rw (sym x) y
+leads_then answers (e ∷ xs) ys a b c x y = (x.0, x.1, leads_then answers xs ys x.0 b c x.2 y)
+
+pub calls_then : {V : Type 0} (answers : Answering V) (a b c : V) (xs ys zs : List Exchange) → Calls answers a b xs ys → Calls answers b c ys zs → Calls answers a c xs zs
+calls_then answers a b c xs ys zs x y =
+    (x.0 ++ y.0, y.1 ∙ (ap (λ (es : List Exchange). es ++ y.0) x.1 ∙ append_assoc xs x.0 y.0), leads_then answers x.0 y.0 a b c x.2 y.2)
+
+-- the connection read once
+pub moves_by_receive : {E : Type 0} (r : Result ℕ E) (old new : History) (left left' held held' : Option (List ℕ)) (finishes : Bool) (A : ℕ → List ℕ → Type 0)
+    → IfOk r (λ n. (more : List ℕ) × A n more × Consumes left left' more × (new ≡ after_receive old more))
+    → OnErr r ((new ≡ old) × Keeps left left') → held' ≡ held
+    → Moves (record { history = old; left = left; held = held; finishes = finishes }) (record { history = new; left = left'; held = held'; finishes = finishes })
+moves_by_receive (Ok n) old new left left' held held' finishes A ok err kept = record {
+  more = ok.0;
+  received = ap (λ (h : History). h.received) ok.3;
+  consumed = λ stays. (stays, ok.2);
+  gone = [];
+  sent = ap (λ (h : History). h.sent) ok.3 ∙ nothing_more old.sent;
+  appended = appends_none held held' kept;
+}
+moves_by_receive (Err e) old new left left' held held' finishes A ok err kept = record {
+  more = [];
+  received = ap (λ (h : History). h.received) err.0 ∙ nothing_more old.received;
+  consumed = λ stays. (stays, keeps_none left left' err.1);
+  gone = [];
+  sent = ap (λ (h : History). h.sent) err.0 ∙ nothing_more old.sent;
+  appended = appends_none held held' kept;
+}
+
+pub unanswered_by_receive : {E : Type 0} (r : Result ℕ E) (old new : History) (A : ℕ → List ℕ → Type 0) (B : List ℕ → Type 0) (K : Type 0)
+    → IfOk r (λ n. (more : List ℕ) × A n more × B more × (new ≡ after_receive old more)) → OnErr r ((new ≡ old) × K)
+    → new.exchanges ≡ old.exchanges
+unanswered_by_receive (Ok n) old new A B K ok err = ap (λ (h : History). h.exchanges) ok.3
+unanswered_by_receive (Err e) old new A B K ok err = ap (λ (h : History). h.exchanges) err.0
+
+-- the connection wrote once
+pub moves_by_send : {E : Type 0} (r : Result ℕ E) (old new : History) (left left' held held' : Option (List ℕ)) (finishes : Bool)
+    → IfOk r (λ n. (new ≡ after_send old n) × Appends held held' (take n old.unsent))
+    → OnErr r ((new ≡ old) × Keeps held held') → left' ≡ left
+    → Moves (record { history = old; left = left; held = held; finishes = finishes }) (record { history = new; left = left'; held = held'; finishes = finishes })
+moves_by_send (Ok n) old new left left' held held' finishes ok err kept = record {
+  more = [];
+  received = ap (λ (h : History). h.received) ok.0 ∙ nothing_more old.received;
+  consumed = λ stays. (stays, consumes_none left left' kept);
+  gone = take n old.unsent;
+  sent = ap (λ (h : History). h.sent) ok.0;
+  appended = ok.1;
+}
+moves_by_send (Err e) old new left left' held held' finishes ok err kept = record {
+  more = [];
+  received = ap (λ (h : History). h.received) err.0 ∙ nothing_more old.received;
+  consumed = λ stays. (stays, consumes_none left left' kept);
+  gone = [];
+  sent = ap (λ (h : History). h.sent) err.0 ∙ nothing_more old.sent;
+  appended = kept_appends held held' err.1;
+}
+
+pub unanswered_by_send : {E : Type 0} (r : Result ℕ E) (old new : History) (A : ℕ → Type 0) (K : Type 0)
+    → IfOk r (λ n. (new ≡ after_send old n) × A n) → OnErr r ((new ≡ old) × K)
+    → new.exchanges ≡ old.exchanges
+unanswered_by_send (Ok n) old new A K ok err = ap (λ (h : History). h.exchanges) ok.0
+unanswered_by_send (Err e) old new A K ok err = ap (λ (h : History). h.exchanges) err.0
+
+-- the service was asked once
+pub moves_by_answer : (is_request : List ℕ → Type 0) (r : Bool) (old new : History) (left held : Option (List ℕ)) (finishes : Bool) (A : Exchange → Type 0) (K : Type 0)
+    → OnTrue r ((e : Exchange) × MayFollow is_request old e × A e × (new ≡ after_answer old e)) → OnFalse r ((new ≡ old) × K)
+    → Moves (record { history = old; left = left; held = held; finishes = finishes }) (record { history = new; left = left; held = held; finishes = finishes })
+moves_by_answer is_request true old new left held finishes A K on off = record {
+  more = [];
+  received = ap (λ (h : History). h.received) on.3 ∙ nothing_more old.received;
+  consumed = λ stays. (stays, consumes_none left left refl);
+  gone = [];
+  sent = ap (λ (h : History). h.sent) on.3 ∙ nothing_more old.sent;
+  appended = appends_none held held refl;
+}
+moves_by_answer is_request false old new left held finishes A K on off = record {
+  more = [];
+  received = ap (λ (h : History). h.received) off.0 ∙ nothing_more old.received;
+  consumed = λ stays. (stays, consumes_none left left refl);
+  gone = [];
+  sent = ap (λ (h : History). h.sent) off.0 ∙ nothing_more old.sent;
+  appended = appends_none held held refl;
+}
+
+pub calls_by_answer : {V : Type 0} (is_request : List ℕ → Type 0) (answers : Answering V) (r : Bool) (old new : History) (s s' : V)
+    → OnTrue r ((e : Exchange) × MayFollow is_request old e × answers s e.request e.text e.closes s' × (new ≡ after_answer old e)) → OnFalse r ((new ≡ old) × (s' ≡ s))
+    → Calls answers s s' old.exchanges new.exchanges
+calls_by_answer is_request answers true old new s s' on off = (on.0 ∷ [], ap (λ (h : History). h.exchanges) on.3, (s', on.2, refl))
+calls_by_answer is_request answers false old new s s' on off = ([], ap (λ (h : History). h.exchanges) off.0 ∙ no_exchange old.exchanges, off.1)
+
+is_not_false : (b : Bool) → b ≡ true → ¬ (b ≡ false)
+is_not_false true e f = search rules
+is_not_false false e f = search rules
+
+-- the client begins to drop what is still read
+pub moves_by_finish : (h : History) (left left' held held' : Option (List ℕ)) (before after : Bool) → after ≡ true → held' ≡ held
+    → Moves (record { history = h; left = left; held = held; finishes = before }) (record { history = h; left = left'; held = held'; finishes = after })
+moves_by_finish h left left' held held' before after finishes kept = record {
+  more = [];
+  received = nothing_more h.received;
+  consumed = λ stays. absurd (is_not_false after finishes stays);
+  gone = [];
+  sent = nothing_more h.sent;
+  appended = appends_none held held' kept;
+}

@@ -1,0 +1,21 @@
+-- The history of the buffers of a connection.
+use Rattle.std.specs.Prelude.{ℕ, List, take, drop, map, flat_map}
+use Rattle.streetmap_connections.specs.declared.buffers.Buffers.{Buffers}
+use Rattle.streetmap_connections.specs.declared.buffers.Turn.{Turn}
+use Rattle.streetmap_connections.specs.Answers.{answer_text}
+use Rattle.streetmap_connections.specs.History.{Exchange, History}
+use Rattle.streetmap_connections.specs.Outgoings.{unsent_of}
+
+abbrev pub exchange_of : List ℕ → Turn → Exchange
+exchange_of input t = record { request = take t.len input; text = answer_text t.answer; closes = t.closes }
+
+abbrev pub history_of : Buffers → History
+history_of b = record {
+  received = flat_map (λ r. drop r.1 r.0.items) b.reads.items;
+  ended = b.ended;
+  unread = b.input.items;
+  exchanges = map (λ t. exchange_of t.0.items t.1) b.turns.items;
+  closes = b.closes;
+  sent = flat_map (λ w. take w.1 (unsent_of w.0)) b.writes.items;
+  unsent = unsent_of b.outgoing;
+}

@@ -1,0 +1,31 @@
+-- What a contract sees of a client.
+use Rattle.std.specs.Prelude.{◌≡◌, ◌-◌, ◌<◌, ℕ, List, [], Option, if◌then◌else◌}
+use Rattle.streetmap_connections.specs.declared.client.Client.{Client}
+use Rattle.streetmap_connections.specs.declared.client.TheConstants.{LAST_PATIENCE}
+use Rattle.streetmap_connections.specs.Connections.{history}
+use Rattle.streetmap_connections.specs.History.{Exchange, IsInOrder}
+use Rattle.streetmap_connections.specs.Moves.{Place}
+
+module _ {S : Type 0} where
+  abbrev pub place_of : (S → Option (List ℕ)) → (S → Option (List ℕ)) → Client S → Place
+  place_of remaining contents c = record {
+    history = history c.connection;
+    left = remaining c.stream;
+    held = contents c.stream;
+    finishes = c.finishes;
+  }
+
+  abbrev pub exchanges_of : Client S → List Exchange
+  exchanges_of c = (history c.connection).exchanges
+
+  -- what the client sent is answered in order, and what was answered is what it is sent
+  abbrev pub IsOrderly : Client S → Type 0
+  IsOrderly c = ∥ IsInOrder (history c.connection) ∥₁
+
+  -- nothing that came waits for an answer, and no answer waits to be sent
+  abbrev pub IsAtRest : Client S → Type 0
+  IsAtRest c = ((history c.connection).unread ≡ []) × ((history c.connection).unsent ≡ [])
+
+  -- the client took longer than the patience, or than the last one where all was sent
+  abbrev pub IsLate : ℕ → ℕ → Client S → Type 0
+  IsLate now patience c = (if c.finishes then LAST_PATIENCE else patience) < now - c.since

@@ -1,0 +1,263 @@
+//! A connection and its stream.
+ghost use Rattle.std.specs.Prelude.{◌≡◌, ◌≤◌, ◌↔◌, [], true, false, length, IsTrue};
+ghost use Rattle.std.specs.Bool.{OnTrue};
+ghost use Rattle.streetmap_connections.specs.Connections.{history};
+ghost use Rattle.streetmap_connections.specs.Moves.{Moves};
+ghost use Rattle.streetmap_connections.specs.Leads.{Calls};
+
+use crate::connection::Connection;
+use crate::service::Service;
+use crate::stream::Stream;
+use std::alloc::Global;
+use std::io;
+use std::io::ErrorKind;
+
+/// The steps that a client takes before the next one has its turn.
+const STEPS: usize = 16;
+
+/// The milliseconds that a client may take to end its side once all was sent.
+const LAST_PATIENCE: u64 = 1_000;
+
+/// What a client can do next.
+#[derive(Debug, Drop, Clone, Copy, PartialEq, Eq)]
+pub enum Work {
+    /// Nothing, before its stream is ready.
+    Rests,
+    /// It can go on at once.
+    Goes,
+    /// The connection is over.
+    Ends,
+}
+
+/// A client: its stream, its connection, and what is known of them.
+#[derive(Drop)]
+pub struct Client<S> {
+    stream: S,
+    connection: Connection,
+    readable: bool,
+    writable: bool,
+    /// All was sent, and the end of what the other side sends is awaited.
+    finishes: bool,
+    /// When it was accepted, was last answered, or last took a byte of an answer, in milliseconds.
+    since: u64,
+}
+
+impl<S: Stream> Client<S> {
+    ghost use Rattle.streetmap_connections.specs.History.{new_history};
+    ghost use Rattle.streetmap_connections.specs.Clients.{place_of, exchanges_of, IsLate};
+
+    /// A client of this stream, from this time on, in milliseconds.
+    pub fn new(alloc: Global, stream: S, now: u64) -> Client<S>
+        ensures { place_of S.remaining S.contents result
+            ≡ record { history = new_history; left = S.remaining stream; held = S.contents stream; finishes = false } }
+    {
+        Client {
+            stream,
+            connection: Connection::new(alloc),
+            readable: true,
+            writable: true,
+            finishes: false,
+            since: now,
+        }
+    }
+
+    /// The stream alone, once the client is over.
+    pub fn into_stream(self) -> S {
+        let Client { stream, .. } = self;
+        stream
+    }
+
+    /// Its stream became ready.
+    pub fn wake(&mut self, readable: bool, writable: bool)
+        ensures { place_of S.remaining S.contents self.new ≡ place_of S.remaining S.contents self.old }
+    {
+        self.readable = self.readable || readable;
+        self.writable = self.writable || writable;
+    }
+
+    /// Whether it took longer than `patience`, in milliseconds, to send a whole request or to take a byte of an answer;
+    /// or longer than a second to end its side once all was sent.
+    pub fn is_late(&self, now: u64, patience: u64) -> bool
+        ensures { IsTrue result ↔ IsLate now patience self.now }
+    {
+        let patience = if self.finishes {
+            LAST_PATIENCE
+        } else {
+            patience
+        };
+        now.saturating_sub(self.since) > patience
+    }
+
+    /// Whether nothing of a request came, nothing is to be sent, and its stream had nothing more to read.
+    pub fn is_idle(&self) -> bool
+        ensures unread { OnTrue result ((history self.now.connection).unread ≡ []) }
+        ensures unsent { OnTrue result ((history self.now.connection).unsent ≡ []) }
+    {
+        !self.readable && !self.finishes && self.connection.is_idle()
+    }
+
+    /// When it was accepted, was last answered, or last took a byte of an answer, in milliseconds.
+    pub fn since(&self) -> u64
+        ensures { result ≡ self.now.since }
+    {
+        self.since
+    }
+
+    /// The bytes of its input that wait for an answer.
+    pub fn waiting(&self) -> usize
+        ensures { result ≡ length (history self.now.connection).unread }
+    {
+        self.connection.waiting()
+    }
+
+    /// Takes some steps. No more is read once so many bytes of its input wait as `most_input`.
+    pub fn work<V: Service>(&mut self, service: &mut V, now: u64, most_input: usize) -> Work
+        ensures moves { Moves (place_of S.remaining S.contents self.old) (place_of S.remaining S.contents self.new) }
+        ensures calls { Calls V.answers service.old service.new (exchanges_of self.old) (exchanges_of self.new) }
+    {
+        for _step in 0..STEPS {
+            match self.step(service, now, most_input) {
+                Work::Goes => {}
+                work => return work,
+            }
+        }
+        Work::Goes
+    }
+
+    fn step<V: Service>(&mut self, service: &mut V, now: u64, most_input: usize) -> Work
+        ensures moves { Moves (place_of S.remaining S.contents self.old) (place_of S.remaining S.contents self.new) }
+        ensures calls { Calls V.answers service.old service.new (exchanges_of self.old) (exchanges_of self.new) }
+    {
+        if self.finishes {
+            return self.await_end();
+        }
+        if self.connection.wants_send() {
+            return self.send(now);
+        }
+        if self.connection.may_answer() {
+            return self.answer(service, now);
+        }
+        if self.connection.is_over() {
+            return self.finish(now);
+        }
+        self.receive(most_input)
+    }
+
+    fn send(&mut self, now: u64) -> Work
+        ensures moves { Moves (place_of S.remaining S.contents self.old) (place_of S.remaining S.contents self.new) }
+        ensures unanswered { exchanges_of self.new ≡ exchanges_of self.old }
+    {
+        if !self.writable {
+            return Work::Rests;
+        }
+        let sent = self.connection.send_to(&mut self.stream);
+        self.note_sent(sent, now)
+    }
+
+    fn note_sent(&mut self, sent: io::Result<usize>, now: u64) -> Work
+        ensures { place_of S.remaining S.contents self.new ≡ place_of S.remaining S.contents self.old }
+    {
+        match sent {
+            Ok(0) => Work::Ends,
+            Ok(_) => {
+                self.since = now;
+                Work::Goes
+            }
+            Err(e) => {
+                self.writable = !is_blocked(&e);
+                after_error(&e)
+            }
+        }
+    }
+
+    fn answer<V: Service>(&mut self, service: &mut V, now: u64) -> Work
+        requires sent { (history self.old.connection).unsent ≡ [] }
+        requires stays { (history self.old.connection).closes ≡ false }
+        ensures moves { Moves (place_of S.remaining S.contents self.old) (place_of S.remaining S.contents self.new) }
+        ensures calls { Calls V.answers service.old service.new (exchanges_of self.old) (exchanges_of self.new) }
+    {
+        let answered = self.connection.answer(service);
+        self.note_answered(answered, now)
+    }
+
+    fn note_answered(&mut self, answered: bool, now: u64) -> Work
+        ensures { place_of S.remaining S.contents self.new ≡ place_of S.remaining S.contents self.old }
+    {
+        if answered {
+            self.since = now;
+        }
+        Work::Goes
+    }
+
+    /// Reads once, where less than so much of the input waits.
+    fn receive(&mut self, most_input: usize) -> Work
+        requires { (history self.old.connection).unsent ≡ [] }
+        ensures moves { Moves (place_of S.remaining S.contents self.old) (place_of S.remaining S.contents self.new) }
+        ensures unanswered { exchanges_of self.new ≡ exchanges_of self.old }
+        ensures limit { most_input ≤ length (history self.old.connection).unread → history self.new.connection ≡ history self.old.connection }
+    {
+        if !self.readable || self.connection.waiting() >= most_input {
+            return Work::Rests;
+        }
+        let received = self.connection.receive_from(&mut self.stream);
+        self.note_received(received)
+    }
+
+    fn note_received(&mut self, received: io::Result<usize>) -> Work
+        ensures { place_of S.remaining S.contents self.new ≡ place_of S.remaining S.contents self.old }
+    {
+        match received {
+            Ok(_) => Work::Goes,
+            Err(e) => {
+                self.readable = !is_blocked(&e);
+                after_error(&e)
+            }
+        }
+    }
+
+    /// Says that nothing more is sent. What the other side still sends is read and dropped, since an unread byte could
+    /// cost it the last answer.
+    fn finish(&mut self, now: u64) -> Work
+        ensures moves { Moves (place_of S.remaining S.contents self.old) (place_of S.remaining S.contents self.new) }
+        ensures unanswered { exchanges_of self.new ≡ exchanges_of self.old }
+    {
+        if self.connection.has_ended() {
+            return Work::Ends;
+        }
+        self.stream.finish();
+        self.finishes = true;
+        self.since = now;
+        Work::Goes
+    }
+
+    fn await_end(&mut self) -> Work
+        requires { self.old.finishes ≡ true }
+        ensures moves { Moves (place_of S.remaining S.contents self.old) (place_of S.remaining S.contents self.new) }
+        ensures unanswered { exchanges_of self.new ≡ exchanges_of self.old }
+    {
+        if !self.readable {
+            return Work::Rests;
+        }
+        match self.stream.discard() {
+            Ok(0) => Work::Ends,
+            Ok(_) => Work::Goes,
+            Err(e) => {
+                self.readable = !is_blocked(&e);
+                after_error(&e)
+            }
+        }
+    }
+}
+
+fn is_blocked(e: &io::Error) -> bool {
+    e.kind() == ErrorKind::WouldBlock
+}
+
+/// A stream that is not ready is waited for, an interrupted call is made again, and any other error ends it.
+fn after_error(e: &io::Error) -> Work {
+    match e.kind() {
+        ErrorKind::WouldBlock => Work::Rests,
+        ErrorKind::Interrupted => Work::Goes,
+        _ => Work::Ends,
+    }
+}

@@ -1,0 +1,197 @@
+//! The clients of a server.
+ghost use Rattle.std.specs.Prelude.{◌≡◌, ◌<◌, [], ◌++◌, map, flat_map, length, vec_len, IfOk, IfSome};
+
+use crate::client::{Client, Work};
+use crate::limits::Limits;
+use crate::service::Service;
+use crate::slot::Slot;
+use crate::stream::Stream;
+use std::alloc::{AllocError, Global};
+
+/// The milliseconds for which a client is idle at least before another is let in in its place.
+const LEAST_IDLE: u64 = 1_000;
+
+/// The clients that are served at once, each in a place of its own.
+#[derive(Drop)]
+pub struct Clients<S> {
+    pub(crate) alloc: Global,
+    pub(crate) slots: Vec<Slot<S>>,
+    pub(crate) limits: Limits,
+    /// The bytes of input that wait for an answer, over all clients.
+    pub(crate) waiting: usize,
+    /// How many were let in, and how many ended.
+    pub(crate) begun: u64,
+    pub(crate) ended: u64,
+}
+
+/// One turn of each client.
+#[derive(Drop)]
+struct Round {
+    limits: Limits,
+    now: u64,
+    /// The bytes of input that wait for an answer, over all clients.
+    waiting: usize,
+    ended: u64,
+    goes: bool,
+}
+
+impl Round {
+    ghost use Rattle.streetmap_connections.specs.Slots.{clients_in};
+    ghost use Rattle.streetmap_connections.specs.Serving.{EachMoves, Serves, TakesTurn};
+
+    /// The client of the slot takes its turn, and leaves where it is over.
+    fn give_turn<S: Stream + Drop, V: Service>(&mut self, slot: &mut Slot<S>, service: &mut V)
+        ensures { TakesTurn S.remaining S.contents V.answers service.old service.new (clients_in slot.old) (clients_in slot.new) }
+    {
+        let others = self.waiting.saturating_sub(slot.waiting());
+        let most_input = self.limits.most_input(others);
+        match slot.take_turn(service, self.now, self.limits.patience, most_input) {
+            Work::Rests => {}
+            Work::Goes => self.goes = true,
+            Work::Ends => {
+                slot.end(self.now);
+                self.ended = self.ended.saturating_add(1);
+                self.goes = true;
+            }
+        }
+        self.waiting = others.saturating_add(slot.waiting());
+    }
+
+    /// The client of each slot takes its turn.
+    fn give_turns<S: Stream + Drop, V: Service>(&mut self, slots: &mut [Slot<S>], service: &mut V)
+        ensures serves { Serves V.answers service.old service.new (flat_map clients_in slots.old) (flat_map clients_in slots.new) }
+        ensures moves { EachMoves S.remaining S.contents (flat_map clients_in slots.old) (flat_map clients_in slots.new) }
+    {
+        for slot in slots.iter_mut() {
+            self.give_turn(slot, service);
+        }
+    }
+}
+
+impl<S: Stream + Drop> Clients<S> {
+    ghost use Rattle.streetmap_connections.specs.Clients.{exchanges_of};
+    ghost use Rattle.streetmap_connections.specs.Interleaving.{GoesOnAs};
+    ghost use Rattle.streetmap_connections.specs.Serving.{EachMoves, Serves};
+    ghost use Rattle.streetmap_connections.specs.Slots.{clients_in, clients_of, GivesWayAt};
+
+    /// No client, and room for as many as the limits allow.
+    pub fn new(alloc: Global, limits: Limits) -> Result<Clients<S>, AllocError>
+        ensures { IfOk result (λ clients. clients_of clients ≡ []) }
+    {
+        let mut slots = Vec::with_capacity(alloc, limits.clients)?;
+        for _place in 0..limits.clients {
+            slots.push(Slot::vacant())?;
+        }
+        Ok(Clients {
+            alloc,
+            slots,
+            limits,
+            waiting: 0,
+            begun: 0,
+            ended: 0,
+        })
+    }
+
+    /// How many are served at once.
+    pub fn capacity(&self) -> usize
+        ensures { result ≡ vec_len self.now.slots }
+    {
+        self.slots.len()
+    }
+
+    /// How many were let in.
+    pub fn begun(&self) -> u64
+        ensures { result ≡ self.now.begun }
+    {
+        self.begun
+    }
+
+    /// How many of them ended.
+    pub fn ended(&self) -> u64
+        ensures { result ≡ self.now.ended }
+    {
+        self.ended
+    }
+
+    /// The place for the next client: one that is free, or that of the client that is idle the longest, for more than
+    /// a second.
+    pub fn place_for_next(&self, now: u64) -> Option<usize>
+        ensures { IfSome result (λ place. GivesWayAt self.now.slots.items place) }
+    {
+        match self.first_free() {
+            Some(place) => Some(place),
+            None => self.longest_idle(now),
+        }
+    }
+
+    /// The first place without a client.
+    fn first_free(&self) -> Option<usize>
+        ensures { IfSome result (λ place. GivesWayAt self.now.slots.items place) }
+    {
+        let slots = self.slots.as_slice();
+        for (place, slot) in slots.iter().enumerate() {
+            if slot.is_free() {
+                return Some(place);
+            }
+        }
+        None
+    }
+
+    /// The place of the client that is idle the longest, where it is long enough.
+    fn longest_idle(&self, now: u64) -> Option<usize>
+        ensures { IfSome result (λ place. GivesWayAt self.now.slots.items place) }
+    {
+        let slots = self.slots.as_slice();
+        let mut found = None;
+        let mut longest = LEAST_IDLE;
+        for (place, slot) in slots.iter().enumerate() {
+            let idle = slot.idle_for(now);
+            if idle > longest {
+                longest = idle;
+                found = Some(place);
+            }
+        }
+        found
+    }
+
+    /// Lets a client in at a place that gives way: the client that is there ends.
+    pub fn let_in(&mut self, place: usize, stream: S, now: u64)
+        requires { GivesWayAt self.old.slots.items place }
+        ensures { GoesOnAs (map exchanges_of (clients_of self.old)) [] (map exchanges_of (clients_of self.new)) }
+    {
+        let client = Client::new(self.alloc, stream, now);
+        let slot = &mut self.slots[place];
+        if !slot.is_free() {
+            self.ended = self.ended.saturating_add(1);
+        }
+        slot.let_in(client, now);
+        self.begun = self.begun.saturating_add(1);
+    }
+
+    /// Notes that the stream of the client at a place became ready.
+    pub fn wake(&mut self, place: usize, readable: bool, writable: bool)
+        ensures { map exchanges_of (clients_of self.new) ≡ map exchanges_of (clients_of self.old) }
+    {
+        if place < self.slots.len() {
+            self.slots[place].wake(readable, writable);
+        }
+    }
+
+    /// Each client takes its turn, and those that are late, or over, leave. Whether one can go on at once.
+    pub fn work<V: Service>(&mut self, service: &mut V, now: u64) -> bool
+        ensures serves { Serves V.answers service.old service.new (clients_of self.old) (clients_of self.new) }
+        ensures moves { EachMoves S.remaining S.contents (clients_of self.old) (clients_of self.new) }
+    {
+        let mut round = Round {
+            limits: self.limits,
+            now,
+            waiting: self.waiting,
+            ended: 0,
+            goes: false,
+        };
+        round.give_turns(self.slots.as_mut_slice(), service);
+        self.waiting = round.waiting;
+        self.ended = self.ended.saturating_add(round.ended);
+        round.goes
+    }
+}

@@ -1,0 +1,124 @@
+//! One connection, with no input or output of its own.
+ghost use Rattle.std.specs.Prelude.{◌≡◌, ◌≤◌, ℕ, List, [], length, take, false, IfOk, OnErr};
+ghost use Rattle.std.specs.Bool.{OnTrue, OnFalse};
+ghost use Rattle.std.specs.Io.KnownBytes.{Appends, Consumes, Keeps};
+ghost use Rattle.streetmap_connections.specs.Buffers.{history_of};
+ghost use Rattle.streetmap_connections.specs.History.{Exchange, IsInOrder, MayFollow, new_history, after_receive, after_answer, after_send};
+
+use crate::buffers::Buffers;
+use crate::limits::MOST_INPUT;
+use crate::service::Service;
+use crate::stream::Stream;
+use std::alloc::Global;
+use std::io;
+
+/// What was received and not yet answered, and what was answered and not yet sent. One request is answered at a time,
+/// and the next once that answer was sent.
+#[derive(Drop)]
+pub struct Connection {
+    buffers: Buffers,
+    pub ghost in_order: { ∥ IsInOrder (history_of buffers) ∥₁ },
+}
+
+impl Connection {
+    ghost use Rattle.streetmap_connections.specs.Connections.{history};
+
+    /// Nothing received and nothing sent, which takes no memory.
+    pub fn new(alloc: Global) -> Connection
+        ensures { history result ≡ new_history }
+    {
+        Connection {
+            buffers: Buffers::new(alloc),
+        }
+    }
+
+    /// Whether an answer, or a part of one, is still to be sent.
+    pub fn wants_send(&self) -> bool
+        ensures { OnFalse result ((history self.now).unsent ≡ []) }
+    {
+        !self.buffers.outgoing.is_sent()
+    }
+
+    /// Whether the input may begin with a whole request.
+    pub fn may_answer(&self) -> bool
+        ensures sent { OnTrue result ((history self.now).unsent ≡ []) }
+        ensures stays { OnTrue result ((history self.now).closes ≡ false) }
+    {
+        !self.wants_send() && !self.buffers.closes && self.buffers.needs <= self.buffers.input.len()
+    }
+
+    /// Whether nothing more can be answered: the last answer closes the connection, or no more input can come to what
+    /// is no whole request.
+    pub fn is_over(&self) -> bool {
+        !self.wants_send()
+            && !self.may_answer()
+            && (self.buffers.closes || self.buffers.ended || self.buffers.input.len() >= MOST_INPUT)
+    }
+
+    /// Whether nothing of a request came, and nothing is to be sent.
+    pub fn is_idle(&self) -> bool
+        ensures unread { OnTrue result ((history self.now).unread ≡ []) }
+        ensures unsent { OnTrue result ((history self.now).unsent ≡ []) }
+    {
+        !self.wants_send() && self.buffers.input.is_empty()
+    }
+
+    /// The bytes of input that wait for an answer.
+    pub fn waiting(&self) -> usize
+        ensures { result ≡ length (history self.now).unread }
+    {
+        self.buffers.input.len()
+    }
+
+    /// Whether the end of the input was read.
+    pub fn has_ended(&self) -> bool
+        ensures { result ≡ (history self.now).ended }
+    {
+        self.buffers.ended
+    }
+
+    /// Reads once, where no answer waits to be sent. A read of no byte is the end of the input.
+    ///
+    /// # Errors
+    ///
+    /// As the stream's, and `OutOfMemory` where there is no room for what would come.
+    pub fn receive_from<S: Stream>(&mut self, stream: &mut S) -> io::Result<usize>
+        requires { (history self.old).unsent ≡ [] }
+        ensures ok { IfOk result (λ n. (more : List ℕ) × (length more ≡ n)
+            × Consumes (S.remaining stream.old) (S.remaining stream.new) more
+            × (history self.new ≡ after_receive (history self.old) more)) }
+        ensures err { OnErr result ((history self.new ≡ history self.old)
+            × Keeps (S.remaining stream.old) (S.remaining stream.new)) }
+        ensures kept { S.contents stream.new ≡ S.contents stream.old }
+    {
+        self.buffers.receive_from(stream)
+    }
+
+    /// Has the service answer the first request of the input, where the answer before was sent and did not close the
+    /// connection. Whether it did: else the request is not whole.
+    pub fn answer<V: Service>(&mut self, service: &mut V) -> bool
+        requires sent { (history self.old).unsent ≡ [] }
+        requires stays { (history self.old).closes ≡ false }
+        ensures answered { OnTrue result ((e : Exchange) × MayFollow V.is_request (history self.old) e
+            × V.answers service.old e.request e.text e.closes service.new
+            × (history self.new ≡ after_answer (history self.old) e)) }
+        ensures waits { OnFalse result ((history self.new ≡ history self.old) × (service.new ≡ service.old)) }
+    {
+        self.buffers.answer(service)
+    }
+
+    /// Writes once, and answers how many bytes the stream took.
+    ///
+    /// # Errors
+    ///
+    /// As the stream's; nothing is sent then.
+    pub fn send_to<S: Stream>(&mut self, stream: &mut S) -> io::Result<usize>
+        ensures ok { IfOk result (λ n. (history self.new ≡ after_send (history self.old) n)
+            × Appends (S.contents stream.old) (S.contents stream.new) (take n (history self.old).unsent)) }
+        ensures err { OnErr result ((history self.new ≡ history self.old)
+            × Keeps (S.contents stream.old) (S.contents stream.new)) }
+        ensures kept { S.remaining stream.new ≡ S.remaining stream.old }
+    {
+        self.buffers.send_to(stream)
+    }
+}

@@ -1,0 +1,43 @@
+//! What clients may take.
+ghost use Rattle.std.specs.Prelude.{◌≡◌, ◌≤◌};
+
+/// The bytes of the longest request: a head and a body. No more of a client's input is read than these and one read.
+pub const MOST_INPUT: usize = 16_384 + 8_388_608;
+
+/// The bytes of the longest head. So much of a client's input is read whatever the other clients sent.
+pub(crate) const MOST_HEAD: usize = 16_384;
+
+/// What the clients of a server may take.
+#[derive(Drop, Clone, Copy)]
+pub struct Limits {
+    /// How many are served at once; with none nobody is let in.
+    pub clients: usize,
+    /// The milliseconds that a client may take to send a whole request, or to take a byte of an answer.
+    pub patience: u64,
+    /// The bytes of input that wait for an answer, over all clients: where there are more, a client's input is read
+    /// only up to the length of a head.
+    pub most_waiting: usize,
+}
+
+impl Limits {
+    /// So many clients, half a minute, and 64 MiB.
+    pub fn of(clients: usize) -> Limits
+        ensures { result ≡ record { clients = clients; patience = 30_000; most_waiting = 67_108_864 } }
+    {
+        Limits {
+            clients,
+            patience: 30_000,
+            most_waiting: 67_108_864,
+        }
+    }
+
+    /// How much input one client may have while the others have so much.
+    pub(crate) fn most_input(&self, others: usize) -> usize
+        ensures { result ≤ MOST_INPUT }
+    {
+        self.most_waiting
+            .saturating_sub(others)
+            .max(MOST_HEAD)
+            .min(MOST_INPUT)
+    }
+}

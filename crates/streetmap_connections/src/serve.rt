@@ -1,0 +1,236 @@
+//! Clients over a listener, in one thread.
+ghost use Rattle.std.specs.Prelude.{◌≡◌, ◌≤◌, [], map, IsOk};
+ghost use Rattle.streetmap_connections.specs.Clients.{exchanges_of};
+ghost use Rattle.streetmap_connections.specs.Interleaving.{GoesOnAs};
+ghost use Rattle.streetmap_connections.specs.Serving.{Serves};
+ghost use Rattle.streetmap_connections.specs.Slots.{clients_of, GivesWayAt};
+
+use crate::clients::Clients;
+use crate::service::Service;
+use mio::net::TcpStream;
+use mio::{Events, Interest, Poll, Token};
+use std::alloc::{AllocError, Global};
+use std::io;
+use std::io::ErrorKind;
+use std::net::{Net, TcpListener};
+use std::time::{Clock, Duration, Instant};
+
+/// The events that one wait gives at most.
+const MOST_EVENTS: usize = 256;
+
+/// A wait ends after so many milliseconds, so that late clients are seen.
+const LONGEST_WAIT: u64 = 1_000;
+
+/// Why the serving ended early.
+#[derive(Debug, Drop, Clone, Copy, PartialEq, Eq)]
+pub enum ServeFault {
+    /// No client could be accepted, or the sockets could not be waited for.
+    Net,
+    /// Memory was refused before a client was accepted.
+    Memory,
+}
+
+impl From<io::Error> for ServeFault {
+    fn from(e: io::Error) -> ServeFault {
+        match e.kind() {
+            ErrorKind::OutOfMemory => ServeFault::Memory,
+            _ => ServeFault::Net,
+        }
+    }
+}
+
+impl From<AllocError> for ServeFault {
+    fn from(_e: AllocError) -> ServeFault {
+        ServeFault::Memory
+    }
+}
+
+/// The listener, and what waits for it and the clients' sockets.
+#[derive(Drop)]
+struct Door {
+    poll: Poll,
+    listener: mio::net::TcpListener,
+    /// The token of the listener; a lower one is the place of a client.
+    token: usize,
+    /// How many clients are to be let in over all.
+    count: u64,
+    /// Whether someone may wait to be accepted.
+    knocks: bool,
+}
+
+/// Who was at the door.
+#[derive(Drop)]
+enum Knock {
+    Client(TcpStream),
+    /// One who left, or who could not be waited for.
+    Lost,
+    Nobody,
+}
+
+impl Door {
+    /// Has `listener` be waited for. From here on a call of `accept` on it does not wait.
+    fn new<R: Net>(
+        rt: &R,
+        listener: &TcpListener,
+        token: usize,
+        count: u64,
+    ) -> Result<Door, ServeFault> {
+        let poll = Poll::new(rt)?;
+        let listener = listener.try_clone()?;
+        listener.set_nonblocking(true)?;
+        let mut listener = mio::net::TcpListener::from_std(listener);
+        poll.registry()
+            .register(&mut listener, Token(token), Interest::READABLE)?;
+        Ok(Door {
+            poll,
+            listener,
+            token,
+            count,
+            knocks: true,
+        })
+    }
+
+    /// Waits until a socket is ready, and notes of each whose it is.
+    fn wait(
+        &mut self,
+        events: &mut Events<Global>,
+        clients: &mut Clients<TcpStream>,
+        longest: u64,
+    ) -> Result<(), ServeFault>
+        ensures { map exchanges_of (clients_of clients.new) ≡ map exchanges_of (clients_of clients.old) }
+    {
+        self.poll
+            .poll(events, Some(Duration::from_millis(longest)))?;
+        for event in events.iter() {
+            let Token(place) = event.token();
+            if place == self.token {
+                self.knocks = true;
+            }
+            clients.wake(
+                place,
+                event.is_readable() || event.is_error(),
+                event.is_writable() || event.is_error(),
+            );
+        }
+        Ok(())
+    }
+
+    /// Lets in who waits, as far as there are places.
+    fn let_in(&mut self, clients: &mut Clients<TcpStream>, now: u64) -> Result<(), ServeFault>
+        ensures { GoesOnAs (map exchanges_of (clients_of clients.old)) [] (map exchanges_of (clients_of clients.new)) }
+    {
+        for _knock in 0..self.token {
+            if !self.knocks || clients.begun() >= self.count {
+                return Ok(());
+            }
+            let Some(place) = clients.place_for_next(now) else {
+                return Ok(());
+            };
+            if !self.let_next_in(clients, place, now)? {
+                return Ok(());
+            }
+        }
+        Ok(())
+    }
+
+    /// Lets in who comes next, at a place. Whether another may follow at once.
+    fn let_next_in(
+        &mut self,
+        clients: &mut Clients<TcpStream>,
+        place: usize,
+        now: u64,
+    ) -> Result<bool, ServeFault>
+        requires { GivesWayAt clients.old.slots.items place }
+        ensures { GoesOnAs (map exchanges_of (clients_of clients.old)) [] (map exchanges_of (clients_of clients.new)) }
+    {
+        match self.accept(place) {
+            Ok(Knock::Client(stream)) => {
+                clients.let_in(place, stream, now);
+                Ok(true)
+            }
+            Ok(Knock::Lost) => Ok(true),
+            Ok(Knock::Nobody) => {
+                self.knocks = false;
+                Ok(false)
+            }
+            // Where sockets are used up, one is free once a client has ended.
+            Err(_) if clients.ended() < clients.begun() => Ok(false),
+            Err(e) => Err(e.into()),
+        }
+    }
+
+    /// Accepts the next client, under the token of its place.
+    fn accept(&self, place: usize) -> io::Result<Knock> {
+        match self.listener.accept() {
+            Ok((mut stream, _)) => {
+                let _ = stream.set_nodelay(true);
+                let both = Interest::READABLE | Interest::WRITABLE;
+                let registered = self
+                    .poll
+                    .registry()
+                    .register(&mut stream, Token(place), both);
+                match registered {
+                    Ok(()) => Ok(Knock::Client(stream)),
+                    Err(_) => Ok(Knock::Lost),
+                }
+            }
+            Err(e) => match e.kind() {
+                ErrorKind::WouldBlock => Ok(Knock::Nobody),
+                ErrorKind::Interrupted | ErrorKind::ConnectionAborted => Ok(Knock::Lost),
+                _ => Err(e),
+            },
+        }
+    }
+
+    /// Lets in who waits, and each client takes its turn. Whether one can go on at once.
+    fn round<V: Service>(
+        &mut self,
+        clients: &mut Clients<TcpStream>,
+        service: &mut V,
+        now: u64,
+    ) -> Result<bool, ServeFault>
+        ensures { Serves V.answers service.old service.new (clients_of clients.old) (clients_of clients.new) }
+    {
+        self.let_in(clients, now)?;
+        Ok(clients.work(service, now))
+    }
+}
+
+/// Serves clients of a listener, many at once, until so many ended that were let in. A client that fails, is late, or
+/// has no memory for its input ends alone.
+///
+/// From here on a call of `accept` on the listener does not wait.
+///
+/// # Errors
+///
+/// `Net` where no client can be accepted while there is none, or the sockets cannot be waited for, and `Memory` where
+/// there is no room for what is waited for.
+pub fn serve_connections<R: Net + Clock, V: Service>(
+    rt: &R,
+    listener: &TcpListener,
+    count: u64,
+    clients: &mut Clients<TcpStream>,
+    service: &mut V,
+) -> Result<(), ServeFault>
+    // There is one list of exchanges along which the service was led, each answered in the state that the one before
+    // left; it goes on from any interleaving of the clients' own lists before as one of their lists after.
+    ensures serves { Serves V.answers service.old service.new (clients_of clients.old) (clients_of clients.new) }
+    ensures counted { IsOk result → count ≤ clients.new.ended }
+{
+    let mut events = Events::with_capacity(clients.alloc, MOST_EVENTS)?;
+    let mut door = Door::new(rt, listener, clients.capacity(), count)?;
+    let start = Instant::now(rt)?;
+    let mut goes = true;
+    for _round in 0..u64::MAX {
+        if clients.ended() >= count {
+            return Ok(());
+        }
+        door.wait(&mut events, clients, if goes { 0 } else { LONGEST_WAIT })?;
+        goes = door.round(clients, service, millis(start.elapsed(rt)?))?;
+    }
+    Err(ServeFault::Net)
+}
+
+fn millis(time: Duration) -> u64 {
+    u64::try_from(time.as_millis()).unwrap_or(u64::MAX)
+}

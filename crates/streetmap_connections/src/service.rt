@@ -1,0 +1,67 @@
+//! What answers the requests.
+ghost use Rattle.std.specs.Prelude.{◌≡◌, ◌≤◌, ℕ, Bool, List, take, length};
+ghost use Rattle.streetmap_connections.specs.Cuts.{IfWhole};
+
+/// An answer: its head and its body, both at hand.
+#[derive(Drop)]
+pub enum Answer {
+    /// In memory of its own.
+    Made(String, String),
+    /// A fixed one, which takes no memory.
+    Fixed(&'static str, &'static str),
+}
+
+impl Answer {
+    ghost use Rattle.streetmap_connections.specs.Answers.{head_bytes, body_bytes};
+
+    /// The bytes of the head.
+    pub fn head(&self) -> &[u8]
+        ensures { result.now ≡ head_bytes self.now }
+    {
+        match self {
+            Answer::Made(head, _) => head.as_bytes(),
+            Answer::Fixed(head, _) => head.as_bytes(),
+        }
+    }
+
+    /// The bytes of the body.
+    pub fn body(&self) -> &[u8]
+        ensures { result.now ≡ body_bytes self.now }
+    {
+        match self {
+            Answer::Made(_, body) => body.as_bytes(),
+            Answer::Fixed(_, body) => body.as_bytes(),
+        }
+    }
+}
+
+/// Where the first request of some bytes ends.
+#[derive(Debug, Drop, Clone, Copy, PartialEq, Eq)]
+pub enum Cut {
+    /// So many bytes are a request.
+    Whole(usize),
+    /// The request is not whole. It cannot be before there are so many bytes of it.
+    Waits(usize),
+}
+
+/// Answers requests, for many clients.
+pub trait Service {
+    ghost use Rattle.streetmap_connections.specs.Answers.{answer_text};
+
+    // These bytes are a request, or are refused as none.
+    ghost is_request: { List ℕ → Type 0 };
+
+    // From the first state the bytes of a request are answered by a text, which closes the connection or not, and
+    // the second state is left.
+    ghost answers: { Self → List ℕ → List ℕ → Bool → Self → Type 0 };
+
+    /// Finds the first request of `input`.
+    fn cut(&self, input: &[u8]) -> Cut
+        ensures fits { IfWhole result (λ len. len ≤ length input.now) }
+        ensures request { IfWhole result (λ len. is_request (take len input.now)) };
+
+    /// Answers a request, and tells whether the connection closes behind the answer.
+    fn answer(&mut self, request: &[u8]) -> (Answer, bool)
+        requires { is_request request.now }
+        ensures { answers self.old request.now (answer_text result.0) result.1 self.new };
+}

@@ -1,0 +1,107 @@
+//! A place for one client at a time.
+ghost use Rattle.std.specs.Prelude.{◌≡◌, ◌<◌, [], ◌∷◌, ◌++◌, None, map, All};
+ghost use Rattle.std.specs.Bool.{OnTrue};
+
+use crate::client::{Client, Work};
+use crate::service::Service;
+use crate::stream::Stream;
+use http_server::Log;
+
+/// A client, and those that had its place before.
+#[derive(Drop)]
+pub(crate) struct Slot<S> {
+    pub(crate) client: Option<Client<S>>,
+    /// Those that ended, and when.
+    pub(crate) past: Log<Client<S>, u64>,
+}
+
+impl<S: Stream + Drop> Slot<S> {
+    ghost use Rattle.streetmap_connections.specs.Clients.{exchanges_of, IsLate};
+    ghost use Rattle.streetmap_connections.specs.Slots.{clients_in, present, GivesWay};
+    ghost use Rattle.streetmap_connections.specs.Serving.{TakesTurn};
+
+    pub(crate) fn vacant() -> Slot<S>
+        ensures { clients_in result ≡ [] }
+    {
+        Slot {
+            client: None,
+            past: Log::new(),
+        }
+    }
+
+    pub(crate) fn is_free(&self) -> bool
+        ensures free { OnTrue result (self.now.client ≡ None) }
+        ensures gives_way { OnTrue result (GivesWay self.now) }
+    {
+        self.client.is_none()
+    }
+
+    /// The milliseconds for which the client is idle; none where it is not, or there is none.
+    pub(crate) fn idle_for(&self, now: u64) -> u64
+        ensures { 0 < result → GivesWay self.now }
+    {
+        match &self.client {
+            Some(client) if client.is_idle() => now.saturating_sub(client.since()),
+            _ => 0,
+        }
+    }
+
+    /// The bytes of the client's input that wait for an answer.
+    pub(crate) fn waiting(&self) -> usize {
+        match &self.client {
+            Some(client) => client.waiting(),
+            None => 0,
+        }
+    }
+
+    /// Notes that the client's stream became ready.
+    pub(crate) fn wake(&mut self, readable: bool, writable: bool)
+        ensures { map exchanges_of (clients_in self.new) ≡ map exchanges_of (clients_in self.old) }
+    {
+        if let Some(client) = &mut self.client {
+            client.wake(readable, writable);
+        }
+    }
+
+    /// Ends the client, if there is one.
+    pub(crate) fn end(&mut self, now: u64)
+        ensures same { clients_in self.new ≡ clients_in self.old }
+        ensures free { self.new.client ≡ None }
+    {
+        if let Some(client) = &self.client {
+            self.past = self.past.and(client, &now);
+        }
+        self.client = None;
+    }
+
+    /// Takes a client in, and ends the one that is there.
+    pub(crate) fn let_in(&mut self, client: Client<S>, now: u64)
+        ensures { clients_in self.new ≡ clients_in self.old ++ client ∷ [] }
+    {
+        self.end(now);
+        self.client = Some(client);
+    }
+
+    /// The client takes its turn, and is ended where it is late.
+    pub(crate) fn take_turn<V: Service>(
+        &mut self,
+        service: &mut V,
+        now: u64,
+        patience: u64,
+        most_input: usize,
+    ) -> Work
+        ensures turn { TakesTurn S.remaining S.contents V.answers service.old service.new (clients_in self.old) (clients_in self.new) }
+        ensures late { All (λ c. IsLate now patience c → (result ≡ Work.Ends) × (service.new ≡ service.old)) (present self.old.client) }
+    {
+        match &mut self.client {
+            None => Work::Rests,
+            Some(client) => {
+                if client.is_late(now, patience) {
+                    Work::Ends
+                } else {
+                    client.work(service, now, most_input)
+                }
+            }
+        }
+    }
+}
