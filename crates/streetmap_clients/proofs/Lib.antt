@@ -1,1 +1,2 @@
+pub mod Surviving
 pub mod Turns

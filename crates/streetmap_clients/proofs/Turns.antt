@@ -1,18 +1,29 @@
 -- Requests that were answered one behind the other, as what the keeper stood for.
-use Rattle.std.proofs.Common.{◌≡◌, List, [], ◌∷◌, Bool, refl, sym, subst, ◌∙◌, ap}
+use Rattle.std.proofs.Common.{◌≡◌, List, [], ◌∷◌, Bool, Option, Some, refl, sym, subst, ◌∙◌, ap}
 use Rattle.mio.specs.declared.net.stream.TcpStream.{TcpStream}
 use Rattle.streetmap_batch.specs.Text.{Text}
+use Rattle.streetmap_ledger.specs.State.{State}
+use Rattle.streetmap_ledger.specs.Keep.{LeavesOnly}
 use Rattle.streetmap_connections.specs.declared.client.Client.{Client}
 use Rattle.streetmap_connections.specs.History.{Exchange}
 use Rattle.streetmap_connections.specs.Leads.{Leads}
 use Rattle.streetmap_connections.specs.Serving.{Serves}
 use Rattle.streetmap_web.specs.Exchanges as web
-use Rattle.streetmap_web.specs.Standing.{Standing, Stands}
+use Rattle.streetmap_web.specs.Standing.{Standing, Stands, of_state}
 use Rattle.streetmap_routes.specs.BaseView.{root_of}
 use Rattle.streetmap_routes.specs.declared.base.Base.{Base}
 use Rattle.streetmap_clients.specs.declared.keeper_service.KeeperService.{KeeperService}
 use Rattle.streetmap_clients.specs.Answering.{AnswersOne, Sight}
 use Rattle.streetmap_clients.specs.Serving.{AnsweredInTurn, IsAnswerTo, ServesClients}
+use Rattle.streetmap_clients.specs.Surviving.{SurvivesClients, requests_of}
+use Rattle.streetmap_clients.proofs.Surviving.{LeavesBehind, none_leaves, more_leaves, answered_first}
+
+-- what is true behind these exchanges: each was answered in turn, and what a stop may leave
+record IsBehind (root : Text) (x : Standing) (es : List Exchange) (stands : Standing → Type 0) (old new : Option State → Type 0) : Type 0 where
+  last : Standing
+  answered : AnsweredInTurn root x es last
+  standing : stands last
+  leaves : LeavesBehind x (requests_of root x es last answered) old new
 
 module _ {K : Type 0} (sight : Sight K) where
   abbrev pub Answers : KeeperService K → Text → Text → Bool → KeeperService K → Type 0
@@ -30,24 +41,47 @@ module _ {K : Type 0} (sight : Sight K) where
   base_kept old new (e ∷ es) l = base_kept l.0 new es l.2 ∙ l.1.0
 
   in_turn : (old new : KeeperService K) (es : List Exchange) → Leads Answers old es new → sight.is_clean new.keeper → (x : Standing) → StandsFor old x
-      → (last : Standing) × AnsweredInTurn (root_of old.base) x es last × StandsFor new last
-  in_turn old new [] l clean x stands = (x, refl, subst (λ (k : KeeperService K). StandsFor k x) (sym l) stands)
+      → IsBehind (root_of old.base) x es (StandsFor new) (sight.may_leave old.keeper) (sight.may_leave new.keeper)
+  in_turn old new [] l clean x stands =
+      let here : IsBehind (root_of old.base) x [] (StandsFor old) (sight.may_leave old.keeper) (sight.may_leave old.keeper)
+      = record { last = x; answered = refl; standing = stands; leaves = none_leaves x (sight.may_leave old.keeper) } in
+      subst (λ (k : KeeperService K). IsBehind (root_of old.base) x [] (StandsFor k) (sight.may_leave old.keeper) (sight.may_leave k.keeper)) (sym l) here
   in_turn old new (e ∷ es) l clean x stands =
       let one = l.1.1.answered (clean_back l.0 new es l.2 clean) x stands in
       let next = web.standing_after x one.exchange in
-      let rest = in_turn l.0 new es l.2 clean next one.standing in
+      let rest = subst (λ (b : Base). IsBehind (root_of b) next es (StandsFor new) (sight.may_leave l.0.keeper) (sight.may_leave new.keeper)) l.1.0 (in_turn l.0 new es l.2 clean next one.standing) in
       let is : IsAnswerTo (root_of old.base) x e one.exchange = record { is = one.is; request = one.bytes_are; text = one.text_is; closes = one.closing_is } in
-      (rest.0, (one.exchange, is, subst (λ (b : Base). AnsweredInTurn (root_of b) next es rest.0) l.1.0 rest.1), rest.2)
-
-  pub serves_clients : (old new : KeeperService K) (before after : List (Client TcpStream)) → Serves Answers old new before after
-      → sight.is_clean new.keeper → (x : Standing) → StandsFor old x → ServesClients (root_of old.base) x (StandsFor new) before after
-  serves_clients old new before after s clean x stands =
-      let turns = in_turn old new s.exchanges s.leads clean x stands in
+      let requests = requests_of (root_of old.base) next es rest.last rest.answered in
       record {
-        exchanges = s.exchanges;
-        interleaved = s.interleaved;
-        in_order = s.in_order;
-        last = turns.0;
-        answered = turns.1;
-        standing = turns.2;
+        last = rest.last;
+        answered = (one.exchange, is, rest.answered);
+        standing = rest.standing;
+        leaves = more_leaves x one.exchange requests (sight.may_leave old.keeper) (sight.may_leave l.0.keeper) (sight.may_leave new.keeper) one.leaves rest.leaves;
       }
+
+  module _ (old new : KeeperService K) (before after : List (Client TcpStream)) (s : Serves Answers old new before after) (clean : sight.is_clean new.keeper) where
+    pub serves_clients : (x : Standing) → StandsFor old x → ServesClients (root_of old.base) x (StandsFor new) before after
+    serves_clients x stands =
+        let turns = in_turn old new s.exchanges s.leads clean x stands in
+        record {
+          exchanges = s.exchanges;
+          interleaved = s.interleaved;
+          in_order = s.in_order;
+          last = turns.last;
+          answered = turns.answered;
+          standing = turns.standing;
+        }
+
+    pub survives_clients : (t : State) → sight.stands old.keeper t → LeavesOnly (sight.may_leave old.keeper) (Some t)
+        → SurvivesClients (root_of old.base) t (StandsFor new) (sight.may_leave new.keeper) before after
+    unfolding serves_clients
+    survives_clients t stands only =
+        let turns = in_turn old new s.exchanges s.leads clean (of_state t) stands in
+        let requests = requests_of (root_of old.base) (of_state t) s.exchanges turns.last turns.answered in
+        record {
+          serves = serves_clients (of_state t) stands;
+          requests = requests;
+          are = refl;
+          answered_first = answered_first (of_state t) requests;
+          leaves = turns.leaves only;
+        }

@@ -1,9 +1,12 @@
 //! Many clients over a listener.
-ghost use Rattle.std.specs.Prelude.{◌≡◌, ◌≤◌, IsOk};
+ghost use Rattle.std.specs.Prelude.{◌≡◌, ◌≤◌, Some, IsOk};
+ghost use Rattle.streetmap_ledger.specs.State.{State};
+ghost use Rattle.streetmap_ledger.specs.Keep.{LeavesOnly};
 ghost use Rattle.streetmap_routes.specs.BaseView.{root_of};
 ghost use Rattle.streetmap_web.specs.Standing.{Standing, Stands};
 ghost use Rattle.streetmap_connections.specs.Slots.{clients_of};
 ghost use Rattle.streetmap_clients.specs.Serving.{ServesClients};
+ghost use Rattle.streetmap_clients.specs.Surviving.{SurvivesClients};
 
 use crate::keeper_service::KeeperService;
 use mio::net::TcpStream;
@@ -16,6 +19,10 @@ use streetmap_ledger::Keeper;
 ///
 /// A client that fails, or takes longer than the limits of `clients` allow, ends alone. From here on a call of `accept`
 /// on the listener does not wait.
+///
+/// After a stop, before or within any write, whatever is opened again holds the state of a beginning of the batches of
+/// all clients, in the one order in which they were answered, that contains each answered without a fault, and so each
+/// for which a byte of a 200 was written.
 ///
 /// # Errors
 ///
@@ -32,6 +39,10 @@ pub fn serve_clients<R: Net + Clock, K: Keeper>(
     // clients' own lists.
     ensures serves { K.is_clean service.new.keeper → (x : Standing) → Stands (K.stands service.old.keeper) (K.cause service.old.keeper) x →
         ServesClients (root_of service.old.base) x (Stands (K.stands service.new.keeper) (K.cause service.new.keeper)) (clients_of clients.old) (clients_of clients.new) }
+    // Where a stop could leave only the state that the keeper stood for, it may leave the state of a beginning of the
+    // batches of all clients, in the order of such a list, that contains each that was answered without a fault.
+    ensures survives { K.is_clean service.new.keeper → (s : State) → K.stands service.old.keeper s → LeavesOnly (K.may_leave service.old.keeper) (Some s) →
+        SurvivesClients (root_of service.old.base) s (Stands (K.stands service.new.keeper) (K.cause service.new.keeper)) (K.may_leave service.new.keeper) (clients_of clients.old) (clients_of clients.new) }
     ensures began_clean { K.is_clean service.new.keeper → K.is_clean service.old.keeper }
     ensures base { service.new.base ≡ service.old.base }
     ensures counted { IsOk result → count ≤ clients.new.ended }

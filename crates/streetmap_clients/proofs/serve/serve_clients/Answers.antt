@@ -1,6 +1,6 @@
 use Rattle.streetmap_connections.specs.Slots.{clients_of}
 use Rattle.streetmap_clients.specs.Answering.{Sight}
-use Rattle.streetmap_clients.proofs.Turns.{base_kept, clean_back, serves_clients}
+use Rattle.streetmap_clients.proofs.Turns.{base_kept, clean_back, serves_clients, survives_clients}
 use Rattle.streetmap_clients.proofs.serve.serve_clients.Given.{Over}
 use Rattle.streetmap_clients.proofs.serve.serve_clients.Goals as goal
 
@@ -18,6 +18,12 @@ unfolding sight_of
 returns-clause-serves g c clean x stands =
     serves_clients (sight_of g) c.args.service.now c.serve_connections.new.service (clients_of c.args.clients.now) (clients_of c.serve_connections.new.clients)
     c.serve_connections.ensures.serves clean x stands
+
+pub returns-clause-survives : goal.returns-clause-survives
+unfolding sight_of
+returns-clause-survives g c clean s stands only =
+    survives_clients (sight_of g) c.args.service.now c.serve_connections.new.service (clients_of c.args.clients.now) (clients_of c.serve_connections.new.clients)
+    c.serve_connections.ensures.serves clean s stands only
 
 pub returns-clause-began_clean : goal.returns-clause-began_clean
 unfolding sight_of
