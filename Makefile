@@ -2,7 +2,7 @@
 SHELL := /bin/bash
 PROGRAM := crates/streetmap/out/streetmap
 
-.PHONY: serve try demo build test rows program file refusals bench
+.PHONY: serve try demo build test rows program load file refusals bench
 
 # Proves and builds the program, makes the file where it is missing, and serves it: make serve FILE=town.streetmap PORT=8080
 FILE ?= town.streetmap
@@ -34,15 +34,20 @@ test: toolchain
 	RT_JOBS=$(LANES) rt ci
 	python3 tests/rows.py $(PROGRAM)
 	python3 tests/program.py $(PROGRAM)
+	python3 tests/load.py $(PROGRAM)
 	python3 tests/file.py $(PROGRAM)
 
-# The rows of the formats, run through the built program, each over a ledger of its own.
+# The rows of the formats and of HTTP, run through the built program, each over a ledger or a file of its own.
 rows: build
 	python3 tests/rows.py $(PROGRAM)
 
 # The commands over a file, run as the built program: imports and exports, answers over a pipe and over sockets, exit statuses, a hard stop.
 program: build
 	python3 tests/program.py $(PROGRAM)
+
+# Many clients at once: idle and slow ones, ones that vanish or never read, and more than there may be.
+load: build
+	python3 tests/load.py $(PROGRAM)
 
 # A file that the program wrote, read by SQLite itself (Python's sqlite3): its integrity, its tables and their rows.
 file: build
@@ -74,6 +79,7 @@ refusals: build
 bench: build
 	python3 bench/lines.py $(PROGRAM)
 	python3 bench/tables.py $(PROGRAM)
+	python3 bench/clients.py $(PROGRAM)
 	@cd crates/streetmap_bench && rt run < stdin > /dev/null 2>&1
 	python3 bench/collections.py crates/streetmap_bench/out/streetmap_bench
 	python3 bench/serving.py crates/streetmap_bench/out/streetmap_bench

@@ -1,14 +1,18 @@
-"""Runs the rows of examples/rows.jsonl through the built program, each over a ledger of its own, and batches at
-their limits.
+"""Runs the rows of examples/ through the built program: those of lines (rows.jsonl), each over a ledger of its own, and those
+of HTTP (http.jsonl), each over a file of its own; and batches and bodies at their limits.
 
     python3 tests/rows.py PROGRAM
 
-A row has the lines that are sent and the last answer that is wanted, by the rules of the formats.
+A row of lines has the lines that are sent and the last answer that is wanted. A row of HTTP has the batches that are there
+before, the bytes of the requests, and all bytes of the answers that are wanted.
 """
 import json
 import subprocess
 import sys
+import tempfile
 from pathlib import Path
+
+EXAMPLES = Path(__file__).parent.parent / "examples"
 
 LAMPS = 'batch {"key":"b1","edits":[{"op":"open","collection":"lamps"}]}'
 
@@ -48,17 +52,65 @@ def limits():
            '{"features":[%s],"numberMatched":100000,"numberReturned":2}' % shown)
 
 
+def post(body):
+    return f"POST /batches HTTP/1.1\r\nHost: localhost\r\nContent-Length: {len(body)}\r\n\r\n{body}"
+
+
+def answer(status, body, fields=""):
+    return f"HTTP/1.1 {status}\r\nContent-Type: application/json\r\nContent-Length: {len(body)}\r\n{fields}\r\n{body}"
+
+
+def http_limits():
+    """A body of as many bytes as there may be and of one more, and so a batch of edits."""
+    yield ("a body at the limit", [], post(" " * 8_388_608),
+           answer("400 Bad Request", '{"code":"bad_batch","description":"The batch cannot be read."}'))
+    yield ("a body over the limit", [], post(" " * 8_388_609),
+           answer("413 Payload Too Large", '{"code":"body_too_large","description":"The body is too large."}', "Connection: close\r\n"))
+    lamps = LAMPS.removeprefix("batch ")
+    turns = [{"op": "insert", "collection": "lamps", "feature": {"type": "Feature", "id": "T", "geometry": None}},
+             {"op": "delete", "collection": "lamps", "id": "T"}] * 5001
+    yield ("a batch at the limit", [lamps], post(json.dumps({"key": "m", "edits": turns[:10_000]})),
+           answer("200 OK", '{"deleted":5000,"inserted":5000,"key":"m","opened":0,"replaced":0,"serial":2}'))
+    yield ("a batch over the limit", [lamps], post(json.dumps({"key": "m", "edits": turns[:10_001]})),
+           answer("400 Bad Request", '{"code":"too_many_edits","description":"The batch has more than 10000 edits."}'))
+
+
+def piped(file, sent):
+    return subprocess.run([sys.argv[1], "pipe", file], input=sent.encode(), capture_output=True, check=True).stdout.decode()
+
+
+def written(before, sent):
+    """What is written over a new file in which these batches were accepted."""
+    with tempfile.TemporaryDirectory() as folder:
+        file = f"{folder}/rows.streetmap"
+        subprocess.run([sys.argv[1], "create", file], check=True)
+        for body in before:
+            if not piped(file, post(body)).startswith("HTTP/1.1 200 OK\r\n"):
+                return f"no batch was accepted before: {body[:200]}"
+        return piped(file, sent)
+
+
+def rows_of(name):
+    return [json.loads(line) for line in (EXAMPLES / name).read_text().splitlines()]
+
+
 def main():
-    rows = Path(__file__).parent.parent / "examples" / "rows.jsonl"
-    told = [(row["lines"], row["answer"]) for row in map(json.loads, rows.read_text().splitlines())]
+    told = [(row["lines"], row["answer"]) for row in rows_of("rows.jsonl")]
     told += limits()
     failed = 0
-    for lines, answer in told:
+    for lines, wanted in told:
         last = last_answer(lines)
-        if last != answer:
+        if last != wanted:
             failed += 1
-            print(f"at {[line[:200] for line in lines]}: {last[:300]} is not {answer[:300]}")
-    print(f"{len(told) - failed} passed, {failed} failed")
+            print(f"at {[line[:200] for line in lines]}: {last[:300]} is not {wanted[:300]}")
+    asked = [(row["what"], row["before"], row["sent"], row["written"]) for row in rows_of("http.jsonl")]
+    asked += http_limits()
+    for what, before, sent, wanted in asked:
+        got = written(before, sent)
+        if got != wanted:
+            failed += 1
+            print(f"{what}: {got[:600]!r} is not {wanted[:600]!r}")
+    print(f"{len(told) + len(asked) - failed} passed, {failed} failed")
     sys.exit(1 if failed else 0)
 
 

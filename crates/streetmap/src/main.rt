@@ -38,8 +38,17 @@ fn run(rt: &HostRuntime) -> Result<(), ProgramFault> {
             port,
             count,
             clients,
+            log,
             base,
-        } => serve_file(rt, file, port, count, clients, base.as_str()),
+        } => {
+            let connections = Connections {
+                port,
+                count: count.map_or(u64::MAX, u64::from),
+                clients,
+                log,
+            };
+            serve_file(rt, file, connections, base.as_str())
+        }
         Command::Import {
             file,
             text,
@@ -82,46 +91,48 @@ fn pipe_file(rt: &HostRuntime, file: &str, base: &str) -> Result<(), ProgramFaul
     ProgramFault::of_stream(served.end)
 }
 
-/// Serves so many connections to a port of this host, or any number of them, of so many clients at once.
-fn serve_file(
-    rt: &HostRuntime,
-    file: &str,
+/// Which connections are served: those to a port of this host, so many of them, of so many clients at once, and
+/// whether a line is written for each answer.
+#[derive(Drop, Clone, Copy)]
+struct Connections {
     port: u16,
-    count: Option<u32>,
+    count: u64,
     clients: u32,
-    base: &str,
-) -> Result<(), ProgramFault> {
+    log: bool,
+}
+
+/// Serves connections over a file.
+fn serve_file(rt: &HostRuntime, file: &str, connections: Connections, base: &str) -> Result<(), ProgramFault> {
     let base = Base::new(rt.alloc(), base)?;
-    let keeper = files::open(rt, file)?;
+    let mut keeper = files::open(rt, file)?;
+    let port = connections.port;
     let listener = TcpListener::bind(rt, (Ipv4Addr::LOCALHOST, port)).map_err(
         |_| ProgramFault::Net,
     )?;
     println!(rt; "listening 127.0.0.1:{port}").map_err(|_| ProgramFault::WriteFailed)?;
-    let count = count.map_or(u64::MAX, u64::from);
-    if clients == 1 {
-        let mut keeper = keeper;
-        Ok(serve_count_over_tables(rt.alloc(), &listener, count, &mut keeper, &base)?)
+    if connections.clients == 1 && !connections.log {
+        Ok(serve_count_over_tables(rt.alloc(), &listener, connections.count, &mut keeper, &base)?)
     } else {
-        serve_at_once(rt, &listener, count, clients, keeper, base)
+        serve_at_once(rt, &listener, connections, keeper, base)
     }
 }
 
-/// Serves so many connections of a listener, of so many clients at once.
+/// Serves the clients of a listener, many at once.
 fn serve_at_once(
     rt: &HostRuntime,
     listener: &TcpListener,
-    count: u64,
-    clients: u32,
+    connections: Connections,
     keeper: FileKeeper<Unknown>,
     base: Base,
 ) -> Result<(), ProgramFault> {
-    let mut clients = Clients::new(rt.alloc(), Limits::of(clients as usize))?;
+    let mut clients = Clients::new(rt.alloc(), Limits::of(connections.clients as usize))?;
     let mut service = KeeperService {
         alloc: rt.alloc(),
         keeper,
         base,
+        log: connections.log.then(|| rt.stderr()),
     };
-    Ok(serve_clients(rt, listener, count, &mut clients, &mut service)?)
+    Ok(serve_clients(rt, listener, connections.count, &mut clients, &mut service)?)
 }
 
 /// Puts the features of a text into a collection by one batch, and prints its reply.

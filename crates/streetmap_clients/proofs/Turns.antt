@@ -25,27 +25,27 @@ record IsBehind (root : Text) (x : Standing) (es : List Exchange) (stands : Stan
   standing : stands last
   leaves : LeavesBehind x (requests_of root x es last answered) old new
 
-module _ {K : Type 0} (sight : Sight K) where
-  abbrev pub Answers : KeeperService K → Text → Text → Bool → KeeperService K → Type 0
+module _ {K W : Type 0} (sight : Sight K) where
+  abbrev pub Answers : KeeperService K W → Text → Text → Bool → KeeperService K W → Type 0
   Answers old request text closes new = (new.base ≡ old.base) × AnswersOne sight (root_of old.base) old.keeper request text closes new.keeper
 
-  abbrev pub StandsFor : KeeperService K → Standing → Type 0
+  abbrev pub StandsFor : KeeperService K W → Standing → Type 0
   StandsFor k x = Stands (sight.stands k.keeper) (sight.cause k.keeper) x
 
-  pub clean_back : (old new : KeeperService K) (es : List Exchange) → Leads Answers old es new → sight.is_clean new.keeper → sight.is_clean old.keeper
-  clean_back old new [] l clean = subst (λ (k : KeeperService K). sight.is_clean k.keeper) l clean
+  pub clean_back : (old new : KeeperService K W) (es : List Exchange) → Leads Answers old es new → sight.is_clean new.keeper → sight.is_clean old.keeper
+  clean_back old new [] l clean = subst (λ (k : KeeperService K W). sight.is_clean k.keeper) l clean
   clean_back old new (e ∷ es) l clean = l.1.1.began_clean (clean_back l.0 new es l.2 clean)
 
-  pub base_kept : (old new : KeeperService K) (es : List Exchange) → Leads Answers old es new → new.base ≡ old.base
-  base_kept old new [] l = ap (λ (k : KeeperService K). k.base) l
+  pub base_kept : (old new : KeeperService K W) (es : List Exchange) → Leads Answers old es new → new.base ≡ old.base
+  base_kept old new [] l = ap (λ (k : KeeperService K W). k.base) l
   base_kept old new (e ∷ es) l = base_kept l.0 new es l.2 ∙ l.1.0
 
-  in_turn : (old new : KeeperService K) (es : List Exchange) → Leads Answers old es new → sight.is_clean new.keeper → (x : Standing) → StandsFor old x
+  in_turn : (old new : KeeperService K W) (es : List Exchange) → Leads Answers old es new → sight.is_clean new.keeper → (x : Standing) → StandsFor old x
       → IsBehind (root_of old.base) x es (StandsFor new) (sight.may_leave old.keeper) (sight.may_leave new.keeper)
   in_turn old new [] l clean x stands =
       let here : IsBehind (root_of old.base) x [] (StandsFor old) (sight.may_leave old.keeper) (sight.may_leave old.keeper)
       = record { last = x; answered = refl; standing = stands; leaves = none_leaves x (sight.may_leave old.keeper) } in
-      subst (λ (k : KeeperService K). IsBehind (root_of old.base) x [] (StandsFor k) (sight.may_leave old.keeper) (sight.may_leave k.keeper)) (sym l) here
+      subst (λ (k : KeeperService K W). IsBehind (root_of old.base) x [] (StandsFor k) (sight.may_leave old.keeper) (sight.may_leave k.keeper)) (sym l) here
   in_turn old new (e ∷ es) l clean x stands =
       let one = l.1.1.answered (clean_back l.0 new es l.2 clean) x stands in
       let next = web.standing_after x one.exchange in
@@ -59,7 +59,7 @@ module _ {K : Type 0} (sight : Sight K) where
         leaves = more_leaves x one.exchange requests (sight.may_leave old.keeper) (sight.may_leave l.0.keeper) (sight.may_leave new.keeper) one.leaves rest.leaves;
       }
 
-  module _ (old new : KeeperService K) (before after : List (Client TcpStream)) (s : Serves Answers old new before after) (clean : sight.is_clean new.keeper) where
+  module _ (old new : KeeperService K W) (before after : List (Client TcpStream)) (s : Serves Answers old new before after) (clean : sight.is_clean new.keeper) where
     pub serves_clients : (x : Standing) → StandsFor old x → ServesClients (root_of old.base) x (StandsFor new) before after
     serves_clients x stands =
         let turns = in_turn old new s.exchanges s.leads clean x stands in

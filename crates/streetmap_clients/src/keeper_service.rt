@@ -6,22 +6,25 @@ ghost use Rattle.streetmap_connections.specs.Answers.{answer_text as sent_text};
 ghost use Rattle.streetmap_web.specs.Responds.{answer_text};
 ghost use Rattle.streetmap_clients.specs.Answering.{AnswersOne};
 
+use crate::log::tell;
 use std::alloc::Global;
+use std::io::Write;
 use streetmap_connections::{Answer, Cut, Service};
 use streetmap_http::{Arrival, arrival_of};
 use streetmap_ledger::Keeper;
 use streetmap_routes::Base;
 use streetmap_web::answer_request;
 
-/// A keeper, and the base of the links in its answers.
+/// A keeper, the base of the links in its answers, and where a line is written for each answer, if one is.
 #[derive(Drop)]
-pub struct KeeperService<K> {
+pub struct KeeperService<K, W> {
     pub alloc: Global,
     pub keeper: K,
     pub base: Base,
+    pub log: Option<W>,
 }
 
-impl<K: Keeper> Service for KeeperService<K> {
+impl<K: Keeper, W: Write> Service for KeeperService<K, W> {
     ghost is_request = { IsAnswered };
 
     ghost answers = { λ old request text closes new. (new.base ≡ old.base)
@@ -37,7 +40,9 @@ impl<K: Keeper> Service for KeeperService<K> {
 
     fn answer(&mut self, request: &[u8]) -> (Answer, bool) {
         let (answer, closes) = answer_request(self.alloc, &mut self.keeper, &self.base, request);
-        (passed_on(answer), closes)
+        let answer = passed_on(answer);
+        tell(self.alloc, &mut self.log, request, &answer);
+        (answer, closes)
     }
 }
 

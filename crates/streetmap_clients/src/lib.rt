@@ -2,6 +2,7 @@
 #![tactic(auto)]
 
 mod keeper_service;
+mod log;
 mod serve;
 
 pub use keeper_service::KeeperService;

@@ -10,6 +10,7 @@ ghost use Rattle.streetmap_clients.specs.Surviving.{SurvivesClients};
 
 use crate::keeper_service::KeeperService;
 use mio::net::TcpStream;
+use std::io::Write;
 use std::net::{Net, TcpListener};
 use std::time::Clock;
 use streetmap_connections::{Clients, ServeFault, serve_connections};
@@ -28,12 +29,12 @@ use streetmap_ledger::Keeper;
 ///
 /// `Net` where no client can be accepted while there is none, or sockets cannot be waited for, and `Memory` where there
 /// is no room for what is waited for.
-pub fn serve_clients<R: Net + Clock, K: Keeper>(
+pub fn serve_clients<R: Net + Clock, K: Keeper, W: Write>(
     rt: &R,
     listener: &TcpListener,
     count: u64,
     clients: &mut Clients<TcpStream>,
-    service: &mut KeeperService<K>,
+    service: &mut KeeperService<K, W>,
 ) -> Result<(), ServeFault>
     // Where the store was clean: one list of requests, answered one behind the other, which is an interleaving of the
     // clients' own lists.

@@ -1,3 +1,4 @@
 mod Adding
 mod Asked
+mod Named
 mod Numbers

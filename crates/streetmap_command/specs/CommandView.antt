@@ -8,6 +8,6 @@ abbrev pub command_value : Command → CommandValue
 command_value Lines = lines_command
 command_value (Create file) = create_command file.now
 command_value (Pipe file base) = pipe_command file.now (string_bytes base)
-command_value (Serve file port count clients base) = serve_command file.now port count clients (string_bytes base)
+command_value (Serve file port count clients log base) = serve_command file.now port count clients log (string_bytes base)
 command_value (Import file text key collection replace) = import_command file.now text.now key.now collection.now replace
 command_value (Export file collection) = export_command file.now collection.now

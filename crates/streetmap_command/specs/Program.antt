@@ -33,7 +33,7 @@ abbrev pub pipe : App
 pipe = with_rule (with_rule (new_app (codes "pipe")) file) (option (codes "base"))
 
 abbrev pub serve : App
-serve = with_rule (with_rule (with_rule (with_rule (with_rule (new_app (codes "serve")) file) (required_option (codes "port"))) (option (codes "count"))) (option (codes "clients"))) (option (codes "base"))
+serve = with_rule (with_rule (with_rule (with_rule (with_rule (with_rule (new_app (codes "serve")) file) (required_option (codes "port"))) (option (codes "count"))) (option (codes "clients"))) (flag (codes "log"))) (option (codes "base"))
 
 -- FILE, TEXT, the key, the collection, and whether features are replaced
 abbrev pub import : App
@@ -51,7 +51,7 @@ pub data CommandValue : Type 0 where
   lines_command : CommandValue
   create_command : (file : Text) → CommandValue
   pipe_command : (file base : Text) → CommandValue
-  serve_command : (file : Text) (port : ℕ) (count : Option ℕ) (clients : ℕ) (base : Text) → CommandValue
+  serve_command : (file : Text) (port : ℕ) (count : Option ℕ) (clients : ℕ) (log : Bool) (base : Text) → CommandValue
   import_command : (file text key collection : Text) (replace : Bool) → CommandValue
   export_command : (file collection : Text) → CommandValue
 
@@ -88,18 +88,18 @@ create_by rows = option_map create_command (first_of (codes "file") rows)
 abbrev pub pipe_by : List Row → Option CommandValue
 pipe_by rows = option_map (λ f. pipe_command f (unwrap_or (first_of (codes "base") rows) plain_base)) (first_of (codes "file") rows)
 
--- what serves, of what is given for its file, port, count, clients and base
-abbrev pub serve_given : (file port count clients base : Option Text) → Option CommandValue
-serve_given file port count clients base =
-    option_and_then (λ f. option_and_then (λ p. option_and_then (λ n. option_map (λ c. serve_command f p n c (unwrap_or base (base_at p))) (clients_given clients)) (count_given count)) (port_given port)) file
-
-abbrev pub serve_by : List Row → Option CommandValue
-serve_by rows = serve_given (first_of (codes "file") rows) (first_of (codes "port") rows) (first_of (codes "count") rows) (first_of (codes "clients") rows) (first_of (codes "base") rows)
-
 -- a flag is set: `clap` gives it the value `true` where it stands among the words, else `false`
 abbrev pub is_set : Option Text → Bool
 is_set None = false
 is_set (Some value) = bytes_eq value (codes "true")
+
+-- what serves, of what is given for its file, port, count, clients, flag and base
+abbrev pub serve_given : (file port count clients log base : Option Text) → Option CommandValue
+serve_given file port count clients log base =
+    option_and_then (λ f. option_and_then (λ p. option_and_then (λ n. option_map (λ c. serve_command f p n c (is_set log) (unwrap_or base (base_at p))) (clients_given clients)) (count_given count)) (port_given port)) file
+
+abbrev pub serve_by : List Row → Option CommandValue
+serve_by rows = serve_given (first_of (codes "file") rows) (first_of (codes "port") rows) (first_of (codes "count") rows) (first_of (codes "clients") rows) (first_of (codes "log") rows) (first_of (codes "base") rows)
 
 -- what imports, of what is given for its file, text, key, collection and flag
 abbrev pub import_given : (file text key collection replace : Option Text) → Option CommandValue

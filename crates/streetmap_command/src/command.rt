@@ -27,12 +27,13 @@ pub enum Command<'a> {
         base: String,
     },
     /// `streetmap serve FILE`: serve so many connections to a port of this host, or any number of them; so many
-    /// clients at once, 1 to 1,024.
+    /// clients at once, 1 to 1,024; with `log` a line on standard error for each answer.
     Serve {
         file: &'a str,
         port: u16,
         count: Option<u32>,
         clients: u32,
+        log: bool,
         base: String,
     },
     /// `streetmap import FILE TEXT`: put the features of the file `text` into a collection by one batch,
@@ -158,6 +159,7 @@ fn read_serve<'a>(alloc: Global, found: &ArgMatches<'a>) -> Result<Command<'a>, 
         port,
         count,
         clients,
+        log: has_flag(found, "log"),
         base,
     })
 }

@@ -64,6 +64,7 @@ fn make_serve<'a>(alloc: Global) -> Result<Command<'a>, AllocError>
         .arg(required_arg(alloc, "port"))?
         .arg(option_arg(alloc, "count"))?
         .arg(option_arg(alloc, "clients"))?
+        .arg(flag_arg(alloc, "log"))?
         .arg(option_arg(alloc, "base"))
 }
 

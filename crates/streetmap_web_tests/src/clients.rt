@@ -12,6 +12,10 @@ const ASKED: &[u8] = b"GET /conformance HTTP/1.1\r\nHost: localhost\r\n\r\n";
 const ANSWERED: &[u8] =
     b"HTTP/1.1 200 OK\r\nContent-Type: application/json\r\nContent-Length: 64\r\n\r\n{\"conformsTo\":[\"tag:streetmap.invalid,2024:conf/grid-features\"]}";
 
+/// A line for each of two answers.
+const LOGGED: &[u8] =
+    b"\"GET /conformance HTTP/1.1\" 200 64\n\"GET /conformance HTTP/1.1\" 200 64\n";
+
 /// A client that has sent so much.
 fn client(rt: &HostRuntime, listener: &TcpListener, sent: &[u8]) -> Result<TcpStream, Fail> {
     let client = TcpStream::connect(rt, listener.local_addr()?)?;
@@ -44,6 +48,7 @@ fn idle_and_slow_clients_hold_up_nobody(rt: HostRuntime) -> Result<(), Fail> {
         alloc: rt.alloc(),
         keeper: PlainKeeper::new(rt.alloc()),
         base,
+        log: Some(Vec::new(rt.alloc())),
     };
     let _idle = client(&rt, &listener, b"")?;
     let _slow = client(&rt, &listener, b"GET /conf")?;
@@ -54,6 +59,8 @@ fn idle_and_slow_clients_hold_up_nobody(rt: HostRuntime) -> Result<(), Fail> {
     let served = serve_clients(&rt, &listener, 4, &mut clients, &mut service);
     assert!(rt; served.is_ok());
     assert_eq!(rt; clients.ended(), 4);
+    let log = service.log.ok_or("no log")?;
+    assert_eq!(rt; log.as_slice(), LOGGED);
     assert_eq!(rt; answer(&rt, &asks)?.as_slice(), ANSWERED);
     assert_eq!(rt; answer(&rt, &waits)?.as_slice(), ANSWERED);
     Ok(())

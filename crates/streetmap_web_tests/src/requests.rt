@@ -1,10 +1,9 @@
 //! What the tests share: requests, the answers that are wanted, and serving them over a new keeper.
 use std::alloc::Global;
-use std::process::Abort;
 use std::test::Fail;
 use streetmap_memory::PlainKeeper;
 use streetmap_routes::Base;
-use streetmap_web::{End, Served, serve};
+use streetmap_web::{Served, serve};
 
 /// The first batch: it opens a collection of lamps and inserts one.
 pub(crate) const FIRST: &str =
@@ -35,14 +34,6 @@ pub(crate) fn answer(alloc: Global, status: &str, kind: &str, body: &str) -> Res
     )?)
 }
 
-/// An error that closes the connection.
-pub(crate) fn closing(alloc: Global, status: &str, body: &str) -> Result<String, Fail> {
-    let len = body.len();
-    Ok(format!(in alloc;
-        "HTTP/1.1 {status}\r\nContent-Type: application/json\r\nContent-Length: {len}\r\nConnection: close\r\n\r\n{body}"
-    )?)
-}
-
 /// Serves a stream over this keeper. Answers what was served and what was written.
 pub(crate) fn serve_over(
     alloc: Global,
@@ -54,38 +45,4 @@ pub(crate) fn serve_over(
     let mut written: Vec<u8> = Vec::new(alloc);
     let served = serve(alloc, keeper, &base, &mut reader, &mut written);
     Ok((served, String::from_utf8(written)?))
-}
-
-/// Wants this of a stream over a new keeper: so many answers, how serving ends, and the bytes that are written.
-pub(crate) fn check(
-    rt: &impl Abort,
-    alloc: Global,
-    input: &str,
-    answers: u64,
-    end: End,
-    wanted: &str,
-) -> Result<(), Fail> {
-    let mut keeper = PlainKeeper::new(alloc);
-    let (served, written) = serve_over(alloc, &mut keeper, input.as_bytes())?;
-    assert_eq!(rt; written.as_str(), wanted, "at {input}");
-    assert_eq!(rt; served, Served { answers, end }, "at {input}");
-    Ok(())
-}
-
-/// Posts a batch to a new keeper, sends a request behind it, and wants this answer to that.
-pub(crate) fn check_behind(
-    rt: &impl Abort,
-    alloc: Global,
-    batch: &str,
-    request: &str,
-    wanted: &str,
-) -> Result<(), Fail> {
-    let mut keeper = PlainKeeper::new(alloc);
-    let posted = post(alloc, batch)?;
-    let (served, _) = serve_over(alloc, &mut keeper, posted.as_bytes())?;
-    assert_eq!(rt; served.answers, 1);
-    let (served, written) = serve_over(alloc, &mut keeper, request.as_bytes())?;
-    assert_eq!(rt; written.as_str(), wanted, "at {request}");
-    assert_eq!(rt; served.end, End::Ended, "at {request}");
-    Ok(())
 }

@@ -1,5 +1,4 @@
 //! Streams, however they come: cut at every byte, a byte at a time and all at once.
-use crate::answers::{LAMP, LAMPS};
 use crate::requests::{FIRST, FIRST_REPLY, answer, get, post, serve_over};
 use std::alloc::Global;
 use std::io::{self, BufReader, Read};
@@ -8,6 +7,13 @@ use streetmap_ledger::Keeper;
 use streetmap_memory::PlainKeeper;
 use streetmap_routes::Base;
 use streetmap_web::{End, Served, serve};
+
+/// The collection and the feature of the first batch, as they are answered.
+const LAMPS: &str =
+    r#"{"crs":["tag:streetmap.invalid,2024:crs/grid-mm"],"extent":{"spatial":{"bbox":[[1000,2000,1000,2000]],"crs":"tag:streetmap.invalid,2024:crs/grid-mm"}},"id":"lamps","links":[{"href":"http://localhost/collections/lamps","rel":"self","type":"application/json"},{"href":"http://localhost/collections/lamps/items","rel":"items","type":"application/geo+json"}],"title":"lamps"}"#;
+
+const LAMP: &str =
+    r#"{"geometry":{"coordinates":[1000,2000],"type":"Point"},"id":"L1","links":[{"href":"http://localhost/collections/lamps/items/L1","rel":"self","type":"application/geo+json"},{"href":"http://localhost/collections/lamps","rel":"collection","type":"application/json"}],"properties":null,"type":"Feature"}"#;
 
 /// A reader that gives a byte at a time.
 #[derive(Drop)]

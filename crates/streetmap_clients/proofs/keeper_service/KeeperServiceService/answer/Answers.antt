@@ -18,4 +18,4 @@ returns g c =
     let said = c.answer_request-answer in
     let one : AnswersOne sight (root_of kept.base) kept.keeper c.args.request.now (answer_text said.result.0) said.result.1 said.new.keeper
     = record { answered = said.ensures.answers; told = said.ensures.told; began_clean = said.ensures.began_clean } in
-    (refl, subst (λ (t : Text). AnswersOne sight (root_of kept.base) kept.keeper c.args.request.now t said.result.1 said.new.keeper) (sym c.passed_on.ensures) one)
+    (refl, subst (λ (t : Text). AnswersOne sight (root_of kept.base) kept.keeper c.args.request.now t said.result.1 said.new.keeper) (sym c.passed_on-answer.ensures) one)
