@@ -1,0 +1,5 @@
+pub mod Calls
+pub mod Pairing
+pub mod Known
+pub mod Replies
+pub mod Steps
