@@ -3,3 +3,5 @@ pub mod Pairing
 pub mod Known
 pub mod Replies
 pub mod Steps
+pub mod Places
+pub mod Following

@@ -11,6 +11,9 @@ use std::alloc::Global;
 use std::collections::BTreeMap;
 use streetmap_batch::Edit;
 
+/// How many edits of a batch are followed at most.
+const MOST_FOLLOWED: usize = 64;
+
 /// Keeps what is known of a collection, where memory for it is there.
 pub fn keep(
     alloc: Global,
@@ -41,18 +44,37 @@ fn collection_of(edit: &Edit) -> &str
     }
 }
 
-/// Follows an edit that was done.
-fn follow_edit(index: &mut BTreeMap<String, OutlinedCollection>, edit: &Edit)
+/// Forgets the collection of an edit that was done.
+fn forget(index: &mut BTreeMap<String, OutlinedCollection>, edit: &Edit)
     ensures { (s t : State) → step s (edit_value edit.now) ≡ Ok t → IsIndexOf index.old s → IsIndexOf index.new t }
 {
     let _ = index.remove(collection_of(edit));
 }
 
-/// Follows edits that were done.
-pub fn follow(index: &mut BTreeMap<String, OutlinedCollection>, edits: &[Edit])
+/// Follows an edit that was done. Where memory is refused for that, its collection is forgotten.
+fn follow_edit(alloc: Global, index: &mut BTreeMap<String, OutlinedCollection>, edit: &Edit)
+    ensures { (s t : State) → step s (edit_value edit.now) ≡ Ok t → IsIndexOf index.old s → IsIndexOf index.new t }
+{
+    let name = collection_of(edit);
+    let Some(mut outlined) = index.remove(name) else {
+        return;
+    };
+    if outlined.follow(alloc, edit).is_ok() {
+        keep(alloc, index, name, outlined);
+    }
+}
+
+/// Follows edits that were done. Where they are many, their collections are forgotten, since each one that
+/// is followed may move all outlines of its collection.
+pub fn follow(alloc: Global, index: &mut BTreeMap<String, OutlinedCollection>, edits: &[Edit])
     ensures { (s t : State) (place : ℕ) → edited place s (edit_values edits.now) ≡ Ok t → IsIndexOf index.old s → IsIndexOf index.new t }
 {
+    let few = edits.len() <= MOST_FOLLOWED;
     for edit in edits {
-        follow_edit(index, edit);
+        if few {
+            follow_edit(alloc, index, edit);
+        } else {
+            forget(index, edit);
+        }
     }
 }

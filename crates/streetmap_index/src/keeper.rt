@@ -107,7 +107,7 @@ impl<K: Keeper> Keeper for IndexedKeeper<K> {
     fn apply(&mut self, batch: &Batch) -> Result<Reply, Fault> {
         match self.keeper.apply(batch) {
             Ok(Reply::Accepted(counts, serial)) => {
-                follow(&mut self.index, batch.edits());
+                follow(self.alloc, &mut self.index, batch.edits());
                 Ok(Reply::Accepted(counts, serial))
             }
             Ok(reply) => Ok(reply),

@@ -6,6 +6,7 @@ use Rattle.streetmap_ledger.specs.Batches.{edited}
 use Rattle.streetmap_index.specs.Index.{IsIndexOf}
 use Rattle.streetmap_index.proofs.Replies.{first_done, none_done}
 use Rattle.streetmap_index.proofs.index.follow.Goals as goal
+use Rattle.streetmap_index.proofs.index.follow.Goals.{then-few, else-few}
 
 -- the edit that comes next
 turn : (es : List Edit) (i : ℕ) (e : Edit) → i < length es → e ≡ get_or es i e → drop i es ≡ e ∷ drop (i + 1) es
@@ -21,7 +22,11 @@ loop-edit-preserved c = λ s t place done index.
     let e = c.edit-item.result in
     let so = c.loop-edit.invariant s t place done index in
     let next = first_done so.1 so.0 t (edit_value e) (edit_values (drop (i + 1) es)) (subst (λ (l : List Edit). edited so.1 so.0 (edit_values l) ≡ Ok t) (turn es i e (omega arith) c.edit-item.is) so.2) in
-    (next.0, so.1 + 1, next.2, c.follow_edit.ensures so.0 next.0 next.1 so.3)
+    let index_then : IsIndexOf c.if-few.index next.0 = elim c.if-few.branch [
+      | then-few w ↦ rw w.index-is (w.follow_edit.ensures so.0 next.0 next.1 so.3)
+      | else-few w ↦ rw w.index-is (w.forget.ensures so.0 next.0 next.1 so.3)
+    ] in
+    (next.0, so.1 + 1, next.2, index_then)
 
 pub returns : goal.returns
 returns c = λ s t place done index.
