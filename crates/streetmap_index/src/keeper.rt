@@ -81,6 +81,23 @@ impl<K: Keeper> IndexedKeeper<K> {
             None => self.keeper.page(collection, query),
         }
     }
+
+    /// The page of a collection, which is learnt before where it is not known.
+    fn page_learnt(&mut self, collection: &str, query: &Query) -> Result<Option<Page>, Fault>
+        ensures began_clean { K.is_clean self.new.keeper → K.is_clean self.old.keeper }
+        ensures faults { ShutsBy result (K.cause self.old.keeper) (K.cause self.new.keeper) }
+        ensures shows { K.is_clean self.new.keeper → (s : State) → K.stands self.old.keeper s → IsIndexOf self.old.index s → Shows s collection.now query.now result (λ t. K.stands self.new.keeper t × IsIndexOf self.new.index t) }
+        ensures leaves { K.is_clean self.new.keeper → (s : State) → K.stands self.old.keeper s → IsIndexOf self.old.index s → LeavesOnly (K.may_leave self.old.keeper) (Some s) → LeavesOnly (K.may_leave self.new.keeper) (Some s) }
+        ensures reopen { IsErrOf result Fault.Reopen → AsBefore (K.stands self.old.keeper) (K.stands self.new.keeper) (K.may_leave self.old.keeper) (K.may_leave self.new.keeper) }
+    {
+        if self.index.contains_key(collection) {
+            return self.page_known(collection, query);
+        }
+        match self.learn(collection) {
+            Ok(()) => self.page_known(collection, query),
+            Err(fault) => Err(fault),
+        }
+    }
 }
 
 impl<K: Keeper> Keeper for IndexedKeeper<K> {
@@ -119,28 +136,52 @@ impl<K: Keeper> Keeper for IndexedKeeper<K> {
     }
 
     fn page(&mut self, collection: &str, query: &Query) -> Result<Option<Page>, Fault> {
-        if self.index.contains_key(collection) {
-            return self.page_known(collection, query);
-        }
-        match self.learn(collection) {
-            Ok(()) => self.page_known(collection, query),
-            Err(fault) => Err(fault),
+        match self.page_learnt(collection, query) {
+            Ok(page) => Ok(page),
+            Err(fault) => {
+                self.heed(fault);
+                Err(fault)
+            }
         }
     }
 
     fn feature(&mut self, collection: &str, id: &str) -> Result<Option<Feature>, Fault> {
-        self.keeper.feature(collection, id)
+        match self.keeper.feature(collection, id) {
+            Ok(found) => Ok(found),
+            Err(fault) => {
+                self.heed(fault);
+                Err(fault)
+            }
+        }
     }
 
     fn collection(&mut self, id: &str) -> Result<Option<Summary>, Fault> {
-        self.keeper.collection(id)
+        match self.keeper.collection(id) {
+            Ok(summary) => Ok(summary),
+            Err(fault) => {
+                self.heed(fault);
+                Err(fault)
+            }
+        }
     }
 
     fn collections(&mut self) -> Result<Vec<Summary>, Fault> {
-        self.keeper.collections()
+        match self.keeper.collections() {
+            Ok(summaries) => Ok(summaries),
+            Err(fault) => {
+                self.heed(fault);
+                Err(fault)
+            }
+        }
     }
 
     fn outlines(&mut self, collection: &str) -> Result<Option<Vec<FeatureOutline>>, Fault> {
-        self.keeper.outlines(collection)
+        match self.keeper.outlines(collection) {
+            Ok(outlines) => Ok(outlines),
+            Err(fault) => {
+                self.heed(fault);
+                Err(fault)
+            }
+        }
     }
 }

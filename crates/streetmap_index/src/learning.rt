@@ -21,7 +21,10 @@ fn learn_outlines<K: Keeper>(
     ensures leaves { K.is_clean keeper.new → (s : State) → K.stands keeper.old s → LeavesOnly (K.may_leave keeper.old) (Some s) → LeavesOnly (K.may_leave keeper.new) (Some s) }
 {
     match keeper.outlines(collection) {
-        Ok(Some(outlines)) => Ok(Some(OutlinedCollection { time, outlines })),
+        Ok(Some(mut outlines)) => {
+            outlines.shrink_to_fit();
+            Ok(Some(OutlinedCollection { time, outlines }))
+        }
         Ok(None) => Ok(None),
         Err(Fault::Memory) => Ok(None),
         Err(fault) => Err(fault),
