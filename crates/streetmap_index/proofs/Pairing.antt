@@ -1,0 +1,114 @@
+-- The outlines of a collection's features, in the order of their ids.
+use Rattle.std.proofs.Common.{◌≡◌, List, [], ◌∷◌, ◌++◌, T, cond, None, Some, map, refl, sym, ap, ◌∙◌, append_assoc, append-nil}
+use Rattle.std.specs.List.{AllByRecursion}
+use Rattle.std.specs.Ordering.{is_eq}
+use Rattle.std.specs.declared.cmp.Ordering.{Ordering}
+use Rattle.std.specs.declared.cmp.Ordering.TheVariants.{Less, Equal, Greater}
+use Rattle.std.specs.Cmp.Lexicographic.{nat_list_cmp_total}
+use Rattle.std.specs.FinMap.{get, entries, entries_sorted, values, find, is_sorted, get-entries}
+use Rattle.std.proofs.lemmas.Cmp.{tied_itself}
+use Rattle.streetmap_geojson.specs.FeatureValue.{FeatureValue}
+use Rattle.streetmap_geojson.specs.FeatureInvariant.{IsFeature}
+use Rattle.streetmap_query.specs.QueryValue.{QueryValue}
+use Rattle.streetmap_batch.specs.Text.{Text, text_cmp}
+use Rattle.streetmap_ledger.specs.State.{Features, Collection}
+use Rattle.streetmap_ledger.specs.WellFormed.{HoldsFeatures}
+use Rattle.streetmap_ledger.specs.Outlines.{FeatureOutlineValue, feature_outline_of}
+use Rattle.streetmap_ledger.specs.OutlineView.{feature_outline_value, feature_outline_values}
+use Rattle.streetmap_ledger.specs.declared.outline.FeatureOutline.{FeatureOutline}
+use Rattle.streetmap_ledger.specs.Folds.{HoldsCandidates}
+use Rattle.streetmap_ledger.specs.declared.fold.PageFold.{PageFold}
+use Rattle.streetmap_ledger.proofs.TextMaps.{one_text, first, second, none_below}
+use Rattle.streetmap_index.specs.Index.{IsOutlineOf, AreOutlines}
+
+-- a feature under its id, as a program can hold it
+pub record IsThere (features : Features) (id : Text) (f : FeatureValue) : Type 0 where
+  pub named : f.id ≡ id
+  pub made : IsFeature f
+  pub there : get features id ≡ Some f
+
+-- an outline, and the feature that it is of
+pub record IsEntry (features : Features) (o : FeatureOutline) (f : FeatureValue) : Type 0 where
+  pub known : IsOutlineOf o f
+  pub made : IsFeature f
+  pub there : get features f.id ≡ Some f
+
+-- outlines and features, one by one
+abbrev pub Pairs : Features → List FeatureOutline → List FeatureValue → Type 0
+Pairs features [] [] = Unit {0}
+Pairs features [] (f ∷ fs) = ⊥
+Pairs features (o ∷ os) [] = ⊥
+Pairs features (o ∷ os) (f ∷ fs) = IsEntry features o f × Pairs features os fs
+
+-- ---- each entry is found under its key
+each_found : (P : Text → FeatureValue → Type 0) (es : List (Text × FeatureValue)) → T (is_sorted text_cmp es) → ((id : Text) (f : FeatureValue) → find text_cmp id es ≡ Some f → P id f) → AllByRecursion (λ e. P e.0 e.1) es
+each_found P [] up found = tt
+each_found P (e ∷ es) up found = (
+  found e.0 e.1 (ap (λ r. cond (is_eq r) (Some e.1) (find text_cmp e.0 es)) (tied_itself nat_list_cmp_total e.0)),
+  each_found P es (second _ _ up) (λ id f there. found id f (later id f there (text_cmp id e.0) refl)),
+) where
+  later : (id : Text) (f : FeatureValue) → find text_cmp id es ≡ Some f → (r : Ordering) → text_cmp id e.0 ≡ r → cond (is_eq (text_cmp id e.0)) (Some e.1) (find text_cmp id es) ≡ Some f
+  later id f there Less is = ap (λ r. cond (is_eq r) (Some e.1) (find text_cmp id es)) is ∙ there
+  later id f there Greater is = ap (λ r. cond (is_eq r) (Some e.1) (find text_cmp id es)) is ∙ there
+  later id f there Equal is =
+      let none : find text_cmp id es ≡ None = ap (λ k. find text_cmp k es) (one_text id e.0 is) ∙ none_below e.0 es (first _ _ up) in
+      cc
+
+abbrev outlines : List (Text × FeatureValue) → List FeatureOutlineValue
+outlines es = map (λ e. feature_outline_of e.0 e.1) es
+
+pairs_by : (features : Features) (os : List FeatureOutline) (xs : List (Text × FeatureValue)) → feature_outline_values os ≡ outlines xs → AllByRecursion (λ x. IsThere features x.0 x.1) xs → Pairs features os (map (λ x. x.1) xs)
+pairs_by features [] [] is h = tt
+pairs_by features [] (x ∷ xs) is h = absurd cc
+pairs_by features (o ∷ os) [] is h = absurd cc
+pairs_by features (o ∷ os) (x ∷ xs) is h =
+    let head : feature_outline_value o ≡ feature_outline_of x.0 x.1 = cc in
+    let tail : feature_outline_values os ≡ outlines xs = cc in (
+      record { known = head ∙ ap (λ id. feature_outline_of id x.1) (sym h.0.named); made = h.0.made; there = ap (get features) h.0.named ∙ h.0.there },
+      pairs_by features os xs tail h.1,
+    )
+
+pub paired : (os : List FeatureOutline) (c : Collection) → AreOutlines os c.features → HoldsFeatures c → Pairs c.features os (values c.features)
+paired os c known holds =
+    pairs_by c.features os (entries c.features) known
+    (each_found (IsThere c.features) (entries c.features) (entries_sorted c.features) (λ id f there.
+    let here = get-entries c.features id ∙ there in
+    let placed = holds id f here in
+    record { named = placed.named; made = placed.is; there = here }))
+
+-- ---- a page as far as it is made
+
+-- a page of the features met so far, and the outlines that are left
+pub record Going (q : QueryValue) (fold : PageFold) (features : Features) (rest : List FeatureOutline) : Type 0 where
+  pub met : List FeatureValue
+  pub left : List FeatureValue
+  pub whole : met ++ left ≡ values features
+  pub pairs : Pairs features rest left
+  pub holds : HoldsCandidates q fold met
+
+pub goes_on : (q : QueryValue) (old new : PageFold) (features : Features) (o : FeatureOutline) (rest : List FeatureOutline) → Going q old features (o ∷ rest)
+    → ((fs : List FeatureValue) (f : FeatureValue) → IsEntry features o f → HoldsCandidates q old fs → HoldsCandidates q new (fs ++ f ∷ [])) → Going q new features rest
+goes_on q old new features o rest going takes = by going.left going.whole going.pairs where
+  by : (left : List FeatureValue) → going.met ++ left ≡ values features → Pairs features (o ∷ rest) left → Going q new features rest
+  by [] whole pairs = absurd pairs
+  by (f ∷ fs) whole pairs = record {
+    met = going.met ++ f ∷ [];
+    left = fs;
+    whole = append_assoc going.met (f ∷ []) fs ∙ whole;
+    pairs = pairs.1;
+    holds = takes going.met f pairs.0 going.holds;
+  }
+
+-- where no outline is left all features were met
+pub all_met : (q : QueryValue) (fold : PageFold) (features : Features) → (going : Going q fold features []) → going.met ≡ values features
+all_met q fold features going = by going.left going.whole going.pairs where
+  by : (left : List FeatureValue) → going.met ++ left ≡ values features → Pairs features [] left → going.met ≡ values features
+  by [] whole pairs = sym (append-nil going.met) ∙ whole
+  by (f ∷ fs) whole pairs = absurd pairs
+
+-- the feature of the outline that comes next
+pub comes_next : (q : QueryValue) (fold : PageFold) (features : Features) (o : FeatureOutline) (rest : List FeatureOutline) → Going q fold features (o ∷ rest) → (f : FeatureValue) × IsEntry features o f
+comes_next q fold features o rest going = by going.left going.pairs where
+  by : (left : List FeatureValue) → Pairs features (o ∷ rest) left → (f : FeatureValue) × IsEntry features o f
+  by [] pairs = absurd pairs
+  by (f ∷ fs) pairs = (f, pairs.0)

@@ -1,0 +1,58 @@
+-- What the reply to a batch tells of the state after it.
+use Rattle.std.proofs.Common.{◌≡◌, ℕ, ◌+◌, List, [], ◌∷◌, Option, None, Some, Result, Ok, Err, refl, nat_eq, nat_lt}
+use Rattle.std.specs.Cmp.Lexicographic.{pointwise}
+use Rattle.std.specs.FinMap.{get, len}
+use Rattle.streetmap_batch.specs.BatchValue.{EditValue, BatchValue}
+use Rattle.streetmap_batch.specs.BatchText.{batch_text}
+use Rattle.streetmap_ledger.specs.State.{State, AcceptedBatch, step, ◌>>=◌}
+use Rattle.streetmap_ledger.specs.Batches.{Outcome, placed, edited, fresh, by_key, act, most_batches}
+use Rattle.streetmap_ledger.specs.declared.reply.Counts.{Counts}
+use Rattle.streetmap_ledger.specs.declared.reply.Refusal.{Refusal}
+use Rattle.streetmap_ledger.specs.declared.reply.Reply.TheVariants.{Accepted, Repeated, Refused}
+use Rattle.streetmap_ledger.proofs.Repeat.{either}
+
+-- the edits were done in order, and the outcome has their collections
+pub record IsDone (s : State) (b : BatchValue) (after : State) : Type 0 where
+  pub done : State
+  pub is : edited 1 s b.edits ≡ Ok done
+  pub collections : after.collections ≡ done.collections
+
+-- an outcome that is accepted did the edits, and any other left the state
+pub record Tells (s : State) (b : BatchValue) (o : Outcome) : Type 0 where
+  pub accepted : (counts : Counts) (serial : ℕ) → o.reply ≡ Accepted counts serial → IsDone s b o.state
+  pub repeated : (counts : Counts) (serial : ℕ) → o.reply ≡ Repeated counts serial → o.state ≡ s
+  pub refused : (why : Refusal) (place : Option ℕ) → o.reply ≡ Refused why place → o.state ≡ s
+
+fresh_tells : (s : State) (b : BatchValue) (serial : ℕ) (r : Result State (ℕ × Refusal)) → edited 1 s b.edits ≡ r → Tells s b (fresh s b serial r)
+fresh_tells s b serial (Ok t) is = record {
+  accepted = λ counts n e. record { done = t; is = is; collections = refl };
+  repeated = λ counts n e. absurd cc;
+  refused = λ why place e. absurd cc;
+}
+fresh_tells s b serial (Err f) is = record {
+  accepted = λ counts n e. absurd cc;
+  repeated = λ counts n e. refl;
+  refused = λ why place e. refl;
+}
+
+by_key_tells : (s : State) (b : BatchValue) (o : Option AcceptedBatch) → Tells s b (by_key s b o)
+by_key_tells s b (Some kept) = either (Tells s b) (pointwise nat_eq kept.text (batch_text b)) _ _
+    (record { accepted = λ counts n e. absurd cc; repeated = λ counts n e. refl; refused = λ why place e. refl })
+    (record { accepted = λ counts n e. absurd cc; repeated = λ counts n e. refl; refused = λ why place e. refl })
+by_key_tells s b None = either (Tells s b) (nat_lt (len s.keys) most_batches) _ _
+    (fresh_tells s b (len s.keys + 1) (edited 1 s b.edits) refl)
+    (record { accepted = λ counts n e. absurd cc; repeated = λ counts n e. refl; refused = λ why place e. refl })
+
+pub act_tells : (s : State) (b : BatchValue) → Tells s b (act s b)
+act_tells s b = by_key_tells s b (get s.keys b.key)
+
+-- ---- edits one by one
+first_by : (at : ℕ) (s t : State) (e : EditValue) (es : List EditValue) (r : Result State Refusal) → step s e ≡ r → (placed at r >>= λ u. edited (at + 1) u es) ≡ Ok t → (u : State) × (step s e ≡ Ok u) × (edited (at + 1) u es ≡ Ok t)
+first_by at s t e es (Ok u) is done = (u, is, done)
+first_by at s t e es (Err why) is done = absurd cc
+
+pub first_done : (at : ℕ) (s t : State) (e : EditValue) (es : List EditValue) → edited at s (e ∷ es) ≡ Ok t → (u : State) × (step s e ≡ Ok u) × (edited (at + 1) u es ≡ Ok t)
+first_done at s t e es done = first_by at s t e es (step s e) refl done
+
+pub none_done : (at : ℕ) (s t : State) → edited at s [] ≡ Ok t → s ≡ t
+none_done at s t done = cc

@@ -1,0 +1,10 @@
+use Rattle.streetmap_index.proofs.keeper.IndexedKeeperKeeper.outlines.Goals as goal
+
+pub returns-in-Ok-clause-leaves : goal.returns-in-Ok-clause-leaves
+returns-in-Ok-clause-leaves g c = λ h s e only. c.outlines.ensures.leaves h s e.0 only
+
+pub returns-in-Err-clause-leaves : goal.returns-in-Err-clause-leaves
+returns-in-Err-clause-leaves g c = λ h s e only.
+    let same = c.heed.ensures.keeper in
+    let clean = rw same at h in
+    rw same (c.outlines.ensures.leaves clean s e.0 only)

@@ -1,0 +1,69 @@
+-- What an index knows of collections without reading their features.
+use Rattle.std.specs.Prelude.{◌≡◌, List, [], map, Option, None, Some, String, string_bytes}
+use Rattle.std.specs.Option.{option_map}
+use Rattle.std.specs.Ordering.{is_eq}
+use Rattle.std.specs.Map.{lookup}
+use Rattle.std.specs.FinMap.{get, entries}
+use Rattle.std.specs.BTreeMap.{BTreeMap}
+use Rattle.std.specs.declared.alloc.Global.{Global}
+use Rattle.streetmap_geojson.specs.FeatureValue.{FeatureValue}
+use Rattle.streetmap_batch.specs.Text.{Text, text_cmp}
+use Rattle.streetmap_batch.specs.BatchValue as edit
+use Rattle.streetmap_batch.specs.BatchValue.{EditValue}
+use Rattle.streetmap_ledger.specs.State.{State, Collection, Features}
+use Rattle.streetmap_ledger.specs.Outlines.{feature_outline_of}
+use Rattle.streetmap_ledger.specs.OutlineView.{feature_outline_value, feature_outline_values}
+use Rattle.streetmap_ledger.specs.declared.outline.FeatureOutline.{FeatureOutline}
+use Rattle.streetmap_ledger.specs.declared.reply.Fault.{Fault}
+use Rattle.streetmap_ledger.specs.declared.reply.Fault.TheVariants.{Memory, Device, Damaged, Reopen}
+use Rattle.streetmap_index.specs.declared.outlined.OutlinedCollection.{OutlinedCollection}
+
+-- it is the outline of the feature under its id
+abbrev pub IsOutlineOf : FeatureOutline → FeatureValue → Type 0
+IsOutlineOf o f = feature_outline_value o ≡ feature_outline_of f.id f
+
+-- they are the outlines of these features, in byte order of ids
+abbrev pub AreOutlines : List FeatureOutline → Features → Type 0
+AreOutlines os features = feature_outline_values os ≡ map (λ e. feature_outline_of e.0 e.1) (entries features)
+
+-- what is known of a collection is so
+pub record IsOutlined (o : OutlinedCollection) (c : Collection) : Type 0 where
+  pub time : option_map string_bytes o.time ≡ c.time
+  pub outlines : AreOutlines o.outlines.items c.features
+
+-- and the collection is there
+abbrev pub IsOutlinedIf : OutlinedCollection → Option Collection → Type 0
+IsOutlinedIf o None = ⊥
+IsOutlinedIf o (Some c) = IsOutlined o c
+
+-- what an index knows under a name
+abbrev pub known_under : Text → List (String Global × OutlinedCollection) → Option OutlinedCollection
+known_under name known = lookup (λ key. is_eq (text_cmp name (string_bytes key))) known
+
+-- each collection that the index knows is there, and as the index knows it
+abbrev pub IsIndexOf : BTreeMap (String Global) OutlinedCollection → State → Type 0
+IsIndexOf index s = (name : Text) (o : OutlinedCollection) → known_under name index.entries ≡ Some o → IsOutlinedIf o (get s.collections name)
+
+-- what was learnt of a collection, if it was, is so
+abbrev pub Learns : State → Text → Option OutlinedCollection → Type 0
+Learns s name None = Unit {0}
+Learns s name (Some o) = IsOutlinedIf o (get s.collections name)
+
+-- if the times of its features are read from this property
+abbrev pub LearnsUnder : State → Text → Option (String Global) → Option OutlinedCollection → Type 0
+LearnsUnder s name property o =
+    (c : Collection) → get s.collections name ≡ Some c → option_map string_bytes property ≡ c.time → Learns s name o
+
+-- the collection that an edit is of
+abbrev pub collection_of : EditValue → Text
+collection_of (edit.«open» name title time) = name
+collection_of (edit.insert name f) = name
+collection_of (edit.replace name f) = name
+collection_of (edit.delete name id) = name
+
+-- where memory was refused the index stays, and a fault that shuts the keeper leaves nothing known
+abbrev pub IsHeeded : Fault → BTreeMap (String Global) OutlinedCollection → BTreeMap (String Global) OutlinedCollection → Type 0
+IsHeeded Memory old new = new ≡ old
+IsHeeded Device old new = new.entries ≡ []
+IsHeeded Damaged old new = new.entries ≡ []
+IsHeeded Reopen old new = new.entries ≡ []

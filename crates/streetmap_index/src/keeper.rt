@@ -1,0 +1,187 @@
+//! A keeper with an index.
+ghost use Rattle.std.specs.Prelude.{◌≡◌, [], Some, None, IsErr, IsErrOf};
+ghost use Rattle.streetmap_ledger.specs.State.{State};
+ghost use Rattle.streetmap_ledger.specs.Keep.{Looks, Shows, LeavesOnly, ShutsBy, AsBefore};
+ghost use Rattle.streetmap_index.specs.Index.{IsIndexOf, IsHeeded};
+
+use crate::index::{follow, keep};
+use crate::learning::learn;
+use crate::outlined::OutlinedCollection;
+use crate::page::page_with;
+use std::alloc::Global;
+use std::collections::BTreeMap;
+use streetmap_geojson::Feature;
+use streetmap_ledger::{Batch, Fault, FeatureOutline, Keeper, Page, Reply, Summary};
+use streetmap_query::Query;
+
+/// A keeper that answers the pages of another one by what it knows of the features, and reads few of them.
+/// What it knows of a collection it learns at a page, and keeps right by each batch. Where memory for that
+/// is refused the other keeper answers.
+#[derive(Drop)]
+pub struct IndexedKeeper<K> {
+    alloc: Global,
+    keeper: K,
+    index: BTreeMap<String, OutlinedCollection>,
+}
+
+impl<K: Keeper> IndexedKeeper<K> {
+    /// A keeper over this one, which knows of no collection yet.
+    pub fn new(alloc: Global, keeper: K) -> Self
+        ensures keeper { result.keeper ≡ keeper }
+        ensures index { (s : State) → IsIndexOf result.index s }
+    {
+        IndexedKeeper {
+            alloc,
+            keeper,
+            index: BTreeMap::new(alloc),
+        }
+    }
+
+    /// Forgets all, where a fault shut the keeper.
+    fn heed(&mut self, fault: Fault)
+        ensures keeper { self.new.keeper ≡ self.old.keeper }
+        ensures heeded { IsHeeded fault self.old.index self.new.index }
+    {
+        match fault {
+            Fault::Memory => {}
+            _ => self.index = BTreeMap::new(self.alloc),
+        }
+    }
+
+    /// Learns of a collection that is not known, where memory for it is there.
+    fn learn(&mut self, collection: &str) -> Result<(), Fault>
+        ensures began_clean { K.is_clean self.new.keeper → K.is_clean self.old.keeper }
+        ensures faults { ShutsBy result (K.cause self.old.keeper) (K.cause self.new.keeper) }
+        ensures learns { K.is_clean self.new.keeper → (s : State) → K.stands self.old.keeper s → IsIndexOf self.old.index s → Looks s (λ _. IsIndexOf self.new.index s) result (K.stands self.new.keeper) }
+        ensures leaves { K.is_clean self.new.keeper → (s : State) → K.stands self.old.keeper s → LeavesOnly (K.may_leave self.old.keeper) (Some s) → LeavesOnly (K.may_leave self.new.keeper) (Some s) }
+        ensures reopen { IsErrOf result Fault.Reopen → AsBefore (K.stands self.old.keeper) (K.stands self.new.keeper) (K.may_leave self.old.keeper) (K.may_leave self.new.keeper) }
+        ensures unlearnt { IsErr result → self.new.index ≡ self.old.index }
+    {
+        match learn(&mut self.keeper, collection) {
+            Ok(Some(outlined)) => {
+                keep(self.alloc, &mut self.index, collection, outlined);
+                Ok(())
+            }
+            Ok(None) => Ok(()),
+            Err(fault) => Err(fault),
+        }
+    }
+
+    /// The page of a collection by what is known of it, or else the keeper's own.
+    fn page_known(&mut self, collection: &str, query: &Query) -> Result<Option<Page>, Fault>
+        ensures began_clean { K.is_clean self.new.keeper → K.is_clean self.old.keeper }
+        ensures faults { ShutsBy result (K.cause self.old.keeper) (K.cause self.new.keeper) }
+        ensures shows { K.is_clean self.new.keeper → (s : State) → K.stands self.old.keeper s → IsIndexOf self.old.index s → Shows s collection.now query.now result (K.stands self.new.keeper) }
+        ensures leaves { K.is_clean self.new.keeper → (s : State) → K.stands self.old.keeper s → LeavesOnly (K.may_leave self.old.keeper) (Some s) → LeavesOnly (K.may_leave self.new.keeper) (Some s) }
+        ensures reopen { IsErrOf result Fault.Reopen → AsBefore (K.stands self.old.keeper) (K.stands self.new.keeper) (K.may_leave self.old.keeper) (K.may_leave self.new.keeper) }
+        ensures index { self.new.index ≡ self.old.index }
+    {
+        match self.index.get(collection) {
+            Some(outlined) => page_with(self.alloc, &mut self.keeper, collection, outlined, query),
+            None => self.keeper.page(collection, query),
+        }
+    }
+
+    /// The page of a collection, which is learnt before where it is not known.
+    fn page_learnt(&mut self, collection: &str, query: &Query) -> Result<Option<Page>, Fault>
+        ensures began_clean { K.is_clean self.new.keeper → K.is_clean self.old.keeper }
+        ensures faults { ShutsBy result (K.cause self.old.keeper) (K.cause self.new.keeper) }
+        ensures shows { K.is_clean self.new.keeper → (s : State) → K.stands self.old.keeper s → IsIndexOf self.old.index s → Shows s collection.now query.now result (λ t. K.stands self.new.keeper t × IsIndexOf self.new.index t) }
+        ensures leaves { K.is_clean self.new.keeper → (s : State) → K.stands self.old.keeper s → IsIndexOf self.old.index s → LeavesOnly (K.may_leave self.old.keeper) (Some s) → LeavesOnly (K.may_leave self.new.keeper) (Some s) }
+        ensures reopen { IsErrOf result Fault.Reopen → AsBefore (K.stands self.old.keeper) (K.stands self.new.keeper) (K.may_leave self.old.keeper) (K.may_leave self.new.keeper) }
+    {
+        if self.index.contains_key(collection) {
+            return self.page_known(collection, query);
+        }
+        match self.learn(collection) {
+            Ok(()) => self.page_known(collection, query),
+            Err(fault) => Err(fault),
+        }
+    }
+}
+
+impl<K: Keeper> Keeper for IndexedKeeper<K> {
+    ghost use Rattle.streetmap_index.specs.Index.{IsIndexOf};
+
+    ghost stands = { λ k s. K.stands k.keeper s × IsIndexOf k.index s };
+
+    ghost may_leave = { λ k. K.may_leave k.keeper };
+
+    ghost cause = { λ k. K.cause k.keeper };
+
+    ghost is_clean = { λ k. K.is_clean k.keeper };
+
+    ghost applies = { λ k b result after. K.applies k.keeper b result after.keeper };
+
+    ghost one_state = { λ k s t p q. K.one_state k.keeper s t p.0 q.0 };
+
+    ghost shut_has_none = { λ k s shut stands. K.shut_has_none k.keeper s shut stands.0 };
+
+    ghost may_leave_it = { λ k s stands. K.may_leave_it k.keeper s stands.0 };
+
+    ghost well_formed = { λ k s stands. K.well_formed k.keeper s stands.0 };
+
+    fn apply(&mut self, batch: &Batch) -> Result<Reply, Fault> {
+        match self.keeper.apply(batch) {
+            Ok(Reply::Accepted(counts, serial)) => {
+                follow(self.alloc, &mut self.index, batch.edits());
+                Ok(Reply::Accepted(counts, serial))
+            }
+            Ok(reply) => Ok(reply),
+            Err(fault) => {
+                self.heed(fault);
+                Err(fault)
+            }
+        }
+    }
+
+    fn page(&mut self, collection: &str, query: &Query) -> Result<Option<Page>, Fault> {
+        match self.page_learnt(collection, query) {
+            Ok(page) => Ok(page),
+            Err(fault) => {
+                self.heed(fault);
+                Err(fault)
+            }
+        }
+    }
+
+    fn feature(&mut self, collection: &str, id: &str) -> Result<Option<Feature>, Fault> {
+        match self.keeper.feature(collection, id) {
+            Ok(found) => Ok(found),
+            Err(fault) => {
+                self.heed(fault);
+                Err(fault)
+            }
+        }
+    }
+
+    fn collection(&mut self, id: &str) -> Result<Option<Summary>, Fault> {
+        match self.keeper.collection(id) {
+            Ok(summary) => Ok(summary),
+            Err(fault) => {
+                self.heed(fault);
+                Err(fault)
+            }
+        }
+    }
+
+    fn collections(&mut self) -> Result<Vec<Summary>, Fault> {
+        match self.keeper.collections() {
+            Ok(summaries) => Ok(summaries),
+            Err(fault) => {
+                self.heed(fault);
+                Err(fault)
+            }
+        }
+    }
+
+    fn outlines(&mut self, collection: &str) -> Result<Option<Vec<FeatureOutline>>, Fault> {
+        match self.keeper.outlines(collection) {
+            Ok(outlines) => Ok(outlines),
+            Err(fault) => {
+                self.heed(fault);
+                Err(fault)
+            }
+        }
+    }
+}

@@ -1,0 +1,51 @@
+//! What is known of a collection, learnt from a keeper.
+ghost use Rattle.std.specs.Prelude.{◌≡◌, Some, None, IsErrOf};
+ghost use Rattle.streetmap_ledger.specs.State.{State};
+ghost use Rattle.streetmap_ledger.specs.Keep.{Looks, LeavesOnly, ShutsBy, AsBefore};
+ghost use Rattle.streetmap_index.specs.Index.{Learns, LearnsUnder};
+
+use crate::outlined::OutlinedCollection;
+use streetmap_ledger::{Fault, Keeper};
+
+/// The outlines of an open keeper's collection, beside the property that the times are read from; none
+/// where the collection is not there, or memory for them is refused.
+fn learn_outlines<K: Keeper>(
+    keeper: &mut K,
+    collection: &str,
+    time: Option<String>,
+) -> Result<Option<OutlinedCollection>, Fault>
+    requires is_open { K.cause keeper.old ≡ None }
+    ensures began_clean { K.is_clean keeper.new → K.is_clean keeper.old }
+    ensures faults { ShutsBy result None (K.cause keeper.new) }
+    ensures learns { K.is_clean keeper.new → (s : State) → K.stands keeper.old s → Looks s (LearnsUnder s collection.now time) result (K.stands keeper.new) }
+    ensures leaves { K.is_clean keeper.new → (s : State) → K.stands keeper.old s → LeavesOnly (K.may_leave keeper.old) (Some s) → LeavesOnly (K.may_leave keeper.new) (Some s) }
+{
+    match keeper.outlines(collection) {
+        Ok(Some(mut outlines)) => {
+            outlines.shrink_to_fit();
+            Ok(Some(OutlinedCollection { time, outlines }))
+        }
+        Ok(None) => Ok(None),
+        Err(Fault::Memory) => Ok(None),
+        Err(fault) => Err(fault),
+    }
+}
+
+/// What is known of a collection; none where it is not there, or memory for it is refused.
+pub fn learn<K: Keeper>(
+    keeper: &mut K,
+    collection: &str,
+) -> Result<Option<OutlinedCollection>, Fault>
+    ensures began_clean { K.is_clean keeper.new → K.is_clean keeper.old }
+    ensures faults { ShutsBy result (K.cause keeper.old) (K.cause keeper.new) }
+    ensures learns { K.is_clean keeper.new → (s : State) → K.stands keeper.old s → Looks s (Learns s collection.now) result (K.stands keeper.new) }
+    ensures leaves { K.is_clean keeper.new → (s : State) → K.stands keeper.old s → LeavesOnly (K.may_leave keeper.old) (Some s) → LeavesOnly (K.may_leave keeper.new) (Some s) }
+    ensures reopen { IsErrOf result Fault.Reopen → AsBefore (K.stands keeper.old) (K.stands keeper.new) (K.may_leave keeper.old) (K.may_leave keeper.new) }
+{
+    match keeper.collection(collection) {
+        Ok(Some(summary)) => learn_outlines(keeper, collection, summary.time),
+        Ok(None) => Ok(None),
+        Err(Fault::Memory) => Ok(None),
+        Err(fault) => Err(fault),
+    }
+}

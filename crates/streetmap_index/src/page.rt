@@ -1,0 +1,145 @@
+//! A page by outlines.
+ghost use Rattle.std.specs.Prelude.{◌≡◌, ◌∷◌, ◌++◌, [], List, Some, None, IsTrue, true, false, IsErrOf};
+ghost use Rattle.std.specs.FinMap.{get};
+ghost use Rattle.streetmap_geojson.specs.FeatureValue.{FeatureValue};
+ghost use Rattle.streetmap_geojson.specs.FeatureInvariant.{IsFeature};
+ghost use Rattle.streetmap_query.specs.Views.{query_value};
+ghost use Rattle.streetmap_ledger.specs.State.{State};
+ghost use Rattle.streetmap_ledger.specs.Pages.{is_candidate as is_candidate_of};
+ghost use Rattle.streetmap_ledger.specs.Folds.{Holds, HoldsCandidates};
+ghost use Rattle.streetmap_ledger.specs.Keep.{Looks, Shows, LeavesOnly, ShutsBy, AsBefore};
+ghost use Rattle.streetmap_index.specs.Index.{IsOutlineOf, IsOutlinedIf};
+ghost use Rattle.streetmap_index.specs.Taking.{TakesRead, IsOutlinedPage};
+
+use crate::outlined::OutlinedCollection;
+use crate::selection::{comes_after, is_candidate, is_selected};
+use std::alloc::Global;
+use streetmap_ledger::{Fault, FeatureOutline, Keeper, Page, PageFold};
+use streetmap_query::Query;
+
+/// Counts the candidate that comes next, where its outline tells that it is selected and the page does not
+/// show it, and answers whether it did.
+fn count_unread(query: &Query, fold: &mut PageFold<'_>, outline: &FeatureOutline) -> bool
+    ensures counted { IsTrue result → (fs : List FeatureValue) (f : FeatureValue) → IsOutlineOf outline.now f → IsFeature f → Holds (query_value query.now) fold.old fs → Holds (query_value query.now) fold.new (fs ++ f ∷ []) }
+    ensures unchanged { result ≡ false → fold.new ≡ fold.old }
+{
+    if !is_selected(query, outline) {
+        return false;
+    }
+    let behind = comes_after(query, outline);
+    if behind && !fold.is_full() {
+        return false;
+    }
+    fold.count_hidden(behind);
+    true
+}
+
+/// Takes the feature that comes next, where its outline tells enough, and answers whether it did.
+/// Otherwise the feature is a candidate, and has to be taken itself.
+fn take_unread(query: &Query, fold: &mut PageFold<'_>, outline: &FeatureOutline) -> bool
+    ensures taken { IsTrue result → (fs : List FeatureValue) (f : FeatureValue) → IsOutlineOf outline.now f → IsFeature f → HoldsCandidates (query_value query.now) fold.old fs → HoldsCandidates (query_value query.now) fold.new (fs ++ f ∷ []) }
+    ensures unchanged { result ≡ false → fold.new ≡ fold.old }
+    ensures candidate { result ≡ false → (f : FeatureValue) → IsOutlineOf outline.now f → is_candidate_of (query_value query.now) f ≡ true }
+{
+    !is_candidate(query, outline) || count_unread(query, fold, outline)
+}
+
+/// Takes the feature with this id, which comes next, as the keeper has it, and answers whether it is there.
+fn take_read<K: Keeper>(
+    keeper: &mut K,
+    collection: &str,
+    id: &str,
+    fold: &mut PageFold<'_>,
+) -> Result<bool, Fault>
+    ensures began_clean { K.is_clean keeper.new → K.is_clean keeper.old }
+    ensures faults { ShutsBy result (K.cause keeper.old) (K.cause keeper.new) }
+    ensures takes { K.is_clean keeper.new → (s : State) → K.stands keeper.old s → Looks s (TakesRead s collection.now id.now fold.old fold.new) result (K.stands keeper.new) }
+    ensures leaves { K.is_clean keeper.new → (s : State) → K.stands keeper.old s → LeavesOnly (K.may_leave keeper.old) (Some s) → LeavesOnly (K.may_leave keeper.new) (Some s) }
+{
+    match keeper.feature(collection, id) {
+        Ok(Some(feature)) => match fold.take(feature) {
+            Ok(()) => Ok(true),
+            Err(_) => Err(Fault::Memory),
+        },
+        Ok(None) => Ok(false),
+        Err(fault) => Err(fault),
+    }
+}
+
+/// The page of an open keeper's collection by the outlines of its features; none where one of these is not
+/// there.
+fn page_by_outlines<K: Keeper>(
+    alloc: Global,
+    keeper: &mut K,
+    collection: &str,
+    outlines: &[FeatureOutline],
+    query: &Query,
+) -> Result<Option<Page>, Fault>
+    requires is_open { K.cause keeper.old ≡ None }
+    ensures began_clean { K.is_clean keeper.new → K.is_clean keeper.old }
+    ensures faults { ShutsBy result None (K.cause keeper.new) }
+    ensures shows { K.is_clean keeper.new → (s : State) → K.stands keeper.old s → Looks s (IsOutlinedPage s collection.now (query_value query.now) outlines.now) result (K.stands keeper.new) }
+    ensures leaves { K.is_clean keeper.new → (s : State) → K.stands keeper.old s → LeavesOnly (K.may_leave keeper.old) (Some s) → LeavesOnly (K.may_leave keeper.new) (Some s) }
+{
+    let mut fold = PageFold::new(alloc, query);
+    for outline in outlines {
+        if take_unread(query, &mut fold, outline) {
+            continue;
+        }
+        match take_read(keeper, collection, outline.id.as_str(), &mut fold) {
+            Ok(true) => {}
+            Ok(false) => return Ok(None),
+            Err(fault) => return Err(fault),
+        }
+    }
+    match fold.end(alloc) {
+        Ok(page) => Ok(Some(page)),
+        Err(_) => Err(Fault::Memory),
+    }
+}
+
+/// Asks the keeper whether it is open, by a look-up of an id that no feature has.
+fn ask<K: Keeper>(keeper: &mut K, collection: &str) -> Result<(), Fault>
+    ensures began_clean { K.is_clean keeper.new → K.is_clean keeper.old }
+    ensures faults { ShutsBy result (K.cause keeper.old) (K.cause keeper.new) }
+    ensures stays { K.is_clean keeper.new → (s : State) → K.stands keeper.old s → Looks s (λ _. Unit {0}) result (K.stands keeper.new) }
+    ensures leaves { K.is_clean keeper.new → (s : State) → K.stands keeper.old s → LeavesOnly (K.may_leave keeper.old) (Some s) → LeavesOnly (K.may_leave keeper.new) (Some s) }
+    ensures reopen { IsErrOf result Fault.Reopen → AsBefore (K.stands keeper.old) (K.stands keeper.new) (K.may_leave keeper.old) (K.may_leave keeper.new) }
+{
+    match keeper.feature(collection, "") {
+        Ok(_) => Ok(()),
+        Err(fault) => Err(fault),
+    }
+}
+
+/// The page of a collection by what is known of it.
+pub fn page_with<K: Keeper>(
+    alloc: Global,
+    keeper: &mut K,
+    collection: &str,
+    outlined: &OutlinedCollection,
+    query: &Query,
+) -> Result<Option<Page>, Fault>
+    ensures began_clean { K.is_clean keeper.new → K.is_clean keeper.old }
+    ensures faults { ShutsBy result (K.cause keeper.old) (K.cause keeper.new) }
+    ensures shows { K.is_clean keeper.new → (s : State) → K.stands keeper.old s → IsOutlinedIf outlined.now (get s.collections collection.now) → Shows s collection.now query.now result (K.stands keeper.new) }
+    ensures leaves { K.is_clean keeper.new → (s : State) → K.stands keeper.old s → LeavesOnly (K.may_leave keeper.old) (Some s) → LeavesOnly (K.may_leave keeper.new) (Some s) }
+    ensures reopen { IsErrOf result Fault.Reopen → AsBefore (K.stands keeper.old) (K.stands keeper.new) (K.may_leave keeper.old) (K.may_leave keeper.new) }
+{
+    match ask(keeper, collection) {
+        Ok(()) => {
+            match page_by_outlines(
+                alloc,
+                keeper,
+                collection,
+                outlined.outlines.as_slice(),
+                query,
+            ) {
+                Ok(Some(page)) => Ok(Some(page)),
+                Ok(None) => keeper.page(collection, query),
+                Err(fault) => Err(fault),
+            }
+        }
+        Err(fault) => Err(fault),
+    }
+}
