@@ -3,6 +3,7 @@ use crate::fault::ProgramFault;
 use sqlite::Unknown;
 use std::fs::exists;
 use streetmap_files::FileKeeper;
+use streetmap_index::IndexedKeeper;
 
 /// Whether there is a file of that name.
 fn is_there(rt: &HostRuntime, path: &str) -> Result<bool, ProgramFault> {
@@ -20,13 +21,16 @@ pub(crate) fn create(rt: &HostRuntime, path: &str) -> Result<FileKeeper<Unknown>
     }
 }
 
-/// Opens a file, and the keeper over it.
-pub(crate) fn open(rt: &HostRuntime, path: &str) -> Result<FileKeeper<Unknown>, ProgramFault> {
+/// Opens a file, and the keeper over it, with an index in memory.
+pub(crate) fn open(
+    rt: &HostRuntime,
+    path: &str,
+) -> Result<IndexedKeeper<FileKeeper<Unknown>>, ProgramFault> {
     if !is_there(rt, path)? {
         return Err(ProgramFault::NoFile);
     }
     match streetmap_files::open(rt, path, Unknown) {
-        Ok(keeper) => Ok(keeper),
+        Ok(keeper) => Ok(IndexedKeeper::new(rt.alloc(), keeper)),
         Err((fault, _)) => Err(ProgramFault::from(fault)),
     }
 }

@@ -15,11 +15,14 @@ use std::env;
 use std::io::{BufReader, BufWriter, writer};
 use std::net::{Ipv4Addr, TcpListener};
 use std::process::ExitCode;
-use streetmap_clients::{KeeperService, serve_clients};
+use streetmap_clients::KeeperService;
 use streetmap_command::{Command, read_command};
 use streetmap_connections::{Clients, Limits};
 use streetmap_exchange::{export, import};
-use streetmap_files::{FileKeeper, serve_count_over_tables, serve_over_tables};
+use streetmap_files::{
+    FileKeeper, serve_clients_over_tables, serve_count_over_tables, serve_over_tables,
+};
+use streetmap_index::IndexedKeeper;
 use streetmap_lines::{LinesFault, lines};
 use streetmap_routes::Base;
 
@@ -122,7 +125,7 @@ fn serve_at_once(
     rt: &HostRuntime,
     listener: &TcpListener,
     connections: Connections,
-    keeper: FileKeeper<Unknown>,
+    keeper: IndexedKeeper<FileKeeper<Unknown>>,
     base: Base,
 ) -> Result<(), ProgramFault> {
     let mut clients = Clients::new(rt.alloc(), Limits::of(connections.clients as usize))?;
@@ -132,7 +135,13 @@ fn serve_at_once(
         base,
         log: connections.log.then(|| rt.stderr()),
     };
-    Ok(serve_clients(rt, listener, connections.count, &mut clients, &mut service)?)
+    Ok(serve_clients_over_tables(
+        rt,
+        listener,
+        connections.count,
+        &mut clients,
+        &mut service,
+    )?)
 }
 
 /// Puts the features of a text into a collection by one batch, and prints its reply.

@@ -11,13 +11,16 @@ use Rattle.streetmap_ledger.specs.declared.reply.Fault.TheVariants.{Memory, Devi
 use Rattle.streetmap_rows.specs.Keeping.{MayLeave}
 use Rattle.streetmap_store.proofs.Reopened.{keeps_too}
 use Rattle.streetmap_batch.specs.Text.{Text}
-use Rattle.streetmap_web.specs.Standing.{of_state}
+use Rattle.streetmap_web.specs.Standing.{Standing, of_state}
 use Rattle.streetmap_web.specs.Exchanges.{Around, Serves}
 use Rattle.streetmap_web.specs.declared.serving.End.{End}
 use Rattle.streetmap_web.proofs.Beginnings.{served_leaves}
 use Rattle.streetmap_serving.specs.Connections.{Sight}
 use Rattle.streetmap_serving.specs.Surviving.{SurvivesInTurn}
-use Rattle.streetmap_files.specs.Surviving.{IsOfOne, Survives, ServesTables, ServesTablesInTurn}
+use Rattle.mio.specs.declared.net.stream.TcpStream.{TcpStream}
+use Rattle.streetmap_connections.specs.declared.client.Client.{Client}
+use Rattle.streetmap_clients.specs.Surviving.{SurvivesClients}
+use Rattle.streetmap_files.specs.Surviving.{IsOfOne, Survives, ServesTables, ServesTablesInTurn, ServesTablesAtOnce}
 
 -- where a stop may leave these states alone, a database that is opened again is of one of them
 pub opens : (seen : Seen) (P : State → Type 0) → ((o : Option State) → MayLeave seen o → (t : State) × (o ≡ Some t) × P t) → (db : Database) → seen.may_leave db.trees → IsDatabase db → IsOfOne P db
@@ -63,4 +66,12 @@ turns_survive sight root n s old new seen it bound = record {
   answered = it.answered;
   brings = it.brings;
   survives = opens seen _ λ o left. it.leaves o (bound o left);
+}
+
+-- and of many clients at once
+pub clients_survive : (root : Text) (s : State) (stands : Standing → Type 0) (before after : List (Client TcpStream)) (seen : Seen)
+    → SurvivesClients root s stands (MayLeave seen) before after → ServesTablesAtOnce root s stands (MayLeave seen) before after seen
+clients_survive root s stands before after seen it = record {
+  serves = it;
+  survives = opens seen _ it.leaves;
 }

@@ -1,15 +1,18 @@
 -- What a stop leaves of batches over tables.
-use Rattle.std.specs.Prelude.{ℕ, ◌++◌, List, length}
+use Rattle.std.specs.Prelude.{ℕ, ◌++◌, List, length, Option}
 use Rattle.sqlite.specs.Effect.{Database, IsDatabase}
 use Rattle.sqlite.specs.State.{State as Seen}
 use Rattle.streetmap_batch.specs.Text.{Text}
 use Rattle.streetmap_batch.specs.BatchValue.{BatchValue}
 use Rattle.streetmap_ledger.specs.State.{State}
 use Rattle.streetmap_rows.specs.Keeping.{Keeps}
-use Rattle.streetmap_web.specs.Standing.{of_state}
+use Rattle.streetmap_web.specs.Standing.{Standing, of_state}
 use Rattle.streetmap_web.specs.Exchanges.{Around, Serves, batches_of}
 use Rattle.streetmap_web.specs.Beginnings.{IsAfterBeginning, last_of, batches_acted}
 use Rattle.streetmap_web.specs.declared.serving.End.{End}
+use Rattle.mio.specs.declared.net.stream.TcpStream.{TcpStream}
+use Rattle.streetmap_connections.specs.declared.client.Client.{Client}
+use Rattle.streetmap_clients.specs.Surviving.{SurvivesClients, acted_over, answered_over}
 use Rattle.streetmap_serving.specs.Connections.{Sight}
 use Rattle.streetmap_serving.specs.Surviving.{Brings}
 
@@ -34,3 +37,8 @@ pub record ServesTablesInTurn {K : Type 0} (sight : Sight K) (root : Text) (n : 
   pub answered : ℕ
   pub brings : Brings sight root n old new batches answered
   pub survives : Survives s batches answered seen
+
+-- Over tables of a state many clients were served at once, and a stop leaves the state of a beginning of the batches of all clients, in the one order in which they were answered, that contains each that was answered without a fault.
+pub record ServesTablesAtOnce (root : Text) (s : State) (stands : Standing → Type 0) (left : Option State → Type 0) (before after : List (Client TcpStream)) (seen : Seen) : Type 0 where
+  pub serves : SurvivesClients root s stands left before after
+  pub survives : Survives s (acted_over (of_state s) serves.requests) (length (answered_over (of_state s) serves.requests)) seen

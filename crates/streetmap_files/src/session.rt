@@ -7,16 +7,23 @@ ghost use Rattle.streetmap_batch.specs.BatchView.{batch_value};
 ghost use Rattle.streetmap_ledger.specs.State.{State};
 ghost use Rattle.streetmap_ledger.specs.Batches.{replies_of};
 ghost use Rattle.streetmap_ledger.specs.Keep.{LeavesOnly};
+ghost use Rattle.streetmap_index.specs.Index.{IsIndexOf};
 ghost use Rattle.streetmap_rows.specs.Keeping.{MayLeave};
 ghost use Rattle.streetmap_store.specs.Serving.{Serves, cause_in};
 ghost use Rattle.streetmap_routes.specs.BaseView.{root_of};
 ghost use Rattle.streetmap_web.specs.Standing.{Stands};
-ghost use Rattle.streetmap_files.specs.Surviving.{Survives, ServesTables, ServesTablesInTurn};
+ghost use Rattle.streetmap_connections.specs.Slots.{clients_of};
+ghost use Rattle.streetmap_files.specs.Surviving.{Survives, ServesTables, ServesTablesInTurn, ServesTablesAtOnce};
 
+use mio::net::TcpStream;
 use sqlite::Alter;
 use std::alloc::Global;
 use std::io::{BufRead, Write};
-use std::net::TcpListener;
+use std::net::{Net, TcpListener};
+use std::time::Clock;
+use streetmap_clients::{KeeperService, serve_clients};
+use streetmap_connections::Clients;
+use streetmap_index::IndexedKeeper;
 use streetmap_ledger::{Batch, Run, run};
 use streetmap_routes::Base;
 use streetmap_serving::{ServeFault, serve_count};
@@ -43,7 +50,7 @@ pub fn run_over_tables<S: Alter>(
     run(alloc, keeper, batches)
 }
 
-/// Serves a stream of requests over tables: reads them from the reader, and writes their answers to the
+/// Serves a stream of requests over tables, with an index in memory: reads them from the reader, and writes their answers to the
 /// writer, in order, up to the first that closes the connection (`streetmap_web::serve`).
 ///
 /// Each page answered is exactly the part that was asked of the features of the state at that request.
@@ -51,18 +58,18 @@ pub fn run_over_tables<S: Alter>(
 /// the batches that contains each that was answered without a fault.
 pub fn serve_over_tables<S: Alter, R: BufRead, W: Write>(
     alloc: Global,
-    keeper: &mut TableKeeper<S>,
+    keeper: &mut IndexedKeeper<TableKeeper<S>>,
     base: &Base,
     reader: &mut R,
     writer: &mut W,
 ) -> Served
-    ensures { HasCleanDisk (state S.Store keeper.new.conn) → (s : State) → Serves keeper.old.shut (state S.Store keeper.old.conn) keeper.old.count s → LeavesOnly (MayLeave (state S.Store keeper.old.conn)) (Some s) →
-        ServesTables (root_of base.now) result.end result.answers s (record { old_left = R.remaining reader.old; new_left = R.remaining reader.new; old_held = W.contents writer.old; new_held = W.contents writer.new; stands = Stands (Serves keeper.new.shut (state S.Store keeper.new.conn) keeper.new.count) (option_map cause_in keeper.new.shut); known = LeavesOnly (MayLeave (state S.Store keeper.old.conn)) (Some s); old_leaves = MayLeave (state S.Store keeper.old.conn); new_leaves = MayLeave (state S.Store keeper.new.conn) }) (state S.Store keeper.new.conn) }
+    ensures { HasCleanDisk (state S.Store keeper.new.keeper.conn) → (s : State) → Serves keeper.old.keeper.shut (state S.Store keeper.old.keeper.conn) keeper.old.keeper.count s → IsIndexOf keeper.old.index s → LeavesOnly (MayLeave (state S.Store keeper.old.keeper.conn)) (Some s) →
+        ServesTables (root_of base.now) result.end result.answers s (record { old_left = R.remaining reader.old; new_left = R.remaining reader.new; old_held = W.contents writer.old; new_held = W.contents writer.new; stands = Stands (λ t. Serves keeper.new.keeper.shut (state S.Store keeper.new.keeper.conn) keeper.new.keeper.count t × IsIndexOf keeper.new.index t) (option_map cause_in keeper.new.keeper.shut); known = LeavesOnly (MayLeave (state S.Store keeper.old.keeper.conn)) (Some s); old_leaves = MayLeave (state S.Store keeper.old.keeper.conn); new_leaves = MayLeave (state S.Store keeper.new.keeper.conn) }) (state S.Store keeper.new.keeper.conn) }
 {
     serve(alloc, keeper, base, reader, writer)
 }
 
-/// Serves so many connections of a listener over tables, one after the other
+/// Serves so many connections of a listener over tables, with an index in memory, one after the other
 /// (`streetmap_serving::serve_count`).
 ///
 /// After a stop, before or within any write, whatever is opened again holds the state of a beginning of
@@ -75,12 +82,36 @@ pub fn serve_count_over_tables<S: Alter>(
     alloc: Global,
     listener: &TcpListener,
     count: u64,
-    keeper: &mut TableKeeper<S>,
+    keeper: &mut IndexedKeeper<TableKeeper<S>>,
     base: &Base,
 ) -> Result<(), ServeFault>
-    ensures { HasCleanDisk (state S.Store keeper.new.conn) → (s : State) → Serves keeper.old.shut (state S.Store keeper.old.conn) keeper.old.count s → LeavesOnly (MayLeave (state S.Store keeper.old.conn)) (Some s) →
+    ensures { HasCleanDisk (state S.Store keeper.new.keeper.conn) → (s : State) → Serves keeper.old.keeper.shut (state S.Store keeper.old.keeper.conn) keeper.old.keeper.count s → IsIndexOf keeper.old.index s → LeavesOnly (MayLeave (state S.Store keeper.old.keeper.conn)) (Some s) →
         (n : ℕ) × (n ≤ count) × (IsOk result → n ≡ count)
-        × ServesTablesInTurn (record { stands = λ k. Serves k.shut (state S.Store k.conn) k.count; cause = λ k. option_map cause_in k.shut; may_leave = λ k. MayLeave (state S.Store k.conn) }) (root_of base.now) n s keeper.old keeper.new (state S.Store keeper.new.conn) }
+        × ServesTablesInTurn (record { stands = λ k t. Serves k.keeper.shut (state S.Store k.keeper.conn) k.keeper.count t × IsIndexOf k.index t; cause = λ k. option_map cause_in k.keeper.shut; may_leave = λ k. MayLeave (state S.Store k.keeper.conn) }) (root_of base.now) n s keeper.old keeper.new (state S.Store keeper.new.keeper.conn) }
 {
     serve_count(alloc, listener, count, keeper, base)
+}
+
+/// Serves clients of a listener over tables, with an index in memory, many at once, until so many of them
+/// ended (`streetmap_clients::serve_clients`).
+///
+/// After a stop, before or within any write, whatever is opened again holds the state of a beginning of
+/// the batches of all clients, in the one order in which they were answered, that contains each that was
+/// answered without a fault.
+///
+/// # Errors
+///
+/// `Net` where no client can be accepted while there is none, or sockets cannot be waited for, and
+/// `Memory` where there is no room for what is waited for.
+pub fn serve_clients_over_tables<R: Net + Clock, S: Alter, W: Write>(
+    rt: &R,
+    listener: &TcpListener,
+    count: u64,
+    clients: &mut Clients<TcpStream>,
+    service: &mut KeeperService<IndexedKeeper<TableKeeper<S>>, W>,
+) -> Result<(), streetmap_connections::ServeFault>
+    ensures { HasCleanDisk (state S.Store service.new.keeper.keeper.conn) → (s : State) → Serves service.old.keeper.keeper.shut (state S.Store service.old.keeper.keeper.conn) service.old.keeper.keeper.count s → IsIndexOf service.old.keeper.index s → LeavesOnly (MayLeave (state S.Store service.old.keeper.keeper.conn)) (Some s) →
+        ServesTablesAtOnce (root_of service.old.base) s (Stands (λ t. Serves service.new.keeper.keeper.shut (state S.Store service.new.keeper.keeper.conn) service.new.keeper.keeper.count t × IsIndexOf service.new.keeper.index t) (option_map cause_in service.new.keeper.keeper.shut)) (MayLeave (state S.Store service.new.keeper.keeper.conn)) (clients_of clients.old) (clients_of clients.new) (state S.Store service.new.keeper.keeper.conn) }
+{
+    serve_clients(rt, listener, count, clients, service)
 }
