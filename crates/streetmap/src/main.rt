@@ -105,7 +105,12 @@ struct Connections {
 }
 
 /// Serves connections over a file.
-fn serve_file(rt: &HostRuntime, file: &str, connections: Connections, base: &str) -> Result<(), ProgramFault> {
+fn serve_file(
+    rt: &HostRuntime,
+    file: &str,
+    connections: Connections,
+    base: &str,
+) -> Result<(), ProgramFault> {
     let base = Base::new(rt.alloc(), base)?;
     let mut keeper = files::open(rt, file)?;
     let port = connections.port;
@@ -135,13 +140,7 @@ fn serve_at_once(
         base,
         log: connections.log.then(|| rt.stderr()),
     };
-    Ok(serve_clients_over_tables(
-        rt,
-        listener,
-        connections.count,
-        &mut clients,
-        &mut service,
-    )?)
+    Ok(serve_clients_over_tables(rt, listener, connections.count, &mut clients, &mut service)?)
 }
 
 /// Puts the features of a text into a collection by one batch, and prints its reply.
