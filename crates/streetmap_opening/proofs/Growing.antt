@@ -18,11 +18,11 @@ use Rattle.sqlite_catalog.proofs.LayoutLemmas.{zipped_left, index_owner}
 use Rattle.sqlite_catalog.proofs.StepLemmas.{table_below}
 use Rattle.sqlite_catalog.proofs.ListFacts.{ascending_push}
 use Rattle.sqlite_rules.specs.Lists.{Has}
-use Rattle.sqlite_rules.proofs.ListLemmas.{all_has, has_either, has_found}
+use Rattle.sqlite_rules.proofs.ListLemmas.{all_has, has_left, has_either, has_found}
 use Rattle.streetmap_tables.proofs.Finding.{stands_at}
 use Rattle.streetmap_rows.specs.Tables.{IsNamed, features_name}
 use Rattle.streetmap_opening.specs.Made.{Created}
-use Rattle.streetmap_opening.specs.Making.{HasRoom}
+use Rattle.streetmap_opening.specs.Making.{HasRoom, KeepsOthers}
 
 -- ---- lists
 
@@ -158,6 +158,9 @@ module _ (table : Table) (old new : Database) (c : Created table old new) where
 
   pub any_new : (p : Index → Bool) → list_any p (automatics (fresh old.schema table) 0 (next_tree old.schema + 1) table.uniques) ≡ true → list_any p new.schema.indexes ≡ true
   any_new p h = subst (λ (s : Schema). list_any p s.indexes ≡ true) (sym c.schema) (any_now old.schema table p h)
+
+  pub others_kept : KeepsOthers old new
+  others_kept t had other = (subst (λ (s : Schema). Has s.tables t) (sym c.schema) (has_left old.schema.tables (fresh old.schema table ∷ []) t had), all_has (λ (u : Table). new.trees u.tree ≡ old.trees u.tree) old.schema.tables t c.others had)
 
   -- the tree of a table that is there is below the next, and keeps its rows
   pub below : (name : List ℕ) (t : Table) → IsNamed old.schema name t → t.tree < next_tree old.schema

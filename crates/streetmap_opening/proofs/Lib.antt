@@ -1,5 +1,6 @@
 pub mod Creating
 pub mod Texts
+pub mod Others
 pub mod Growing
 pub mod Grown
 pub mod PutFormat

@@ -37,6 +37,8 @@ use Rattle.streetmap_rows.specs.Tables.{Roots, IsOurs, meta, collections, batche
 use Rattle.streetmap_rows.specs.Rows.{feature_at, meta_cells}
 use Rattle.streetmap_rows.specs.Stands.{CanBeRead}
 use Rattle.streetmap_rows.specs.Keeping.{Keeps}
+use Rattle.streetmap_rows.specs.Elsewhere.{is_our_name, IsSameElsewhere}
+use Rattle.streetmap_rows.proofs.Elsewhere.{same_elsewhere}
 use Rattle.streetmap_rows.proofs.Placing as placing
 use Rattle.streetmap_opening.specs.Making.{AreMade, format_text}
 
@@ -79,6 +81,10 @@ readable = record {
   features = λ p f h. absurd (let e = sym (no_feature p) ∙ h in cc);
 }
 
+meta_ours : is_our_name meta_name ≡ true
+unfolding everything
+meta_ours = refl
+
 -- ---- the row
 
 module _ (old new : Seen) (limit : old.step_limit ≡ None) (made : AreMade old.now) (sound : IsDatabase old.now) where
@@ -100,23 +106,25 @@ module _ (old new : Seen) (limit : old.step_limit ≡ None) (made : AreMade old.
   stays : (next : Trees) → AllByRecursion (λ t. t.tree ≢ roots.meta → next t.tree ≡ db t.tree) schema.tables → (t : Table) → Has schema.tables t → t.tree ≢ roots.meta → db t.tree ≡ [] → next t.tree ≡ []
   stays next all t there other was = all_has (λ (u : Table). u.tree ≢ roots.meta → next u.tree ≡ db u.tree) schema.tables t all there other ∙ was
 
-  pub format_put : (count : ℕ) → Executes format_text [] old new (Ok count) → Keeps opening_state new.now
+  pub format_put : (count : ℕ) → Executes format_text [] old new (Ok count) → Keeps opening_state new.now × IsSameElsewhere old.now new.now
   format_put count h =
       let it = format_means schema roots.meta found in
       let r = run.inserted _ roots.meta _ _ _ _ _ found.at format_terms 3 format_text [] old new schema row refl limit (command_is schema format_text 0 _ it) (is_plain schema format_text 0 _ it) (is_fit schema format_text 0 _ it refl)
-      refl found.listed (rw (cast_null, cast_int (pos 2)) refl) count h in
-      record {
-        well = opening_sound;
-        rows = record {
-          roots = roots;
-          ours = subst (IsOurs roots) (sym r.same_schema) made.ours;
-          of = record {
-            format = subst (Holds first_key is_first meta_cells) (sym r.step.rows) (holds_put first_key is_first first_is first_self (λ _. None) (db roots.meta) (holds_none first_key is_first (λ _. None) (db roots.meta) made.meta_empty (λ _. refl)) row meta_cells (rw made.meta_empty refl) refl refl (λ q. refl));
-            collections = holds_none first_key is_first _ _ (stays new.now.trees r.step.tables (collections roots.collections) (placing.collections_there roots schema made.ours) (λ e. placing.meta_collections roots schema made.ours (sym e)) made.collections_empty) (λ name. rw (get-empty _ name) refl);
-            batches = holds_none first_key is_first _ _ (stays new.now.trees r.step.tables (batches roots.batches) (placing.batches_there roots schema made.ours) (λ e. placing.meta_batches roots schema made.ours (sym e)) made.batches_empty) (λ key. rw (get-empty _ key) refl);
-            features = holds_none pair_key has_pair _ _ (stays new.now.trees r.step.tables (features roots.features) (placing.features_there roots schema made.ours) (λ e. placing.meta_features roots schema made.ours (sym e)) made.features_empty) (λ p. rw (no_feature p) refl);
+      refl found.listed (rw (cast_null, cast_int (pos 2)) refl) count h in (
+        record {
+          well = opening_sound;
+          rows = record {
+            roots = roots;
+            ours = subst (IsOurs roots) (sym r.same_schema) made.ours;
+            of = record {
+              format = subst (Holds first_key is_first meta_cells) (sym r.step.rows) (holds_put first_key is_first first_is first_self (λ _. None) (db roots.meta) (holds_none first_key is_first (λ _. None) (db roots.meta) made.meta_empty (λ _. refl)) row meta_cells (rw made.meta_empty refl) refl refl (λ q. refl));
+              collections = holds_none first_key is_first _ _ (stays new.now.trees r.step.tables (collections roots.collections) (placing.collections_there roots schema made.ours) (λ e. placing.meta_collections roots schema made.ours (sym e)) made.collections_empty) (λ name. rw (get-empty _ name) refl);
+              batches = holds_none first_key is_first _ _ (stays new.now.trees r.step.tables (batches roots.batches) (placing.batches_there roots schema made.ours) (λ e. placing.meta_batches roots schema made.ours (sym e)) made.batches_empty) (λ key. rw (get-empty _ key) refl);
+              features = holds_none pair_key has_pair _ _ (stays new.now.trees r.step.tables (features roots.features) (placing.features_there roots schema made.ours) (λ e. placing.meta_features roots schema made.ours (sym e)) made.features_empty) (λ p. rw (no_feature p) refl);
+            };
+            readable = readable;
+            sound = r.sound;
           };
-          readable = readable;
-          sound = r.sound;
-        };
-      }
+        },
+        same_elsewhere old.now new.now _ _ made.ours.apart (placing.meta_there roots schema made.ours) meta_ours r.same_schema r.step,
+      )

@@ -20,9 +20,9 @@ may_leave_it seen s rests left = (seen.now.trees, subst (λ (d : Database). seen
 pub leaves_same : (old new : Seen) → new.committed ≡ old.committed → ((trees : Trees) → new.may_leave trees → trees ≡ new.committed.trees) → old.may_leave old.committed.trees → (trees : Trees) → new.may_leave trees → old.may_leave trees
 leaves_same old new same only left trees may = subst old.may_leave (sym (only trees may ∙ ap (λ (d : Database). d.trees) same)) left
 
-pub both_ok : {A E : Type 0} (P Q : Type 0) (r : Result A E) → OnOk r P → OnOk r Q → OnOk r (P × Q)
-both_ok P Q (Ok x) p q = (p, q)
-both_ok P Q (Err e) p q = tt
+pub ok_then : {A E : Type 0} (P Q : Type 0) (r : Result A E) → OnOk r P → (P → Q) → OnOk r Q
+ok_then P Q (Ok x) p turn = turn p
+ok_then P Q (Err e) p turn = tt
 
 -- a commit that failed leaves an open connection with the database that it had before its transaction
 pub same_after_commit : (old begun mid new : Seen) (e : Error) → begun.committed ≡ old.committed → KeepsCommit begun mid → IsTrue mid.in_transaction → FailsToCommit mid new e → old.now ≡ old.committed → IsTrue new.is_open → HasSame old new

@@ -2,6 +2,7 @@
 use Rattle.std.specs.Prelude.{◌≡◌, ◌⊎◌, ℕ, Bool, ◌||◌, not, true, false, [], List, codes, Ok, Err, Result, None, Some, IsTrue}
 use Rattle.std.specs.List.{AllByRecursion, list_all}
 use Rattle.sqlite.specs.Schema.{Schema}
+use Rattle.sqlite.specs.Table.{Table}
 use Rattle.sqlite.specs.Effect.{Database}
 use Rattle.sqlite.specs.Does.{lacks_sequence}
 use Rattle.sqlite.specs.State.{State as Seen}
@@ -9,9 +10,11 @@ use Rattle.sqlite.specs.declared.error.Error.{Error}
 use Rattle.sqlite_schema.specs.Names.{same_name}
 use Rattle.sqlite_trees.specs.Tree.{Trees, IsAscending}
 use Rattle.sqlite_catalog.specs.Change.{is_used}
+use Rattle.sqlite_rules.specs.Lists.{Has}
 use Rattle.streetmap_ledger.specs.State.{opening_state}
 use Rattle.streetmap_ledger.specs.Keep.{LeavesOnly}
 use Rattle.streetmap_rows.specs.Tables.{Roots, IsOurs, meta_name, collections_name, batches_name, features_name}
+use Rattle.streetmap_rows.specs.Elsewhere.{is_our_name}
 use Rattle.streetmap_rows.specs.Keeping.{Keeps, Rests, MayLeave}
 use Rattle.streetmap_opening.specs.declared.making.MakeFault.{MakeFault}
 use Rattle.streetmap_opening.specs.declared.making.MakeFault.TheVariants.{Taken, Device, Memory}
@@ -50,13 +53,17 @@ pub record AreMade (db : Database) : Type 0 where
 abbrev pub HasSame : Seen → Seen → Type 0
 HasSame old new = (new.now ≡ old.now) × (new.committed ≡ old.committed)
 
+-- every table that was there under another name than our four is there, with the same definition and the same rows
+abbrev pub KeepsOthers : Database → Database → Type 0
+KeepsOthers old new = (t : Table) → Has old.schema.tables t → is_our_name t.name ≡ false → Has new.schema.tables t × (new.trees t.tree ≡ old.trees t.tree)
+
 -- a stop leaves what it left before, or the opening state
 abbrev pub MayOpen : Seen → Seen → Type 0
 MayOpen old new = (trees : Trees) → new.may_leave trees → old.may_leave trees ⊎ ((db : Database) × Keeps opening_state db × (trees ≡ db.trees))
 
 -- the tables were made in one transaction, or that was undone
 abbrev pub MakesAlone : Seen → Seen → Result (Unit {0}) Error → Type 0
-MakesAlone old new (Ok _) = Rests new opening_state
+MakesAlone old new (Ok _) = Rests new opening_state × KeepsOthers old.now new.now
 MakesAlone old new (Err e) = IsTrue new.is_open → HasSame old new
 
 -- The connection rests at the opening state, and a stop may leave it and no other; a refusal leaves the database as it was.

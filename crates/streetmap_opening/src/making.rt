@@ -1,5 +1,5 @@
 //! Making the tables, in one transaction.
-ghost use Rattle.std.specs.Prelude.{◌≡◌, ◌≤◌, ◌↔◌, IsTrue, OnOk, None, Err, false};
+ghost use Rattle.std.specs.Prelude.{◌≡◌, ◌≤◌, ◌↔◌, IsTrue, OnOk, IfErr, None, Err, false};
 ghost use Rattle.sqlite.specs.Held.{state};
 ghost use Rattle.sqlite.specs.State.{HasCleanDisk, KeepsCommit, Survives};
 ghost use Rattle.sqlite.specs.View.{doubt};
@@ -9,8 +9,10 @@ ghost use Rattle.sqlite.specs.Table.{Table};
 ghost use Rattle.sqlite_catalog.specs.Change.{created, is_used};
 ghost use Rattle.streetmap_ledger.specs.State.{opening_state};
 ghost use Rattle.streetmap_rows.specs.Keeping.{Keeps};
+ghost use Rattle.streetmap_rows.specs.Elsewhere.{IsSameElsewhere};
 ghost use Rattle.streetmap_opening.specs.Made.{IsTableText, Created};
-ghost use Rattle.streetmap_opening.specs.Making.{is_taken, HasRoom, IsReady, AreMade, MayOpen, MakesAlone, Makes};
+ghost use Rattle.streetmap_opening.specs.Adopting.{IsAsItWas};
+ghost use Rattle.streetmap_opening.specs.Making.{is_taken, HasRoom, IsReady, AreMade, KeepsOthers, MayOpen, MakesAlone, Makes};
 
 use sqlite::{Alter, Connection, Error, Transaction};
 use sqlite_schema::schema::Schema;
@@ -61,7 +63,7 @@ pub fn create_table<S: Alter>(tx: &mut Transaction<'_, S>, sql: &str) -> Result<
 /// Writes the row of format 2 into tables that were made.
 fn insert_format<S: Alter>(tx: &mut Transaction<'_, S>) -> Result<(), Error>
     ensures same_reference { tx.new.conn.ghost_name ≡ tx.old.conn.ghost_name }
-    ensures made { HasCleanDisk (state S.Store tx.new.conn.now) → IsTrue (state S.Store tx.old.conn.now).in_transaction → (state S.Store tx.old.conn.now).step_limit ≡ None → AreMade (state S.Store tx.old.conn.now).now → IsDatabase (state S.Store tx.old.conn.now).now → OnOk result (Keeps opening_state (state S.Store tx.new.conn.now).now) }
+    ensures made { HasCleanDisk (state S.Store tx.new.conn.now) → IsTrue (state S.Store tx.old.conn.now).in_transaction → (state S.Store tx.old.conn.now).step_limit ≡ None → AreMade (state S.Store tx.old.conn.now).now → IsDatabase (state S.Store tx.old.conn.now).now → OnOk result (Keeps opening_state (state S.Store tx.new.conn.now).now × IsSameElsewhere (state S.Store tx.old.conn.now).now (state S.Store tx.new.conn.now).now) }
     ensures inside { HasCleanDisk (state S.Store tx.new.conn.now) → IsTrue (state S.Store tx.old.conn.now).in_transaction → OnOk result (IsTrue (state S.Store tx.new.conn.now).in_transaction) }
     ensures kept { HasCleanDisk (state S.Store tx.new.conn.now) → IsTrue (state S.Store tx.old.conn.now).in_transaction → KeepsCommit (state S.Store tx.old.conn.now) (state S.Store tx.new.conn.now) }
     ensures survives { Survives (state S.Store tx.old.conn.now) (state S.Store tx.new.conn.now) (λ _. ⊥) }
@@ -76,7 +78,8 @@ fn insert_format<S: Alter>(tx: &mut Transaction<'_, S>) -> Result<(), Error>
 /// Makes the four tables and the format row.
 fn make_inside<S: Alter>(tx: &mut Transaction<'_, S>) -> Result<(), Error>
     ensures same_reference { tx.new.conn.ghost_name ≡ tx.old.conn.ghost_name }
-    ensures made { HasCleanDisk (state S.Store tx.new.conn.now) → IsTrue (state S.Store tx.old.conn.now).in_transaction → (state S.Store tx.old.conn.now).step_limit ≡ None → HasRoom (state S.Store tx.old.conn.now).now.schema → OnOk result (Keeps opening_state (state S.Store tx.new.conn.now).now × IsTrue (state S.Store tx.new.conn.now).in_transaction) }
+    ensures made { HasCleanDisk (state S.Store tx.new.conn.now) → IsTrue (state S.Store tx.old.conn.now).in_transaction → (state S.Store tx.old.conn.now).step_limit ≡ None → HasRoom (state S.Store tx.old.conn.now).now.schema → OnOk result (Keeps opening_state (state S.Store tx.new.conn.now).now × KeepsOthers (state S.Store tx.old.conn.now).now (state S.Store tx.new.conn.now).now) }
+    ensures inside { HasCleanDisk (state S.Store tx.new.conn.now) → IsTrue (state S.Store tx.old.conn.now).in_transaction → OnOk result (IsTrue (state S.Store tx.new.conn.now).in_transaction) }
     ensures kept { HasCleanDisk (state S.Store tx.new.conn.now) → IsTrue (state S.Store tx.old.conn.now).in_transaction → KeepsCommit (state S.Store tx.old.conn.now) (state S.Store tx.new.conn.now) }
     ensures survives { Survives (state S.Store tx.old.conn.now) (state S.Store tx.new.conn.now) (λ _. ⊥) }
 {
@@ -105,6 +108,7 @@ fn make_alone<S: Alter>(conn: &mut Connection<S>) -> Result<(), Error>
     ensures idle { conn.new.in_transaction ≡ false }
     ensures clean { doubt (state S.Store conn.old).is_clean ≤ doubt (state S.Store conn.new).is_clean }
     ensures made { HasCleanDisk (state S.Store conn.new) → IsReady (state S.Store conn.old) → MakesAlone (state S.Store conn.old) (state S.Store conn.new) result }
+    ensures same { HasCleanDisk (state S.Store conn.new) → IfErr result (λ _. IsAsItWas (state S.Store conn.old) (state S.Store conn.new)) }
     ensures crash { HasCleanDisk (state S.Store conn.new) → IsReady (state S.Store conn.old) → MayOpen (state S.Store conn.old) (state S.Store conn.new) }
 {
     let mut tx = conn.transaction();
@@ -140,6 +144,8 @@ pub fn make_tables<S: Alter>(conn: &mut Connection<S>) -> Result<(), MakeFault>
     ensures taken { (result ≡ Err MakeFault.Taken) ↔ IsTrue (is_taken (state S.Store conn.old).now.schema) }
     ensures untouched { result ≡ Err MakeFault.Taken → conn.new ≡ conn.old }
     ensures made { HasCleanDisk (state S.Store conn.new) → IsReady (state S.Store conn.old) → Makes (state S.Store conn.old) (state S.Store conn.new) result }
+    ensures same { HasCleanDisk (state S.Store conn.new) → IfErr result (λ _. IsAsItWas (state S.Store conn.old) (state S.Store conn.new)) }
+    ensures elsewhere { HasCleanDisk (state S.Store conn.new) → IsReady (state S.Store conn.old) → IsTrue (state S.Store conn.new).is_open → KeepsOthers (state S.Store conn.old).now (state S.Store conn.new).now }
     ensures crash { HasCleanDisk (state S.Store conn.new) → IsReady (state S.Store conn.old) → MayOpen (state S.Store conn.old) (state S.Store conn.new) }
 {
     if is_one_used(conn.schema()) {

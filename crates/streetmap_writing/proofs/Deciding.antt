@@ -17,7 +17,8 @@ use Rattle.streetmap_ledger.specs.declared.reply.Refusal.TheVariants.{NoCollecti
 use Rattle.streetmap_rows.specs.Rows.{feature_at}
 use Rattle.streetmap_rows.specs.Calls.{CutsFeature, OpensCollection}
 use Rattle.sqlite.specs.State.{State as Seen}
-use Rattle.streetmap_rows.specs.Stands.{StandsFor, Answered}
+use Rattle.streetmap_rows.specs.Stands.{StandsFor}
+use Rattle.streetmap_writing.specs.Editing.{Answered}
 use Rattle.streetmap_writing.specs.Storing.{WasPut}
 
 pub no_collection : (s : State) (name id : Text) → false ≡ is_some (get s.collections name) → step s (edit.delete name id) ≡ Err NoCollection

@@ -14,6 +14,8 @@ use Rattle.streetmap_ledger.specs.declared.reply.Reply.{Reply}
 use Rattle.streetmap_ledger.specs.declared.reply.Reply.TheVariants.{Accepted, Repeated, Refused}
 use Rattle.streetmap_tables.specs.Failing.{IsOfStore}
 use Rattle.streetmap_rows.specs.Keeping.{Keeps, Rests}
+use Rattle.streetmap_rows.specs.Elsewhere.{IsSameElsewhere}
+use Rattle.streetmap_writing.specs.Editing.{KeepsRest}
 use Rattle.streetmap_tables.specs.declared.failing.Stop.{Stop}
 use Rattle.streetmap_tables.specs.declared.failing.Stop.TheVariants.{Memory, Closed}
 use Rattle.streetmap_tables.specs.declared.failing.Shut.TheVariants.{Device, Damaged}
@@ -34,7 +36,7 @@ LeavesInside s b new (Refused why place) = (act s b).state ≡ s
 abbrev pub ActsInside : BatchValue → ℕ → Seen → Seen → Result Reply Error → Type 0
 ActsInside b count old new r =
     old.step_limit ≡ None → IsTrue old.in_transaction → (s : State) → Keeps s old.now → Awaits s b count
-    → MatchResult r (λ reply. (reply ≡ (act s b).reply) × LeavesInside s b new reply × KeepsCommit old new) (λ e. IsOfStore e × KeepsCommit old new)
+    → MatchResult r (λ reply. (reply ≡ (act s b).reply) × LeavesInside s b new reply × KeepsRest old new) (λ e. IsOfStore e × KeepsCommit old new)
 
 -- after a reply that changed nothing the connection may have been shut
 abbrev pub IfOpen : Reply → Seen → Type 0 → Type 0
@@ -54,6 +56,10 @@ kept_answer text kept = if pointwise nat_eq kept.text text then Repeated kept.co
 -- a look outside of a transaction, which leaves the database
 abbrev pub Rested : {A : Type 0} → (State → A) → Seen → Seen → Result A Error → Type 0
 Rested f old new r = (s : State) → Rests old s → MatchResult r (λ a. (a ≡ f s) × Rests new s) (λ e. IsOfStore e × (IsTrue new.is_open → Rests new s))
+
+-- where the connection is open, every other table is as it was
+abbrev pub SparesOthers : Seen → Seen → Type 0
+SparesOthers old new = IsTrue new.is_open → IsSameElsewhere old.now new.now
 
 -- what a batch in a transaction of its own comes to
 abbrev pub Applied : State → BatchValue → Seen → Result Reply Stop → Type 0

@@ -1,2 +1,3 @@
+pub mod Editing
 pub mod Acting
 pub mod Storing

@@ -13,6 +13,7 @@ use Rattle.streetmap_ledger.specs.declared.reply.Refusal.{Refusal}
 use Rattle.streetmap_tables.specs.Failing.{IsOfStore}
 use Rattle.streetmap_rows.specs.Stands.{StandsFor}
 use Rattle.streetmap_rows.specs.Rows.{feature_text, extent_in, seconds_in}
+use Rattle.streetmap_writing.specs.Editing.{KeepsRest}
 
 -- the time property of a collection, where it is there: the database stays
 abbrev pub FindsTime : Text → Seen → Seen → Result (Option (Option (String Global))) Error → Type 0
@@ -39,4 +40,4 @@ WasPut s name c f new (Some why) = timed c.time f ≡ Err why
 abbrev pub Puts : Text → Option Text → FeatureValue → Seen → Seen → Result (Option Refusal) Error → Type 0
 Puts name property f old new r =
     old.step_limit ≡ None → IsTrue old.in_transaction → (s : State) (c : Collection) → StandsFor s old.now → get s.collections name ≡ Some c → c.time ≡ property → get c.features f.id ≡ None
-    → MatchResult r (λ o. WasPut s name c f new o × IsTrue new.in_transaction × KeepsCommit old new) (λ e. IsOfStore e × KeepsCommit old new)
+    → MatchResult r (λ o. WasPut s name c f new o × IsTrue new.in_transaction × KeepsRest old new) (λ e. IsOfStore e × KeepsCommit old new)

@@ -6,7 +6,8 @@ ghost use Rattle.sqlite.specs.Held.{state};
 ghost use Rattle.sqlite.specs.State.{HasCleanDisk, Survives};
 ghost use Rattle.streetmap_batch.specs.BatchValue as edit;
 ghost use Rattle.streetmap_batch.specs.BatchView.{edit_value};
-ghost use Rattle.streetmap_rows.specs.Stands.{Looks, Edits, EditsAll};
+ghost use Rattle.streetmap_rows.specs.Stands.{Looks};
+ghost use Rattle.streetmap_writing.specs.Editing.{Edits, EditsAll};
 
 use crate::storing::put_feature;
 use crate::timing::time_property;

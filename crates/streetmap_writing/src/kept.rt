@@ -1,5 +1,5 @@
 //! What is kept for the key of a batch.
-ghost use Rattle.std.specs.Prelude.{◌≡◌, ◌≤◌, ◌<◌, ℕ, pos, Ok, length, false, option_map};
+ghost use Rattle.std.specs.Prelude.{◌≡◌, ◌≤◌, ◌<◌, ℕ, pos, Ok, length, false, IsTrue, option_map};
 ghost use Rattle.std.specs.FinMap.{get};
 ghost use Rattle.sqlite.specs.Held.{state};
 ghost use Rattle.sqlite.specs.State.{HasCleanDisk};
@@ -64,6 +64,7 @@ pub fn kept_reply<S: Alter>(
     ensures idle { conn.new.in_transaction ≡ false }
     ensures clean { doubt (state S.Store conn.old).is_clean ≤ doubt (state S.Store conn.new).is_clean }
     ensures looks { HasCleanDisk (state S.Store conn.new) → Rested (λ s. option_map (kept_answer text.now) (get s.keys key.now)) (state S.Store conn.old) (state S.Store conn.new) result }
+    ensures same { HasCleanDisk (state S.Store conn.new) → (s : State) → Rests (state S.Store conn.old) s → IsTrue (state S.Store conn.new).is_open → (state S.Store conn.new).now ≡ (state S.Store conn.old).now }
     ensures crash { HasCleanDisk (state S.Store conn.new) → (s : State) → Rests (state S.Store conn.old) s → (trees : Trees) → (state S.Store conn.new).may_leave trees → (state S.Store conn.old).may_leave trees }
 {
     let rows = match kept_rows(conn, key) {

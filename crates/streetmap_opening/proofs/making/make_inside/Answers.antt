@@ -3,7 +3,9 @@ use Rattle.sqlite.specs.Held.{state}
 use Rattle.streetmap_rows.specs.Tables.{meta, collections, batches, features}
 use Rattle.streetmap_opening.proofs.Texts.{meta_is, collections_is, batches_is, features_is}
 use Rattle.streetmap_opening.proofs.Grown.{meta_counts, collections_counts, batches_counts, features_counts, room_one, room_two, room_three, are_made}
-use Rattle.streetmap_opening.proofs.Stopping.{clean_back, both_ok}
+use Rattle.streetmap_opening.proofs.Stopping.{clean_back, ok_then}
+use Rattle.streetmap_opening.proofs.Others.{others_then, others_elsewhere}
+use Rattle.streetmap_opening.proofs.Growing.{others_kept}
 use Rattle.streetmap_opening.proofs.making.make_inside.Goals as goal
 
 pub returns-clause-made : goal.returns-clause-made
@@ -30,4 +32,23 @@ returns-clause-made g c clean inside limit room =
     let four = c.in_ok-create_table-4.ensures.created k4 i3 (features 0) features_is (features_counts s3.now.schema r3) in
     let i4 = c.in_ok-create_table-4.ensures.inside k4 i3 in
     let unlimited = c.create_table-4.ensures.survives.limit ∙ c.create_table-3.ensures.survives.limit ∙ c.create_table-2.ensures.survives.limit ∙ c.create_table.ensures.survives.limit ∙ limit in
-    both_ok _ _ c.insert_format.result (c.insert_format.ensures.made clean i4 unlimited (are_made s0.now s1.now one room s2.now two s3.now three s4.now four) four.sound) (c.insert_format.ensures.inside clean i4)
+    let grown = others_then s0.now s2.now s4.now (others_then s0.now s1.now s2.now (others_kept (meta 0) s0.now s1.now one) (others_kept (collections 0) s1.now s2.now two))
+    (others_then s2.now s3.now s4.now (others_kept (batches 0) s2.now s3.now three) (others_kept (features 0) s3.now s4.now four)) in
+    let put = c.insert_format.ensures.made clean i4 unlimited (are_made s0.now s1.now one room s2.now two s3.now three s4.now four) four.sound in
+    ok_then _ _ c.insert_format.result put (λ h. (h.0, others_then s0.now s4.now s5.now grown (others_elsewhere s4.now s5.now h.1)))
+
+pub returns-clause-inside : goal.returns-clause-inside
+returns-clause-inside g c clean inside =
+    let s1 = state g.S.Store c.create_table.new.tx.conn.now in
+    let s2 = state g.S.Store c.create_table-2.new.tx.conn.now in
+    let s3 = state g.S.Store c.create_table-3.new.tx.conn.now in
+    let s4 = state g.S.Store c.create_table-4.new.tx.conn.now in
+    let s5 = state g.S.Store c.insert_format.new.tx.conn.now in
+    let k4 = clean_back s4 s5 _ c.insert_format.ensures.survives clean in
+    let k3 = clean_back s3 s4 _ c.create_table-4.ensures.survives k4 in
+    let k2 = clean_back s2 s3 _ c.create_table-3.ensures.survives k3 in
+    let k1 = clean_back s1 s2 _ c.create_table-2.ensures.survives k2 in
+    let i1 = c.in_ok-create_table.ensures.inside k1 inside in
+    let i2 = c.in_ok-create_table-2.ensures.inside k2 i1 in
+    let i3 = c.in_ok-create_table-3.ensures.inside k3 i2 in
+    c.insert_format.ensures.inside clean (c.in_ok-create_table-4.ensures.inside k4 i3)

@@ -6,11 +6,11 @@ use Rattle.streetmap_batch.specs.BatchView.{batch_value, edit_value}
 use Rattle.streetmap_ledger.specs.State.{AcceptedBatch}
 use Rattle.streetmap_ledger.specs.Batches.{Outcome, act, kept_for, counts_of, edited}
 use Rattle.streetmap_ledger.specs.declared.reply.Reply.TheVariants.{Accepted}
-use Rattle.streetmap_rows.specs.Stands.{AnsweredAll}
+use Rattle.streetmap_writing.specs.Editing.{AnsweredAll}
 use Rattle.streetmap_rows.specs.Calls.{KeepsBatch}
 use Rattle.streetmap_tables.proofs.Answering.{handed_on}
 use Rattle.streetmap_writing.proofs.Accepting.{act_is, leads, keeps_act}
-use Rattle.streetmap_writing.proofs.Joining.{keeps_then}
+use Rattle.streetmap_writing.proofs.Joining.{keeps_then, rest_then}
 use Rattle.streetmap_writing.proofs.acting.act_inside.Goals as goal
 
 pub returns-in_err-place-clause-acts : goal.returns-in_err-place-clause-acts
@@ -39,10 +39,10 @@ returns-clause-acts g c clean limit inside s kept awaits =
     let row : ◌≡◌ {A = AcceptedBatch} (kept_for b (len s.keys + 1)) (record { text = c.args.text.now; counts = c.of-counts.result; serial = c.args.count + 1 }) =
     λ i. record { text = sym c.requires.its_text i; counts = sym counts i; serial = awaits.counted i + 1 } in
     let lead = subst₂ (λ key k. KeepsBatch key k did.0 (act s b).state) (sym c.key.ensures.value) row (leads s b c.args.count awaits did.0 is kept.well) in
-    let rows = (c.in_ok-insert_batch.ensures.writes clean did.3 (c.edit_each.ensures.survives.limit ∙ limit) did.0 (act s b).state did.2 lead).0 in (
+    let wrote = c.in_ok-insert_batch.ensures.writes clean did.3 (c.edit_each.ensures.survives.limit ∙ limit) did.0 (act s b).state did.2 lead in (
       (λ i. Accepted (counts i) (sym awaits.counted i + 1)) ∙ sym (ap (λ (o : Outcome). o.reply) at),
-      (keeps_act s b c.args.count awaits new.now kept.well c.facts.ensures rows, c.in_ok-insert_batch.ensures.inside clean did.3),
-      keeps_then old mid new e.1 (c.in_ok-insert_batch.ensures.kept clean did.3),
+      (keeps_act s b c.args.count awaits new.now kept.well c.facts.ensures wrote.0, c.in_ok-insert_batch.ensures.inside clean did.3),
+      rest_then old mid new e.1 (c.in_ok-insert_batch.ensures.kept clean did.3, wrote.1),
     )
 
 pub returns-in_err-insert_batch-clause-acts : goal.returns-in_err-insert_batch-clause-acts
@@ -59,4 +59,4 @@ returns-in_err-insert_batch-clause-acts g c clean limit inside s kept awaits =
     let row : ◌≡◌ {A = AcceptedBatch} (kept_for b (len s.keys + 1)) (record { text = c.args.text.now; counts = c.of-counts.result; serial = c.args.count + 1 }) =
     λ i. record { text = sym c.requires.its_text i; counts = sym counts i; serial = awaits.counted i + 1 } in
     let lead = subst₂ (λ key k. KeepsBatch key k did.0 (act s b).state) (sym c.key.ensures.value) row (leads s b c.args.count awaits did.0 is kept.well) in
-    handed_on _ _ _ _ c.from_residual-in_err-insert_batch.ensures.1 (c.in_err-insert_batch.ensures.writes clean did.3 (c.edit_each.ensures.survives.limit ∙ limit) did.0 (act s b).state did.2 lead, keeps_then old mid new e.1 (c.in_err-insert_batch.ensures.kept clean did.3))
+    handed_on _ _ _ _ c.from_residual-in_err-insert_batch.ensures.1 (c.in_err-insert_batch.ensures.writes clean did.3 (c.edit_each.ensures.survives.limit ∙ limit) did.0 (act s b).state did.2 lead, keeps_then old mid new e.1.0 (c.in_err-insert_batch.ensures.kept clean did.3))

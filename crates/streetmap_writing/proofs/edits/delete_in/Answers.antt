@@ -2,8 +2,8 @@ use Rattle.std.proofs.Common.{rules, ◌∙◌, arith, IsTrue}
 use Rattle.sqlite.specs.Held.{state}
 use Rattle.sqlite.specs.State.{HasCleanDisk}
 use Rattle.streetmap_tables.proofs.Answering.{handed_on}
-use Rattle.streetmap_writing.proofs.Joining.{keeps, keeps_then, stands_still}
-use Rattle.streetmap_writing.proofs.Deciding.{may_delete}
+use Rattle.streetmap_writing.proofs.Joining.{keeps, keeps_then, keeps_rest, rest_then, stands_still}
+use Rattle.streetmap_writing.proofs.Deciding.{no_feature, may_delete}
 use Rattle.streetmap_writing.proofs.edits.delete_in.Goals as goal
 
 pub returns-in_err-has_collection-clause-edits : goal.returns-in_err-has_collection-clause-edits
@@ -32,10 +32,11 @@ returns-clause-edits g c clean limit inside s stands =
     let second = c.in_ok-has_feature.ensures.looks later (c.has_collection.ensures.survives.limit ∙ limit) s mid in
     let last = stands_still b e s second.1 mid in
     let may = may_delete s c.args.collection.now c.args.id.now (search rules) (search rules) in
-    let within : IsTrue e.in_transaction = second.1.0.mode ∙ first.1.0.mode ∙ inside in (
-      (may.0, may.1, (c.in_ok-delete_feature.ensures.writes clean within (c.has_feature.ensures.survives.limit ∙ c.has_collection.ensures.survives.limit ∙ limit) s may.0 last may.2).0),
+    let within : IsTrue e.in_transaction = second.1.0.mode ∙ first.1.0.mode ∙ inside in
+    let wrote = c.in_ok-delete_feature.ensures.writes clean within (c.has_feature.ensures.survives.limit ∙ c.has_collection.ensures.survives.limit ∙ limit) s may.0 last may.2 in (
+      (may.0, may.1, wrote.0),
       c.in_ok-delete_feature.ensures.inside clean within,
-      keeps_then a b f (keeps a b first.1) (keeps_then b e f (keeps b e second.1) (c.in_ok-delete_feature.ensures.kept clean within)),
+      rest_then a b f (keeps_rest a b first.1) (rest_then b e f (keeps_rest b e second.1) (c.in_ok-delete_feature.ensures.kept clean within, wrote.1)),
     )
 
 pub returns-in_err-delete_feature-clause-edits : goal.returns-in_err-delete_feature-clause-edits
@@ -55,4 +56,18 @@ returns-in_err-delete_feature-clause-edits g c clean limit inside s stands =
     handed_on _ _ _ _ c.from_residual-in_err-delete_feature.ensures.1 (
       c.in_err-delete_feature.ensures.writes clean within (c.has_feature.ensures.survives.limit ∙ c.has_collection.ensures.survives.limit ∙ limit) s may.0 last may.2,
       keeps_then a b f (keeps a b first.1) (keeps_then b e f (keeps b e second.1) (c.in_err-delete_feature.ensures.kept clean within)),
+    )
+
+pub returns-then-not-branch-2-clause-edits : goal.returns-then-not-branch-2-clause-edits
+returns-then-not-branch-2-clause-edits g c clean limit inside s stands =
+    let a = state g.S.Store c.args.tx.now.conn.now in
+    let b = state g.S.Store c.has_collection.new.tx.conn.now in
+    let e = state g.S.Store c.has_feature.new.tx.conn.now in
+    let early : HasCleanDisk b = omega (arith, clean, c.has_feature.ensures.survives.clean) in
+    let first = c.in_ok-has_collection.ensures.looks early limit s stands in
+    let mid = stands_still a b s first.1 stands in
+    let second = c.in_ok-has_feature.ensures.looks clean (c.has_collection.ensures.survives.limit ∙ limit) s mid in (
+      no_feature s c.args.collection.now c.args.id.now (search rules) (search rules),
+      second.1.0.mode ∙ first.1.0.mode ∙ inside,
+      rest_then a b e (keeps_rest a b first.1) (keeps_rest b e second.1),
     )

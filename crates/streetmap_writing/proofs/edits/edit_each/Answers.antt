@@ -5,10 +5,10 @@ use Rattle.sqlite.specs.State.{HasCleanDisk}
 use Rattle.sqlite.proofs.StateLemmas.{survives_then}
 use Rattle.streetmap_batch.specs.BatchView.{edit_value}
 use Rattle.streetmap_ledger.specs.Batches.{edited}
-use Rattle.streetmap_rows.specs.Stands.{Answered}
+use Rattle.streetmap_writing.specs.Editing.{Answered}
 use Rattle.streetmap_tables.proofs.Answering.{handed_on}
 use Rattle.streetmap_writing.proofs.Editing.{edited_more, edited_stops}
-use Rattle.streetmap_writing.proofs.Joining.{keeps_then}
+use Rattle.streetmap_writing.proofs.Joining.{same_all, keeps_then, rest_then}
 use Rattle.streetmap_writing.proofs.edits.edit_each.Goals as goal
 
 pub edits-init : goal.edits-init
@@ -16,7 +16,7 @@ edits-init g c = (
   refl,
   record { clean = omega arith; shield = λ x. x; counts = omega arith; limit = refl; closes = λ _ o. inl o; crash = λ _ db m. inl m },
   refl,
-  λ clean limit inside s stands. (s, refl, stands, inside, record { was_open = λ o. o; committed = λ _. refl }),
+  λ clean limit inside s stands. (s, refl, stands, inside, (record { was_open = λ o. o; committed = λ _. refl }, same_all (state g.S.Store c.args.tx.now.conn.now).now _ refl)),
 )
 
 pub returns-in_err-why-clause-edits : goal.returns-in_err-why-clause-edits
@@ -25,7 +25,7 @@ returns-in_err-why-clause-edits g c clean limit inside s stands =
     let early : HasCleanDisk (state g.S.Store c.edits.tx.conn.now) = omega (arith, clean, c.edit_in.ensures.survives.clean) in
     let r = inv.3 early limit inside s stands in
     let e = c.in_err-why.ensures.edits clean (inv.1.limit ∙ limit) r.3 r.0 r.2 in
-    handed_on _ _ _ _ c.from_residual.ensures.1 (e.0, keeps_then (state g.S.Store c.args.tx.now.conn.now) (state g.S.Store c.edits.tx.conn.now) (state g.S.Store c.edit_in.new.tx.conn.now) r.4 e.1)
+    handed_on _ _ _ _ c.from_residual.ensures.1 (e.0, keeps_then (state g.S.Store c.args.tx.now.conn.now) (state g.S.Store c.edits.tx.conn.now) (state g.S.Store c.edit_in.new.tx.conn.now) r.4.0 e.1)
 
 pub returns-in-Some-clause-edits : goal.returns-in-Some-clause-edits
 returns-in-Some-clause-edits g c clean limit inside s stands =
@@ -40,7 +40,7 @@ returns-in-Some-clause-edits g c clean limit inside s stands =
     let why = subst (Answered r.0 (edit_value edit) new) c.in-Some.is e.0 in (
       r.1 ∙ ap (λ es. edited c.edits.place r.0 (map edit_value es)) (drop_more c.args.edits.now i edit (omega arith) ∙ ap (λ x. x ∷ drop (i + 1) c.args.edits.now) (sym c.edit-item.is))
           ∙ edited_stops r.0 c.edits.place (edit_value edit) (map edit_value (drop (i + 1) c.args.edits.now)) _ why,
-      keeps_then (state g.S.Store c.args.tx.now.conn.now) mid new r.4 e.2,
+      rest_then (state g.S.Store c.args.tx.now.conn.now) mid new r.4 e.2,
     )
 
 pub edits-preserved : goal.edits-preserved
@@ -64,7 +64,7 @@ edits-preserved g c =
                 ∙ edited_more r.0 did.0 c.edits.place (edit_value edit) (map edit_value (drop (i + 1) c.args.edits.now)) did.1,
             did.2,
             e.1,
-            keeps_then old mid new r.4 e.2,
+            rest_then old mid new r.4 e.2,
           ),
     )
 

@@ -5,10 +5,10 @@ use Rattle.sqlite.specs.State.{HasCleanDisk}
 use Rattle.streetmap_batch.specs.BatchValue as edit
 use Rattle.streetmap_ledger.specs.State.{Collection}
 use Rattle.streetmap_rows.specs.Rows.{feature_at}
-use Rattle.streetmap_rows.specs.Stands.{Answered}
+use Rattle.streetmap_writing.specs.Editing.{Answered}
 use Rattle.streetmap_writing.specs.Storing.{WasPut}
 use Rattle.streetmap_tables.proofs.Answering.{handed_on}
-use Rattle.streetmap_writing.proofs.Joining.{keeps, keeps_then, stands_still, answered_on}
+use Rattle.streetmap_writing.proofs.Joining.{keeps, keeps_then, keeps_rest, rest_then, stands_still, answered_on}
 use Rattle.streetmap_writing.proofs.Deciding.{is_there, not_there, no_insert, free_id, is_taken, was_inserted}
 use Rattle.streetmap_writing.proofs.edits.insert_in.Goals as goal
 
@@ -21,7 +21,7 @@ returns-in_default-clause-edits g c clean limit inside s stands =
     let b = state g.S.Store c.time_property.new.tx.conn.now in
     let first = c.in_ok-property.ensures.finds clean limit s stands in
     let told : None ≡ option_map (λ (x : Collection). x.time) (get s.collections c.args.collection.now) = ap (option_map (option_map string_bytes)) (sym c.in_default.is) ∙ first.0 in
-    (no_insert s c.args.collection.now c.args.feature.now (not_there (get s.collections c.args.collection.now) told), first.1.0.mode ∙ inside, keeps a b first.1)
+    (no_insert s c.args.collection.now c.args.feature.now (not_there (get s.collections c.args.collection.now) told), first.1.0.mode ∙ inside, keeps_rest a b first.1)
 
 pub returns-in_err-has_feature-clause-edits : goal.returns-in_err-has_feature-clause-edits
 returns-in_err-has_feature-clause-edits g c clean limit inside s stands =
@@ -46,7 +46,7 @@ returns-then-branch-clause-edits g c clean limit inside s stands =
     let second = c.in_ok-has_feature.ensures.looks clean (c.time_property.ensures.survives.limit ∙ limit) s mid in
     let seen : true ≡ is_some (feature_at s (c.args.collection.now, c.id.result.now)) = search rules in
     let held = seen ∙ ap (λ id. is_some (feature_at s (c.args.collection.now, id))) c.id.ensures in
-    (is_taken s c.args.collection.now c.args.feature.now col.0 col.1 held, second.1.0.mode ∙ first.1.0.mode ∙ inside, keeps_then a b e (keeps a b first.1) (keeps b e second.1))
+    (is_taken s c.args.collection.now c.args.feature.now col.0 col.1 held, second.1.0.mode ∙ first.1.0.mode ∙ inside, rest_then a b e (keeps_rest a b first.1) (keeps_rest b e second.1))
 
 pub returns-clause-edits : goal.returns-clause-edits
 returns-clause-edits g c clean limit inside s stands =
@@ -67,4 +67,4 @@ returns-clause-edits g c clean limit inside s stands =
     let within : IsTrue e.in_transaction = second.1.0.mode ∙ first.1.0.mode ∙ inside in
     let put = c.put_feature.ensures.puts clean (c.has_feature.ensures.survives.limit ∙ c.time_property.ensures.survives.limit ∙ limit) within s col.0 (stands_still b e s second.1 mid) col.1 (col.2 ∙ sym c.as_deref.ensures.value) none in
     answered_on a e f (WasPut s c.args.collection.now col.0 c.args.feature.now f) (Answered s (edit.insert c.args.collection.now c.args.feature.now) f) c.put_feature.result
-    (was_inserted s c.args.collection.now c.args.feature.now col.0 col.1 f none) (keeps_then a b e (keeps a b first.1) (keeps b e second.1)) put
+    (was_inserted s c.args.collection.now c.args.feature.now col.0 col.1 f none) (rest_then a b e (keeps_rest a b first.1) (keeps_rest b e second.1)) put

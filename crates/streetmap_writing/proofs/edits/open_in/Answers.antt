@@ -3,7 +3,7 @@ use Rattle.std.specs.Option.{option_copied}
 use Rattle.sqlite.specs.Held.{state}
 use Rattle.sqlite.specs.State.{HasCleanDisk}
 use Rattle.streetmap_tables.proofs.Answering.{handed_on}
-use Rattle.streetmap_writing.proofs.Joining.{keeps, keeps_then, stands_still}
+use Rattle.streetmap_writing.proofs.Joining.{keeps, keeps_then, keeps_rest, rest_then, stands_still}
 use Rattle.streetmap_writing.proofs.Deciding.{may_open}
 use Rattle.streetmap_writing.proofs.edits.open_in.Goals as goal
 
@@ -18,10 +18,11 @@ returns-clause-edits g c clean limit inside s stands =
     let early : HasCleanDisk b = omega (arith, clean, c.insert_collection.ensures.survives.clean) in
     let first = c.in_ok-has_collection.ensures.looks early limit s stands in
     let may = may_open s c.args.collection.now c.args.title.now (option_copied c.args.time) (search rules) c.utf8.collection c.utf8.title (search rules) in
-    let within : IsTrue b.in_transaction = first.1.0.mode ∙ inside in (
-      (_, may.0, (c.in_ok-insert_collection.ensures.writes clean within (c.has_collection.ensures.survives.limit ∙ limit) s _ (stands_still a b s first.1 stands) may.1).0),
+    let within : IsTrue b.in_transaction = first.1.0.mode ∙ inside in
+    let wrote = c.in_ok-insert_collection.ensures.writes clean within (c.has_collection.ensures.survives.limit ∙ limit) s _ (stands_still a b s first.1 stands) may.1 in (
+      (_, may.0, wrote.0),
       c.in_ok-insert_collection.ensures.inside clean within,
-      keeps_then a b f (keeps a b first.1) (c.in_ok-insert_collection.ensures.kept clean within),
+      rest_then a b f (keeps_rest a b first.1) (c.in_ok-insert_collection.ensures.kept clean within, wrote.1),
     )
 
 pub returns-in_err-insert_collection-clause-edits : goal.returns-in_err-insert_collection-clause-edits

@@ -1,4 +1,4 @@
-use Rattle.std.proofs.Common.{rules, ◌≡◌, refl}
+use Rattle.std.proofs.Common.{rules, ◌≡◌, ◌∙◌, refl, sym}
 use Rattle.std.specs.FinMap.{get}
 use Rattle.sqlite.specs.Held.{state}
 use Rattle.streetmap_rows.specs.Views.{kept_view}
@@ -36,3 +36,17 @@ returns-in_default-clause-looks g c clean s rests =
     let r = c.in-Ok.ensures.looks clean rests.unlimited s rests.kept.rows in
     let none = no_row kept_view (get s.keys c.args.key.now) c.deref.result.now (search rules) c.in_default.ensures.value in
     (rw none refl, rests_still (state g.S.Store c.args.conn.now) (state g.S.Store c.kept_rows.new.conn) s r.1 c.kept_rows.ensures.limit rests)
+
+pub returns-in-Err-clause-same : goal.returns-in-Err-clause-same
+returns-in-Err-clause-same g c clean s rests live =
+    let r = c.in-Err.ensures.looks clean rests.unlimited s rests.kept.rows in
+    c.is_autocommit-idle.ensures.settled (search rules) live ∙ r.1.committed live ∙ sym rests.settled
+
+pub returns-clause-same : goal.returns-clause-same
+returns-clause-same g c clean s rests live = (c.in-Ok.ensures.looks clean rests.unlimited s rests.kept.rows).1.0.now_is
+
+pub returns-in_err-reply-clause-same : goal.returns-in_err-reply-clause-same
+returns-in_err-reply-clause-same g c clean s rests live = (c.in-Ok.ensures.looks clean rests.unlimited s rests.kept.rows).1.0.now_is
+
+pub returns-in_default-clause-same : goal.returns-in_default-clause-same
+returns-in_default-clause-same g c clean s rests live = (c.in-Ok.ensures.looks clean rests.unlimited s rests.kept.rows).1.0.now_is

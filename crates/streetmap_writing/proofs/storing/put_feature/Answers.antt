@@ -14,8 +14,8 @@ returns-clause-puts g c clean limit inside s d stands there property absent =
     let same : c.id.result.now ≡ it.kept.id = c.id.ensures ∙ sym it.named in
     let written : IsWritten it.kept c.as_str.result.now (option_map box_value c.extent.result) c.in-Ok.seconds = record { text_is = c.as_str.ensures.value ∙ c.in-Ok-text_of.ensures ∙ it.text_is; extent_is = c.extent.ensures ∙ extent_is f ∙ it.extent_is; seconds_are = it.seconds_are } in
     let leads : PutsFeature (c.args.collection.now, c.id.result.now) it.kept s (with_feature s c.args.collection.now d it.kept) = record { collection = d; there = there; absent = ap (get d.features) c.id.ensures ∙ absent; fine = it.fine; is = ap (λ id. with_features s c.args.collection.now d (insert d.features id it.kept)) (sym same) } in
-    let rows = (c.in_ok-insert_feature.ensures.writes clean inside it.kept written limit s (with_feature s c.args.collection.now d it.kept) stands leads).0 in
-    ((it.kept, ap (λ p. timed p f) property ∙ it.is, rows), c.in_ok-insert_feature.ensures.inside clean inside, c.in_ok-insert_feature.ensures.kept clean inside)
+    let wrote = c.in_ok-insert_feature.ensures.writes clean inside it.kept written limit s (with_feature s c.args.collection.now d it.kept) stands leads in
+    ((it.kept, ap (λ p. timed p f) property ∙ it.is, wrote.0), c.in_ok-insert_feature.ensures.inside clean inside, (c.in_ok-insert_feature.ensures.kept clean inside, wrote.1))
 
 pub returns-in_err-insert_feature-clause-puts : goal.returns-in_err-insert_feature-clause-puts
 returns-in_err-insert_feature-clause-puts g c clean limit inside s d stands there property absent =
