@@ -1,4 +1,5 @@
 pub mod Answering
+pub mod Counting
 pub mod InOrder
 pub mod Interleavings
 pub mod MoveLemmas

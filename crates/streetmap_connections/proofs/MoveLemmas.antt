@@ -1,18 +1,12 @@
 -- What a client does, one step after another.
-use Rattle.std.proofs.Common.{◌≡◌, ℕ, Bool, false, List, [], ◌∷◌, ◌++◌, take, Option, Some, None, refl, sym, subst, ◌∙◌, ap, append_assoc, arith, rules, true, Result, Ok, Err, IfOk, OnErr}
-use Rattle.std.proofs.lemmas.Grind.{common_steps}
+use Rattle.std.proofs.Common.{◌≡◌, ℕ, Bool, false, List, [], ◌∷◌, ◌++◌, take, Option, Some, None, refl, sym, subst, ◌∙◌, ap, append_assoc, rules, true, Result, Ok, Err, IfOk, OnErr}
+use Rattle.std.proofs.lemmas.List.{append-nil}
 use Rattle.std.specs.Bool.{OnTrue, OnFalse}
 use Rattle.std.specs.Io.KnownBytes.{Appends, Consumes, Keeps}
 use Rattle.http_server.proofs.KnownLemmas.{Appends-then, Consumes-then}
 use Rattle.streetmap_connections.specs.History.{Exchange, History, MayFollow, after_receive, after_answer, after_send}
 use Rattle.streetmap_connections.specs.Leads.{Answering, Calls, Leads}
 use Rattle.streetmap_connections.specs.Moves.{Moves, Place}
-
-nothing_more : (xs : List ℕ) → xs ≡ xs ++ []
-nothing_more xs = grind (arith, common_steps)
-
-no_exchange : (es : List Exchange) → es ≡ es ++ []
-no_exchange es = grind (arith, common_steps)
 
 consumes_none : (u v : Option (List ℕ)) → v ≡ u → Consumes u v []
 consumes_none None v e = tt
@@ -25,20 +19,20 @@ keeps_none (Some xs) (Some ys) k = sym k
 
 appends_none : (u v : Option (List ℕ)) → v ≡ u → Appends u v []
 appends_none None v e = tt
-appends_none (Some xs) v e = rw e (nothing_more xs)
+appends_none (Some xs) v e = rw e (sym (append-nil xs))
 
 kept_appends : (u v : Option (List ℕ)) → Keeps u v → Appends u v []
 kept_appends None v k = tt
 kept_appends (Some xs) None k = absurd k
-kept_appends (Some xs) (Some ys) k = k ∙ nothing_more xs
+kept_appends (Some xs) (Some ys) k = k ∙ sym (append-nil xs)
 
 pub stays_put : (p : Place) → Moves p p
 stays_put p = record {
   more = [];
-  received = nothing_more p.history.received;
+  received = sym (append-nil p.history.received);
   consumed = λ stays. (stays, consumes_none p.left p.left refl);
   gone = [];
-  sent = nothing_more p.history.sent;
+  sent = sym (append-nil p.history.sent);
   appended = appends_none p.held p.held refl;
 }
 
@@ -57,7 +51,7 @@ moves_to p q r a e = subst (λ (x : Place). Moves p x) (sym e) a
 
 -- nothing was answered
 pub no_calls : {V : Type 0} (answers : Answering V) (s : V) (es : List Exchange) → Calls answers s s es es
-no_calls answers s es = ([], no_exchange es, refl)
+no_calls answers s es = ([], sym (append-nil es), refl)
 
 pub leads_then : {V : Type 0} (answers : Answering V) (xs ys : List Exchange) (a b c : V) → Leads answers a xs b → Leads answers b ys c → Leads answers a (xs ++ ys) c
 leads_then answers [] ys a b c x y = rw (sym x) y
@@ -77,15 +71,15 @@ moves_by_receive (Ok n) old new left left' held held' finishes A ok err kept = r
   received = ap (λ (h : History). h.received) ok.3;
   consumed = λ stays. (stays, ok.2);
   gone = [];
-  sent = ap (λ (h : History). h.sent) ok.3 ∙ nothing_more old.sent;
+  sent = ap (λ (h : History). h.sent) ok.3 ∙ sym (append-nil old.sent);
   appended = appends_none held held' kept;
 }
 moves_by_receive (Err e) old new left left' held held' finishes A ok err kept = record {
   more = [];
-  received = ap (λ (h : History). h.received) err.0 ∙ nothing_more old.received;
+  received = ap (λ (h : History). h.received) err.0 ∙ sym (append-nil old.received);
   consumed = λ stays. (stays, keeps_none left left' err.1);
   gone = [];
-  sent = ap (λ (h : History). h.sent) err.0 ∙ nothing_more old.sent;
+  sent = ap (λ (h : History). h.sent) err.0 ∙ sym (append-nil old.sent);
   appended = appends_none held held' kept;
 }
 
@@ -102,7 +96,7 @@ pub moves_by_send : {E : Type 0} (r : Result ℕ E) (old new : History) (left le
     → Moves (record { history = old; left = left; held = held; finishes = finishes }) (record { history = new; left = left'; held = held'; finishes = finishes })
 moves_by_send (Ok n) old new left left' held held' finishes ok err kept = record {
   more = [];
-  received = ap (λ (h : History). h.received) ok.0 ∙ nothing_more old.received;
+  received = ap (λ (h : History). h.received) ok.0 ∙ sym (append-nil old.received);
   consumed = λ stays. (stays, consumes_none left left' kept);
   gone = take n old.unsent;
   sent = ap (λ (h : History). h.sent) ok.0;
@@ -110,10 +104,10 @@ moves_by_send (Ok n) old new left left' held held' finishes ok err kept = record
 }
 moves_by_send (Err e) old new left left' held held' finishes ok err kept = record {
   more = [];
-  received = ap (λ (h : History). h.received) err.0 ∙ nothing_more old.received;
+  received = ap (λ (h : History). h.received) err.0 ∙ sym (append-nil old.received);
   consumed = λ stays. (stays, consumes_none left left' kept);
   gone = [];
-  sent = ap (λ (h : History). h.sent) err.0 ∙ nothing_more old.sent;
+  sent = ap (λ (h : History). h.sent) err.0 ∙ sym (append-nil old.sent);
   appended = kept_appends held held' err.1;
 }
 
@@ -129,18 +123,18 @@ pub moves_by_answer : (is_request : List ℕ → Type 0) (r : Bool) (old new : H
     → Moves (record { history = old; left = left; held = held; finishes = finishes }) (record { history = new; left = left; held = held; finishes = finishes })
 moves_by_answer is_request true old new left held finishes A K on off = record {
   more = [];
-  received = ap (λ (h : History). h.received) on.3 ∙ nothing_more old.received;
+  received = ap (λ (h : History). h.received) on.3 ∙ sym (append-nil old.received);
   consumed = λ stays. (stays, consumes_none left left refl);
   gone = [];
-  sent = ap (λ (h : History). h.sent) on.3 ∙ nothing_more old.sent;
+  sent = ap (λ (h : History). h.sent) on.3 ∙ sym (append-nil old.sent);
   appended = appends_none held held refl;
 }
 moves_by_answer is_request false old new left held finishes A K on off = record {
   more = [];
-  received = ap (λ (h : History). h.received) off.0 ∙ nothing_more old.received;
+  received = ap (λ (h : History). h.received) off.0 ∙ sym (append-nil old.received);
   consumed = λ stays. (stays, consumes_none left left refl);
   gone = [];
-  sent = ap (λ (h : History). h.sent) off.0 ∙ nothing_more old.sent;
+  sent = ap (λ (h : History). h.sent) off.0 ∙ sym (append-nil old.sent);
   appended = appends_none held held refl;
 }
 
@@ -148,7 +142,7 @@ pub calls_by_answer : {V : Type 0} (is_request : List ℕ → Type 0) (answers :
     → OnTrue r ((e : Exchange) × MayFollow is_request old e × answers s e.request e.text e.closes s' × (new ≡ after_answer old e)) → OnFalse r ((new ≡ old) × (s' ≡ s))
     → Calls answers s s' old.exchanges new.exchanges
 calls_by_answer is_request answers true old new s s' on off = (on.0 ∷ [], ap (λ (h : History). h.exchanges) on.3, (s', on.2, refl))
-calls_by_answer is_request answers false old new s s' on off = ([], ap (λ (h : History). h.exchanges) off.0 ∙ no_exchange old.exchanges, off.1)
+calls_by_answer is_request answers false old new s s' on off = ([], ap (λ (h : History). h.exchanges) off.0 ∙ sym (append-nil old.exchanges), off.1)
 
 is_not_false : (b : Bool) → b ≡ true → ¬ (b ≡ false)
 is_not_false true e f = search rules
@@ -159,9 +153,9 @@ pub moves_by_finish : (h : History) (left left' held held' : Option (List ℕ)) 
     → Moves (record { history = h; left = left; held = held; finishes = before }) (record { history = h; left = left'; held = held'; finishes = after })
 moves_by_finish h left left' held held' before after finishes kept = record {
   more = [];
-  received = nothing_more h.received;
+  received = sym (append-nil h.received);
   consumed = λ stays. absurd (is_not_false after finishes stays);
   gone = [];
-  sent = nothing_more h.sent;
+  sent = sym (append-nil h.sent);
   appended = appends_none held held' kept;
 }

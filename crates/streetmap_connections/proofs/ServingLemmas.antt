@@ -1,8 +1,7 @@
 -- What many clients were answered, one turn after another.
 use Rattle.std.proofs.Common.{◌≡◌, inl, inr, ℕ, zero, suc, ◌<◌, List, [], ◌∷◌, ◌++◌, length, map, get_or, set, All, Option, refl, sym, subst, ◌∙◌, ap, append_assoc, arith}
 use Rattle.std.specs.List.{flat_map}
-use Rattle.std.proofs.lemmas.Grind.{common_steps}
-use Rattle.std.proofs.lemmas.List.{map-append}
+use Rattle.std.proofs.lemmas.List.{append-nil, map-append}
 use Rattle.std.proofs.lemmas.List.Elements.{All-nil, All-cons}
 use Rattle.streetmap_connections.specs.declared.client.Client.{Client}
 use Rattle.streetmap_connections.specs.declared.slot.Slot.{Slot}
@@ -43,11 +42,8 @@ set_differs {A = A} f (a ∷ xs) zero x y lt is = record {
 }
 set_differs f (a ∷ xs) (suc i) x y lt is = behind f a xs (set xs i y) x y (set_differs f xs i x y (omega arith) is)
 
-nothing_more : {A : Type 0} (xs : List A) → xs ≡ xs ++ []
-nothing_more xs = grind (arith, common_steps)
-
 pub same_goes_on : {A : Type 0} (before after : List (List A)) → after ≡ before → GoesOnAs before [] after
-same_goes_on {A = A} before after e all i = subst (λ (xs : List A). IsInterleaving after xs) (nothing_more all) (subst (λ (ls : List (List A)). IsInterleaving ls all) (sym e) i)
+same_goes_on {A = A} before after e all i = subst (λ (xs : List A). IsInterleaving after xs) (sym (append-nil all)) (subst (λ (ls : List (List A)). IsInterleaving ls all) (sym e) i)
 
 pub goes_on_then : {A : Type 0} (a b c : List (List A)) (xs ys : List A) → GoesOnAs a xs b → GoesOnAs b ys c → GoesOnAs a (xs ++ ys) c
 goes_on_then {A = A} a b c xs ys x y all i = subst (λ (l : List A). IsInterleaving c l) (append_assoc all xs ys) (y (all ++ xs) (x all i))
@@ -86,7 +82,7 @@ module _ {S : Type 0} where
       let before = map exchanges_of front ++ map exchanges_of others in
       let behind_it = map exchanges_of back in
       let was = subst (λ (ls : List (List Exchange)). IsInterleaving ls all) (lists_without front others back) i in
-      subst (λ (xs : List Exchange). IsInterleaving (map exchanges_of (front ++ ((others ++ c ∷ []) ++ back))) xs) (nothing_more all)
+      subst (λ (xs : List Exchange). IsInterleaving (map exchanges_of (front ++ ((others ++ c ∷ []) ++ back))) xs) (sym (append-nil all))
       (subst (λ (ls : List (List Exchange)). IsInterleaving ls all)
       (sym (lists_with front others back c ∙ ap (λ (l : List Exchange). before ++ (l ∷ behind_it)) none))
       (begins before behind_it all was))

@@ -1,6 +1,5 @@
 //! A connection and its stream.
-ghost use Rattle.std.specs.Prelude.{◌≡◌, ◌≤◌, ◌↔◌, [], true, false, length, IsTrue};
-ghost use Rattle.std.specs.Bool.{OnTrue};
+ghost use Rattle.std.specs.Prelude.{◌≡◌, ◌≤◌, ◌↔◌, ◌||◌, [], true, false, length, IsTrue};
 ghost use Rattle.streetmap_connections.specs.Connections.{history};
 ghost use Rattle.streetmap_connections.specs.Moves.{Moves};
 ghost use Rattle.streetmap_connections.specs.Leads.{Calls};
@@ -44,11 +43,13 @@ pub struct Client<S> {
 
 impl<S: Stream> Client<S> {
     ghost use Rattle.streetmap_connections.specs.History.{new_history};
-    ghost use Rattle.streetmap_connections.specs.Clients.{place_of, exchanges_of, IsLate};
+    ghost use Rattle.streetmap_connections.specs.Clients.{place_of, exchanges_of, IsIdle, IsLate};
 
     /// A client of this stream, from this time on, in milliseconds.
     pub fn new(alloc: Global, stream: S, now: u64) -> Client<S>
-        ensures { place_of S.remaining S.contents result
+        ensures ready { (result.readable ≡ true) × (result.writable ≡ true) }
+        ensures since { result.since ≡ now }
+        ensures place { place_of S.remaining S.contents result
             ≡ record { history = new_history; left = S.remaining stream; held = S.contents stream; finishes = false } }
     {
         Client {
@@ -62,14 +63,16 @@ impl<S: Stream> Client<S> {
     }
 
     /// The stream alone, once the client is over.
-    pub fn into_stream(self) -> S {
+    pub fn into_stream(self) -> S
+        ensures { result ≡ self.stream }
+    {
         let Client { stream, .. } = self;
         stream
     }
 
     /// Its stream became ready.
     pub fn wake(&mut self, readable: bool, writable: bool)
-        ensures { place_of S.remaining S.contents self.new ≡ place_of S.remaining S.contents self.old }
+        ensures { self.new ≡ record self.old { readable = self.old.readable || readable; writable = self.old.writable || writable } }
     {
         self.readable = self.readable || readable;
         self.writable = self.writable || writable;
@@ -90,8 +93,7 @@ impl<S: Stream> Client<S> {
 
     /// Whether nothing of a request came, nothing is to be sent, and its stream had nothing more to read.
     pub fn is_idle(&self) -> bool
-        ensures unread { OnTrue result ((history self.now.connection).unread ≡ []) }
-        ensures unsent { OnTrue result ((history self.now.connection).unsent ≡ []) }
+        ensures { IsTrue result ↔ IsIdle self.now }
     {
         !self.readable && !self.finishes && self.connection.is_idle()
     }
