@@ -2,6 +2,8 @@ pub mod Answering
 pub mod Counting
 pub mod InOrder
 pub mod Interleavings
+pub mod Lateness
 pub mod MoveLemmas
 pub mod ServingLemmas
 pub mod Sending
+pub mod Turned

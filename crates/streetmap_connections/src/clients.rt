@@ -1,7 +1,8 @@
 //! The clients of a server.
 ghost use Rattle.std.specs.Prelude.{◌≡◌, ◌⊎◌, ◌+◌, [], map, flat_map, length, vec_len, All, IfOk, IfSome, IfNone};
+ghost use Rattle.std.specs.List.{AllZip};
 ghost use Rattle.streetmap_connections.specs.Counts.{count_of, CountsOn};
-ghost use Rattle.streetmap_connections.specs.Slots.{clients_in, past_of, ended_in};
+ghost use Rattle.streetmap_connections.specs.Slots.{clients_in, past_of, ended_in, EndsLate};
 
 use crate::client::{Client, Work};
 use crate::limits::Limits;
@@ -45,7 +46,9 @@ impl Round {
     /// The client of the slot takes its turn, and leaves where it is over.
     fn give_turn<S: Stream + Drop, V: Service>(&mut self, slot: &mut Slot<S>, service: &mut V)
         ensures turn { TakesTurn S.remaining S.contents V.answers service.old service.new (clients_in slot.old) (clients_in slot.new) }
+        ensures late { EndsLate self.old.now self.old.limits.patience slot.old slot.new }
         ensures counted { CountsOn self.old.ended self.new.ended (past_of slot.old) (past_of slot.new) }
+        ensures same { (self.new.now ≡ self.old.now) × (self.new.limits ≡ self.old.limits) }
     {
         let others = self.waiting.saturating_sub(slot.waiting());
         let most_input = self.limits.most_input(others);
@@ -65,6 +68,7 @@ impl Round {
     fn give_turns<S: Stream + Drop, V: Service>(&mut self, slots: &mut [Slot<S>], service: &mut V)
         ensures serves { Serves V.answers service.old service.new (flat_map clients_in slots.old) (flat_map clients_in slots.new) }
         ensures moves { EachMoves S.remaining S.contents (flat_map clients_in slots.old) (flat_map clients_in slots.new) }
+        ensures late { AllZip (EndsLate self.old.now self.old.limits.patience) slots.old slots.new }
         ensures counted { CountsOn self.old.ended self.new.ended (ended_in slots.old) (ended_in slots.new) }
     {
         for slot in slots.iter_mut() {
@@ -191,6 +195,7 @@ impl<S: Stream + Drop> Clients<S> {
     pub fn work<V: Service>(&mut self, service: &mut V, now: u64) -> bool
         ensures serves { Serves V.answers service.old service.new (clients_of self.old) (clients_of self.new) }
         ensures moves { EachMoves S.remaining S.contents (clients_of self.old) (clients_of self.new) }
+        ensures late { AllZip (EndsLate now self.old.limits.patience) self.old.slots.items self.new.slots.items }
     {
         let mut round = Round {
             limits: self.limits,

@@ -106,7 +106,7 @@ impl<S: Stream + Drop> Slot<S> {
         ensures turn { TakesTurn S.remaining S.contents V.answers service.old service.new (clients_in self.old) (clients_in self.new) }
         ensures past { past_of self.new ≡ past_of self.old }
         ensures ends { result ≡ Work.Ends → IsTaken self.new }
-        ensures late { All (λ c. IsLate now patience c → (result ≡ Work.Ends) × (service.new ≡ service.old)) (present self.old.client) }
+        ensures late { All (λ c. IsLate now patience c → (result ≡ Work.Ends) × (self.new ≡ self.old) × (service.new ≡ service.old)) (present self.old.client) }
     {
         match &mut self.client {
             None => Work::Rests,
