@@ -5,6 +5,7 @@ use Rattle.std.proofs.lemmas.List.{append-nil, map-append}
 use Rattle.std.proofs.lemmas.List.Elements.{All-nil, All-cons}
 use Rattle.streetmap_connections.specs.declared.client.Client.{Client}
 use Rattle.streetmap_connections.specs.declared.slot.Slot.{Slot}
+use Rattle.streetmap_connections.specs.declared.limits.TheConstants.{MOST_INPUT}
 use Rattle.streetmap_connections.specs.Clients.{exchanges_of, place_of, IsOrderly}
 use Rattle.streetmap_connections.specs.History.{Exchange}
 use Rattle.streetmap_connections.specs.Interleaving.{GoesOnAs, IsInterleaving}
@@ -160,7 +161,7 @@ module _ {S : Type 0} (slots : List (Slot S)) (i : ℕ) (x y : Slot S) (lt : i <
 module _ {S : Type 0} (remaining contents : S → Option (List ℕ)) where
   pub each_stays : (cs : List (Client S)) → EachMoves remaining contents cs cs
   each_stays [] = tt
-  each_stays (c ∷ cs) = (stays_put (place_of remaining contents c), each_stays cs)
+  each_stays (c ∷ cs) = (stays_put MOST_INPUT (place_of remaining contents c), each_stays cs)
 
   pub each_then : (xs ys zs : List (Client S)) → EachMoves remaining contents xs ys → EachMoves remaining contents ys zs → EachMoves remaining contents xs zs
   each_then [] [] [] a b = tt
@@ -168,7 +169,7 @@ module _ {S : Type 0} (remaining contents : S → Option (List ℕ)) where
   each_then [] (y ∷ ys) zs a b = absurd a
   each_then (x ∷ xs) [] zs a b = absurd a
   each_then (x ∷ xs) (y ∷ ys) [] a b = absurd b
-  each_then (x ∷ xs) (y ∷ ys) (z ∷ zs) a b = (moves_then (place_of remaining contents x) (place_of remaining contents y) (place_of remaining contents z) a.0 b.0, each_then xs ys zs a.1 b.1)
+  each_then (x ∷ xs) (y ∷ ys) (z ∷ zs) a b = (moves_then MOST_INPUT (place_of remaining contents x) (place_of remaining contents y) (place_of remaining contents z) a.0 b.0, each_then xs ys zs a.1 b.1)
 
   each_append : (xs ys us vs : List (Client S)) → EachMoves remaining contents xs ys → EachMoves remaining contents us vs → EachMoves remaining contents (xs ++ us) (ys ++ vs)
   each_append [] [] us vs a b = b

@@ -114,7 +114,7 @@ impl<S: Stream> Client<S> {
 
     /// Takes some steps. No more is read once so many bytes of its input wait as `most_input`.
     pub fn work<V: Service>(&mut self, service: &mut V, now: u64, most_input: usize) -> Work
-        ensures moves { Moves (place_of S.remaining S.contents self.old) (place_of S.remaining S.contents self.new) }
+        ensures moves { Moves most_input (place_of S.remaining S.contents self.old) (place_of S.remaining S.contents self.new) }
         ensures calls { Calls V.answers service.old service.new (exchanges_of self.old) (exchanges_of self.new) }
     {
         for _step in 0..STEPS {
@@ -127,7 +127,7 @@ impl<S: Stream> Client<S> {
     }
 
     fn step<V: Service>(&mut self, service: &mut V, now: u64, most_input: usize) -> Work
-        ensures moves { Moves (place_of S.remaining S.contents self.old) (place_of S.remaining S.contents self.new) }
+        ensures moves { Moves most_input (place_of S.remaining S.contents self.old) (place_of S.remaining S.contents self.new) }
         ensures calls { Calls V.answers service.old service.new (exchanges_of self.old) (exchanges_of self.new) }
     {
         if self.finishes {
@@ -146,7 +146,7 @@ impl<S: Stream> Client<S> {
     }
 
     fn send(&mut self, now: u64) -> Work
-        ensures moves { Moves (place_of S.remaining S.contents self.old) (place_of S.remaining S.contents self.new) }
+        ensures moves { Moves 0 (place_of S.remaining S.contents self.old) (place_of S.remaining S.contents self.new) }
         ensures unanswered { exchanges_of self.new ≡ exchanges_of self.old }
     {
         if !self.writable {
@@ -175,7 +175,7 @@ impl<S: Stream> Client<S> {
     fn answer<V: Service>(&mut self, service: &mut V, now: u64) -> Work
         requires sent { (history self.old.connection).unsent ≡ [] }
         requires stays { (history self.old.connection).closes ≡ false }
-        ensures moves { Moves (place_of S.remaining S.contents self.old) (place_of S.remaining S.contents self.new) }
+        ensures moves { Moves 0 (place_of S.remaining S.contents self.old) (place_of S.remaining S.contents self.new) }
         ensures calls { Calls V.answers service.old service.new (exchanges_of self.old) (exchanges_of self.new) }
     {
         let answered = self.connection.answer(service);
@@ -194,7 +194,7 @@ impl<S: Stream> Client<S> {
     /// Reads once, where less than so much of the input waits.
     fn receive(&mut self, most_input: usize) -> Work
         requires { (history self.old.connection).unsent ≡ [] }
-        ensures moves { Moves (place_of S.remaining S.contents self.old) (place_of S.remaining S.contents self.new) }
+        ensures moves { Moves most_input (place_of S.remaining S.contents self.old) (place_of S.remaining S.contents self.new) }
         ensures unanswered { exchanges_of self.new ≡ exchanges_of self.old }
         ensures limit { most_input ≤ length (history self.old.connection).unread → history self.new.connection ≡ history self.old.connection }
     {
@@ -220,7 +220,7 @@ impl<S: Stream> Client<S> {
     /// Says that nothing more is sent. What the other side still sends is read and dropped, since an unread byte could
     /// cost it the last answer.
     fn finish(&mut self, now: u64) -> Work
-        ensures moves { Moves (place_of S.remaining S.contents self.old) (place_of S.remaining S.contents self.new) }
+        ensures moves { Moves 0 (place_of S.remaining S.contents self.old) (place_of S.remaining S.contents self.new) }
         ensures unanswered { exchanges_of self.new ≡ exchanges_of self.old }
     {
         if self.connection.has_ended() {
@@ -234,7 +234,7 @@ impl<S: Stream> Client<S> {
 
     fn await_end(&mut self) -> Work
         requires { self.old.finishes ≡ true }
-        ensures moves { Moves (place_of S.remaining S.contents self.old) (place_of S.remaining S.contents self.new) }
+        ensures moves { Moves 0 (place_of S.remaining S.contents self.old) (place_of S.remaining S.contents self.new) }
         ensures unanswered { exchanges_of self.new ≡ exchanges_of self.old }
     {
         if !self.readable {

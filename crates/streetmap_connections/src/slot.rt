@@ -1,8 +1,9 @@
 //! A place for one client at a time.
-ghost use Rattle.std.specs.Prelude.{◌≡◌, ◌<◌, [], ◌∷◌, ◌++◌, Some, None, length, map, All};
+ghost use Rattle.std.specs.Prelude.{◌≡◌, ◌<◌, ◌≤◌, [], ◌∷◌, ◌++◌, Some, None, length, map, All};
 ghost use Rattle.std.specs.Bool.{OnTrue, OnFalse};
 
 use crate::client::{Client, Work};
+use crate::limits::MOST_INPUT;
 use crate::service::Service;
 use crate::stream::Stream;
 use http_server::Log;
@@ -103,6 +104,7 @@ impl<S: Stream + Drop> Slot<S> {
         patience: u64,
         most_input: usize,
     ) -> Work
+        requires { most_input ≤ MOST_INPUT }
         ensures turn { TakesTurn S.remaining S.contents V.answers service.old service.new (clients_in self.old) (clients_in self.new) }
         ensures past { past_of self.new ≡ past_of self.old }
         ensures ends { result ≡ Work.Ends → IsTaken self.new }
