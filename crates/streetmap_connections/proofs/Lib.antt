@@ -1,5 +1,6 @@
 pub mod Answering
 pub mod Counting
+pub mod Cutting
 pub mod InOrder
 pub mod Interleavings
 pub mod Lateness
