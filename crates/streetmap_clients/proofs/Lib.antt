@@ -1,2 +1,3 @@
 pub mod Surviving
 pub mod Turns
+pub mod Waiting

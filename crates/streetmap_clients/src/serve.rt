@@ -1,10 +1,10 @@
 //! Many clients over a listener.
-ghost use Rattle.std.specs.Prelude.{◌≡◌, ◌≤◌, Some, IsOk};
+ghost use Rattle.std.specs.Prelude.{◌≡◌, ◌≤◌, length, Some, IsOk};
 ghost use Rattle.streetmap_ledger.specs.State.{State};
 ghost use Rattle.streetmap_ledger.specs.Keep.{LeavesOnly};
 ghost use Rattle.streetmap_routes.specs.BaseView.{root_of};
 ghost use Rattle.streetmap_web.specs.Standing.{Standing, Stands};
-ghost use Rattle.streetmap_connections.specs.Slots.{clients_of};
+ghost use Rattle.streetmap_connections.specs.Served.{clients_of, ended_of};
 ghost use Rattle.streetmap_clients.specs.Serving.{ServesClients};
 ghost use Rattle.streetmap_clients.specs.Surviving.{SurvivesClients};
 
@@ -46,7 +46,7 @@ pub fn serve_clients<R: Net + Clock, K: Keeper, W: Write>(
         SurvivesClients (root_of service.old.base) s (Stands (K.stands service.new.keeper) (K.cause service.new.keeper)) (K.may_leave service.new.keeper) (clients_of clients.old) (clients_of clients.new) }
     ensures began_clean { K.is_clean service.new.keeper → K.is_clean service.old.keeper }
     ensures base { service.new.base ≡ service.old.base }
-    ensures counted { IsOk result → count ≤ clients.new.ended }
+    ensures counted { IsOk result → count ≤ length (ended_of clients.new) }
 {
     serve_connections(rt, listener, count, clients, service)
 }

@@ -1,7 +1,7 @@
 -- What the buffers hold after an answer.
 use Rattle.std.proofs.Common.{◌≡◌, ℕ, ◌≤◌, List, [], ◌∷◌, ◌++◌, length, take, drop, refl, arith, Global}
 use Rattle.std.proofs.lemmas.Grind.{common_steps}
-use Rattle.std.proofs.lemmas.List.{map-append}
+use Rattle.std.proofs.lemmas.List.{length-take-le, map-append}
 use Rattle.bytes.specs.declared.unique.BytesMut.{BytesMut}
 use Rattle.http_server.specs.declared.log.Log.{Log}
 use Rattle.streetmap_connections.specs.declared.buffers.Turn.{Turn}
@@ -12,13 +12,10 @@ use Rattle.streetmap_connections.specs.Buffers.{exchange_of, history_of}
 use Rattle.streetmap_connections.specs.History.{after_answer}
 use Rattle.streetmap_connections.specs.Outgoings.{unsent_of}
 
-length_of_front : (n : ℕ) (xs : List ℕ) → n ≤ length xs → length (take n xs) ≡ n
-length_of_front n xs fits = grind (arith, common_steps)
-
 pub front_and_rest : (n : ℕ) (xs ys : List ℕ) → xs ≡ ys → n ≤ length xs → ys ≡ take n xs ++ drop (length (take n xs)) ys
-front_and_rest n xs ys same fits = rw (length_of_front n xs fits) (rw same (grind (arith, common_steps)))
+front_and_rest n xs ys same fits = rw (length-take-le n xs fits) (rw same (grind (arith, common_steps)))
 
 pub history_after : (b : Buffers) (t : Turn) (input : BytesMut Global) (turns : Log (BytesMut Global) Turn) (outgoing : Outgoing)
     → input.items ≡ drop t.len b.input.items → turns.items ≡ b.turns.items ++ (b.input, t) ∷ [] → t.len ≤ length b.input.items → unsent_of outgoing ≡ answer_text t.answer
     → history_of (record b { input = input; needs = 1; outgoing = outgoing; closes = t.closes; turns = turns }) ≡ after_answer (history_of b) (exchange_of b.input.items t)
-history_after b t input turns outgoing rest turn fits text = rw (turn, rest, text, length_of_front t.len b.input.items fits, map-append) refl
+history_after b t input turns outgoing rest turn fits text = rw (turn, rest, text, length-take-le t.len b.input.items fits, map-append) refl

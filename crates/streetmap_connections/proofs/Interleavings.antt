@@ -22,17 +22,18 @@ right_more made none = right_only made
 right_more made (left m) = left (right_more made m)
 right_more made (right m) = right (right_more made m)
 
-first_of : {A : Type 0} {xs : List A} {xss : List (List A)} {all : List A} → IsInterleaving (xs ∷ xss) all
+-- the first list, and an interleaving of the others
+split_first : {A : Type 0} {xs : List A} {xss : List (List A)} {all : List A} → IsInterleaving (xs ∷ xss) all
     → (rest : List A) × Merges xs rest all × IsInterleaving xss rest
-first_of (more {rest = rest} m i) = (rest, m, i)
+split_first (more {rest = rest} m i) = (rest, m, i)
 
 -- one more list, of nothing yet
 pub begins : {A : Type 0} (front back : List (List A)) (all : List A) → IsInterleaving (front ++ back) all → IsInterleaving (front ++ ([] ∷ back)) all
 begins [] back all i = more (right_only all) i
-begins (xs ∷ front) back all i = let s = first_of i in more s.1 (begins front back s.0 s.2)
+begins (xs ∷ front) back all i = let s = split_first i in more s.1 (begins front back s.0 s.2)
 
 -- one of the lists goes on
 pub goes_on : {A : Type 0} (front back : List (List A)) (own made all : List A) → IsInterleaving (front ++ (own ∷ back)) all
     → IsInterleaving (front ++ ((own ++ made) ∷ back)) (all ++ made)
-goes_on [] back own made all i = let s = first_of i in more (left_more made s.1) s.2
-goes_on (xs ∷ front) back own made all i = let s = first_of i in more (right_more made s.1) (goes_on front back own made s.0 s.2)
+goes_on [] back own made all i = let s = split_first i in more (left_more made s.1) s.2
+goes_on (xs ∷ front) back own made all i = let s = split_first i in more (right_more made s.1) (goes_on front back own made s.0 s.2)

@@ -1,6 +1,10 @@
 pub mod Answering
+pub mod Counting
+pub mod Cutting
 pub mod InOrder
 pub mod Interleavings
+pub mod Lateness
 pub mod MoveLemmas
 pub mod ServingLemmas
 pub mod Sending
+pub mod Turned

@@ -1,18 +1,13 @@
 -- What a client does, one step after another.
-use Rattle.std.proofs.Common.{◌≡◌, ℕ, Bool, false, List, [], ◌∷◌, ◌++◌, take, Option, Some, None, refl, sym, subst, ◌∙◌, ap, append_assoc, arith, rules, true, Result, Ok, Err, IfOk, OnErr}
-use Rattle.std.proofs.lemmas.Grind.{common_steps}
+use Rattle.std.proofs.Common.{◌≡◌, ℕ, Bool, false, List, [], ◌∷◌, ◌++◌, take, Option, Some, None, refl, sym, subst, ◌∙◌, ap, append_assoc, ◌<◌, ◌≤◌, length, arith, rules, true, Result, Ok, Err, IfOk, OnErr}
+use Rattle.std.proofs.lemmas.List.{append-nil}
+use Rattle.std.proofs.lemmas.List.Elements.{All-nil, All-cons, All-append}
 use Rattle.std.specs.Bool.{OnTrue, OnFalse}
 use Rattle.std.specs.Io.KnownBytes.{Appends, Consumes, Keeps}
 use Rattle.http_server.proofs.KnownLemmas.{Appends-then, Consumes-then}
 use Rattle.streetmap_connections.specs.History.{Exchange, History, MayFollow, after_receive, after_answer, after_send}
 use Rattle.streetmap_connections.specs.Leads.{Answering, Calls, Leads}
 use Rattle.streetmap_connections.specs.Moves.{Moves, Place}
-
-nothing_more : (xs : List ℕ) → xs ≡ xs ++ []
-nothing_more xs = grind (arith, common_steps)
-
-no_exchange : (es : List Exchange) → es ≡ es ++ []
-no_exchange es = grind (arith, common_steps)
 
 consumes_none : (u v : Option (List ℕ)) → v ≡ u → Consumes u v []
 consumes_none None v e = tt
@@ -25,39 +20,58 @@ keeps_none (Some xs) (Some ys) k = sym k
 
 appends_none : (u v : Option (List ℕ)) → v ≡ u → Appends u v []
 appends_none None v e = tt
-appends_none (Some xs) v e = rw e (nothing_more xs)
+appends_none (Some xs) v e = rw e (sym (append-nil xs))
 
 kept_appends : (u v : Option (List ℕ)) → Keeps u v → Appends u v []
 kept_appends None v k = tt
 kept_appends (Some xs) None k = absurd k
-kept_appends (Some xs) (Some ys) k = k ∙ nothing_more xs
+kept_appends (Some xs) (Some ys) k = k ∙ sym (append-nil xs)
 
-pub stays_put : (p : Place) → Moves p p
-stays_put p = record {
+pub stays_put : (most : ℕ) (p : Place) → Moves most p p
+stays_put most p = record {
   more = [];
-  received = nothing_more p.history.received;
+  received = sym (append-nil p.history.received);
   consumed = λ stays. (stays, consumes_none p.left p.left refl);
+  reads = [];
+  waited = sym (append-nil p.history.waited);
+  within = All-nil (λ n. n < most);
   gone = [];
-  sent = nothing_more p.history.sent;
+  sent = sym (append-nil p.history.sent);
   appended = appends_none p.held p.held refl;
 }
 
-pub moves_then : (p q r : Place) → Moves p q → Moves q r → Moves p r
-moves_then p q r a b = record {
+pub moves_then : (most : ℕ) (p q r : Place) → Moves most p q → Moves most q r → Moves most p r
+moves_then most p q r a b = record {
   more = a.more ++ b.more;
   received = b.received ∙ (ap (λ (xs : List ℕ). xs ++ b.more) a.received ∙ append_assoc p.history.received a.more b.more);
   consumed = λ stays. let later = b.consumed stays in let earlier = a.consumed later.0 in (earlier.0, Consumes-then p.left q.left r.left a.more b.more earlier.1 later.1);
+  reads = a.reads ++ b.reads;
+  waited = b.waited ∙ (ap (λ (xs : List ℕ). xs ++ b.reads) a.waited ∙ append_assoc p.history.waited a.reads b.reads);
+  within = All-append (λ n. n < most) a.reads b.reads a.within b.within;
   gone = a.gone ++ b.gone;
   sent = b.sent ∙ (ap (λ (xs : List ℕ). xs ++ b.gone) a.sent ∙ append_assoc p.history.sent a.gone b.gone);
   appended = Appends-then p.held q.held r.held a.gone b.gone a.appended b.appended;
 }
 
-pub moves_to : (p q r : Place) → Moves p q → r ≡ q → Moves p r
-moves_to p q r a e = subst (λ (x : Place). Moves p x) (sym e) a
+pub moves_within : (most more : ℕ) (p q : Place) → most ≤ more → Moves most p q → Moves more p q
+moves_within most more p q le a = record {
+  more = a.more;
+  received = a.received;
+  consumed = a.consumed;
+  reads = a.reads;
+  waited = a.waited;
+  within = λ k d lt. omega (arith, le, a.within k d lt);
+  gone = a.gone;
+  sent = a.sent;
+  appended = a.appended;
+}
+
+pub moves_to : (most : ℕ) (p q r : Place) → Moves most p q → r ≡ q → Moves most p r
+moves_to most p q r a e = subst (λ (x : Place). Moves most p x) (sym e) a
 
 -- nothing was answered
 pub no_calls : {V : Type 0} (answers : Answering V) (s : V) (es : List Exchange) → Calls answers s s es es
-no_calls answers s es = ([], no_exchange es, refl)
+no_calls answers s es = ([], sym (append-nil es), refl)
 
 pub leads_then : {V : Type 0} (answers : Answering V) (xs ys : List Exchange) (a b c : V) → Leads answers a xs b → Leads answers b ys c → Leads answers a (xs ++ ys) c
 leads_then answers [] ys a b c x y = rw (sym x) y
@@ -68,24 +82,30 @@ calls_then answers a b c xs ys zs x y =
     (x.0 ++ y.0, y.1 ∙ (ap (λ (es : List Exchange). es ++ y.0) x.1 ∙ append_assoc xs x.0 y.0), leads_then answers x.0 y.0 a b c x.2 y.2)
 
 -- the connection read once
-pub moves_by_receive : {E : Type 0} (r : Result ℕ E) (old new : History) (left left' held held' : Option (List ℕ)) (finishes : Bool) (A : ℕ → List ℕ → Type 0)
-    → IfOk r (λ n. (more : List ℕ) × A n more × Consumes left left' more × (new ≡ after_receive old more))
+pub moves_by_receive : {E : Type 0} (most : ℕ) (r : Result ℕ E) (old new : History) (left left' held held' : Option (List ℕ)) (finishes : Bool) (A : ℕ → List ℕ → Type 0)
+    → length old.unread < most → IfOk r (λ n. (more : List ℕ) × A n more × Consumes left left' more × (new ≡ after_receive old more))
     → OnErr r ((new ≡ old) × Keeps left left') → held' ≡ held
-    → Moves (record { history = old; left = left; held = held; finishes = finishes }) (record { history = new; left = left'; held = held'; finishes = finishes })
-moves_by_receive (Ok n) old new left left' held held' finishes A ok err kept = record {
+    → Moves most (record { history = old; left = left; held = held; finishes = finishes }) (record { history = new; left = left'; held = held'; finishes = finishes })
+moves_by_receive most (Ok n) old new left left' held held' finishes A less ok err kept = record {
   more = ok.0;
   received = ap (λ (h : History). h.received) ok.3;
   consumed = λ stays. (stays, ok.2);
+  reads = length old.unread ∷ [];
+  waited = ap (λ (h : History). h.waited) ok.3;
+  within = All-cons (λ n. n < most) (length old.unread) [] less (All-nil (λ n. n < most));
   gone = [];
-  sent = ap (λ (h : History). h.sent) ok.3 ∙ nothing_more old.sent;
+  sent = ap (λ (h : History). h.sent) ok.3 ∙ sym (append-nil old.sent);
   appended = appends_none held held' kept;
 }
-moves_by_receive (Err e) old new left left' held held' finishes A ok err kept = record {
+moves_by_receive most (Err e) old new left left' held held' finishes A less ok err kept = record {
   more = [];
-  received = ap (λ (h : History). h.received) err.0 ∙ nothing_more old.received;
+  received = ap (λ (h : History). h.received) err.0 ∙ sym (append-nil old.received);
   consumed = λ stays. (stays, keeps_none left left' err.1);
+  reads = [];
+  waited = ap (λ (h : History). h.waited) err.0 ∙ sym (append-nil old.waited);
+  within = All-nil (λ n. n < most);
   gone = [];
-  sent = ap (λ (h : History). h.sent) err.0 ∙ nothing_more old.sent;
+  sent = ap (λ (h : History). h.sent) err.0 ∙ sym (append-nil old.sent);
   appended = appends_none held held' kept;
 }
 
@@ -96,24 +116,30 @@ unanswered_by_receive (Ok n) old new A B K ok err = ap (λ (h : History). h.exch
 unanswered_by_receive (Err e) old new A B K ok err = ap (λ (h : History). h.exchanges) err.0
 
 -- the connection wrote once
-pub moves_by_send : {E : Type 0} (r : Result ℕ E) (old new : History) (left left' held held' : Option (List ℕ)) (finishes : Bool)
+pub moves_by_send : {E : Type 0} (most : ℕ) (r : Result ℕ E) (old new : History) (left left' held held' : Option (List ℕ)) (finishes : Bool)
     → IfOk r (λ n. (new ≡ after_send old n) × Appends held held' (take n old.unsent))
     → OnErr r ((new ≡ old) × Keeps held held') → left' ≡ left
-    → Moves (record { history = old; left = left; held = held; finishes = finishes }) (record { history = new; left = left'; held = held'; finishes = finishes })
-moves_by_send (Ok n) old new left left' held held' finishes ok err kept = record {
+    → Moves most (record { history = old; left = left; held = held; finishes = finishes }) (record { history = new; left = left'; held = held'; finishes = finishes })
+moves_by_send most (Ok n) old new left left' held held' finishes ok err kept = record {
   more = [];
-  received = ap (λ (h : History). h.received) ok.0 ∙ nothing_more old.received;
+  received = ap (λ (h : History). h.received) ok.0 ∙ sym (append-nil old.received);
   consumed = λ stays. (stays, consumes_none left left' kept);
+  reads = [];
+  waited = ap (λ (h : History). h.waited) ok.0 ∙ sym (append-nil old.waited);
+  within = All-nil (λ n. n < most);
   gone = take n old.unsent;
   sent = ap (λ (h : History). h.sent) ok.0;
   appended = ok.1;
 }
-moves_by_send (Err e) old new left left' held held' finishes ok err kept = record {
+moves_by_send most (Err e) old new left left' held held' finishes ok err kept = record {
   more = [];
-  received = ap (λ (h : History). h.received) err.0 ∙ nothing_more old.received;
+  received = ap (λ (h : History). h.received) err.0 ∙ sym (append-nil old.received);
   consumed = λ stays. (stays, consumes_none left left' kept);
+  reads = [];
+  waited = ap (λ (h : History). h.waited) err.0 ∙ sym (append-nil old.waited);
+  within = All-nil (λ n. n < most);
   gone = [];
-  sent = ap (λ (h : History). h.sent) err.0 ∙ nothing_more old.sent;
+  sent = ap (λ (h : History). h.sent) err.0 ∙ sym (append-nil old.sent);
   appended = kept_appends held held' err.1;
 }
 
@@ -124,23 +150,29 @@ unanswered_by_send (Ok n) old new A K ok err = ap (λ (h : History). h.exchanges
 unanswered_by_send (Err e) old new A K ok err = ap (λ (h : History). h.exchanges) err.0
 
 -- the service was asked once
-pub moves_by_answer : (is_request : List ℕ → Type 0) (r : Bool) (old new : History) (left held : Option (List ℕ)) (finishes : Bool) (A : Exchange → Type 0) (K : Type 0)
+pub moves_by_answer : (most : ℕ) (is_request : List ℕ → Type 0) (r : Bool) (old new : History) (left held : Option (List ℕ)) (finishes : Bool) (A : Exchange → Type 0) (K : Type 0)
     → OnTrue r ((e : Exchange) × MayFollow is_request old e × A e × (new ≡ after_answer old e)) → OnFalse r ((new ≡ old) × K)
-    → Moves (record { history = old; left = left; held = held; finishes = finishes }) (record { history = new; left = left; held = held; finishes = finishes })
-moves_by_answer is_request true old new left held finishes A K on off = record {
+    → Moves most (record { history = old; left = left; held = held; finishes = finishes }) (record { history = new; left = left; held = held; finishes = finishes })
+moves_by_answer most is_request true old new left held finishes A K on off = record {
   more = [];
-  received = ap (λ (h : History). h.received) on.3 ∙ nothing_more old.received;
+  received = ap (λ (h : History). h.received) on.3 ∙ sym (append-nil old.received);
   consumed = λ stays. (stays, consumes_none left left refl);
+  reads = [];
+  waited = ap (λ (h : History). h.waited) on.3 ∙ sym (append-nil old.waited);
+  within = All-nil (λ n. n < most);
   gone = [];
-  sent = ap (λ (h : History). h.sent) on.3 ∙ nothing_more old.sent;
+  sent = ap (λ (h : History). h.sent) on.3 ∙ sym (append-nil old.sent);
   appended = appends_none held held refl;
 }
-moves_by_answer is_request false old new left held finishes A K on off = record {
+moves_by_answer most is_request false old new left held finishes A K on off = record {
   more = [];
-  received = ap (λ (h : History). h.received) off.0 ∙ nothing_more old.received;
+  received = ap (λ (h : History). h.received) off.0 ∙ sym (append-nil old.received);
   consumed = λ stays. (stays, consumes_none left left refl);
+  reads = [];
+  waited = ap (λ (h : History). h.waited) off.0 ∙ sym (append-nil old.waited);
+  within = All-nil (λ n. n < most);
   gone = [];
-  sent = ap (λ (h : History). h.sent) off.0 ∙ nothing_more old.sent;
+  sent = ap (λ (h : History). h.sent) off.0 ∙ sym (append-nil old.sent);
   appended = appends_none held held refl;
 }
 
@@ -148,20 +180,23 @@ pub calls_by_answer : {V : Type 0} (is_request : List ℕ → Type 0) (answers :
     → OnTrue r ((e : Exchange) × MayFollow is_request old e × answers s e.request e.text e.closes s' × (new ≡ after_answer old e)) → OnFalse r ((new ≡ old) × (s' ≡ s))
     → Calls answers s s' old.exchanges new.exchanges
 calls_by_answer is_request answers true old new s s' on off = (on.0 ∷ [], ap (λ (h : History). h.exchanges) on.3, (s', on.2, refl))
-calls_by_answer is_request answers false old new s s' on off = ([], ap (λ (h : History). h.exchanges) off.0 ∙ no_exchange old.exchanges, off.1)
+calls_by_answer is_request answers false old new s s' on off = ([], ap (λ (h : History). h.exchanges) off.0 ∙ sym (append-nil old.exchanges), off.1)
 
 is_not_false : (b : Bool) → b ≡ true → ¬ (b ≡ false)
 is_not_false true e f = search rules
 is_not_false false e f = search rules
 
 -- the client begins to drop what is still read
-pub moves_by_finish : (h : History) (left left' held held' : Option (List ℕ)) (before after : Bool) → after ≡ true → held' ≡ held
-    → Moves (record { history = h; left = left; held = held; finishes = before }) (record { history = h; left = left'; held = held'; finishes = after })
-moves_by_finish h left left' held held' before after finishes kept = record {
+pub moves_by_finish : (most : ℕ) (h : History) (left left' held held' : Option (List ℕ)) (before after : Bool) → after ≡ true → held' ≡ held
+    → Moves most (record { history = h; left = left; held = held; finishes = before }) (record { history = h; left = left'; held = held'; finishes = after })
+moves_by_finish most h left left' held held' before after finishes kept = record {
   more = [];
-  received = nothing_more h.received;
+  received = sym (append-nil h.received);
   consumed = λ stays. absurd (is_not_false after finishes stays);
+  reads = [];
+  waited = sym (append-nil h.waited);
+  within = All-nil (λ n. n < most);
   gone = [];
-  sent = nothing_more h.sent;
+  sent = sym (append-nil h.sent);
   appended = appends_none held held' kept;
 }

@@ -1,5 +1,5 @@
 -- What is left of an answer.
-use Rattle.std.proofs.Common.{◌≡◌, ℕ, ◌<◌, ◌≤◌, List, [], ◌∷◌, ◌++◌, ◌+◌, ◌-◌, length, take, drop, refl, sym, arith, length-drop}
+use Rattle.std.proofs.Common.{◌≡◌, ◌≢◌, ℕ, ◌<◌, ◌≤◌, List, [], ◌∷◌, ◌++◌, ◌+◌, ◌-◌, length, take, drop, refl, sym, arith, length-drop}
 use Rattle.std.proofs.lemmas.List.{take-append-le}
 use Rattle.std.proofs.lemmas.Grind.{common_steps}
 use Rattle.streetmap_connections.specs.Outgoings.{first_of}
@@ -21,6 +21,10 @@ first_is_right (x ∷ xs) ys empty = absurd (some_length x xs empty)
 pub first_empty : (xs ys : List ℕ) → first_of xs ys ≡ [] → xs ++ ys ≡ []
 first_empty [] ys e = e
 first_empty (x ∷ xs) ys e = grind (arith, common_steps)
+
+pub first_some : (xs ys : List ℕ) → first_of xs ys ≢ [] → xs ++ ys ≢ []
+first_some [] ys some = some
+first_some (x ∷ xs) ys some = λ e. grind (arith, common_steps)
 
 pub take_first : (n : ℕ) (xs ys : List ℕ) → n ≤ length (first_of xs ys) → take n (first_of xs ys) ≡ take n (xs ++ ys)
 take_first n [] ys fits = refl

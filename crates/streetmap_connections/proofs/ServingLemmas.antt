@@ -1,11 +1,11 @@
 -- What many clients were answered, one turn after another.
 use Rattle.std.proofs.Common.{◌≡◌, inl, inr, ℕ, zero, suc, ◌<◌, List, [], ◌∷◌, ◌++◌, length, map, get_or, set, All, Option, refl, sym, subst, ◌∙◌, ap, append_assoc, arith}
 use Rattle.std.specs.List.{flat_map}
-use Rattle.std.proofs.lemmas.Grind.{common_steps}
-use Rattle.std.proofs.lemmas.List.{map-append}
+use Rattle.std.proofs.lemmas.List.{append-nil, map-append}
 use Rattle.std.proofs.lemmas.List.Elements.{All-nil, All-cons}
 use Rattle.streetmap_connections.specs.declared.client.Client.{Client}
 use Rattle.streetmap_connections.specs.declared.slot.Slot.{Slot}
+use Rattle.streetmap_connections.specs.declared.limits.TheConstants.{MOST_INPUT}
 use Rattle.streetmap_connections.specs.Clients.{exchanges_of, place_of, IsOrderly}
 use Rattle.streetmap_connections.specs.History.{Exchange}
 use Rattle.streetmap_connections.specs.Interleaving.{GoesOnAs, IsInterleaving}
@@ -43,11 +43,8 @@ set_differs {A = A} f (a ∷ xs) zero x y lt is = record {
 }
 set_differs f (a ∷ xs) (suc i) x y lt is = behind f a xs (set xs i y) x y (set_differs f xs i x y (omega arith) is)
 
-nothing_more : {A : Type 0} (xs : List A) → xs ≡ xs ++ []
-nothing_more xs = grind (arith, common_steps)
-
 pub same_goes_on : {A : Type 0} (before after : List (List A)) → after ≡ before → GoesOnAs before [] after
-same_goes_on {A = A} before after e all i = subst (λ (xs : List A). IsInterleaving after xs) (nothing_more all) (subst (λ (ls : List (List A)). IsInterleaving ls all) (sym e) i)
+same_goes_on {A = A} before after e all i = subst (λ (xs : List A). IsInterleaving after xs) (sym (append-nil all)) (subst (λ (ls : List (List A)). IsInterleaving ls all) (sym e) i)
 
 pub goes_on_then : {A : Type 0} (a b c : List (List A)) (xs ys : List A) → GoesOnAs a xs b → GoesOnAs b ys c → GoesOnAs a (xs ++ ys) c
 goes_on_then {A = A} a b c xs ys x y all i = subst (λ (l : List A). IsInterleaving c l) (append_assoc all xs ys) (y (all ++ xs) (x all i))
@@ -86,7 +83,7 @@ module _ {S : Type 0} where
       let before = map exchanges_of front ++ map exchanges_of others in
       let behind_it = map exchanges_of back in
       let was = subst (λ (ls : List (List Exchange)). IsInterleaving ls all) (lists_without front others back) i in
-      subst (λ (xs : List Exchange). IsInterleaving (map exchanges_of (front ++ ((others ++ c ∷ []) ++ back))) xs) (nothing_more all)
+      subst (λ (xs : List Exchange). IsInterleaving (map exchanges_of (front ++ ((others ++ c ∷ []) ++ back))) xs) (sym (append-nil all))
       (subst (λ (ls : List (List Exchange)). IsInterleaving ls all)
       (sym (lists_with front others back c ∙ ap (λ (l : List Exchange). before ++ (l ∷ behind_it)) none))
       (begins before behind_it all was))
@@ -164,7 +161,7 @@ module _ {S : Type 0} (slots : List (Slot S)) (i : ℕ) (x y : Slot S) (lt : i <
 module _ {S : Type 0} (remaining contents : S → Option (List ℕ)) where
   pub each_stays : (cs : List (Client S)) → EachMoves remaining contents cs cs
   each_stays [] = tt
-  each_stays (c ∷ cs) = (stays_put (place_of remaining contents c), each_stays cs)
+  each_stays (c ∷ cs) = (stays_put MOST_INPUT (place_of remaining contents c), each_stays cs)
 
   pub each_then : (xs ys zs : List (Client S)) → EachMoves remaining contents xs ys → EachMoves remaining contents ys zs → EachMoves remaining contents xs zs
   each_then [] [] [] a b = tt
@@ -172,7 +169,7 @@ module _ {S : Type 0} (remaining contents : S → Option (List ℕ)) where
   each_then [] (y ∷ ys) zs a b = absurd a
   each_then (x ∷ xs) [] zs a b = absurd a
   each_then (x ∷ xs) (y ∷ ys) [] a b = absurd b
-  each_then (x ∷ xs) (y ∷ ys) (z ∷ zs) a b = (moves_then (place_of remaining contents x) (place_of remaining contents y) (place_of remaining contents z) a.0 b.0, each_then xs ys zs a.1 b.1)
+  each_then (x ∷ xs) (y ∷ ys) (z ∷ zs) a b = (moves_then MOST_INPUT (place_of remaining contents x) (place_of remaining contents y) (place_of remaining contents z) a.0 b.0, each_then xs ys zs a.1 b.1)
 
   each_append : (xs ys us vs : List (Client S)) → EachMoves remaining contents xs ys → EachMoves remaining contents us vs → EachMoves remaining contents (xs ++ us) (ys ++ vs)
   each_append [] [] us vs a b = b

@@ -14,6 +14,7 @@ history_of b = record {
   received = flat_map (λ r. drop r.1 r.0.items) b.reads.items;
   ended = b.ended;
   unread = b.input.items;
+  waited = map (λ r. r.1) b.reads.items;
   exchanges = map (λ t. exchange_of t.0.items t.1) b.turns.items;
   closes = b.closes;
   sent = flat_map (λ w. take w.1 (unsent_of w.0)) b.writes.items;

@@ -1,5 +1,5 @@
 -- What a contract sees of a client.
-use Rattle.std.specs.Prelude.{◌≡◌, ◌-◌, ◌<◌, ℕ, List, [], Option, if◌then◌else◌}
+use Rattle.std.specs.Prelude.{◌≡◌, ◌-◌, ◌<◌, ℕ, false, List, [], Option, if◌then◌else◌}
 use Rattle.streetmap_connections.specs.declared.client.Client.{Client}
 use Rattle.streetmap_connections.specs.declared.client.TheConstants.{LAST_PATIENCE}
 use Rattle.streetmap_connections.specs.Connections.{history}
@@ -25,6 +25,10 @@ module _ {S : Type 0} where
   -- nothing that came waits for an answer, and no answer waits to be sent
   abbrev pub IsAtRest : Client S → Type 0
   IsAtRest c = ((history c.connection).unread ≡ []) × ((history c.connection).unsent ≡ [])
+
+  -- the client is at rest, and its stream had nothing more to read
+  abbrev pub IsIdle : Client S → Type 0
+  IsIdle c = (c.readable ≡ false) × (c.finishes ≡ false) × IsAtRest c
 
   -- the client took longer than the patience, or than the last one where all was sent
   abbrev pub IsLate : ℕ → ℕ → Client S → Type 0

@@ -2,11 +2,13 @@ pub mod Answers
 pub mod Buffers
 pub mod Clients
 pub mod Connections
+pub mod Counts
 pub mod Cuts
 pub mod History
 pub mod Interleaving
 pub mod Leads
 pub mod Moves
 pub mod Outgoings
+pub mod Served
 pub mod Serving
 pub mod Slots

@@ -2,6 +2,7 @@
 use Rattle.std.specs.Prelude.{◌≡◌, ◌⊎◌, ℕ, List, [], ◌∷◌, ◌++◌, map, Option, All}
 use Rattle.std.specs.List.{AllZip}
 use Rattle.streetmap_connections.specs.declared.client.Client.{Client}
+use Rattle.streetmap_connections.specs.declared.limits.TheConstants.{MOST_INPUT}
 use Rattle.streetmap_connections.specs.Clients.{exchanges_of, place_of, IsOrderly}
 use Rattle.streetmap_connections.specs.History.{Exchange}
 use Rattle.streetmap_connections.specs.Interleaving.{GoesOnAs}
@@ -23,13 +24,14 @@ pub record LastServed {V S : Type 0} (remaining contents : S → Option (List �
   pub served : Client S
   pub was : before ≡ others ++ client ∷ []
   pub is : after ≡ others ++ served ∷ []
-  pub moves : Moves (place_of remaining contents client) (place_of remaining contents served)
+  pub moves : Moves MOST_INPUT (place_of remaining contents client) (place_of remaining contents served)
   pub calls : Calls answers old new (exchanges_of client) (exchanges_of served)
 
 -- the last of the clients had its turn, or nothing was done
 abbrev pub TakesTurn : {V S : Type 0} → (S → Option (List ℕ)) → (S → Option (List ℕ)) → Answering V → V → V → List (Client S) → List (Client S) → Type 0
 TakesTurn remaining contents answers old new before after = LastServed remaining contents answers old new before after ⊎ ((after ≡ before) × (new ≡ old))
 
--- each client received what its own stream gave, and was sent what was written to it
+-- each client received what its own stream gave, and was sent what was written to it; none was read
+-- while as much of its input waited as the longest request has
 abbrev pub EachMoves : {S : Type 0} → (S → Option (List ℕ)) → (S → Option (List ℕ)) → List (Client S) → List (Client S) → Type 0
-EachMoves remaining contents before after = AllZip (λ c d. Moves (place_of remaining contents c) (place_of remaining contents d)) before after
+EachMoves remaining contents before after = AllZip (λ c d. Moves MOST_INPUT (place_of remaining contents c) (place_of remaining contents d)) before after

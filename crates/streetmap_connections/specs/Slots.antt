@@ -1,9 +1,8 @@
 -- The clients of slots, those that ended first.
-use Rattle.std.specs.Prelude.{◌≡◌, ℕ, List, [], ◌∷◌, ◌++◌, map, flat_map, Option, Some, None, All, slice_get}
+use Rattle.std.specs.Prelude.{◌≡◌, ℕ, List, [], ◌∷◌, ◌++◌, map, flat_map, Option, Some, None, IsSome, All, slice_get}
 use Rattle.streetmap_connections.specs.declared.client.Client.{Client}
 use Rattle.streetmap_connections.specs.declared.slot.Slot.{Slot}
-use Rattle.streetmap_connections.specs.declared.clients.Clients.{Clients}
-use Rattle.streetmap_connections.specs.Clients.{IsAtRest}
+use Rattle.streetmap_connections.specs.Clients.{IsAtRest, IsLate}
 
 module _ {S : Type 0} where
   abbrev pub present : Option (Client S) → List (Client S)
@@ -24,6 +23,18 @@ module _ {S : Type 0} where
   abbrev pub GivesWayAt : List (Slot S) → ℕ → Type 0
   GivesWayAt slots place = (s : Slot S) × (slice_get slots place ≡ Some s) × GivesWay s
 
-  -- all that ever were let in
-  abbrev pub clients_of : Clients S → List (Client S)
-  clients_of cs = flat_map clients_in cs.slots.items
+  -- the slot is free
+  abbrev pub IsFreeAt : List (Slot S) → ℕ → Type 0
+  IsFreeAt slots place = (s : Slot S) × (slice_get slots place ≡ Some s) × (s.client ≡ None)
+
+  -- the slot has a client
+  abbrev pub IsTaken : Slot S → Type 0
+  IsTaken s = IsSome s.client
+
+  -- a late client of the slot has ended as it was, the last one there, and the slot is free
+  abbrev pub EndsLate : ℕ → ℕ → Slot S → Slot S → Type 0
+  EndsLate now patience old new = All (λ c. IsLate now patience c → (new.client ≡ None) × (past_of new ≡ past_of old ++ c ∷ [])) (present old.client)
+
+  -- those that ended, over all slots
+  abbrev pub ended_in : List (Slot S) → List (Client S)
+  ended_in slots = flat_map past_of slots

@@ -1,5 +1,5 @@
 //! What a connection holds.
-ghost use Rattle.std.specs.Prelude.{◌≡◌, ◌≤◌, ℕ, List, [], length, take, false, IfOk, OnErr};
+ghost use Rattle.std.specs.Prelude.{◌≡◌, ◌<◌, ◌≤◌, ℕ, List, [], length, take, false, IfOk, OnErr};
 ghost use Rattle.std.specs.Bool.{OnTrue, OnFalse};
 ghost use Rattle.std.specs.Io.KnownBytes.{Appends, Consumes, Keeps};
 
@@ -47,11 +47,13 @@ pub(crate) struct Buffers {
 
 impl Buffers {
     ghost use Rattle.streetmap_connections.specs.Buffers.{history_of};
+    ghost use Rattle.streetmap_connections.specs.Cuts.{HasNone, HasNoneBefore};
     ghost use Rattle.streetmap_connections.specs.History.{Exchange, MayFollow, new_history, after_receive, after_answer, after_send};
 
     /// Nothing, which takes no memory.
     pub(crate) fn new(alloc: Global) -> Buffers
-        ensures { history_of result ≡ new_history }
+        ensures unused { history_of result ≡ new_history }
+        ensures awaits { result.needs ≡ 1 }
     {
         Buffers {
             alloc,
@@ -74,6 +76,7 @@ impl Buffers {
         ensures err { OnErr result ((history_of self.new ≡ history_of self.old)
             × Keeps (S.remaining stream.old) (S.remaining stream.new)) }
         ensures kept { S.contents stream.new ≡ S.contents stream.old }
+        ensures awaits { self.new.needs ≡ self.old.needs }
     {
         let len = self.input.len();
         self.input.reserve(room_for(self.needs, len))?;
@@ -91,6 +94,9 @@ impl Buffers {
             × V.answers service.old e.request e.text e.closes service.new
             × (history_of self.new ≡ after_answer (history_of self.old) e)) }
         ensures waits { OnFalse result ((history_of self.new ≡ history_of self.old) × (service.new ≡ service.old)) }
+        ensures begins { OnTrue result (self.new.needs ≡ 1) }
+        ensures none { OnFalse result (HasNone V.is_request (history_of self.old).unread) }
+        ensures awaits { OnFalse result ((length (history_of self.old).unread < self.new.needs) × HasNoneBefore V.is_request (history_of self.old).unread self.new.needs) }
     {
         match service.cut(self.input.as_slice()) {
             Cut::Waits(needs) => {
@@ -108,9 +114,10 @@ impl Buffers {
     fn take_turn<V: Service>(&mut self, service: &mut V, len: usize)
         requires fits { len ≤ length self.old.input.items }
         requires request { V.is_request (take len self.old.input.items) }
-        ensures { (e : Exchange) × (e.request ≡ take len self.old.input.items)
+        ensures answered { (e : Exchange) × (e.request ≡ take len self.old.input.items)
             × V.answers service.old e.request e.text e.closes service.new
             × (history_of self.new ≡ after_answer (history_of self.old) e) }
+        ensures begins { self.new.needs ≡ 1 }
     {
         let (answer, closes) = service.answer(&self.input.as_slice()[..len]);
         let turn = Turn {
@@ -133,6 +140,7 @@ impl Buffers {
         ensures err { OnErr result ((history_of self.new ≡ history_of self.old)
             × Keeps (S.contents stream.old) (S.contents stream.new)) }
         ensures kept { S.remaining stream.new ≡ S.remaining stream.old }
+        ensures awaits { self.new.needs ≡ self.old.needs }
     {
         let len = stream.send(self.outgoing.next())?;
         self.writes = self.writes.and(&self.outgoing, &len);

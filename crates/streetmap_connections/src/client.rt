@@ -1,6 +1,5 @@
 //! A connection and its stream.
-ghost use Rattle.std.specs.Prelude.{◌≡◌, ◌≤◌, ◌↔◌, [], true, false, length, IsTrue};
-ghost use Rattle.std.specs.Bool.{OnTrue};
+ghost use Rattle.std.specs.Prelude.{◌≡◌, ◌≤◌, ◌↔◌, ◌||◌, [], true, false, length, IsTrue};
 ghost use Rattle.streetmap_connections.specs.Connections.{history};
 ghost use Rattle.streetmap_connections.specs.Moves.{Moves};
 ghost use Rattle.streetmap_connections.specs.Leads.{Calls};
@@ -44,11 +43,13 @@ pub struct Client<S> {
 
 impl<S: Stream> Client<S> {
     ghost use Rattle.streetmap_connections.specs.History.{new_history};
-    ghost use Rattle.streetmap_connections.specs.Clients.{place_of, exchanges_of, IsLate};
+    ghost use Rattle.streetmap_connections.specs.Clients.{place_of, exchanges_of, IsIdle, IsLate};
 
     /// A client of this stream, from this time on, in milliseconds.
     pub fn new(alloc: Global, stream: S, now: u64) -> Client<S>
-        ensures { place_of S.remaining S.contents result
+        ensures ready { (result.readable ≡ true) × (result.writable ≡ true) }
+        ensures since { result.since ≡ now }
+        ensures place { place_of S.remaining S.contents result
             ≡ record { history = new_history; left = S.remaining stream; held = S.contents stream; finishes = false } }
     {
         Client {
@@ -62,14 +63,16 @@ impl<S: Stream> Client<S> {
     }
 
     /// The stream alone, once the client is over.
-    pub fn into_stream(self) -> S {
+    pub fn into_stream(self) -> S
+        ensures { result ≡ self.stream }
+    {
         let Client { stream, .. } = self;
         stream
     }
 
     /// Its stream became ready.
     pub fn wake(&mut self, readable: bool, writable: bool)
-        ensures { place_of S.remaining S.contents self.new ≡ place_of S.remaining S.contents self.old }
+        ensures { self.new ≡ record self.old { readable = self.old.readable || readable; writable = self.old.writable || writable } }
     {
         self.readable = self.readable || readable;
         self.writable = self.writable || writable;
@@ -90,8 +93,7 @@ impl<S: Stream> Client<S> {
 
     /// Whether nothing of a request came, nothing is to be sent, and its stream had nothing more to read.
     pub fn is_idle(&self) -> bool
-        ensures unread { OnTrue result ((history self.now.connection).unread ≡ []) }
-        ensures unsent { OnTrue result ((history self.now.connection).unsent ≡ []) }
+        ensures { IsTrue result ↔ IsIdle self.now }
     {
         !self.readable && !self.finishes && self.connection.is_idle()
     }
@@ -112,7 +114,7 @@ impl<S: Stream> Client<S> {
 
     /// Takes some steps. No more is read once so many bytes of its input wait as `most_input`.
     pub fn work<V: Service>(&mut self, service: &mut V, now: u64, most_input: usize) -> Work
-        ensures moves { Moves (place_of S.remaining S.contents self.old) (place_of S.remaining S.contents self.new) }
+        ensures moves { Moves most_input (place_of S.remaining S.contents self.old) (place_of S.remaining S.contents self.new) }
         ensures calls { Calls V.answers service.old service.new (exchanges_of self.old) (exchanges_of self.new) }
     {
         for _step in 0..STEPS {
@@ -125,7 +127,7 @@ impl<S: Stream> Client<S> {
     }
 
     fn step<V: Service>(&mut self, service: &mut V, now: u64, most_input: usize) -> Work
-        ensures moves { Moves (place_of S.remaining S.contents self.old) (place_of S.remaining S.contents self.new) }
+        ensures moves { Moves most_input (place_of S.remaining S.contents self.old) (place_of S.remaining S.contents self.new) }
         ensures calls { Calls V.answers service.old service.new (exchanges_of self.old) (exchanges_of self.new) }
     {
         if self.finishes {
@@ -144,7 +146,7 @@ impl<S: Stream> Client<S> {
     }
 
     fn send(&mut self, now: u64) -> Work
-        ensures moves { Moves (place_of S.remaining S.contents self.old) (place_of S.remaining S.contents self.new) }
+        ensures moves { Moves 0 (place_of S.remaining S.contents self.old) (place_of S.remaining S.contents self.new) }
         ensures unanswered { exchanges_of self.new ≡ exchanges_of self.old }
     {
         if !self.writable {
@@ -173,7 +175,7 @@ impl<S: Stream> Client<S> {
     fn answer<V: Service>(&mut self, service: &mut V, now: u64) -> Work
         requires sent { (history self.old.connection).unsent ≡ [] }
         requires stays { (history self.old.connection).closes ≡ false }
-        ensures moves { Moves (place_of S.remaining S.contents self.old) (place_of S.remaining S.contents self.new) }
+        ensures moves { Moves 0 (place_of S.remaining S.contents self.old) (place_of S.remaining S.contents self.new) }
         ensures calls { Calls V.answers service.old service.new (exchanges_of self.old) (exchanges_of self.new) }
     {
         let answered = self.connection.answer(service);
@@ -192,7 +194,7 @@ impl<S: Stream> Client<S> {
     /// Reads once, where less than so much of the input waits.
     fn receive(&mut self, most_input: usize) -> Work
         requires { (history self.old.connection).unsent ≡ [] }
-        ensures moves { Moves (place_of S.remaining S.contents self.old) (place_of S.remaining S.contents self.new) }
+        ensures moves { Moves most_input (place_of S.remaining S.contents self.old) (place_of S.remaining S.contents self.new) }
         ensures unanswered { exchanges_of self.new ≡ exchanges_of self.old }
         ensures limit { most_input ≤ length (history self.old.connection).unread → history self.new.connection ≡ history self.old.connection }
     {
@@ -218,7 +220,7 @@ impl<S: Stream> Client<S> {
     /// Says that nothing more is sent. What the other side still sends is read and dropped, since an unread byte could
     /// cost it the last answer.
     fn finish(&mut self, now: u64) -> Work
-        ensures moves { Moves (place_of S.remaining S.contents self.old) (place_of S.remaining S.contents self.new) }
+        ensures moves { Moves 0 (place_of S.remaining S.contents self.old) (place_of S.remaining S.contents self.new) }
         ensures unanswered { exchanges_of self.new ≡ exchanges_of self.old }
     {
         if self.connection.has_ended() {
@@ -232,7 +234,7 @@ impl<S: Stream> Client<S> {
 
     fn await_end(&mut self) -> Work
         requires { self.old.finishes ≡ true }
-        ensures moves { Moves (place_of S.remaining S.contents self.old) (place_of S.remaining S.contents self.new) }
+        ensures moves { Moves 0 (place_of S.remaining S.contents self.old) (place_of S.remaining S.contents self.new) }
         ensures unanswered { exchanges_of self.new ≡ exchanges_of self.old }
     {
         if !self.readable {

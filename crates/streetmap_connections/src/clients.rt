@@ -1,5 +1,8 @@
 //! The clients of a server.
-ghost use Rattle.std.specs.Prelude.{◌≡◌, ◌<◌, [], ◌++◌, map, flat_map, length, vec_len, IfOk, IfSome};
+ghost use Rattle.std.specs.Prelude.{◌≡◌, ◌⊎◌, ◌+◌, [], map, flat_map, length, vec_len, All, IfOk, IfSome, IfNone};
+ghost use Rattle.std.specs.List.{AllZip};
+ghost use Rattle.streetmap_connections.specs.Counts.{count_of, CountsOn};
+ghost use Rattle.streetmap_connections.specs.Slots.{clients_in, past_of, ended_in, EndsLate};
 
 use crate::client::{Client, Work};
 use crate::limits::Limits;
@@ -22,6 +25,8 @@ pub struct Clients<S> {
     /// How many were let in, and how many ended.
     pub(crate) begun: u64,
     pub(crate) ended: u64,
+    ghost counts_begun: { begun ≡ count_of (flat_map clients_in slots.items) },
+    ghost counts_ended: { ended ≡ count_of (ended_in slots.items) },
 }
 
 /// One turn of each client.
@@ -36,12 +41,14 @@ struct Round {
 }
 
 impl Round {
-    ghost use Rattle.streetmap_connections.specs.Slots.{clients_in};
     ghost use Rattle.streetmap_connections.specs.Serving.{EachMoves, Serves, TakesTurn};
 
     /// The client of the slot takes its turn, and leaves where it is over.
     fn give_turn<S: Stream + Drop, V: Service>(&mut self, slot: &mut Slot<S>, service: &mut V)
-        ensures { TakesTurn S.remaining S.contents V.answers service.old service.new (clients_in slot.old) (clients_in slot.new) }
+        ensures turn { TakesTurn S.remaining S.contents V.answers service.old service.new (clients_in slot.old) (clients_in slot.new) }
+        ensures late { EndsLate self.old.now self.old.limits.patience slot.old slot.new }
+        ensures counted { CountsOn self.old.ended self.new.ended (past_of slot.old) (past_of slot.new) }
+        ensures same { (self.new.now ≡ self.old.now) × (self.new.limits ≡ self.old.limits) }
     {
         let others = self.waiting.saturating_sub(slot.waiting());
         let most_input = self.limits.most_input(others);
@@ -61,6 +68,8 @@ impl Round {
     fn give_turns<S: Stream + Drop, V: Service>(&mut self, slots: &mut [Slot<S>], service: &mut V)
         ensures serves { Serves V.answers service.old service.new (flat_map clients_in slots.old) (flat_map clients_in slots.new) }
         ensures moves { EachMoves S.remaining S.contents (flat_map clients_in slots.old) (flat_map clients_in slots.new) }
+        ensures late { AllZip (EndsLate self.old.now self.old.limits.patience) slots.old slots.new }
+        ensures counted { CountsOn self.old.ended self.new.ended (ended_in slots.old) (ended_in slots.new) }
     {
         for slot in slots.iter_mut() {
             self.give_turn(slot, service);
@@ -72,11 +81,13 @@ impl<S: Stream + Drop> Clients<S> {
     ghost use Rattle.streetmap_connections.specs.Clients.{exchanges_of};
     ghost use Rattle.streetmap_connections.specs.Interleaving.{GoesOnAs};
     ghost use Rattle.streetmap_connections.specs.Serving.{EachMoves, Serves};
-    ghost use Rattle.streetmap_connections.specs.Slots.{clients_in, clients_of, GivesWayAt};
+    ghost use Rattle.streetmap_connections.specs.Served.{clients_of, ended_of};
+    ghost use Rattle.streetmap_connections.specs.Slots.{GivesWayAt, IsFreeAt, IsTaken};
 
     /// No client, and room for as many as the limits allow.
     pub fn new(alloc: Global, limits: Limits) -> Result<Clients<S>, AllocError>
-        ensures { IfOk result (λ clients. clients_of clients ≡ []) }
+        ensures none { IfOk result (λ clients. clients_of clients ≡ []) }
+        ensures room { IfOk result (λ clients. (vec_len clients.slots ≡ limits.clients) × (clients.limits ≡ limits)) }
     {
         let mut slots = Vec::with_capacity(alloc, limits.clients)?;
         for _place in 0..limits.clients {
@@ -101,14 +112,14 @@ impl<S: Stream + Drop> Clients<S> {
 
     /// How many were let in.
     pub fn begun(&self) -> u64
-        ensures { result ≡ self.now.begun }
+        ensures { result ≡ count_of (clients_of self.now) }
     {
         self.begun
     }
 
     /// How many of them ended.
     pub fn ended(&self) -> u64
-        ensures { result ≡ self.now.ended }
+        ensures { result ≡ count_of (ended_of self.now) }
     {
         self.ended
     }
@@ -116,7 +127,9 @@ impl<S: Stream + Drop> Clients<S> {
     /// The place for the next client: one that is free, or that of the client that is idle the longest, for more than
     /// a second.
     pub fn place_for_next(&self, now: u64) -> Option<usize>
-        ensures { IfSome result (λ place. GivesWayAt self.now.slots.items place) }
+        ensures gives_way { IfSome result (λ place. GivesWayAt self.now.slots.items place) }
+        ensures free_first { IfSome result (λ place. IsFreeAt self.now.slots.items place ⊎ All IsTaken self.now.slots.items) }
+        ensures full { IfNone result (All IsTaken self.now.slots.items) }
     {
         match self.first_free() {
             Some(place) => Some(place),
@@ -126,7 +139,9 @@ impl<S: Stream + Drop> Clients<S> {
 
     /// The first place without a client.
     fn first_free(&self) -> Option<usize>
-        ensures { IfSome result (λ place. GivesWayAt self.now.slots.items place) }
+        ensures gives_way { IfSome result (λ place. GivesWayAt self.now.slots.items place) }
+        ensures free { IfSome result (λ place. IsFreeAt self.now.slots.items place) }
+        ensures full { IfNone result (All IsTaken self.now.slots.items) }
     {
         let slots = self.slots.as_slice();
         for (place, slot) in slots.iter().enumerate() {
@@ -157,13 +172,12 @@ impl<S: Stream + Drop> Clients<S> {
     /// Lets a client in at a place that gives way: the client that is there ends.
     pub fn let_in(&mut self, place: usize, stream: S, now: u64)
         requires { GivesWayAt self.old.slots.items place }
-        ensures { GoesOnAs (map exchanges_of (clients_of self.old)) [] (map exchanges_of (clients_of self.new)) }
+        ensures unanswered { GoesOnAs (map exchanges_of (clients_of self.old)) [] (map exchanges_of (clients_of self.new)) }
+        ensures one_more { length (clients_of self.new) ≡ length (clients_of self.old) + 1 }
     {
         let client = Client::new(self.alloc, stream, now);
         let slot = &mut self.slots[place];
-        if !slot.is_free() {
-            self.ended = self.ended.saturating_add(1);
-        }
+        self.ended = self.ended.saturating_add(slot.count());
         slot.let_in(client, now);
         self.begun = self.begun.saturating_add(1);
     }
@@ -181,6 +195,7 @@ impl<S: Stream + Drop> Clients<S> {
     pub fn work<V: Service>(&mut self, service: &mut V, now: u64) -> bool
         ensures serves { Serves V.answers service.old service.new (clients_of self.old) (clients_of self.new) }
         ensures moves { EachMoves S.remaining S.contents (clients_of self.old) (clients_of self.new) }
+        ensures late { AllZip (EndsLate now self.old.limits.patience) self.old.slots.items self.new.slots.items }
     {
         let mut round = Round {
             limits: self.limits,

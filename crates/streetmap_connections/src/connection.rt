@@ -1,5 +1,5 @@
 //! One connection, with no input or output of its own.
-ghost use Rattle.std.specs.Prelude.{◌≡◌, ◌≤◌, ℕ, List, [], length, take, false, IfOk, OnErr};
+ghost use Rattle.std.specs.Prelude.{◌≡◌, ◌≢◌, ◌<◌, ◌↔◌, ℕ, List, [], length, take, false, IfOk, OnErr, IsTrue};
 ghost use Rattle.std.specs.Bool.{OnTrue, OnFalse};
 ghost use Rattle.std.specs.Io.KnownBytes.{Appends, Consumes, Keeps};
 ghost use Rattle.streetmap_connections.specs.Buffers.{history_of};
@@ -21,11 +21,13 @@ pub struct Connection {
 }
 
 impl Connection {
-    ghost use Rattle.streetmap_connections.specs.Connections.{history};
+    ghost use Rattle.streetmap_connections.specs.Connections.{history, awaited, MayAnswer, IsOver};
+    ghost use Rattle.streetmap_connections.specs.Cuts.{HasNone, HasNoneBefore};
 
     /// Nothing received and nothing sent, which takes no memory.
     pub fn new(alloc: Global) -> Connection
-        ensures { history result ≡ new_history }
+        ensures unused { history result ≡ new_history }
+        ensures awaits { awaited result ≡ 1 }
     {
         Connection {
             buffers: Buffers::new(alloc),
@@ -34,22 +36,24 @@ impl Connection {
 
     /// Whether an answer, or a part of one, is still to be sent.
     pub fn wants_send(&self) -> bool
-        ensures { OnFalse result ((history self.now).unsent ≡ []) }
+        ensures left { OnTrue result ((history self.now).unsent ≢ []) }
+        ensures sent { OnFalse result ((history self.now).unsent ≡ []) }
     {
         !self.buffers.outgoing.is_sent()
     }
 
     /// Whether the input may begin with a whole request.
     pub fn may_answer(&self) -> bool
-        ensures sent { OnTrue result ((history self.now).unsent ≡ []) }
-        ensures stays { OnTrue result ((history self.now).closes ≡ false) }
+        ensures { IsTrue result ↔ MayAnswer self.now }
     {
         !self.wants_send() && !self.buffers.closes && self.buffers.needs <= self.buffers.input.len()
     }
 
     /// Whether nothing more can be answered: the last answer closes the connection, or no more input can come to what
     /// is no whole request.
-    pub fn is_over(&self) -> bool {
+    pub fn is_over(&self) -> bool
+        ensures { IsTrue result ↔ IsOver self.now }
+    {
         !self.wants_send()
             && !self.may_answer()
             && (self.buffers.closes || self.buffers.ended || self.buffers.input.len() >= MOST_INPUT)
@@ -57,8 +61,7 @@ impl Connection {
 
     /// Whether nothing of a request came, and nothing is to be sent.
     pub fn is_idle(&self) -> bool
-        ensures unread { OnTrue result ((history self.now).unread ≡ []) }
-        ensures unsent { OnTrue result ((history self.now).unsent ≡ []) }
+        ensures { IsTrue result ↔ ((history self.now).unread ≡ []) × ((history self.now).unsent ≡ []) }
     {
         !self.wants_send() && self.buffers.input.is_empty()
     }
@@ -90,6 +93,7 @@ impl Connection {
         ensures err { OnErr result ((history self.new ≡ history self.old)
             × Keeps (S.remaining stream.old) (S.remaining stream.new)) }
         ensures kept { S.contents stream.new ≡ S.contents stream.old }
+        ensures awaits { awaited self.new ≡ awaited self.old }
     {
         self.buffers.receive_from(stream)
     }
@@ -103,6 +107,10 @@ impl Connection {
             × V.answers service.old e.request e.text e.closes service.new
             × (history self.new ≡ after_answer (history self.old) e)) }
         ensures waits { OnFalse result ((history self.new ≡ history self.old) × (service.new ≡ service.old)) }
+        // What came is then no request, and none before there are as many bytes as are awaited.
+        ensures none { OnFalse result (HasNone V.is_request (history self.old).unread) }
+        ensures awaits { OnFalse result ((length (history self.old).unread < awaited self.new) × HasNoneBefore V.is_request (history self.old).unread (awaited self.new)) }
+        ensures begins { OnTrue result (awaited self.new ≡ 1) }
     {
         self.buffers.answer(service)
     }
@@ -118,6 +126,7 @@ impl Connection {
         ensures err { OnErr result ((history self.new ≡ history self.old)
             × Keeps (S.contents stream.old) (S.contents stream.new)) }
         ensures kept { S.remaining stream.new ≡ S.remaining stream.old }
+        ensures awaits { awaited self.new ≡ awaited self.old }
     {
         self.buffers.send_to(stream)
     }

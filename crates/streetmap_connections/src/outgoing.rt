@@ -1,6 +1,6 @@
 //! An answer on its way to a client.
-ghost use Rattle.std.specs.Prelude.{◌≡◌, ◌≤◌, [], length, drop};
-ghost use Rattle.std.specs.Bool.{OnTrue};
+ghost use Rattle.std.specs.Prelude.{◌≡◌, ◌≢◌, ◌≤◌, [], length, drop};
+ghost use Rattle.std.specs.Bool.{OnTrue, OnFalse};
 ghost use Rattle.streetmap_connections.specs.Answers.{head_bytes, body_bytes, answer_text};
 
 use crate::service::Answer;
@@ -38,7 +38,8 @@ impl Outgoing {
 
     /// Whether nothing is left to send.
     pub(crate) fn is_sent(&self) -> bool
-        ensures { OnTrue result (unsent_of self.now ≡ []) }
+        ensures sent { OnTrue result (unsent_of self.now ≡ []) }
+        ensures left { OnFalse result (unsent_of self.now ≢ []) }
     {
         self.next().is_empty()
     }

@@ -1,9 +1,10 @@
 //! Clients over a listener, in one thread.
-ghost use Rattle.std.specs.Prelude.{◌≡◌, ◌≤◌, [], map, IsOk};
+ghost use Rattle.std.specs.Prelude.{◌≡◌, ◌≤◌, ◌↔◌, [], length, map, IsOk};
 ghost use Rattle.streetmap_connections.specs.Clients.{exchanges_of};
 ghost use Rattle.streetmap_connections.specs.Interleaving.{GoesOnAs};
 ghost use Rattle.streetmap_connections.specs.Serving.{Serves};
-ghost use Rattle.streetmap_connections.specs.Slots.{clients_of, GivesWayAt};
+ghost use Rattle.streetmap_connections.specs.Served.{clients_of, ended_of};
+ghost use Rattle.streetmap_connections.specs.Slots.{GivesWayAt};
 
 use crate::clients::Clients;
 use crate::service::Service;
@@ -31,6 +32,12 @@ pub enum ServeFault {
 }
 
 impl From<io::Error> for ServeFault {
+    ghost use Rattle.std.specs.IoError.{error_kind};
+    ghost use Rattle.std.specs.declared.io.ErrorKind.TheVariants.{OutOfMemory};
+    ghost use Rattle.streetmap_connections.specs.declared.serve.ServeFault.TheVariants.{Memory};
+
+    ghost from_gives = { λ given fault. (fault ≡ Memory) ↔ (error_kind given ≡ OutOfMemory) };
+
     fn from(e: io::Error) -> ServeFault {
         match e.kind() {
             ErrorKind::OutOfMemory => ServeFault::Memory,
@@ -40,6 +47,10 @@ impl From<io::Error> for ServeFault {
 }
 
 impl From<AllocError> for ServeFault {
+    ghost use Rattle.streetmap_connections.specs.declared.serve.ServeFault.TheVariants.{Memory};
+
+    ghost from_gives = { λ _ fault. fault ≡ Memory };
+
     fn from(_e: AllocError) -> ServeFault {
         ServeFault::Memory
     }
@@ -47,46 +58,46 @@ impl From<AllocError> for ServeFault {
 
 /// The listener, and what waits for it and the clients' sockets.
 #[derive(Drop)]
-struct Door {
+struct Acceptor {
     poll: Poll,
     listener: mio::net::TcpListener,
     /// The token of the listener; a lower one is the place of a client.
     token: usize,
     /// How many clients are to be let in over all.
     count: u64,
-    /// Whether someone may wait to be accepted.
-    knocks: bool,
+    /// Whether a client may wait to be accepted.
+    pending: bool,
 }
 
-/// Who was at the door.
+/// What one call of `accept` gave.
 #[derive(Drop)]
-enum Knock {
+enum Accepted {
     Client(TcpStream),
-    /// One who left, or who could not be waited for.
+    /// A client that left, or whose socket could not be waited for.
     Lost,
     Nobody,
 }
 
-impl Door {
+impl Acceptor {
     /// Has `listener` be waited for. From here on a call of `accept` on it does not wait.
     fn new<R: Net>(
         rt: &R,
         listener: &TcpListener,
         token: usize,
         count: u64,
-    ) -> Result<Door, ServeFault> {
+    ) -> Result<Acceptor, ServeFault> {
         let poll = Poll::new(rt)?;
         let listener = listener.try_clone()?;
         listener.set_nonblocking(true)?;
         let mut listener = mio::net::TcpListener::from_std(listener);
         poll.registry()
             .register(&mut listener, Token(token), Interest::READABLE)?;
-        Ok(Door {
+        Ok(Acceptor {
             poll,
             listener,
             token,
             count,
-            knocks: true,
+            pending: true,
         })
     }
 
@@ -104,7 +115,7 @@ impl Door {
         for event in events.iter() {
             let Token(place) = event.token();
             if place == self.token {
-                self.knocks = true;
+                self.pending = true;
             }
             clients.wake(
                 place,
@@ -115,12 +126,12 @@ impl Door {
         Ok(())
     }
 
-    /// Lets in who waits, as far as there are places.
+    /// Lets in the clients that wait, as far as there are places.
     fn let_in(&mut self, clients: &mut Clients<TcpStream>, now: u64) -> Result<(), ServeFault>
         ensures { GoesOnAs (map exchanges_of (clients_of clients.old)) [] (map exchanges_of (clients_of clients.new)) }
     {
-        for _knock in 0..self.token {
-            if !self.knocks || clients.begun() >= self.count {
+        for _attempt in 0..self.token {
+            if !self.pending || clients.begun() >= self.count {
                 return Ok(());
             }
             let Some(place) = clients.place_for_next(now) else {
@@ -133,7 +144,7 @@ impl Door {
         Ok(())
     }
 
-    /// Lets in who comes next, at a place. Whether another may follow at once.
+    /// Lets in the client that comes next, at a place. Whether another may follow at once.
     fn let_next_in(
         &mut self,
         clients: &mut Clients<TcpStream>,
@@ -144,13 +155,13 @@ impl Door {
         ensures { GoesOnAs (map exchanges_of (clients_of clients.old)) [] (map exchanges_of (clients_of clients.new)) }
     {
         match self.accept(place) {
-            Ok(Knock::Client(stream)) => {
+            Ok(Accepted::Client(stream)) => {
                 clients.let_in(place, stream, now);
                 Ok(true)
             }
-            Ok(Knock::Lost) => Ok(true),
-            Ok(Knock::Nobody) => {
-                self.knocks = false;
+            Ok(Accepted::Lost) => Ok(true),
+            Ok(Accepted::Nobody) => {
+                self.pending = false;
                 Ok(false)
             }
             // Where sockets are used up, one is free once a client has ended.
@@ -160,7 +171,7 @@ impl Door {
     }
 
     /// Accepts the next client, under the token of its place.
-    fn accept(&self, place: usize) -> io::Result<Knock> {
+    fn accept(&self, place: usize) -> io::Result<Accepted> {
         match self.listener.accept() {
             Ok((mut stream, _)) => {
                 let _ = stream.set_nodelay(true);
@@ -170,19 +181,19 @@ impl Door {
                     .registry()
                     .register(&mut stream, Token(place), both);
                 match registered {
-                    Ok(()) => Ok(Knock::Client(stream)),
-                    Err(_) => Ok(Knock::Lost),
+                    Ok(()) => Ok(Accepted::Client(stream)),
+                    Err(_) => Ok(Accepted::Lost),
                 }
             }
             Err(e) => match e.kind() {
-                ErrorKind::WouldBlock => Ok(Knock::Nobody),
-                ErrorKind::Interrupted | ErrorKind::ConnectionAborted => Ok(Knock::Lost),
+                ErrorKind::WouldBlock => Ok(Accepted::Nobody),
+                ErrorKind::Interrupted | ErrorKind::ConnectionAborted => Ok(Accepted::Lost),
                 _ => Err(e),
             },
         }
     }
 
-    /// Lets in who waits, and each client takes its turn. Whether one can go on at once.
+    /// Lets in the clients that wait, and each client takes its turn. Whether one can go on at once.
     fn round<V: Service>(
         &mut self,
         clients: &mut Clients<TcpStream>,
@@ -215,18 +226,18 @@ pub fn serve_connections<R: Net + Clock, V: Service>(
     // There is one list of exchanges along which the service was led, each answered in the state that the one before
     // left; it goes on from any interleaving of the clients' own lists before as one of their lists after.
     ensures serves { Serves V.answers service.old service.new (clients_of clients.old) (clients_of clients.new) }
-    ensures counted { IsOk result → count ≤ clients.new.ended }
+    ensures counted { IsOk result → count ≤ length (ended_of clients.new) }
 {
     let mut events = Events::with_capacity(clients.alloc, MOST_EVENTS)?;
-    let mut door = Door::new(rt, listener, clients.capacity(), count)?;
+    let mut acceptor = Acceptor::new(rt, listener, clients.capacity(), count)?;
     let start = Instant::now(rt)?;
     let mut goes = true;
     for _round in 0..u64::MAX {
         if clients.ended() >= count {
             return Ok(());
         }
-        door.wait(&mut events, clients, if goes { 0 } else { LONGEST_WAIT })?;
-        goes = door.round(clients, service, millis(start.elapsed(rt)?))?;
+        acceptor.wait(&mut events, clients, if goes { 0 } else { LONGEST_WAIT })?;
+        goes = acceptor.round(clients, service, millis(start.elapsed(rt)?))?;
     }
     Err(ServeFault::Net)
 }

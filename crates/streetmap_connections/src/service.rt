@@ -1,6 +1,6 @@
 //! What answers the requests.
 ghost use Rattle.std.specs.Prelude.{◌≡◌, ◌≤◌, ℕ, Bool, List, take, length};
-ghost use Rattle.streetmap_connections.specs.Cuts.{IfWhole};
+ghost use Rattle.streetmap_connections.specs.Cuts.{IfWhole, IfWaits, HasNone, HasNoneBefore};
 
 /// An answer: its head and its body, both at hand.
 #[derive(Drop)]
@@ -40,7 +40,7 @@ impl Answer {
 pub enum Cut {
     /// So many bytes are a request.
     Whole(usize),
-    /// The request is not whole. It cannot be before there are so many bytes of it.
+    /// No front of the bytes is a whole request, whatever comes behind them, before there are so many.
     Waits(usize),
 }
 
@@ -58,7 +58,9 @@ pub trait Service {
     /// Finds the first request of `input`.
     fn cut(&self, input: &[u8]) -> Cut
         ensures fits { IfWhole result (λ len. len ≤ length input.now) }
-        ensures request { IfWhole result (λ len. is_request (take len input.now)) };
+        ensures request { IfWhole result (λ len. is_request (take len input.now)) }
+        ensures none { IfWaits result (λ needs. HasNone is_request input.now) }
+        ensures not_before { IfWaits result (λ needs. HasNoneBefore is_request input.now needs) };
 
     /// Answers a request, and tells whether the connection closes behind the answer.
     fn answer(&mut self, request: &[u8]) -> (Answer, bool)

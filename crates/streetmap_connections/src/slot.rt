@@ -1,8 +1,9 @@
 //! A place for one client at a time.
-ghost use Rattle.std.specs.Prelude.{◌≡◌, ◌<◌, [], ◌∷◌, ◌++◌, None, map, All};
-ghost use Rattle.std.specs.Bool.{OnTrue};
+ghost use Rattle.std.specs.Prelude.{◌≡◌, ◌<◌, ◌≤◌, [], ◌∷◌, ◌++◌, Some, None, length, map, All};
+ghost use Rattle.std.specs.Bool.{OnTrue, OnFalse};
 
 use crate::client::{Client, Work};
+use crate::limits::MOST_INPUT;
 use crate::service::Service;
 use crate::stream::Stream;
 use http_server::Log;
@@ -17,11 +18,12 @@ pub(crate) struct Slot<S> {
 
 impl<S: Stream + Drop> Slot<S> {
     ghost use Rattle.streetmap_connections.specs.Clients.{exchanges_of, IsLate};
-    ghost use Rattle.streetmap_connections.specs.Slots.{clients_in, present, GivesWay};
+    ghost use Rattle.streetmap_connections.specs.Slots.{clients_in, past_of, present, GivesWay, IsTaken};
     ghost use Rattle.streetmap_connections.specs.Serving.{TakesTurn};
 
     pub(crate) fn vacant() -> Slot<S>
-        ensures { clients_in result ≡ [] }
+        ensures none { clients_in result ≡ [] }
+        ensures none_ended { past_of result ≡ [] }
     {
         Slot {
             client: None,
@@ -31,9 +33,17 @@ impl<S: Stream + Drop> Slot<S> {
 
     pub(crate) fn is_free(&self) -> bool
         ensures free { OnTrue result (self.now.client ≡ None) }
+        ensures taken { OnFalse result (IsTaken self.now) }
         ensures gives_way { OnTrue result (GivesWay self.now) }
     {
         self.client.is_none()
+    }
+
+    /// How many clients it has: one or none.
+    pub(crate) fn count(&self) -> u64
+        ensures { result ≡ length (present self.now.client) }
+    {
+        if self.is_free() { 0 } else { 1 }
     }
 
     /// The milliseconds for which the client is idle; none where it is not, or there is none.
@@ -56,7 +66,8 @@ impl<S: Stream + Drop> Slot<S> {
 
     /// Notes that the client's stream became ready.
     pub(crate) fn wake(&mut self, readable: bool, writable: bool)
-        ensures { map exchanges_of (clients_in self.new) ≡ map exchanges_of (clients_in self.old) }
+        ensures same { map exchanges_of (clients_in self.new) ≡ map exchanges_of (clients_in self.old) }
+        ensures past { past_of self.new ≡ past_of self.old }
     {
         if let Some(client) = &mut self.client {
             client.wake(readable, writable);
@@ -66,6 +77,7 @@ impl<S: Stream + Drop> Slot<S> {
     /// Ends the client, if there is one.
     pub(crate) fn end(&mut self, now: u64)
         ensures same { clients_in self.new ≡ clients_in self.old }
+        ensures past { past_of self.new ≡ past_of self.old ++ present self.old.client }
         ensures free { self.new.client ≡ None }
     {
         if let Some(client) = &self.client {
@@ -76,7 +88,9 @@ impl<S: Stream + Drop> Slot<S> {
 
     /// Takes a client in, and ends the one that is there.
     pub(crate) fn let_in(&mut self, client: Client<S>, now: u64)
-        ensures { clients_in self.new ≡ clients_in self.old ++ client ∷ [] }
+        ensures one_more { clients_in self.new ≡ clients_in self.old ++ client ∷ [] }
+        ensures past { past_of self.new ≡ past_of self.old ++ present self.old.client }
+        ensures here { self.new.client ≡ Some client }
     {
         self.end(now);
         self.client = Some(client);
@@ -90,8 +104,11 @@ impl<S: Stream + Drop> Slot<S> {
         patience: u64,
         most_input: usize,
     ) -> Work
+        requires { most_input ≤ MOST_INPUT }
         ensures turn { TakesTurn S.remaining S.contents V.answers service.old service.new (clients_in self.old) (clients_in self.new) }
-        ensures late { All (λ c. IsLate now patience c → (result ≡ Work.Ends) × (service.new ≡ service.old)) (present self.old.client) }
+        ensures past { past_of self.new ≡ past_of self.old }
+        ensures ends { result ≡ Work.Ends → IsTaken self.new }
+        ensures late { All (λ c. IsLate now patience c → (result ≡ Work.Ends) × (self.new ≡ self.old) × (service.new ≡ service.old)) (present self.old.client) }
     {
         match &mut self.client {
             None => Work::Rests,

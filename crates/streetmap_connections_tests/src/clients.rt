@@ -1,5 +1,6 @@
 //! Clients of a service that answers each line by the line, between brackets.
 ghost use Rattle.std.specs.Prelude.{⊤};
+ghost use Rattle.streetmap_connections_tests.specs.Lines.{IsLine};
 
 use bytes::BytesMut;
 use std::alloc::{AllocError, Global};
@@ -19,15 +20,17 @@ struct Lines {
 }
 
 impl Service for Lines {
-    ghost is_request = { λ _. ⊤ };
+    ghost is_request = { IsLine };
 
     ghost answers = { λ _ _ _ _ _. ⊤ };
 
     fn cut(&self, input: &[u8]) -> Cut {
-        match input.iter().position(|byte| *byte == b'\n') {
-            Some(end) => Cut::Whole(end.saturating_add(1).min(input.len())),
-            None => Cut::Waits(0),
+        for (at, byte) in input.iter().enumerate() {
+            if *byte == b'\n' {
+                return Cut::Whole(at + 1);
+            }
         }
+        Cut::Waits(input.len().saturating_add(1))
     }
 
     fn answer(&mut self, request: &[u8]) -> (Answer, bool) {

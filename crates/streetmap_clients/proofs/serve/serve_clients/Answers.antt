@@ -1,4 +1,4 @@
-use Rattle.streetmap_connections.specs.Slots.{clients_of}
+use Rattle.streetmap_connections.specs.Served.{clients_of}
 use Rattle.streetmap_clients.specs.Answering.{Sight}
 use Rattle.streetmap_clients.proofs.Turns.{base_kept, clean_back, serves_clients, survives_clients}
 use Rattle.streetmap_clients.proofs.serve.serve_clients.Given.{Over}

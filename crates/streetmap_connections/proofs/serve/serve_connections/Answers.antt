@@ -1,12 +1,12 @@
-use Rattle.streetmap_connections.specs.Slots.{clients_of}
+use Rattle.streetmap_connections.specs.Served.{clients_of}
 use Rattle.streetmap_connections.proofs.ServingLemmas.{serves_none, serves_same, serves_then}
 use Rattle.streetmap_connections.proofs.serve.serve_connections.Goals as goal
 
 pub returns-in_err-events-clause-serves : goal.returns-in_err-events-clause-serves
 returns-in_err-events-clause-serves g c = serves_none g.V.Service.answers _ _
 
-pub returns-in_err-door-clause-serves : goal.returns-in_err-door-clause-serves
-returns-in_err-door-clause-serves g c = serves_none g.V.Service.answers _ _
+pub returns-in_err-acceptor-clause-serves : goal.returns-in_err-acceptor-clause-serves
+returns-in_err-acceptor-clause-serves g c = serves_none g.V.Service.answers _ _
 
 pub returns-in_err-start-clause-serves : goal.returns-in_err-start-clause-serves
 returns-in_err-start-clause-serves g c = serves_none g.V.Service.answers _ _

@@ -1,5 +1,5 @@
 use Rattle.streetmap_connections.specs.Serving.{Serves}
-use Rattle.streetmap_connections.specs.Slots.{clients_of}
+use Rattle.streetmap_connections.specs.Served.{clients_of}
 use Rattle.streetmap_connections.proofs.serve.serve_connections.Given as goal
 
 abbrev pub invariant-loop-round : goal.invariant-loop-round

@@ -4,8 +4,8 @@ use Rattle.streetmap_connections.specs.Buffers.{exchange_of}
 use Rattle.streetmap_connections.proofs.Answering.{history_after}
 use Rattle.streetmap_connections.proofs.buffers.Buffers.take_turn.Goals as goal
 
-pub returns : goal.returns
-returns g c =
+pub returns-clause-answered : goal.returns-clause-answered
+returns-clause-answered g c =
     let turn : Turn = record { answer = c.answer-answer.result.0; closes = c.answer-answer.result.1; len = c.args.len } in (
       exchange_of c.args.self.now.input.items turn,
       refl,

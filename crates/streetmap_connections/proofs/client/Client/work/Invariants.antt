@@ -5,6 +5,6 @@ use Rattle.streetmap_connections.proofs.client.Client.work.Given as goal
 
 abbrev pub invariant-loop-step : goal.invariant-loop-step
 invariant-loop-step g l = record {
-  moves : Moves (place_of g.S.Stream.remaining g.S.Stream.contents l.fn.self) (place_of g.S.Stream.remaining g.S.Stream.contents l.self);
+  moves : Moves l.fn.most_input (place_of g.S.Stream.remaining g.S.Stream.contents l.fn.self) (place_of g.S.Stream.remaining g.S.Stream.contents l.self);
   calls : Calls g.V.Service.answers l.fn.service l.service (exchanges_of l.fn.self) (exchanges_of l.self);
 }

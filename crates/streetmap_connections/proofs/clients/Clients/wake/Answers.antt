@@ -1,8 +1,25 @@
-use Rattle.std.proofs.Common.{◌<◌, length, arith}
+use Rattle.std.proofs.Common.{◌≡◌, ◌<◌, length, set, arith}
+use Rattle.std.specs.List.{flat_map}
+use Rattle.streetmap_connections.specs.Clients.{exchanges_of}
+use Rattle.streetmap_connections.specs.Slots.{clients_in, ended_in, past_of}
+use Rattle.streetmap_connections.proofs.Counting.{count_by_length, count_by_map, longer_in_slots}
 use Rattle.streetmap_connections.proofs.ServingLemmas.{same_in_slots}
 use Rattle.streetmap_connections.proofs.clients.Clients.wake.Goals as goal
 
 pub returns-then-place-len : goal.returns-then-place-len
 returns-then-place-len g c =
     let within : c.args.place < length c.args.self.now.slots.items = omega (arith, c.if-place-len.true, c.len.ensures) in
-    same_in_slots c.args.self.now.slots.items c.args.place c.index_mut.result.now c.wake.new.self within c.index_mut.ensures.value c.wake.ensures
+    same_in_slots c.args.self.now.slots.items c.args.place c.index_mut.result.now c.wake.new.self within c.index_mut.ensures.value c.wake.ensures.same
+
+pub invariant_of-self : goal.invariant_of-self
+invariant_of-self g c =
+    let slots = c.args.self.now.slots.items in
+    let was = c.index_mut.result.now in
+    let is = c.wake.new.self in
+    let within : c.args.place < length slots = omega (arith, c.if-place-len.true, c.len.ensures) in
+    let same = same_in_slots slots c.args.place was is within c.index_mut.ensures.value c.wake.ensures.same in
+    let ended = longer_in_slots past_of slots c.args.place was is within c.index_mut.ensures.value 0 (rw c.wake.ensures.past (omega arith)) in
+    record {
+      counts_begun = count_by_map exchanges_of c.args.self.now.begun (flat_map clients_in slots) (flat_map clients_in (set slots c.args.place is)) same c.args.self.now.counts_begun;
+      counts_ended = count_by_length c.args.self.now.ended (ended_in slots) (ended_in (set slots c.args.place is)) (omega (arith, ended)) c.args.self.now.counts_ended;
+    }

@@ -1,6 +1,6 @@
-use Rattle.streetmap_connections.specs.Slots.{clients_of}
+use Rattle.streetmap_connections.specs.Served.{clients_of}
 use Rattle.streetmap_connections.proofs.ServingLemmas.{serves_by, serves_then}
-use Rattle.streetmap_connections.proofs.serve.Door.round.Goals as goal
+use Rattle.streetmap_connections.proofs.serve.Acceptor.round.Goals as goal
 
 pub returns : goal.returns
 returns g c =

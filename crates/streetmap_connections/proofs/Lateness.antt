@@ -1,0 +1,29 @@
+-- Clients that are late.
+use Rattle.std.proofs.Common.{◌≡◌, List, [], ◌∷◌, ◌++◌, Option, Some, None, rules}
+use Rattle.std.specs.List.{All}
+use Rattle.std.proofs.lemmas.List.Elements.{All-nil, All-cons, All-head}
+use Rattle.streetmap_connections.specs.declared.client.Client.{Client}
+use Rattle.streetmap_connections.specs.declared.client.Work.TheVariants.{Rests, Goes, Ends}
+use Rattle.streetmap_connections.specs.declared.slot.Slot.{Slot}
+use Rattle.streetmap_connections.specs.Slots.{past_of, present}
+
+pub rests_is_not_ends : ¬ (Rests ≡ Ends)
+rests_is_not_ends e = search rules
+
+pub goes_is_not_ends : ¬ (Goes ≡ Ends)
+goes_is_not_ends e = search rules
+
+-- the slot is free, and the client ended there
+abbrev pub HasEnded : {S : Type 0} → List (Client S) → Slot S → Client S → Type 0
+HasEnded past new c = (new.client ≡ None) × (past_of new ≡ past ++ c ∷ [])
+
+module _ {S : Type 0} (Late : Client S → Type 0) {F : Type 0} (past : List (Client S)) where
+  -- where a late client would have brought what is false
+  pub not_late : (o : Option (Client S)) (new : Slot S) → ¬ F → All (λ c. Late c → F) (present o) → All (λ c. Late c → HasEnded past new c) (present o)
+  not_late None new none said = All-nil (λ c. Late c → HasEnded past new c)
+  not_late (Some c) new none said = All-cons (λ d. Late d → HasEnded past new d) c [] (λ late. absurd (none (All-head (λ d. Late d → F) c [] said late))) (All-nil (λ d. Late d → HasEnded past new d))
+
+  pub ended_late : (o : Option (Client S)) (new : Slot S) → (F → (new.client ≡ None) × (past_of new ≡ past ++ present o)) → All (λ c. Late c → F) (present o)
+      → All (λ c. Late c → HasEnded past new c) (present o)
+  ended_late None new ends said = All-nil (λ c. Late c → HasEnded past new c)
+  ended_late (Some c) new ends said = All-cons (λ d. Late d → HasEnded past new d) c [] (λ late. ends (All-head (λ d. Late d → F) c [] said late)) (All-nil (λ d. Late d → HasEnded past new d))

@@ -1,0 +1,24 @@
+use Rattle.std.proofs.Common.{◌≡◌, List, length, take, drop, ◌++◌, sym, subst, ◌∙◌}
+use Rattle.std.specs.List.{flat_map}
+use Rattle.std.proofs.lemmas.List.Elements.{length_all_zip}
+use Rattle.streetmap_connections.specs.declared.slot.Slot.{Slot}
+use Rattle.streetmap_connections.specs.Counts.{count_of}
+use Rattle.streetmap_connections.specs.Slots.{clients_in, ended_in}
+use Rattle.streetmap_connections.proofs.Counting.{all_given_back, count_by_length, count_is_added}
+use Rattle.streetmap_connections.proofs.clients.Clients.work.Goals as goal
+
+pub invariant_of-self : goal.invariant_of-self
+invariant_of-self g c =
+    let now = c.args.self.now in
+    let lent = c.as_mut_slice.result.now in
+    let slots = c.give_turns.new.slots in
+    let same = all_given_back now.slots.len slots now.slots.items (c.give_turns.auto.slots ∙ c.as_mut_slice.ensures.len) in
+    let long : length (flat_map clients_in slots) ≡ length (flat_map clients_in lent) = sym (length_all_zip _ (flat_map clients_in lent) (flat_map clients_in slots) c.give_turns.ensures.moves) in
+    let begun : now.begun ≡ count_of (flat_map clients_in lent) = rw c.as_mut_slice.ensures.value now.counts_begun in
+    let ended : now.ended ≡ count_of (ended_in lent) = rw c.as_mut_slice.ensures.value now.counts_ended in
+    record {
+      counts_begun = subst (λ (xs : List (Slot g.row.S.Denot)). now.begun ≡ count_of (flat_map clients_in xs)) (sym same)
+          (count_by_length now.begun (flat_map clients_in lent) (flat_map clients_in slots) long begun);
+      counts_ended = subst (λ (xs : List (Slot g.row.S.Denot)). c.saturating_add-self.result ≡ count_of (ended_in xs)) (sym same)
+          (count_is_added now.ended c.saturating_add-self.result c.give_turns.new.self.ended (ended_in lent) (ended_in slots) ended c.give_turns.ensures.counted c.saturating_add-self.ensures);
+    }
