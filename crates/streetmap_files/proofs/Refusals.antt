@@ -22,11 +22,12 @@ use Rattle.streetmap_opening.specs.declared.adopting.AdoptFault.TheVariants as a
 use Rattle.streetmap_opening.specs.declared.making.MakeFault.{MakeFault}
 use Rattle.streetmap_opening.specs.declared.making.MakeFault.TheVariants as making
 use Rattle.streetmap_files.specs.Refusing.{refused_to_open, refused_to_create, not_adopted, not_made}
-use Rattle.streetmap_files.specs.Reasons.{IsForeign, SparesOpened, SparesCreated, Showed, RefusesToOpen, RefusesToCreate, FailsToConnect}
+use Rattle.streetmap_files.specs.Reasons.{IsForeign, SparesOpened, SparesCreated, Showed, RefusesToOpen, RefusesToCreate, FailsToConnect, StaysAsItWas, HoldsStill}
 use Rattle.streetmap_files.specs.declared.fault.OpenFault.TheVariants as opened
 use Rattle.streetmap_files.specs.declared.fault.CreateFault.{CreateFault}
 use Rattle.streetmap_files.specs.declared.fault.CreateFault.TheVariants as created
 use Rattle.streetmap_files.specs.declared.fault.Left.{Left}
+use Rattle.streetmap_files.specs.declared.fault.Left.TheVariants as left
 use Rattle.streetmap_files.proofs.New.{new_takes_none}
 
 -- ---- no connection
@@ -116,6 +117,11 @@ module _ {D : Type 0} {g : disk.Ghosts D} (image : Image) (e : Error) (rest : Le
     | inl is ↦ subst (λ x. RefusesToCreate image (refused_to_create x)) (sym is) (fails.foreign is)
     | inr more ↦ elim more [ inl is ↦ subst (λ x. RefusesToCreate image (refused_to_create x)) (sym is) tt | inr is ↦ subst (RefusesToCreate image) (sym is.1) tt ]
   ]
+
+pub still_held : {D : Type 0} {g : disk.Ghosts D} (image : Image) (rest : Left (Leftover D g) (Held (FileStore D g))) → StaysAsItWas image rest → HoldsStill image rest
+still_held image left.Nothing h = tt
+still_held image (left.Files files) h = h
+still_held image (left.Connection c) h = record { first = h.first; on = h.on; clean = h.clean; showed = h.showed.0 }
 
 -- ---- a connection
 

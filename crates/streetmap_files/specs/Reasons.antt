@@ -81,6 +81,12 @@ module _ {D : Type 0} {g : disk.Ghosts D} where
   StaysAsItWas image (left.Files rest) = LeavesHeld image rest
   StaysAsItWas image (left.Connection c) = HoldsAsOpened image c
 
+  -- what is left of the files holds what they held, though a stop may leave more
+  abbrev pub HoldsStill : Image → Left (Leftover D g) (Held (FileStore D g)) → Type 0
+  HoldsStill image left.Nothing = ⊤
+  HoldsStill image (left.Files rest) = LeavesHeld image rest
+  HoldsStill image (left.Connection c) = ShowedFirst image (λ (first : Held (FileStore D g)). IsAsItWas (file_state first) (file_state c))
+
   -- Why files are not opened: they are no database; the format row is not ours, is 1, or is above 2, as a look told, or the look was refused; a call of SQLite failed with that error; memory was refused.
   abbrev pub RefusesToOpen : Image → OpenFault → Left (Leftover D g) (Held (FileStore D g)) → Type 0
   RefusesToOpen image opened.NotOurs rest = IsForeign image ⊎ Showed image (λ seen. TellsFault seen adopting.NotOurs ⊎ TellsNothing seen) rest

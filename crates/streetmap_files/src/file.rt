@@ -8,7 +8,7 @@ ghost use Rattle.streetmap_ledger.specs.Keep.{LeavesOnly};
 ghost use Rattle.streetmap_rows.specs.Keeping.{MayLeave};
 ghost use Rattle.streetmap_store.specs.Serving.{Serves};
 ghost use Rattle.streetmap_files.specs.Holding.{IsJustOpenedOn, HoldsState, LeavesRoom};
-ghost use Rattle.streetmap_files.specs.Reasons.{IsCleanRest, FailsToConnect, RefusesToOpen, RefusesToCreate, SparesOpened, SparesCreated, StaysAsItWas};
+ghost use Rattle.streetmap_files.specs.Reasons.{IsCleanRest, FailsToConnect, RefusesToOpen, RefusesToCreate, SparesOpened, SparesCreated, StaysAsItWas, HoldsStill};
 
 use crate::fault::{CreateFault, Left, OpenFault};
 use sqlite::{Connection, Error, FileFrom, FileStore, Leftover, Start};
@@ -40,7 +40,7 @@ fn connect<S: Start>(
 ///
 /// The database and its log are made where they are missing, and leave room for the tables
 /// (`laws::new_files_leave_room`); other tables of a database that is there stay. After a refusal files
-/// that were made stay too. What is left of the files is given back beside it.
+/// that were made stay too, and what is left of the files, given back beside it, holds what they held.
 ///
 /// # Errors
 ///
@@ -55,6 +55,7 @@ pub fn create<S: Start>(
     ensures made { IfOk result (λ keeper. HasCleanDisk (file_state keeper.conn) → LeavesRoom (image_at S.Start) → Serves keeper.shut (file_state keeper.conn) keeper.count opening_state × LeavesOnly (MayLeave (file_state keeper.conn)) (Some opening_state)) }
     ensures refused { IfErr result (λ refused. IsCleanRest refused.1 → RefusesToCreate (image_at S.Start) refused.0) }
     ensures new_files { IfErr result (λ refused. IsCleanRest refused.1 → IsNothing (image_at S.Start) → SparesCreated refused.0) }
+    ensures stays { IfErr result (λ refused. IsCleanRest refused.1 → HoldsStill (image_at S.Start) refused.1) }
 {
     let conn = match connect(rt, path, start) {
         Ok(conn) => conn,

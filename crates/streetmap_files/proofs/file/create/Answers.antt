@@ -2,7 +2,7 @@ use Rattle.std.proofs.Common.{subst}
 use Rattle.sqlite.specs.State.{HasCleanDisk}
 use Rattle.sqlite.specs.Files.{file_state}
 use Rattle.streetmap_files.proofs.Opened.{ready, taken}
-use Rattle.streetmap_files.proofs.Refusals.{not_connected_to_create, not_made_for, new_spared}
+use Rattle.streetmap_files.proofs.Refusals.{still_held, not_connected_to_create, not_made_for, new_spared}
 use Rattle.streetmap_files.proofs.file.create.Goals as goal
 
 pub returns-in-Ok-make-clause-made : goal.returns-in-Ok-make-clause-made
@@ -22,3 +22,9 @@ returns-in-Err-make-clause-refused g c clean =
 
 pub returns-in-Err-make-clause-new_files : goal.returns-in-Err-make-clause-new_files
 returns-in-Err-make-clause-new_files g c clean nothing = new_spared _ nothing _ (returns-in-Err-make-clause-refused g c clean)
+
+pub returns-in-Err-clause-stays : goal.returns-in-Err-clause-stays
+returns-in-Err-clause-stays g c clean = still_held _ _ (c.in-Err.ensures.refused clean).stays
+
+pub returns-in-Err-make-clause-stays : goal.returns-in-Err-make-clause-stays
+returns-in-Err-make-clause-stays g c clean = record { first = c.in-Ok.conn; on = c.in-Ok.ensures.opened; clean = c.in-Err-make.ensures.clean clean; showed = c.in-Err-make.ensures.same clean }
