@@ -105,10 +105,3 @@ all_met q fold features going = by going.left going.whole going.pairs where
   by : (left : List FeatureValue) → going.met ++ left ≡ values features → Pairs features [] left → going.met ≡ values features
   by [] whole pairs = sym (append-nil going.met) ∙ whole
   by (f ∷ fs) whole pairs = absurd pairs
-
--- the feature of the outline that comes next
-pub comes_next : (q : QueryValue) (fold : PageFold) (features : Features) (o : FeatureOutline) (rest : List FeatureOutline) → Going q fold features (o ∷ rest) → (f : FeatureValue) × IsEntry features o f
-comes_next q fold features o rest going = by going.left going.pairs where
-  by : (left : List FeatureValue) → Pairs features (o ∷ rest) left → (f : FeatureValue) × IsEntry features o f
-  by [] pairs = absurd pairs
-  by (f ∷ fs) pairs = (f, pairs.0)

@@ -1,6 +1,5 @@
 -- Pages that are made from outlines.
-use Rattle.std.specs.Prelude.{◌≡◌, ◌++◌, ◌∷◌, [], List, Bool, IsTrue, Option, Some}
-use Rattle.std.specs.Option.{option_map}
+use Rattle.std.specs.Prelude.{◌≡◌, ◌++◌, ◌∷◌, [], List, Bool, IsTrue, Option, None, Some}
 use Rattle.std.specs.FinMap.{get, values}
 use Rattle.streetmap_geojson.specs.FeatureValue.{FeatureValue}
 use Rattle.streetmap_query.specs.QueryValue.{QueryValue}
@@ -19,7 +18,8 @@ abbrev pub TakesRead : State → Text → Text → PageFold → PageFold → Boo
 TakesRead s name id old new taken =
     (f : FeatureValue) → feature_in s name id ≡ Some f → IsTrue taken × ((q : QueryValue) (fs : List FeatureValue) → Holds q old fs → Holds q new (fs ++ f ∷ []))
 
--- by the outlines of the collection's features, this is the page
+-- if the outlines are those of the collection's features, this is the page, if it is there
 abbrev pub IsOutlinedPage : State → Text → QueryValue → List FeatureOutline → Option Page → Type 0
-IsOutlinedPage s name q outlines page =
-    (c : Collection) → get s.collections name ≡ Some c → AreOutlines outlines c.features → option_map page_value page ≡ Some (page_over q (values c.features))
+IsOutlinedPage s name q outlines None = Unit {0}
+IsOutlinedPage s name q outlines (Some page) =
+    (c : Collection) → get s.collections name ≡ Some c → AreOutlines outlines c.features → page_value page ≡ page_over q (values c.features)

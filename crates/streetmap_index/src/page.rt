@@ -17,6 +17,10 @@ use std::alloc::Global;
 use streetmap_ledger::{Fault, FeatureOutline, Keeper, Page, PageFold};
 use streetmap_query::Query;
 
+/// How many features a page reads one by one at most. It shows up to 1,000, and the keeper's own page is the
+/// faster one where many more have to be read to be tested.
+const MOST_READ: usize = 2000;
+
 /// Counts the candidate that comes next, where its outline tells that it is selected and the page does not
 /// show it, and answers whether it did.
 fn count_unread(query: &Query, fold: &mut PageFold<'_>, outline: &FeatureOutline) -> bool
@@ -67,7 +71,7 @@ fn take_read<K: Keeper>(
 }
 
 /// The page of an open keeper's collection by the outlines of its features; none where one of these is not
-/// there.
+/// there, or more than `MOST_READ` would have to be read.
 fn page_by_outlines<K: Keeper>(
     alloc: Global,
     keeper: &mut K,
@@ -82,10 +86,15 @@ fn page_by_outlines<K: Keeper>(
     ensures leaves { K.is_clean keeper.new → (s : State) → K.stands keeper.old s → LeavesOnly (K.may_leave keeper.old) (Some s) → LeavesOnly (K.may_leave keeper.new) (Some s) }
 {
     let mut fold = PageFold::new(alloc, query);
+    let mut read: usize = 0;
     for outline in outlines {
         if take_unread(query, &mut fold, outline) {
             continue;
         }
+        if read == MOST_READ {
+            return Ok(None);
+        }
+        read = read.saturating_add(1);
         match take_read(keeper, collection, outline.id.as_str(), &mut fold) {
             Ok(true) => {}
             Ok(false) => return Ok(None),

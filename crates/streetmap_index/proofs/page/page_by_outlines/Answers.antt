@@ -11,7 +11,7 @@ use Rattle.streetmap_ledger.specs.Folds.{Holds}
 use Rattle.streetmap_ledger.specs.Outlines.{FeatureOutlineValue}
 use Rattle.streetmap_ledger.specs.declared.outline.FeatureOutline.{FeatureOutline}
 use Rattle.streetmap_ledger.proofs.Examining.{taken, same_page}
-use Rattle.streetmap_index.proofs.Pairing.{Going, paired, goes_on, comes_next, all_met}
+use Rattle.streetmap_index.proofs.Pairing.{Going, paired, goes_on, all_met}
 use Rattle.streetmap_index.proofs.page.page_by_outlines.Goals as goal
 
 -- a feature of a collection that is there
@@ -80,24 +80,6 @@ loop-outline-preserved g c =
           taken q c.take_read.new.fold fs f candidate held.whole (takes (subst (λ fold. Holds q fold (candidates q fs)) (sym same) held.holds)));
     }
 
-pub returns-in-Ok-false-clause-shows : goal.returns-in-Ok-false-clause-shows
-returns-in-Ok-false-clause-shows g c = λ h s e.
-    let inv = c.loop-outline.invariant in
-    let says = c.in-Ok-false.ensures in
-    let seen = says.takes h s (inv.stands (says.began_clean h) s e) in
-    let q = query_value c.args.query.now in
-    let os = c.args.outlines.now in
-    let i = c.loop-outline.outline-index in
-    let o = c.outline-item.result in (
-      λ d there known.
-          let next = comes_next q c.loop-outline.fold d.features o (drop (i + 1) os) (subst (Going q c.loop-outline.fold d.features) (turn os i o (omega arith) c.outline-item.is) (inv.going (says.began_clean h) s d e there known)) in
-          let id = ap (λ (v : FeatureOutlineValue). v.id) next.1.known in
-          let taken : IsTrue c.in-Ok-false.field-0 = (seen.0 next.0 (found s _ _ d next.0 there (c.as_str.ensures.value ∙ id) next.1.there)).0 in
-          let not_taken = c.in-Ok-false.field-0-test in
-          cc,
-      seen.1,
-    )
-
 pub returns-in-Ok-false-clause-leaves : goal.returns-in-Ok-false-clause-leaves
 returns-in-Ok-false-clause-leaves g c = λ h s e only.
     let inv = c.loop-outline.invariant in
@@ -118,6 +100,6 @@ returns-in-Ok-clause-shows g c = λ h s e.
       λ d there known.
           let going = subst (Going q c.loop-outline.fold d.features) (drop_all c.loop-outline.outline-index os (omega arith)) (inv.going h s d e there known) in
           let cs = candidates q going.met in
-          ap Some (c.in-Ok.ensures q cs going.holds.holds ∙ (same_page q (length cs) cs going.met going.holds.whole ∙ ap (page_over q) (all_met q c.loop-outline.fold d.features going))),
+          c.in-Ok.ensures q cs going.holds.holds ∙ (same_page q (length cs) cs going.met going.holds.whole ∙ ap (page_over q) (all_met q c.loop-outline.fold d.features going)),
       inv.stands h s e,
     )
