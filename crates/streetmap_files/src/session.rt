@@ -12,7 +12,7 @@ ghost use Rattle.streetmap_rows.specs.Keeping.{MayLeave};
 ghost use Rattle.streetmap_store.specs.Serving.{Serves, cause_in};
 ghost use Rattle.streetmap_routes.specs.BaseView.{root_of};
 ghost use Rattle.streetmap_web.specs.Standing.{Stands};
-ghost use Rattle.streetmap_connections.specs.Slots.{clients_of};
+ghost use Rattle.streetmap_connections.specs.Served.{clients_of};
 ghost use Rattle.streetmap_files.specs.Surviving.{Survives, ServesTables, ServesTablesInTurn, ServesTablesAtOnce};
 
 use mio::net::TcpStream;
