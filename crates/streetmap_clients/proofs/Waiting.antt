@@ -1,5 +1,5 @@
 -- Bytes that hold no request yet.
-use Rattle.std.proofs.Common.{◌≡◌, ℕ, ◌+◌, ◌-◌, ◌<◌, ◌≤◌, List, ◌++◌, length, take, min, sym, subst, rules, arith, length-append}
+use Rattle.std.proofs.Common.{◌≡◌, ℕ, ◌+◌, ◌-◌, ◌≤◌, List, ◌++◌, length, take, min, sym, subst, rules, arith, length-append}
 use Rattle.std.proofs.lemmas.List.{take_min}
 use Rattle.streetmap_http.specs.Arrivals.{HoldsOf, IsAnswered}
 use Rattle.streetmap_http.specs.declared.arrival.Arrival.{Arrival}

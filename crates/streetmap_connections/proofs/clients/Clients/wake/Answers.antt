@@ -1,4 +1,4 @@
-use Rattle.std.proofs.Common.{◌≡◌, ◌<◌, length, set, arith}
+use Rattle.std.proofs.Common.{◌<◌, length, set, arith}
 use Rattle.std.specs.List.{flat_map}
 use Rattle.streetmap_connections.specs.Clients.{exchanges_of}
 use Rattle.streetmap_connections.specs.Slots.{clients_in, ended_in, past_of}

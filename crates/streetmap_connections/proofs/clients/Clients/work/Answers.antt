@@ -1,4 +1,4 @@
-use Rattle.std.proofs.Common.{◌≡◌, List, length, take, drop, ◌++◌, sym, subst, ◌∙◌}
+use Rattle.std.proofs.Common.{◌≡◌, List, length, sym, subst, ◌∙◌}
 use Rattle.std.specs.List.{flat_map}
 use Rattle.std.proofs.lemmas.List.Elements.{length_all_zip}
 use Rattle.streetmap_connections.specs.declared.slot.Slot.{Slot}

@@ -27,7 +27,7 @@ returns-clause-late g c =
     let Late = IsLate c.args.self.now.now c.args.self.now.limits.patience in
     let said = c.take_turn.ensures.late in
     elim c.match-take_turn.branch [
-      in-Rests w ↦ rw w.slot-is (not_late Late past old.client taken (λ ends. rests_is_not_ends (sym w.in-Rests.is ∙ ends.0)) said)
+      | in-Rests w ↦ rw w.slot-is (not_late Late past old.client taken (λ ends. rests_is_not_ends (sym w.in-Rests.is ∙ ends.0)) said)
       | in-Goes w ↦ rw w.slot-is (not_late Late past old.client taken (λ ends. goes_is_not_ends (sym w.in-Goes.is ∙ ends.0)) said)
       | in-Ends w ↦ rw w.slot-is (ended_late Late past old.client w.end.new.self
           (λ ends. (w.end.ensures.free, subst (λ (s : Slot g.row.S.Denot). past_of w.end.new.self ≡ past_of s ++ present s.client) ends.1 w.end.ensures.past)) said)

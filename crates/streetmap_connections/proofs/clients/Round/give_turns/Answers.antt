@@ -25,7 +25,7 @@ loop-slot-preserved g c =
     let R = EndsLate c.args.self.now.now c.args.self.now.limits.patience in
     let late : R slot given
     = subst (λ (s : Slot g.row.S.Denot). R s given) (sym c.slot-item.is)
-        (rw (c.loop-slot.invariant.same.0, c.loop-slot.invariant.same.1) at c.give_turn.ensures.late) in
+    (rw (c.loop-slot.invariant.same.0, c.loop-slot.invariant.same.1) at c.give_turn.ensures.late) in
     record {
       serves = serves_then g.V.Service.answers c.args.service.now c.loop-slot.service c.give_turn.new.service _ _ _ c.loop-slot.invariant.serves
           (turn_in_slots slots index slot given within c.slot-item.is g.V.Service.answers g.S.Stream.remaining g.S.Stream.contents c.loop-slot.service c.give_turn.new.service turn);
