@@ -1,7 +1,8 @@
-//! The same sessions over tables and in memory: the answers are the same bytes.
+//! The same sessions over tables and in memory, and with an index over each: the answers are the same bytes.
 use sqlite::{Connection, MemStore};
 use std::alloc::Global;
 use std::test::Fail;
+use streetmap_index::IndexedKeeper;
 use streetmap_ledger::Keeper;
 use streetmap_memory::PlainKeeper;
 use streetmap_routes::Base;
@@ -184,6 +185,22 @@ fn tables_answer_as_memory_does(rt: HostRuntime) -> Result<(), Fail> {
         let wanted = answers(rt.alloc(), &mut plain, requests.as_str())?;
         let found = answers(rt.alloc(), &mut tables, requests.as_str())?;
         assert_eq!(rt; String::from_utf8(found)?, String::from_utf8(wanted)?);
+    }
+    Ok(())
+}
+
+#[test]
+fn an_index_answers_as_the_keeper_below_it(rt: HostRuntime) -> Result<(), Fail> {
+    for seed in 0..SESSIONS {
+        let requests = session(rt.alloc(), seed)?;
+        let mut plain = PlainKeeper::new(rt.alloc());
+        let mut over_plain = IndexedKeeper::new(rt.alloc(), PlainKeeper::new(rt.alloc()));
+        let mut over_tables = IndexedKeeper::new(rt.alloc(), over_tables(rt.alloc())?);
+        let wanted = answers(rt.alloc(), &mut plain, requests.as_str())?;
+        let found = answers(rt.alloc(), &mut over_plain, requests.as_str())?;
+        assert_eq!(rt; found.as_slice(), wanted.as_slice());
+        let found = answers(rt.alloc(), &mut over_tables, requests.as_str())?;
+        assert_eq!(rt; found.as_slice(), wanted.as_slice());
     }
     Ok(())
 }
