@@ -1,5 +1,5 @@
-"""Times HTTP answers over a file, through `streetmap pipe`: batches of 1,000 inserts, a page of a box of 20 m, a page without a
-box, and a feature by its id, in a collection of 100,000 features. Beside them the same statements by Python's sqlite3, on the same
+"""Times HTTP answers over a file, through `streetmap pipe`: batches of 1,000 inserts, pages of boxes and of all, a feature by its id,
+batches of one edit, and an export, in a collection of 100,000 features (or as many as a second argument says). Beside them the same statements by Python's sqlite3, on the same
 file and with the same synchronous level. Each time is the difference of two runs, so that starting the program counts for nothing.
 """
 import json
@@ -11,7 +11,8 @@ import sys
 import tempfile
 import time
 
-FEATURES = 100_000
+FEATURES = int(sys.argv[2]) if len(sys.argv) > 2 else 100_000
+ROW = int(FEATURES ** 0.5)
 BATCH = 1_000
 
 
@@ -25,8 +26,8 @@ def get(target):
 
 
 def place(at):
-    """A town of 316 rows of lamps, 10 m apart."""
-    return [at % 316 * 10_000, at // 316 * 10_000]
+    """A town of lamps in a square, 10 m apart."""
+    return [at % ROW * 10_000, at // ROW * 10_000]
 
 
 def feature(at):
@@ -57,14 +58,42 @@ def best(times, work):
     return min(work() for _ in range(times))
 
 
-def time_requests(program, path, name, request, count):
-    def once():
-        took, answers = run(program, path, request * count)
-        if answers.count(b"HTTP/1.1 200 OK") != count:
+FIRST = get("/collections/lamps/items?limit=1")
+
+
+def time_requests(program, path, name, request, count, first=get("/conformance")):
+    """Seconds for each of so many requests that follow the first one."""
+    def once(stream, answers_wanted):
+        took, answers = run(program, path, stream)
+        if answers.count(b"HTTP/1.1 200 OK") != answers_wanted:
             sys.exit(f"{name}: {answers[:200]}")
         return took
-    idle = best(3, lambda: run(program, path, get("/conformance"))[0])
-    return (best(3, once) - idle) / count
+    idle = best(3, lambda: once(first, 1))
+    return (best(3, lambda: once(first + request * count, count + 1)) - idle) / count
+
+
+def time_edits(program, path, name, count, first):
+    """Seconds for each of so many batches of one insert, before all other ids, that follow the first request."""
+    def once(turn, count):
+        stream = b"".join(post({"key": f"{name}{turn}-{at}", "edits": [
+            {"op": "insert", "collection": "lamps", "feature": {**feature(at), "id": f"a-{name}{turn}-{at:06}"}}]}) for at in range(count))
+        took, answers = run(program, path, first + stream)
+        if answers.count(b"HTTP/1.1 200 OK") != count + 1:
+            sys.exit(f"{name}: {answers[:200]}")
+        return took
+    idle = min(once(f"idle{turn}", 0) for turn in range(3))
+    return (min(once(turn, count) for turn in range(3)) - idle) / count
+
+
+def memory(program, path, stream):
+    """The most memory that a run takes, in bytes."""
+    with tempfile.TemporaryFile() as sent, open(os.devnull, "wb") as out:
+        sent.write(stream)
+        sent.seek(0)
+        started = subprocess.Popen([program, "pipe", path], stdin=sent, stdout=out)
+        _, _, used = os.wait4(started.pid, 0)
+        started.returncode = 0
+        return used.ru_maxrss * 1024
 
 
 def plain_tables(path):
@@ -131,12 +160,30 @@ def main():
             return best(3, once)
 
         boxed = plain_time(scan, box, 5)
+        area = ("lamps", x + 900_000, x, y + 900_000, y)
+        wide = plain_time(f"{scan} LIMIT 100", area, 5) + plain_time(scan.replace("id, body", "count(*)").replace(" ORDER BY id", ""), area, 5)
         every = plain_time("SELECT id, body FROM streetmap_features WHERE collection = ? ORDER BY id", ("lamps",), 2)
         one = plain_time("SELECT body FROM streetmap_features WHERE collection = ? AND id = ?", ("lamps", "lamp-050000"), 1000)
         db.close()
-        show("a page of a box of 20 m", time_requests(program, path, "box", get(f"/collections/lamps/items?bbox={x},{y},{x + 20000},{y + 20000}"), 20),
-             boxed, "at least 0.5")
-        show("a page without a box", time_requests(program, path, "page", get("/collections/lamps/items"), 10), every, "at least 0.33 of SELECT alone")
+        def page(name, query, count, plain, wanted):
+            ours = time_requests(program, path, name, get(f"/collections/lamps/items?{query}"), count, FIRST)
+            show(name, ours, plain, wanted)
+            print(f"    {1 / ours:,.0f} pages a second")
+
+        page("a page of a box of 20 m", f"bbox={x},{y},{x + 20000},{y + 20000}", 400, boxed, "at least 60")
+        page("a page of 100 of a box of 900 m, and how many there are", f"bbox={x},{y},{x + 900000},{y + 900000}&limit=100", 100, wide, "at least 12")
+        page("a page of 1,000 of all", "limit=1000", 20, every, "at least 3")
+        first = best(3, lambda: run(program, path, FIRST)[0]) - idle
+        print(f"the first page of a collection, by which the index is learnt: {first * 1000:,.0f} ms (at most 500 of 100,000 features)")
+        known = memory(program, path, FIRST) - memory(program, path, get("/conformance"))
+        print(f"memory while the index is learnt: {known / FEATURES:,.0f} bytes a feature (at most 120)")
+        plainly, followed = time_edits(program, path, "plain", 100, get("/conformance")), time_edits(program, path, "known", 100, FIRST)
+        print(f"a batch of one insert before all others: {plainly * 1e6:,.0f} microseconds, with an index that follows {followed * 1e6:,.0f}: "
+              f"{followed / plainly:.2f} times (at most 1.2)")
+        start = time.perf_counter()
+        size = len(subprocess.run([program, "export", path, "--collection", "lamps"], stdout=subprocess.PIPE, check=True).stdout)
+        took = time.perf_counter() - start
+        print(f"an export of the collection: {size / 1e6:,.0f} MB in {took:.2f} s, {size / took / 1e6:,.1f} MB a second (at least 5)")
         show("a feature by its id", time_requests(program, path, "feature", get("/collections/lamps/items/lamp-050000"), 20_000), one, "at most 50 microseconds")
         print(f"peak memory of all runs: {resource.getrusage(resource.RUSAGE_CHILDREN).ru_maxrss / 1024:.0f} MB; the file: {os.path.getsize(path) / 2**20:.0f} MB")
 
