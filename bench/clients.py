@@ -86,7 +86,7 @@ def rate(port, connections):
 
 
 def ended(started):
-    started.kill()
+    started.terminate()
     started.wait()
 
 

@@ -181,6 +181,18 @@ def clients_at_once(folder):
     server.ends(0)
 
 
+def a_log(folder):
+    """A line on standard error for each answer."""
+    file = f"{folder}/logged.db"
+    run("create", file)
+    for words in ([], ["--clients", "4"]):
+        server = Server(file, "--log", "--count", "1", *words)
+        server.ask(request("GET", "/conformance") + request("GET", "/nothing?a=%22") + b'GET /"\x1b HTTP/1.1\r\nHost: a\r\n\r\n')
+        check("serve ends", server.run.wait(timeout=60), 0)
+        check("the log", server.run.stderr.read(),
+              b'"GET /conformance HTTP/1.1" 200 64\n"GET /nothing?a=%22 HTTP/1.1" 404 67\n"-" 400 71\n')
+
+
 def a_hard_stop(folder):
     """Batches on one connection until the server is killed: each that was acknowledged is there."""
     file = f"{folder}/stopped.db"
@@ -215,6 +227,7 @@ def main():
         imports_and_exports(folder)
         connections(folder)
         clients_at_once(folder)
+        a_log(folder)
         a_hard_stop(folder)
     told()
 

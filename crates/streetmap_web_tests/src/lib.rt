@@ -1,9 +1,7 @@
 //! Tests of HTTP over the keeper in memory, by public items alone: streams that are cut or fail, memory that is refused,
-//! connections in turn, and many clients at once. The rows of the answers are data, and run through the program.
+//! and connections in turn. The rows of the answers are data and run through the program, and so do many clients at once.
 #![tactic(auto)]
 
-#[cfg(test)]
-mod clients;
 #[cfg(test)]
 mod connections;
 #[cfg(test)]
