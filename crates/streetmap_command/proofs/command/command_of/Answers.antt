@@ -13,4 +13,4 @@ returns-in-serve-clause-found c =
     let P : Option (Text × List Row) → Type 0 = λ x. IfOk c.read_serve.result (λ v. Some (command_value v) ≡ command_by x) in
     let Q : Text → Type 0 = λ n. P (Some (n, rows)) in
     subst P (sym (named (λ b. (out-SubCommand (box_value b)).name.now) (λ b. rows_of (found_of (out-SubCommand (box_value b)).matches)) (out-ArgMatches c.args.matches.now).subcommand c.in-Some.name.now rows c.in-Some.ensures.name c.in-Some.ensures.rows))
-      (subst Q (sym c.in-serve.is) c.read_serve.ensures.found)
+    (subst Q (sym c.in-serve.is) c.read_serve.ensures.found)
