@@ -5,6 +5,7 @@
 import json
 import socket
 import tempfile
+import threading
 import time
 from pathlib import Path
 
@@ -24,6 +25,8 @@ def is_closed(stream):
         return stream.recv(1) == b""
     except ConnectionResetError:
         return True
+    except TimeoutError:
+        return False
 
 
 def reset(stream):
@@ -124,12 +127,27 @@ def more_than_there_may_be(server, most):
         stream.close()
 
 
-def a_silent_client(silent, begun):
-    """It ends once it was silent for half a minute, and not before."""
-    check("a silent client is let go", is_closed(silent), True)
-    waited = time.monotonic() - begun
-    check("not before half a minute", waited >= PATIENCE - 1, True)
-    check("and soon behind it", waited <= PATIENCE + SLACK, True)
+class SilentClient(threading.Thread):
+    """A client that sends a part of a request and no more. It notes when it is let go."""
+
+    def __init__(self, server):
+        super().__init__(daemon=True)
+        self.stream = server.connect()
+        self.stream.settimeout(PATIENCE + SLACK)
+        self.stream.sendall(ASKED[:10])
+        self.begun = time.monotonic()
+        self.waited = None
+        self.start()
+
+    def run(self):
+        if is_closed(self.stream):
+            self.waited = time.monotonic() - self.begun
+
+    def was_let_go(self):
+        """It ends once it was silent for half a minute, and not before."""
+        self.join()
+        check("a silent client is let go", self.waited is not None, True)
+        check("and not before half a minute", self.waited is not None and self.waited >= PATIENCE - 1, True)
 
 
 def main():
@@ -140,17 +158,14 @@ def main():
             ((status, _),) = answers(run("pipe", path, sent=batch("b1", [OPEN])))
             check("a collection is opened", status, 200)
         server, small = Server(file, "--clients", "256"), Server(other, "--clients", "16")
-        silent = server.connect()
-        silent.settimeout(PATIENCE + SLACK)
-        silent.sendall(ASKED[:10])
-        begun = time.monotonic()
+        silent = SilentClient(server)
         idle_and_slow_clients(server)
         requests_cut_at_every_byte(server)
         clients_that_vanish(server)
         a_client_that_never_reads(server)
         a_thousand_in_a_row(server)
         more_than_there_may_be(small, 16)
-        a_silent_client(silent, begun)
+        silent.was_let_go()
         for each in (server, small):
             each.run.kill()
             each.run.wait()
