@@ -174,14 +174,14 @@ def main():
             show(name, ours, plain, wanted)
             print(f"    {1 / ours:,.0f} pages a second")
 
-        page("a page of a box of 20 m", f"bbox={x},{y},{x + 20000},{y + 20000}", 400, boxed, "at least 60")
-        page("a page of 100 of a box of 900 m, and how many there are", f"bbox={x},{y},{x + 900000},{y + 900000}&limit=100", 100, wide, "at least 12")
-        page("a page of 1,000 of all", "limit=1000", 20, every, "at least 3")
+        page("a page of a box of 20 m", f"bbox={x},{y},{x + 20000},{y + 20000}", 2000, boxed, "at least 60")
+        page("a page of 100 of a box of 900 m, and how many there are", f"bbox={x},{y},{x + 900000},{y + 900000}&limit=100", 500, wide, "at least 12")
+        page("a page of 1,000 of all", "limit=1000", 60, every, "at least 3")
         first = best(3, lambda: run(program, path, FIRST)[0]) - idle
         print(f"the first page of a collection, by which the index is learnt: {first * 1000:,.0f} ms (at most 500 of 100,000 features)")
         opened, known = memory(program, path, get("/conformance")), memory(program, path, FIRST)
         print(f"the most memory held once the file is opened: {opened / 1e6:,.0f} MB, and once its index is learnt: {known / 1e6:,.0f} MB")
-        plainly, followed = time_edits(program, path, "plain", 100, get("/conformance")), time_edits(program, path, "known", 100, FIRST)
+        plainly, followed = time_edits(program, path, "plain", 300, get("/conformance")), time_edits(program, path, "known", 300, FIRST)
         print(f"a batch of one insert before all others: {plainly * 1e6:,.0f} microseconds, with an index that follows {followed * 1e6:,.0f}: "
               f"{followed / plainly:.2f} times (at most 1.2)")
         start = time.perf_counter()
