@@ -1,6 +1,7 @@
 """Times HTTP answers over a file, through `streetmap pipe`: batches of 1,000 inserts, pages of boxes and of all, a feature by its id,
-batches of one edit, and an export, in a collection of 100,000 features (or as many as a second argument says). Beside them the same statements by Python's sqlite3, on the same
-file and with the same synchronous level. Each time is the difference of two runs, so that starting the program counts for nothing.
+batches of one edit, and an export, in a collection of 100,000 features (or as many as a second argument says). Beside them the
+same statements by Python's sqlite3, on the same file and with the same synchronous level. Starting the program and opening the
+file count for nothing.
 """
 import json
 import os
@@ -9,6 +10,7 @@ import sqlite3
 import subprocess
 import sys
 import tempfile
+import threading
 import time
 
 FEATURES = int(sys.argv[2]) if len(sys.argv) > 2 else 100_000
@@ -61,28 +63,44 @@ def best(times, work):
 FIRST = get("/collections/lamps/items?limit=1")
 
 
+def read_answer(stream):
+    """The status of the next answer."""
+    head = b""
+    while not head.endswith(b"\r\n\r\n"):
+        head += stream.readline()
+    stream.read(int(head.partition(b"Content-Length: ")[2].partition(b"\r\n")[0]))
+    return head.split(b" ")[1]
+
+
+def time_each(program, path, name, requests, first=get("/conformance")):
+    """Seconds for each of the requests that follow the first one, from the answer to that to the last answer."""
+    started = subprocess.Popen([program, "pipe", path], stdin=subprocess.PIPE, stdout=subprocess.PIPE)
+    started.stdin.write(first)
+    started.stdin.flush()
+    read_answer(started.stdout)
+    sender = threading.Thread(target=lambda: (started.stdin.write(b"".join(requests)), started.stdin.close()))
+    start = time.perf_counter()
+    sender.start()
+    for _ in requests:
+        status = read_answer(started.stdout)
+        if status != b"200":
+            sys.exit(f"{name}: {status}")
+    took = time.perf_counter() - start
+    sender.join()
+    started.wait()
+    return took / len(requests)
+
+
 def time_requests(program, path, name, request, count, first=get("/conformance")):
-    """Seconds for each of so many requests that follow the first one."""
-    def once(stream, answers_wanted):
-        took, answers = run(program, path, stream)
-        if answers.count(b"HTTP/1.1 200 OK") != answers_wanted:
-            sys.exit(f"{name}: {answers[:200]}")
-        return took
-    idle = best(3, lambda: once(first, 1))
-    return (best(3, lambda: once(first + request * count, count + 1)) - idle) / count
+    return best(3, lambda: time_each(program, path, name, [request] * count, first))
 
 
 def time_edits(program, path, name, count, first):
     """Seconds for each of so many batches of one insert, before all other ids, that follow the first request."""
-    def once(turn, count):
-        stream = b"".join(post({"key": f"{name}{turn}-{at}", "edits": [
-            {"op": "insert", "collection": "lamps", "feature": {**feature(at), "id": f"a-{name}{turn}-{at:06}"}}]}) for at in range(count))
-        took, answers = run(program, path, first + stream)
-        if answers.count(b"HTTP/1.1 200 OK") != count + 1:
-            sys.exit(f"{name}: {answers[:200]}")
-        return took
-    idle = min(once(f"idle{turn}", 0) for turn in range(3))
-    return (min(once(turn, count) for turn in range(3)) - idle) / count
+    def once(turn):
+        return time_each(program, path, name, [post({"key": f"{name}{turn}-{at}", "edits": [
+            {"op": "insert", "collection": "lamps", "feature": {**feature(at), "id": f"a-{name}{turn}-{at:06}"}}]}) for at in range(count)], first)
+    return min(once(turn) for turn in range(3))
 
 
 def memory(program, path, request):
@@ -90,10 +108,7 @@ def memory(program, path, request):
     started = subprocess.Popen([program, "pipe", path], stdin=subprocess.PIPE, stdout=subprocess.PIPE)
     started.stdin.write(request)
     started.stdin.flush()
-    head = b""
-    while not head.endswith(b"\r\n\r\n"):
-        head += started.stdout.read(1)
-    started.stdout.read(int(head.partition(b"Content-Length: ")[2].partition(b"\r\n")[0]))
+    read_answer(started.stdout)
     with open(f"/proc/{started.pid}/status") as status:
         most = int(status.read().partition("VmHWM:")[2].split()[0]) * 1024
     started.communicate()
