@@ -3,7 +3,6 @@ ghost use Rattle.std.specs.Prelude.{◌≡◌, Ok, IfOk, OnOk, length, string_by
 ghost use Rattle.std.specs.Option.{option_map};
 ghost use Rattle.std.specs.FinMap.{get, insert, remove};
 ghost use Rattle.std.specs.List.Sorted.{IsSearchInRange, IsBinarySearchResult};
-ghost use Rattle.streetmap_moment.specs.Meeting.{seconds_of};
 ghost use Rattle.streetmap_moment.specs.Views.{interval_value};
 ghost use Rattle.streetmap_geojson.specs.FeatureValue.{FeatureValue, retimed};
 ghost use Rattle.streetmap_batch.specs.Text.{text_cmp};
@@ -53,16 +52,6 @@ fn cut(outlines: &mut Vec<FeatureOutline>, id: &str)
     }
 }
 
-/// The first and the last second of a time, where there is one.
-fn seconds(time: Option<Interval>) -> Option<(i64, i64)>
-    ensures { result ≡ option_map seconds_of (option_map interval_value time) }
-{
-    match time {
-        Some(time) => Some(time.seconds()),
-        None => None,
-    }
-}
-
 /// The outline of a feature that has this time.
 fn outline_of(
     alloc: Global,
@@ -71,11 +60,7 @@ fn outline_of(
 ) -> Result<FeatureOutline, AllocError>
     ensures { IfOk result (λ outline. IsOutlineOf outline (retimed feature.now (option_map interval_value time))) }
 {
-    Ok(FeatureOutline {
-        id: String::from_str(alloc, feature.id())?,
-        extent: feature.extent(),
-        seconds: seconds(time),
-    })
+    FeatureOutline::new(alloc, feature.id(), feature.extent(), time)
 }
 
 impl OutlinedCollection {

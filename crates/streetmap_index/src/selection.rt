@@ -1,28 +1,14 @@
 //! What an outline tells of a feature that a query asks for.
 ghost use Rattle.std.specs.Prelude.{◌≡◌, ℤ, Option, IsTrue, false, true};
-ghost use Rattle.streetmap_grid.specs.Meeting.{geometry_meets};
 ghost use Rattle.streetmap_moment.specs.Meeting.{meets, seconds_overlap};
 ghost use Rattle.streetmap_geojson.specs.FeatureValue.{FeatureValue};
-ghost use Rattle.streetmap_geojson.specs.FeatureInvariant.{IsFeature, IsGeometryIf};
+ghost use Rattle.streetmap_geojson.specs.FeatureInvariant.{IsFeature};
 ghost use Rattle.streetmap_query.specs.Views.{query_value};
-ghost use Rattle.streetmap_ledger.specs.Pages.{passes, interval_asked, selects, comes_after as comes_after_of, extent_overlaps, is_candidate as is_candidate_of};
+ghost use Rattle.streetmap_ledger.specs.Pages.{passes, interval_asked, selects, comes_after as comes_after_of, is_candidate as is_candidate_of};
 ghost use Rattle.streetmap_index.specs.Index.{IsOutlineOf};
 
-use streetmap_ledger::FeatureOutline;
+use streetmap_ledger::{FeatureOutline, lies_within_box, overlaps_box};
 use streetmap_query::Query;
-
-/// Whether the extent overlaps the box, where one is asked.
-fn overlaps_box(query: &Query, outline: &FeatureOutline) -> bool
-    ensures { (f : FeatureValue) → IsOutlineOf outline.now f → result ≡ passes extent_overlaps f.geometry (query_value query.now).bbox }
-{
-    match &query.bbox {
-        None => true,
-        Some(area) => match &outline.extent {
-            None => false,
-            Some(extent) => extent.overlaps(area),
-        },
-    }
-}
 
 /// Whether the seconds overlap those of the interval, where one is asked.
 fn overlaps_interval(query: &Query, outline: &FeatureOutline) -> bool
@@ -44,20 +30,7 @@ fn overlaps_interval(query: &Query, outline: &FeatureOutline) -> bool
 pub fn is_candidate(query: &Query, outline: &FeatureOutline) -> bool
     ensures { (f : FeatureValue) → IsOutlineOf outline.now f → result ≡ is_candidate_of (query_value query.now) f }
 {
-    overlaps_box(query, outline) && overlaps_interval(query, outline)
-}
-
-/// Whether the extent lies within the box, where one is asked. Then the geometry meets it.
-fn lies_within_box(query: &Query, outline: &FeatureOutline) -> bool
-    ensures { IsTrue result → (f : FeatureValue) → IsOutlineOf outline.now f → IsGeometryIf f.geometry → passes geometry_meets f.geometry (query_value query.now).bbox ≡ true }
-{
-    match &query.bbox {
-        None => true,
-        Some(area) => match &outline.extent {
-            None => false,
-            Some(extent) => extent.is_within(area),
-        },
-    }
+    overlaps_box(query, outline.extent) && overlaps_interval(query, outline)
 }
 
 /// Whether the time begins in a second before the one that the interval ends in, and ends in one behind
@@ -81,7 +54,7 @@ fn reaches_into_interval(query: &Query, outline: &FeatureOutline) -> bool
 pub fn is_selected(query: &Query, outline: &FeatureOutline) -> bool
     ensures { IsTrue result → (f : FeatureValue) → IsOutlineOf outline.now f → IsFeature f → selects (query_value query.now) f ≡ true }
 {
-    lies_within_box(query, outline) && reaches_into_interval(query, outline)
+    lies_within_box(query, outline.extent) && reaches_into_interval(query, outline)
 }
 
 /// Whether the feature's id comes after the one asked.

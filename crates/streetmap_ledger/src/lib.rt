@@ -24,6 +24,7 @@ pub use keeper::{Keeper, run};
 pub use outline::FeatureOutline;
 pub use page::Page;
 pub use reply::{Cause, Counts, Fault, Refusal, Reply, Run};
+pub use selection::{lies_within_box, overlaps_box};
 pub use streetmap_batch::{
     Batch, BatchFault, CollectionId, Edit, TimeProperty, Title, is_collection_id, is_key,
     is_time_property, is_title, read_batch,

@@ -1,5 +1,13 @@
 //! What is known of features without reading them.
+ghost use Rattle.std.specs.Prelude.{◌≡◌, IfOk, option_map, string_bytes};
+ghost use Rattle.streetmap_grid.specs.Views.{box_value};
+ghost use Rattle.streetmap_moment.specs.Meeting.{seconds_of};
+ghost use Rattle.streetmap_moment.specs.Views.{interval_value};
+ghost use Rattle.streetmap_ledger.specs.OutlineView.{feature_outline_value};
+
+use std::alloc::{AllocError, Global};
 use streetmap_grid::GridBox;
+use streetmap_moment::Interval;
 
 /// A feature's id, extent and seconds: what a store keeps beside the feature itself.
 #[derive(Drop)]
@@ -11,4 +19,25 @@ pub struct FeatureOutline {
     /// The first and the last second of its time, since 1970-01-01T00:00:00Z and rounded down; none where
     /// it has no time. An open start is -1,000,000,000,000 and an open end 1,000,000,000,000.
     pub seconds: Option<(i64, i64)>,
+}
+
+impl FeatureOutline {
+    /// The outline of a feature with this id, extent and time.
+    pub fn new(
+        alloc: Global,
+        id: &str,
+        extent: Option<GridBox>,
+        time: Option<Interval>,
+    ) -> Result<FeatureOutline, AllocError>
+        ensures { IfOk result (λ outline. feature_outline_value outline ≡ record { id = id.now; extent = option_map box_value extent; seconds = option_map seconds_of (option_map interval_value time) }) }
+    {
+        Ok(FeatureOutline {
+            id: String::from_str(alloc, id)?,
+            extent,
+            seconds: match time {
+                Some(time) => Some(time.seconds()),
+                None => None,
+            },
+        })
+    }
 }

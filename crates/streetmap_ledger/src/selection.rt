@@ -1,6 +1,9 @@
 //! What a query asks of a feature.
-ghost use Rattle.std.specs.Prelude.{◌≡◌, IfSome, IsTrue, true, option_map};
+ghost use Rattle.std.specs.Prelude.{◌≡◌, Option, IfSome, IsTrue, true, option_map};
+ghost use Rattle.streetmap_grid.specs.Extent.{extent_of};
+ghost use Rattle.streetmap_grid.specs.Values.{GeometryValue};
 ghost use Rattle.streetmap_grid.specs.Meeting.{geometry_meets};
+ghost use Rattle.streetmap_grid.specs.Views.{box_value};
 ghost use Rattle.streetmap_moment.specs.Views.{interval_value};
 ghost use Rattle.streetmap_moment.specs.Meeting.{meets, seconds_overlap};
 ghost use Rattle.streetmap_geojson.specs.FeatureValue.{FeatureValue};
@@ -11,6 +14,7 @@ ghost use Rattle.streetmap_ledger.specs.Pages.{passes, interval_asked, selects a
 
 use streetmap_feature_text::Outline;
 use streetmap_geojson::Feature;
+use streetmap_grid::GridBox;
 use streetmap_moment::Interval;
 use streetmap_query::Query;
 
@@ -57,26 +61,26 @@ pub fn comes_after(query: &Query, feature: &Feature) -> bool
     }
 }
 
-/// Whether the extent overlaps the box, where one is asked.
-fn overlaps_box(query: &Query, outline: &Outline) -> bool
-    ensures { (f : FeatureValue) → outline.now ≡ outline_of f → result ≡ passes extent_overlaps f.geometry (query_value query.now).bbox }
+/// Whether the extent overlaps the box, where one is asked: that of a geometry, or none.
+pub fn overlaps_box(query: &Query, extent: Option<GridBox>) -> bool
+    ensures { (geometry : Option GeometryValue) → option_map box_value extent ≡ option_map extent_of geometry → result ≡ passes extent_overlaps geometry (query_value query.now).bbox }
 {
     match &query.bbox {
         None => true,
-        Some(area) => match outline.extent() {
+        Some(area) => match extent {
             None => false,
             Some(extent) => extent.overlaps(area),
         },
     }
 }
 
-/// Whether the extent lies within the box, where one is asked.
-fn lies_within_box(query: &Query, outline: &Outline) -> bool
-    ensures { IsTrue result → (f : FeatureValue) → outline.now ≡ outline_of f → IsGeometryIf f.geometry → passes geometry_meets f.geometry (query_value query.now).bbox ≡ true }
+/// Whether the extent lies within the box, where one is asked: then the geometry that it is of meets it.
+pub fn lies_within_box(query: &Query, extent: Option<GridBox>) -> bool
+    ensures { IsTrue result → (geometry : Option GeometryValue) → option_map box_value extent ≡ option_map extent_of geometry → IsGeometryIf geometry → passes geometry_meets geometry (query_value query.now).bbox ≡ true }
 {
     match &query.bbox {
         None => true,
-        Some(area) => match outline.extent() {
+        Some(area) => match extent {
             None => false,
             Some(extent) => extent.is_within(area),
         },
@@ -100,7 +104,7 @@ fn overlaps_interval(query: &Query, outline: &Outline) -> bool
 pub fn is_candidate(query: &Query, outline: &Outline) -> bool
     ensures { (f : FeatureValue) → outline.now ≡ outline_of f → result ≡ is_candidate_of (query_value query.now) f }
 {
-    overlaps_box(query, outline) && overlaps_interval(query, outline)
+    overlaps_box(query, outline.extent()) && overlaps_interval(query, outline)
 }
 
 /// Whether the query selects the feature with this outline, where the outline tells.
@@ -110,7 +114,7 @@ pub fn selects_unread(query: &Query, outline: &Outline) -> Option<bool>
     if !meets_interval(query, outline.time()) {
         return Some(false);
     }
-    if lies_within_box(query, outline) {
+    if lies_within_box(query, outline.extent()) {
         return Some(true);
     }
     None

@@ -15,8 +15,6 @@ ghost use Rattle.streetmap_ledger.specs.Summaries.{all_vertices, summary_of};
 ghost use Rattle.streetmap_ledger.specs.SummaryView.{summary_value};
 ghost use Rattle.streetmap_ledger.specs.Outlines.{feature_outline_of, feature_outlines_of};
 ghost use Rattle.streetmap_ledger.specs.OutlineView.{feature_outline_value, feature_outline_values};
-ghost use Rattle.streetmap_moment.specs.Meeting.{seconds_of};
-ghost use Rattle.streetmap_moment.specs.Views.{interval_value};
 ghost use Rattle.serde_json.specs.Written.{compact_text};
 ghost use Rattle.streetmap_geojson.specs.FeatureValue.{FeatureValue};
 ghost use Rattle.streetmap_feature_text.specs.Written.{feature_data};
@@ -33,7 +31,6 @@ use streetmap_feature_text::PackedFeature;
 use streetmap_geojson::Feature;
 use streetmap_grid::GridBox;
 use streetmap_ledger::{FeatureOutline, Page, PageFold, Summary};
-use streetmap_moment::Interval;
 use streetmap_query::Query;
 
 /// A collection whose deleted features leave their slots empty, until the batch is done.
@@ -209,16 +206,6 @@ fn bounds_of(slots: &BTreeMap<String, Option<PackedFeature>>) -> Option<GridBox>
     bounds
 }
 
-/// The first and the last second of a time, where there is one.
-fn seconds(time: Option<Interval>) -> Option<(i64, i64)>
-    ensures { result ≡ option_map seconds_of (option_map interval_value time) }
-{
-    match time {
-        Some(time) => Some(time.seconds()),
-        None => None,
-    }
-}
-
 /// The outline of the feature that stands under an id.
 fn outline_of(
     alloc: Global,
@@ -227,11 +214,7 @@ fn outline_of(
 ) -> Result<FeatureOutline, AllocError>
     ensures { IfOk result (λ outline. feature_outline_value outline ≡ feature_outline_of id.now feature.now) }
 {
-    Ok(FeatureOutline {
-        id: String::from_str(alloc, id)?,
-        extent: feature.extent(),
-        seconds: seconds(feature.time()),
-    })
+    FeatureOutline::new(alloc, id, feature.extent(), feature.time())
 }
 
 /// The outlines of the features in the slots, in the order of their ids.
