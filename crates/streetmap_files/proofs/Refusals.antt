@@ -22,7 +22,7 @@ use Rattle.streetmap_opening.specs.declared.adopting.AdoptFault.TheVariants as a
 use Rattle.streetmap_opening.specs.declared.making.MakeFault.{MakeFault}
 use Rattle.streetmap_opening.specs.declared.making.MakeFault.TheVariants as making
 use Rattle.streetmap_files.specs.Refusing.{refused_to_open, refused_to_create, not_adopted, not_made}
-use Rattle.streetmap_files.specs.Reasons.{IsForeign, SparesOpened, SparesCreated, Showed, RefusesToOpen, RefusesToCreate, FailsToConnect, StaysAsItWas, HoldsStill}
+use Rattle.streetmap_files.specs.Reasons.{IsForeign, OpenBlamesNoFile, CreateBlamesNoFile, Showed, RefusesToOpen, RefusesToCreate, FailsToConnect, StaysAsItWas, HoldsStill}
 use Rattle.streetmap_files.specs.declared.fault.OpenFault.TheVariants as opened
 use Rattle.streetmap_files.specs.declared.fault.CreateFault.{CreateFault}
 use Rattle.streetmap_files.specs.declared.fault.CreateFault.TheVariants as created
@@ -134,7 +134,7 @@ not_adopted_for image rest seen show adopting.NewFormat by = show (λ x. TellsFa
 not_adopted_for image rest seen show (adopting.Device e) by = inr by
 not_adopted_for image rest seen show adopting.Memory by = tt
 
-pub ours_spared : (s : State) (old new : Seen) (fault : AdoptFault) → Adopts s old new (Err fault) → SparesOpened (not_adopted fault)
+pub ours_spared : (s : State) (old new : Seen) (fault : AdoptFault) → Adopts s old new (Err fault) → OpenBlamesNoFile (not_adopted fault)
 ours_spared s old new adopting.NotOurs h = absurd h
 ours_spared s old new adopting.OldFormat h = absurd h
 ours_spared s old new adopting.NewFormat h = absurd h
@@ -148,7 +148,7 @@ not_made_for image (making.Device e) taken = tt
 not_made_for image making.Memory taken = tt
 
 -- new files are not to blame
-pub new_spared : (image : Image) → IsNothing image → (fault : CreateFault) → RefusesToCreate image fault → SparesCreated fault
+pub new_spared : (image : Image) → IsNothing image → (fault : CreateFault) → RefusesToCreate image fault → CreateBlamesNoFile fault
 new_spared image nothing created.NotOurs h = h (inr nothing)
 new_spared image nothing created.Taken h = let none = new_takes_none image nothing h.0 h.1 h.2 h.3 in let wrong : false ≡ true = subst IsTrue none h.4 in cc
 new_spared image nothing (created.Device e) h = tt

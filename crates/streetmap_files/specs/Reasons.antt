@@ -33,18 +33,18 @@ abbrev pub IsForeign : Image → Type 0
 IsForeign image = ¬ (((db : Trees) × HoldsDatabase image db) ⊎ IsNothing image)
 
 -- the files are not to blame: the device failed, or memory was refused
-abbrev pub SparesOpened : OpenFault → Type 0
-SparesOpened opened.NotOurs = ⊥
-SparesOpened opened.OldFormat = ⊥
-SparesOpened opened.NewFormat = ⊥
-SparesOpened (opened.Device e) = ⊤
-SparesOpened opened.Memory = ⊤
+abbrev pub OpenBlamesNoFile : OpenFault → Type 0
+OpenBlamesNoFile opened.NotOurs = ⊥
+OpenBlamesNoFile opened.OldFormat = ⊥
+OpenBlamesNoFile opened.NewFormat = ⊥
+OpenBlamesNoFile (opened.Device e) = ⊤
+OpenBlamesNoFile opened.Memory = ⊤
 
-abbrev pub SparesCreated : CreateFault → Type 0
-SparesCreated created.NotOurs = ⊥
-SparesCreated created.Taken = ⊥
-SparesCreated (created.Device e) = ⊤
-SparesCreated created.Memory = ⊤
+abbrev pub CreateBlamesNoFile : CreateFault → Type 0
+CreateBlamesNoFile created.NotOurs = ⊥
+CreateBlamesNoFile created.Taken = ⊥
+CreateBlamesNoFile (created.Device e) = ⊤
+CreateBlamesNoFile created.Memory = ⊤
 
 module _ {D : Type 0} {g : disk.Ghosts D} where
   -- a connection that was opened on the files showed this

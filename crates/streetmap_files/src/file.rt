@@ -8,7 +8,7 @@ ghost use Rattle.streetmap_ledger.specs.Keep.{LeavesOnly};
 ghost use Rattle.streetmap_rows.specs.Keeping.{MayLeave};
 ghost use Rattle.streetmap_store.specs.Serving.{Serves};
 ghost use Rattle.streetmap_files.specs.Holding.{IsJustOpenedOn, HoldsState, LeavesRoom};
-ghost use Rattle.streetmap_files.specs.Reasons.{IsCleanRest, FailsToConnect, RefusesToOpen, RefusesToCreate, SparesOpened, SparesCreated, StaysAsItWas, HoldsStill};
+ghost use Rattle.streetmap_files.specs.Reasons.{IsCleanRest, FailsToConnect, RefusesToOpen, RefusesToCreate, OpenBlamesNoFile, CreateBlamesNoFile, StaysAsItWas, HoldsStill};
 
 use crate::fault::{CreateFault, Left, OpenFault};
 use sqlite::{Connection, Error, FileFrom, FileStore, Leftover, Start};
@@ -54,7 +54,7 @@ pub fn create<S: Start>(
 ) -> Result<FileKeeper<S>, (CreateFault, FilesLeft<S>)>
     ensures made { IfOk result (λ keeper. HasCleanDisk (file_state keeper.conn) → LeavesRoom (image_at S.Start) → Serves keeper.shut (file_state keeper.conn) keeper.count opening_state × LeavesOnly (MayLeave (file_state keeper.conn)) (Some opening_state)) }
     ensures refused { IfErr result (λ refused. IsCleanRest refused.1 → RefusesToCreate (image_at S.Start) refused.0) }
-    ensures new_files { IfErr result (λ refused. IsCleanRest refused.1 → IsNothing (image_at S.Start) → SparesCreated refused.0) }
+    ensures new_files { IfErr result (λ refused. IsCleanRest refused.1 → IsNothing (image_at S.Start) → CreateBlamesNoFile refused.0) }
     ensures stays { IfErr result (λ refused. IsCleanRest refused.1 → HoldsStill (image_at S.Start) refused.1) }
 {
     let conn = match connect(rt, path, start) {
@@ -84,7 +84,7 @@ pub fn open<S: Start>(
 ) -> Result<FileKeeper<S>, (OpenFault, FilesLeft<S>)>
     ensures opened { IfOk result (λ keeper. HasCleanDisk (file_state keeper.conn) → (s : State) → HoldsState (image_at S.Start) s → Serves keeper.shut (file_state keeper.conn) keeper.count s × LeavesOnly (MayLeave (file_state keeper.conn)) (Some s)) }
     ensures refused { IfErr result (λ refused. IsCleanRest refused.1 → RefusesToOpen (image_at S.Start) refused.0 refused.1) }
-    ensures ours { IfErr result (λ refused. IsCleanRest refused.1 → (s : State) → HoldsState (image_at S.Start) s → SparesOpened refused.0) }
+    ensures ours { IfErr result (λ refused. IsCleanRest refused.1 → (s : State) → HoldsState (image_at S.Start) s → OpenBlamesNoFile refused.0) }
     ensures stays { IfErr result (λ refused. IsCleanRest refused.1 → StaysAsItWas (image_at S.Start) refused.1) }
 {
     let conn = match connect(rt, path, start) {

@@ -22,7 +22,7 @@ use Rattle.sqlite_rules.proofs.ListLemmas.{all_has, has_left, has_either, has_fo
 use Rattle.streetmap_tables.proofs.Finding.{stands_at}
 use Rattle.streetmap_rows.specs.Tables.{IsNamed, features_name}
 use Rattle.streetmap_opening.specs.Made.{Created}
-use Rattle.streetmap_opening.specs.Making.{HasRoom, KeepsOthers}
+use Rattle.streetmap_opening.specs.Making.{HasRoom, KeepsOtherTables}
 
 -- ---- lists
 
@@ -159,7 +159,7 @@ module _ (table : Table) (old new : Database) (c : Created table old new) where
   pub any_new : (p : Index → Bool) → list_any p (automatics (fresh old.schema table) 0 (next_tree old.schema + 1) table.uniques) ≡ true → list_any p new.schema.indexes ≡ true
   any_new p h = subst (λ (s : Schema). list_any p s.indexes ≡ true) (sym c.schema) (any_now old.schema table p h)
 
-  pub others_kept : KeepsOthers old new
+  pub others_kept : KeepsOtherTables old new
   others_kept t had other = (subst (λ (s : Schema). Has s.tables t) (sym c.schema) (has_left old.schema.tables (fresh old.schema table ∷ []) t had), all_has (λ (u : Table). new.trees u.tree ≡ old.trees u.tree) old.schema.tables t c.others had)
 
   -- the tree of a table that is there is below the next, and keeps its rows

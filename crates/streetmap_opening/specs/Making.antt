@@ -54,8 +54,8 @@ abbrev pub HasSame : Seen → Seen → Type 0
 HasSame old new = (new.now ≡ old.now) × (new.committed ≡ old.committed)
 
 -- every table that was there under another name than our four is there, with the same definition and the same rows
-abbrev pub KeepsOthers : Database → Database → Type 0
-KeepsOthers old new = (t : Table) → Has old.schema.tables t → is_our_name t.name ≡ false → Has new.schema.tables t × (new.trees t.tree ≡ old.trees t.tree)
+abbrev pub KeepsOtherTables : Database → Database → Type 0
+KeepsOtherTables old new = (t : Table) → Has old.schema.tables t → is_our_name t.name ≡ false → Has new.schema.tables t × (new.trees t.tree ≡ old.trees t.tree)
 
 -- a stop leaves what it left before, or the opening state
 abbrev pub MayOpen : Seen → Seen → Type 0
@@ -63,7 +63,7 @@ MayOpen old new = (trees : Trees) → new.may_leave trees → old.may_leave tree
 
 -- the tables were made in one transaction, or that was undone
 abbrev pub MakesAlone : Seen → Seen → Result (Unit {0}) Error → Type 0
-MakesAlone old new (Ok _) = Rests new opening_state × KeepsOthers old.now new.now
+MakesAlone old new (Ok _) = Rests new opening_state × KeepsOtherTables old.now new.now
 MakesAlone old new (Err e) = IsTrue new.is_open → HasSame old new
 
 -- The connection rests at the opening state, and a stop may leave it and no other; a refusal leaves the database as it was.

@@ -12,7 +12,7 @@ ghost use Rattle.streetmap_rows.specs.Keeping.{Keeps};
 ghost use Rattle.streetmap_rows.specs.Elsewhere.{IsSameElsewhere};
 ghost use Rattle.streetmap_opening.specs.Made.{IsTableText, Created};
 ghost use Rattle.streetmap_opening.specs.Adopting.{IsAsItWas};
-ghost use Rattle.streetmap_opening.specs.Making.{is_taken, HasRoom, IsReady, AreMade, KeepsOthers, MayOpen, MakesAlone, Makes};
+ghost use Rattle.streetmap_opening.specs.Making.{is_taken, HasRoom, IsReady, AreMade, KeepsOtherTables, MayOpen, MakesAlone, Makes};
 
 use sqlite::{Alter, Connection, Error, Transaction};
 use sqlite_schema::schema::Schema;
@@ -78,7 +78,7 @@ fn insert_format<S: Alter>(tx: &mut Transaction<'_, S>) -> Result<(), Error>
 /// Makes the four tables and the format row.
 fn make_inside<S: Alter>(tx: &mut Transaction<'_, S>) -> Result<(), Error>
     ensures same_reference { tx.new.conn.ghost_name ≡ tx.old.conn.ghost_name }
-    ensures made { HasCleanDisk (state S.Store tx.new.conn.now) → IsTrue (state S.Store tx.old.conn.now).in_transaction → (state S.Store tx.old.conn.now).step_limit ≡ None → HasRoom (state S.Store tx.old.conn.now).now.schema → OnOk result (Keeps opening_state (state S.Store tx.new.conn.now).now × KeepsOthers (state S.Store tx.old.conn.now).now (state S.Store tx.new.conn.now).now) }
+    ensures made { HasCleanDisk (state S.Store tx.new.conn.now) → IsTrue (state S.Store tx.old.conn.now).in_transaction → (state S.Store tx.old.conn.now).step_limit ≡ None → HasRoom (state S.Store tx.old.conn.now).now.schema → OnOk result (Keeps opening_state (state S.Store tx.new.conn.now).now × KeepsOtherTables (state S.Store tx.old.conn.now).now (state S.Store tx.new.conn.now).now) }
     ensures inside { HasCleanDisk (state S.Store tx.new.conn.now) → IsTrue (state S.Store tx.old.conn.now).in_transaction → OnOk result (IsTrue (state S.Store tx.new.conn.now).in_transaction) }
     ensures kept { HasCleanDisk (state S.Store tx.new.conn.now) → IsTrue (state S.Store tx.old.conn.now).in_transaction → KeepsCommit (state S.Store tx.old.conn.now) (state S.Store tx.new.conn.now) }
     ensures survives { Survives (state S.Store tx.old.conn.now) (state S.Store tx.new.conn.now) (λ _. ⊥) }
@@ -145,7 +145,7 @@ pub fn make_tables<S: Alter>(conn: &mut Connection<S>) -> Result<(), MakeFault>
     ensures untouched { result ≡ Err MakeFault.Taken → conn.new ≡ conn.old }
     ensures made { HasCleanDisk (state S.Store conn.new) → IsReady (state S.Store conn.old) → Makes (state S.Store conn.old) (state S.Store conn.new) result }
     ensures same { HasCleanDisk (state S.Store conn.new) → IfErr result (λ _. IsAsItWas (state S.Store conn.old) (state S.Store conn.new)) }
-    ensures elsewhere { HasCleanDisk (state S.Store conn.new) → IsReady (state S.Store conn.old) → IsTrue (state S.Store conn.new).is_open → KeepsOthers (state S.Store conn.old).now (state S.Store conn.new).now }
+    ensures elsewhere { HasCleanDisk (state S.Store conn.new) → IsReady (state S.Store conn.old) → IsTrue (state S.Store conn.new).is_open → KeepsOtherTables (state S.Store conn.old).now (state S.Store conn.new).now }
     ensures crash { HasCleanDisk (state S.Store conn.new) → IsReady (state S.Store conn.old) → MayOpen (state S.Store conn.old) (state S.Store conn.new) }
 {
     if is_one_used(conn.schema()) {

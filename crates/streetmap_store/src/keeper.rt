@@ -10,7 +10,7 @@ ghost use Rattle.streetmap_writing.specs.Acting.{IsToldByStore};
 ghost use Rattle.streetmap_rows.specs.Keeping.{Rests, MayLeave};
 ghost use Rattle.streetmap_opening.specs.Adopting.{Adopts, IsAsItWas};
 ghost use Rattle.streetmap_opening.specs.Telling.{AdoptsBy};
-ghost use Rattle.streetmap_opening.specs.Making.{is_taken, IsReady, KeepsOthers, Makes, MayOpen};
+ghost use Rattle.streetmap_opening.specs.Making.{is_taken, IsReady, KeepsOtherTables, Makes, MayOpen};
 ghost use Rattle.streetmap_store.specs.Reopening.{IsJustOpened, OpensAs, OpensAsEither};
 ghost use Rattle.streetmap_store.specs.Serving.{Serves, EndsLook, is_named, cause_in, error_in, count_after, shut_by, fault_by};
 
@@ -112,7 +112,7 @@ impl<S: Alter> TableKeeper<S> {
         ensures made { IfOk result (λ keeper. HasCleanDisk (state S.Store keeper.conn) → IsReady (state S.Store conn) → Serves keeper.shut (state S.Store keeper.conn) keeper.count opening_state × LeavesOnly (MayLeave (state S.Store keeper.conn)) (Some opening_state)) }
         ensures refused { IfErr result (λ refused. HasCleanDisk (state S.Store refused.1) → IsReady (state S.Store conn) → Makes (state S.Store conn) (state S.Store refused.1) (Err refused.0)) }
         ensures same { IfErr result (λ refused. HasCleanDisk (state S.Store refused.1) → IsAsItWas (state S.Store conn) (state S.Store refused.1)) }
-        ensures elsewhere { IfOk result (λ keeper. HasCleanDisk (state S.Store keeper.conn) → IsReady (state S.Store conn) → KeepsOthers (state S.Store conn).now (state S.Store keeper.conn).now) }
+        ensures elsewhere { IfOk result (λ keeper. HasCleanDisk (state S.Store keeper.conn) → IsReady (state S.Store conn) → KeepsOtherTables (state S.Store conn).now (state S.Store keeper.conn).now) }
         ensures crash { IfErr result (λ refused. HasCleanDisk (state S.Store refused.1) → IsReady (state S.Store conn) → MayOpen (state S.Store conn) (state S.Store refused.1)) }
     {
         match make_tables(&mut conn) {

@@ -58,8 +58,8 @@ abbrev pub Rested : {A : Type 0} → (State → A) → Seen → Seen → Result 
 Rested f old new r = (s : State) → Rests old s → MatchResult r (λ a. (a ≡ f s) × Rests new s) (λ e. IsOfStore e × (IsTrue new.is_open → Rests new s))
 
 -- where the connection is open, every other table is as it was
-abbrev pub SparesOthers : Seen → Seen → Type 0
-SparesOthers old new = IsTrue new.is_open → IsSameElsewhere old.now new.now
+abbrev pub LeavesOtherTables : Seen → Seen → Type 0
+LeavesOtherTables old new = IsTrue new.is_open → IsSameElsewhere old.now new.now
 
 -- what a batch in a transaction of its own comes to
 abbrev pub Applied : State → BatchValue → Seen → Result Reply Stop → Type 0

@@ -8,7 +8,7 @@ ghost use Rattle.streetmap_ledger.specs.State.{State};
 ghost use Rattle.streetmap_batch.specs.BatchText.{batch_text};
 ghost use Rattle.streetmap_batch.specs.BatchView.{batch_value};
 ghost use Rattle.streetmap_rows.specs.Keeping.{Rests, MayBecome};
-ghost use Rattle.streetmap_writing.specs.Acting.{Awaits, Applied, Ended, SparesOthers, IsToldByStore};
+ghost use Rattle.streetmap_writing.specs.Acting.{Awaits, Applied, Ended, LeavesOtherTables, IsToldByStore};
 
 use crate::acting::act_inside;
 use crate::kept::kept_reply;
@@ -34,7 +34,7 @@ fn act_alone<S: Alter>(
     ensures idle { conn.new.in_transaction ≡ false }
     ensures clean { doubt (state S.Store conn.old).is_clean ≤ doubt (state S.Store conn.new).is_clean }
     ensures ended { HasCleanDisk (state S.Store conn.new) → (s : State) → Rests (state S.Store conn.old) s → Awaits s (batch_value batch.now) count → Ended s (batch_value batch.now) (state S.Store conn.new) result }
-    ensures elsewhere { HasCleanDisk (state S.Store conn.new) → (s : State) → Rests (state S.Store conn.old) s → Awaits s (batch_value batch.now) count → SparesOthers (state S.Store conn.old) (state S.Store conn.new) }
+    ensures elsewhere { HasCleanDisk (state S.Store conn.new) → (s : State) → Rests (state S.Store conn.old) s → Awaits s (batch_value batch.now) count → LeavesOtherTables (state S.Store conn.old) (state S.Store conn.new) }
     ensures crash { HasCleanDisk (state S.Store conn.new) → (s : State) → Rests (state S.Store conn.old) s → Awaits s (batch_value batch.now) count → MayBecome s (batch_value batch.now) (state S.Store conn.old) (state S.Store conn.new) }
 {
     let mut tx = conn.transaction();
@@ -71,7 +71,7 @@ fn act_by_key<S: Alter>(
     ensures idle { conn.new.in_transaction ≡ false }
     ensures clean { doubt (state S.Store conn.old).is_clean ≤ doubt (state S.Store conn.new).is_clean }
     ensures ended { HasCleanDisk (state S.Store conn.new) → (s : State) → Rests (state S.Store conn.old) s → len s.keys ≡ count → Ended s (batch_value batch.now) (state S.Store conn.new) result }
-    ensures elsewhere { HasCleanDisk (state S.Store conn.new) → (s : State) → Rests (state S.Store conn.old) s → len s.keys ≡ count → SparesOthers (state S.Store conn.old) (state S.Store conn.new) }
+    ensures elsewhere { HasCleanDisk (state S.Store conn.new) → (s : State) → Rests (state S.Store conn.old) s → len s.keys ≡ count → LeavesOtherTables (state S.Store conn.old) (state S.Store conn.new) }
     ensures crash { HasCleanDisk (state S.Store conn.new) → (s : State) → Rests (state S.Store conn.old) s → len s.keys ≡ count → MayBecome s (batch_value batch.now) (state S.Store conn.old) (state S.Store conn.new) }
 {
     if let Some(reply) = kept_reply(conn, batch.key(), text)? {
@@ -103,7 +103,7 @@ pub fn apply_batch<S: Alter>(
     ensures clean { doubt (state S.Store conn.old).is_clean ≤ doubt (state S.Store conn.new).is_clean }
     ensures told { HasCleanDisk (state S.Store conn.new) → IfErr result IsToldByStore }
     ensures acts { HasCleanDisk (state S.Store conn.new) → (s : State) → Rests (state S.Store conn.old) s → len s.keys ≡ count → Applied s (batch_value batch.now) (state S.Store conn.new) result }
-    ensures elsewhere { HasCleanDisk (state S.Store conn.new) → (s : State) → Rests (state S.Store conn.old) s → len s.keys ≡ count → SparesOthers (state S.Store conn.old) (state S.Store conn.new) }
+    ensures elsewhere { HasCleanDisk (state S.Store conn.new) → (s : State) → Rests (state S.Store conn.old) s → len s.keys ≡ count → LeavesOtherTables (state S.Store conn.old) (state S.Store conn.new) }
     ensures crash { HasCleanDisk (state S.Store conn.new) → (s : State) → Rests (state S.Store conn.old) s → len s.keys ≡ count → MayBecome s (batch_value batch.now) (state S.Store conn.old) (state S.Store conn.new) }
 {
     let Ok(text) = batch.text(alloc) else {
