@@ -1,10 +1,12 @@
-"""Runs the rows of examples/ through the built program: those of lines (rows.jsonl), each over a ledger of its own, and those
-of HTTP (http.jsonl), each over a file of its own; and batches and bodies at their limits.
+"""Runs the rows of examples/ through the built program: those of lines (rows.jsonl) and of features (features.jsonl), each
+over a ledger of its own, and those of HTTP (http.jsonl), each over a file of its own; and features, batches and bodies at
+their limits.
 
     python3 tests/rows.py PROGRAM
 
-A row of lines has the lines that are sent and the last answer that is wanted. A row of HTTP has the batches that are there
-before, the bytes of the requests, and all bytes of the answers that are wanted.
+A row of lines has the lines that are sent and the last answer that is wanted. A row of features has the text of a feature,
+and the text that it is kept as or its first fault; the time is read from its property `when`. A row of HTTP has the batches
+that are there before, the bytes of the requests, and all bytes of the answers that are wanted.
 """
 import json
 import subprocess
@@ -30,6 +32,42 @@ def batch(key, edits):
 def point(number, place):
     return {"op": "insert", "collection": "lamps", "feature": {
         "type": "Feature", "id": f"p{number}{place}", "geometry": {"type": "Point", "coordinates": [number, place]}}}
+
+
+def of_feature(text, wanted):
+    """The lines that a feature is inserted by and shown, and the last answer: the feature, or the refusal of the batch."""
+    sent = ('batch {"key":"b1","edits":[{"op":"open","collection":"lamps","time":"when"},{"op":"insert","collection":"lamps","feature":%s}]}'
+            % text)
+    if wanted.startswith("{"):
+        return [sent, "page lamps"], '{"features":[%s],"numberMatched":1,"numberReturned":1}' % wanted
+    if wanted == "not_json":
+        return [sent], '{"code":"bad_batch","description":"The batch cannot be read."}'
+    if wanted == "bad_time":
+        return [sent], '{"code":"bad_time","description":"The time property of the feature cannot be read.","place":2}'
+    return [sent], '{"cause":"%s","code":"bad_feature","description":"A feature of the batch cannot be read.","place":2}' % wanted
+
+
+def positions():
+    """A feature of as many positions as there may be, and of one more, which is not judged but as an array."""
+    def points(count, last):
+        return '{"type":"MultiPoint","coordinates":[%s%s]}' % ("[1,2]," * count, last)
+
+    def answered(geometry, wanted):
+        text = '{"type":"Feature","id":1,"geometry":%s,"properties":null}'
+        return of_feature(text % geometry, wanted)
+
+    def kept(geometry):
+        return '{"geometry":%s,"id":"1","properties":null,"type":"Feature"}' % geometry
+
+    most = '{"coordinates":[%s[3,4]],"type":"MultiPoint"}'
+    yield answered(points(99_999, "[3,4]"), kept(most % ("[1,2]," * 99_999)))
+    for last in ("[3,4]", "[3]", "[0.5,0]"):
+        yield answered(points(100_000, last), "too_many_positions")
+    yield answered(points(100_000, "7"), "bad_position")
+    both = '{"type":"GeometryCollection","geometries":[%s,{"type":"Point","coordinates":[5,6]}]}'
+    shown = '{"geometries":[%s,{"coordinates":[5,6],"type":"Point"}],"type":"GeometryCollection"}'
+    yield answered(both % points(99_998, "[3,4]"), kept(shown % (most % ("[1,2]," * 99_998))))
+    yield answered(both % points(99_999, "[3,4]"), "too_many_positions")
 
 
 def limits():
@@ -96,7 +134,8 @@ def rows_of(name):
 
 def main():
     told = [(row["lines"], row["answer"]) for row in rows_of("rows.jsonl")]
-    told += limits()
+    told += [of_feature(row["feature"], row["answer"]) for row in rows_of("features.jsonl")]
+    told += [*positions(), *limits()]
     failed = 0
     for lines, wanted in told:
         last = last_answer(lines)

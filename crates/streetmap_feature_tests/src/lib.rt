@@ -1,5 +1,5 @@
-//! Tests of features, their texts, and batches: rows of the formats, of first faults and of the texts that
-//! are written, and want of memory. They use public items alone.
+//! Tests of features, their texts, and batches: what no clause says of them, and want of memory. They use
+//! public items alone.
 #![tactic(auto)]
 
 #[cfg(test)]

@@ -1,46 +1,9 @@
-// Times that features take from a property.
-use crate::features::{are_answered, feature, written};
+//! Times that features take from a property.
+use crate::features::{feature, written};
 use std::alloc::Global;
 use std::test::Fail;
 use streetmap_geojson::Feature;
 use streetmap_moment::TimeFault;
-
-// The answer to a feature does not show its time.
-const READ: &[(&str, &str)] = &[
-    (
-        r#"{"type":"Feature","id":1,"properties":{"when":"yesterday"}}"#,
-        "bad_time",
-    ),
-    (
-        r#"{"type":"Feature","id":1,"properties":{"when":20240501}}"#,
-        "bad_time",
-    ),
-    (
-        r#"{"type":"Feature","id":1,"properties":{"when":"../.."}}"#,
-        "bad_time",
-    ),
-    (
-        r#"{"type":"Feature","id":1,"properties":{"when":"2024-05-01T00:00:01Z/2024-05-01T00:00:00Z"}}"#,
-        "empty_interval",
-    ),
-    (
-        r#"{"type":"Feature","id":1,"properties":{"when":null}}"#,
-        r#"{"geometry":null,"id":"1","properties":{"when":null},"type":"Feature"}"#,
-    ),
-    (
-        r#"{"type":"Feature","id":1,"properties":{"When":"yesterday"}}"#,
-        r#"{"geometry":null,"id":"1","properties":{"When":"yesterday"},"type":"Feature"}"#,
-    ),
-    (
-        r#"{"type":"Feature","id":1,"properties":{"when":"2024-05-01"}}"#,
-        r#"{"geometry":null,"id":"1","properties":{"when":"2024-05-01"},"type":"Feature"}"#,
-    ),
-];
-
-#[test]
-fn the_named_property_is_read(rt: HostRuntime) -> Result<(), Fail> {
-    are_answered(&rt, rt.alloc(), READ)
-}
 
 // The first nanosecond and the last of 1970-01-01.
 const FIRST_DAY: (i128, i128) = (0, 86_399_999_999_999);
