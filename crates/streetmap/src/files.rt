@@ -5,6 +5,9 @@ use std::fs::exists;
 use streetmap_files::FileKeeper;
 use streetmap_index::IndexedKeeper;
 
+/// The keeper of a file, with an index in memory.
+pub(crate) type IndexedFileKeeper = IndexedKeeper<FileKeeper<Unknown>>;
+
 /// Whether there is a file of that name.
 fn is_there(rt: &HostRuntime, path: &str) -> Result<bool, ProgramFault> {
     exists(rt, path).map_err(|_| ProgramFault::Device)
@@ -22,10 +25,7 @@ pub(crate) fn create(rt: &HostRuntime, path: &str) -> Result<FileKeeper<Unknown>
 }
 
 /// Opens a file, and the keeper over it, with an index in memory.
-pub(crate) fn open(
-    rt: &HostRuntime,
-    path: &str,
-) -> Result<IndexedKeeper<FileKeeper<Unknown>>, ProgramFault> {
+pub(crate) fn open(rt: &HostRuntime, path: &str) -> Result<IndexedFileKeeper, ProgramFault> {
     if !is_there(rt, path)? {
         return Err(ProgramFault::NoFile);
     }

@@ -10,7 +10,7 @@ mod files;
 mod texts;
 
 use crate::fault::ProgramFault;
-use sqlite::Unknown;
+use crate::files::IndexedFileKeeper;
 use std::env;
 use std::io::{BufReader, BufWriter, writer};
 use std::net::{Ipv4Addr, TcpListener};
@@ -19,10 +19,7 @@ use streetmap_clients::KeeperService;
 use streetmap_command::{Command, read_command};
 use streetmap_connections::{Clients, Limits};
 use streetmap_exchange::{export, import};
-use streetmap_files::{
-    FileKeeper, serve_clients_over_tables, serve_count_over_tables, serve_over_tables,
-};
-use streetmap_index::IndexedKeeper;
+use streetmap_files::{serve_clients_over_tables, serve_count_over_tables, serve_over_tables};
 use streetmap_lines::{LinesFault, lines};
 use streetmap_routes::Base;
 
@@ -85,12 +82,20 @@ fn create_file(rt: &HostRuntime, file: &str) -> Result<(), ProgramFault> {
 /// Serves the requests of standard input on standard output.
 fn pipe_file(rt: &HostRuntime, file: &str, base: &str) -> Result<(), ProgramFault> {
     let base = Base::new(rt.alloc(), base)?;
-    let mut keeper = files::open(rt, file)?;
+    pipe_keeper(rt, &mut files::open(rt, file)?, &base)
+}
+
+/// Serves the requests of standard input over the keeper of a file.
+fn pipe_keeper(
+    rt: &HostRuntime,
+    keeper: &mut IndexedFileKeeper,
+    base: &Base,
+) -> Result<(), ProgramFault> {
     let Ok(mut reader) = BufReader::new(rt.alloc(), rt.reader()) else {
         return Err(ProgramFault::Memory);
     };
     let mut output = writer(rt);
-    let served = serve_over_tables(rt.alloc(), &mut keeper, &base, &mut reader, &mut output);
+    let served = serve_over_tables(rt.alloc(), keeper, base, &mut reader, &mut output);
     ProgramFault::of_stream(served.end)
 }
 
@@ -112,12 +117,27 @@ fn serve_file(
     base: &str,
 ) -> Result<(), ProgramFault> {
     let base = Base::new(rt.alloc(), base)?;
-    let mut keeper = files::open(rt, file)?;
-    let port = connections.port;
+    let keeper = files::open(rt, file)?;
+    serve_keeper(rt, keeper, connections, base)
+}
+
+/// Listens at a port of this host, and says so.
+fn listen(rt: &HostRuntime, port: u16) -> Result<TcpListener, ProgramFault> {
     let listener = TcpListener::bind(rt, (Ipv4Addr::LOCALHOST, port)).map_err(
         |_| ProgramFault::Net,
     )?;
     println!(rt; "listening 127.0.0.1:{port}").map_err(|_| ProgramFault::WriteFailed)?;
+    Ok(listener)
+}
+
+/// Serves connections over the keeper of a file.
+fn serve_keeper(
+    rt: &HostRuntime,
+    mut keeper: IndexedFileKeeper,
+    connections: Connections,
+    base: Base,
+) -> Result<(), ProgramFault> {
+    let listener = listen(rt, connections.port)?;
     if connections.clients == 1 && !connections.log {
         Ok(serve_count_over_tables(rt.alloc(), &listener, connections.count, &mut keeper, &base)?)
     } else {
@@ -130,7 +150,7 @@ fn serve_at_once(
     rt: &HostRuntime,
     listener: &TcpListener,
     connections: Connections,
-    keeper: IndexedKeeper<FileKeeper<Unknown>>,
+    keeper: IndexedFileKeeper,
     base: Base,
 ) -> Result<(), ProgramFault> {
     let mut clients = Clients::new(rt.alloc(), Limits::of(connections.clients as usize))?;
@@ -153,16 +173,28 @@ fn import_text(
     replace: bool,
 ) -> Result<(), ProgramFault> {
     let mut keeper = files::open(rt, file)?;
-    let text = texts::read(rt, text)?;
-    let reply = import(
+    let reply = import_from(rt, &mut keeper, text, key, collection, replace)?;
+    println!(rt; "{reply}").map_err(|_| ProgramFault::WriteFailed)
+}
+
+/// Puts the features of the text at a path into a collection of a keeper, and tells the reply.
+fn import_from(
+    rt: &HostRuntime,
+    keeper: &mut IndexedFileKeeper,
+    path: &str,
+    key: &str,
+    collection: &str,
+    replace: bool,
+) -> Result<String, ProgramFault> {
+    let text = texts::read(rt, path)?;
+    Ok(import(
         rt.alloc(),
-        &mut keeper,
+        keeper,
         text.as_slice(),
         key,
         collection,
         replace,
-    )?;
-    println!(rt; "{reply}").map_err(|_| ProgramFault::WriteFailed)
+    )?)
 }
 
 /// Writes a collection on standard output.

@@ -1,9 +1,9 @@
 //! A stop at each call of the files in turn: what opens again is the state of a beginning of the batches,
 //! with each acknowledged one.
-ghost use Rattle.std.specs.Prelude.{IfOk, IsTrue};
+ghost use Rattle.std.specs.Prelude.{◌≡◌, false, IfOk, IsTrue};
 ghost use Rattle.sqlite_disk.specs.Memory.{memory_is_usable};
 
-use sqlite::Connection;
+use sqlite::{Connection, FileStore};
 use sqlite_disk::{Crash, Disk, Files, Fuse, Memory};
 use sqlite_pager::Options;
 use std::alloc::Global;
@@ -70,40 +70,36 @@ fn wanted(alloc: Global, count: usize) -> Result<String, Fail> {
     seen(alloc, &mut keeper)
 }
 
+/// What is left where the tables were not made.
+fn left_unmade(files: Files<Fused>) -> Left {
+    Left {
+        made: false,
+        acknowledged: 0,
+        files,
+    }
+}
+
+/// What the batches leave over tables that were made.
+fn run_over_tables(alloc: Global, mut keeper: TableKeeper<FileStore<Fused>>) -> Result<Left, Fail> {
+    let acknowledged = act(alloc, &mut keeper, 5)?;
+    Ok(Left {
+        made: true,
+        acknowledged,
+        files: keeper.release().into_store().close(),
+    })
+}
+
 /// New files, whose calls stop after so many.
 fn run(alloc: Global, log_calls: u64, db_calls: u64) -> Result<Left, Fail> {
     let log = Fuse::new(Memory::new(alloc), log_calls);
     let db = Fuse::new(Memory::new(alloc), db_calls);
-    let (made, acknowledged) = (false, 0);
-    let conn = match Connection::open_files(alloc, Files { log, db }, Options::new(1)) {
-        Ok(conn) => conn,
-        Err((_, left)) => {
-            let files = left.into_files();
-            return Ok(Left {
-                made,
-                acknowledged,
-                files,
-            });
-        }
-    };
-    let mut keeper = match TableKeeper::make(alloc, conn) {
-        Ok(keeper) => keeper,
-        Err((_, conn)) => {
-            let files = conn.into_store().close();
-            return Ok(Left {
-                made,
-                acknowledged,
-                files,
-            });
-        }
-    };
-    let acknowledged = act(alloc, &mut keeper, 5)?;
-    let files = keeper.release().into_store().close();
-    Ok(Left {
-        made: true,
-        acknowledged,
-        files,
-    })
+    match Connection::open_files(alloc, Files { log, db }, Options::new(1)) {
+        Ok(conn) => match TableKeeper::make(alloc, conn) {
+            Ok(keeper) => run_over_tables(alloc, keeper),
+            Err((_, conn)) => Ok(left_unmade(conn.into_store().close())),
+        },
+        Err((_, left)) => Ok(left_unmade(left.into_files())),
+    }
 }
 
 /// A file with these bytes.
@@ -116,24 +112,35 @@ fn file(alloc: Global, bytes: &[u8]) -> Result<Memory, Fail>
     Ok(file)
 }
 
-/// What is seen of files that are opened again, and after all batches once more; none where they have
-/// no tables of this product.
+/// What a keeper answers to the looks, and after all batches once more.
+fn seen_twice<K: Keeper>(alloc: Global, keeper: &mut K) -> Result<(String, String), Fail> {
+    let before = seen(alloc, keeper)?;
+    act(alloc, keeper, 5)?;
+    Ok((before, seen(alloc, keeper)?))
+}
+
+/// What is seen of the tables of a connection that was opened again; none where they are none of this product.
+fn adopted(
+    alloc: Global,
+    conn: Connection<FileStore<Memory>>,
+) -> Result<Option<(String, String)>, Fail>
+    requires { conn.in_transaction ≡ false }
+{
+    match TableKeeper::adopt(alloc, conn) {
+        Ok(mut keeper) => Ok(Some(seen_twice(alloc, &mut keeper)?)),
+        Err((AdoptFault::NotOurs, _)) => Ok(None),
+        Err((fault, _)) => Err(fault)?,
+    }
+}
+
+/// What is seen of files that are opened again.
 fn reopened(alloc: Global, files: &Files<Fused>) -> Result<Option<(String, String)>, Fail> {
     let log = file(alloc, files.log.inner().bytes())?;
     let db = file(alloc, files.db.inner().bytes())?;
-    let conn = match Connection::open_files(alloc, Files { log, db }, Options::new(2)) {
-        Ok(conn) => conn,
-        Err((error, _)) => return Err(error)?,
-    };
-    let mut keeper = match TableKeeper::adopt(alloc, conn) {
-        Ok(keeper) => keeper,
-        Err((AdoptFault::NotOurs, _)) => return Ok(None),
-        Err((fault, _)) => return Err(fault)?,
-    };
-    let before = seen(alloc, &mut keeper)?;
-    act(alloc, &mut keeper, 5)?;
-    let after = seen(alloc, &mut keeper)?;
-    Ok(Some((before, after)))
+    match Connection::open_files(alloc, Files { log, db }, Options::new(2)) {
+        Ok(conn) => adopted(alloc, conn),
+        Err((error, _)) => Err(error)?,
+    }
 }
 
 /// Whether what is found is the state of a beginning of the batches that contains each acknowledged one.
