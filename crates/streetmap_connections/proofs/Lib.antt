@@ -2,9 +2,11 @@ pub mod Answering
 pub mod Counting
 pub mod Cutting
 pub mod InOrder
+pub mod Idling
 pub mod Interleavings
 pub mod Lateness
 pub mod MoveLemmas
 pub mod ServingLemmas
 pub mod Sending
+pub mod Timing
 pub mod Turned

@@ -1,5 +1,5 @@
 -- What a contract sees of a client.
-use Rattle.std.specs.Prelude.{◌≡◌, ◌-◌, ◌<◌, ℕ, false, List, [], Option, if◌then◌else◌}
+use Rattle.std.specs.Prelude.{◌≡◌, ◌⊎◌, ◌-◌, ◌<◌, ◌||◌, ℕ, Bool, false, List, [], Option, if◌then◌else◌}
 use Rattle.streetmap_connections.specs.declared.client.Client.{Client}
 use Rattle.streetmap_connections.specs.declared.client.TheConstants.{LAST_PATIENCE}
 use Rattle.streetmap_connections.specs.Connections.{history}
@@ -29,6 +29,14 @@ module _ {S : Type 0} where
   -- the client is at rest, and its stream had nothing more to read
   abbrev pub IsIdle : Client S → Type 0
   IsIdle c = (c.readable ≡ false) × (c.finishes ≡ false) × IsAtRest c
+
+  -- its stream became ready
+  abbrev pub woken : Bool → Bool → Client S → Client S
+  woken readable writable c = record c { readable = c.readable || readable; writable = c.writable || writable }
+
+  -- it was last answered, or last took a byte, when it did before or now
+  abbrev pub IsTimed : ℕ → Client S → Client S → Type 0
+  IsTimed now old new = (new.since ≡ now) ⊎ (new.since ≡ old.since)
 
   -- the client took longer than the patience, or than the last one where all was sent
   abbrev pub IsLate : ℕ → ℕ → Client S → Type 0

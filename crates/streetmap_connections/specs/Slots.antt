@@ -1,8 +1,8 @@
 -- The clients of slots, those that ended first.
-use Rattle.std.specs.Prelude.{◌≡◌, ℕ, List, [], ◌∷◌, ◌++◌, map, flat_map, Option, Some, None, IsSome, All, slice_get}
+use Rattle.std.specs.Prelude.{◌≡◌, ◌≤◌, ◌-◌, ℕ, Bool, List, [], ◌∷◌, ◌++◌, map, flat_map, Option, Some, None, option_map, IsSome, All, slice_get}
 use Rattle.streetmap_connections.specs.declared.client.Client.{Client}
 use Rattle.streetmap_connections.specs.declared.slot.Slot.{Slot}
-use Rattle.streetmap_connections.specs.Clients.{IsAtRest, IsLate}
+use Rattle.streetmap_connections.specs.Clients.{IsAtRest, IsIdle, IsLate, woken}
 
 module _ {S : Type 0} where
   abbrev pub present : Option (Client S) → List (Client S)
@@ -30,6 +30,26 @@ module _ {S : Type 0} where
   -- the slot has a client
   abbrev pub IsTaken : Slot S → Type 0
   IsTaken s = IsSome s.client
+
+  -- the client of the slot is idle for so many milliseconds
+  abbrev pub IdlesFor : ℕ → Slot S → ℕ → Type 0
+  IdlesFor now s n = (c : Client S) × (s.client ≡ Some c) × IsIdle c × (n ≡ now - c.since)
+
+  -- no client of these slots is idle for longer
+  abbrev pub NoneIdlesBeyond : ℕ → ℕ → List (Slot S) → Type 0
+  NoneIdlesBeyond now n slots = All (λ s. (m : ℕ) → IdlesFor now s m → m ≤ n) slots
+
+  -- the client at this place is idle, and none is idle for longer
+  abbrev pub IsLongestIdleAt : ℕ → List (Slot S) → ℕ → Type 0
+  IsLongestIdleAt now slots place = (s : Slot S) × (slice_get slots place ≡ Some s) × (n : ℕ) × IdlesFor now s n × NoneIdlesBeyond now n slots
+
+  -- the client at this place came at this time
+  abbrev pub CameAt : ℕ → List (Slot S) → ℕ → Type 0
+  CameAt now slots place = (s : Slot S) × (slice_get slots place ≡ Some s) × (c : Client S) × (s.client ≡ Some c) × (c.since ≡ now)
+
+  -- the stream of its client became ready
+  abbrev pub woken_in : Bool → Bool → Slot S → Slot S
+  woken_in readable writable s = record s { client = option_map (woken readable writable) s.client }
 
   -- a late client of the slot has ended as it was, the last one there, and the slot is free
   abbrev pub EndsLate : ℕ → ℕ → Slot S → Slot S → Type 0

@@ -43,7 +43,7 @@ pub struct Client<S> {
 
 impl<S: Stream> Client<S> {
     ghost use Rattle.streetmap_connections.specs.History.{new_history};
-    ghost use Rattle.streetmap_connections.specs.Clients.{place_of, exchanges_of, IsIdle, IsLate};
+    ghost use Rattle.streetmap_connections.specs.Clients.{place_of, exchanges_of, woken, IsIdle, IsLate, IsTimed};
 
     /// A client of this stream, from this time on, in milliseconds.
     pub fn new(alloc: Global, stream: S, now: u64) -> Client<S>
@@ -72,7 +72,7 @@ impl<S: Stream> Client<S> {
 
     /// Its stream became ready.
     pub fn wake(&mut self, readable: bool, writable: bool)
-        ensures { self.new ≡ record self.old { readable = self.old.readable || readable; writable = self.old.writable || writable } }
+        ensures { self.new ≡ woken readable writable self.old }
     {
         self.readable = self.readable || readable;
         self.writable = self.writable || writable;
@@ -116,6 +116,7 @@ impl<S: Stream> Client<S> {
     pub fn work<V: Service>(&mut self, service: &mut V, now: u64, most_input: usize) -> Work
         ensures moves { Moves most_input (place_of S.remaining S.contents self.old) (place_of S.remaining S.contents self.new) }
         ensures calls { Calls V.answers service.old service.new (exchanges_of self.old) (exchanges_of self.new) }
+        ensures timed { IsTimed now self.old self.new }
     {
         for _step in 0..STEPS {
             match self.step(service, now, most_input) {
@@ -129,6 +130,7 @@ impl<S: Stream> Client<S> {
     fn step<V: Service>(&mut self, service: &mut V, now: u64, most_input: usize) -> Work
         ensures moves { Moves most_input (place_of S.remaining S.contents self.old) (place_of S.remaining S.contents self.new) }
         ensures calls { Calls V.answers service.old service.new (exchanges_of self.old) (exchanges_of self.new) }
+        ensures timed { IsTimed now self.old self.new }
     {
         if self.finishes {
             return self.await_end();
@@ -148,6 +150,7 @@ impl<S: Stream> Client<S> {
     fn send(&mut self, now: u64) -> Work
         ensures moves { Moves 0 (place_of S.remaining S.contents self.old) (place_of S.remaining S.contents self.new) }
         ensures unanswered { exchanges_of self.new ≡ exchanges_of self.old }
+        ensures timed { IsTimed now self.old self.new }
     {
         if !self.writable {
             return Work::Rests;
@@ -157,7 +160,8 @@ impl<S: Stream> Client<S> {
     }
 
     fn note_sent(&mut self, sent: io::Result<usize>, now: u64) -> Work
-        ensures { place_of S.remaining S.contents self.new ≡ place_of S.remaining S.contents self.old }
+        ensures same { place_of S.remaining S.contents self.new ≡ place_of S.remaining S.contents self.old }
+        ensures timed { IsTimed now self.old self.new }
     {
         match sent {
             Ok(0) => Work::Ends,
@@ -177,13 +181,15 @@ impl<S: Stream> Client<S> {
         requires stays { (history self.old.connection).closes ≡ false }
         ensures moves { Moves 0 (place_of S.remaining S.contents self.old) (place_of S.remaining S.contents self.new) }
         ensures calls { Calls V.answers service.old service.new (exchanges_of self.old) (exchanges_of self.new) }
+        ensures timed { IsTimed now self.old self.new }
     {
         let answered = self.connection.answer(service);
         self.note_answered(answered, now)
     }
 
     fn note_answered(&mut self, answered: bool, now: u64) -> Work
-        ensures { place_of S.remaining S.contents self.new ≡ place_of S.remaining S.contents self.old }
+        ensures same { place_of S.remaining S.contents self.new ≡ place_of S.remaining S.contents self.old }
+        ensures timed { IsTimed now self.old self.new }
     {
         if answered {
             self.since = now;
@@ -197,6 +203,7 @@ impl<S: Stream> Client<S> {
         ensures moves { Moves most_input (place_of S.remaining S.contents self.old) (place_of S.remaining S.contents self.new) }
         ensures unanswered { exchanges_of self.new ≡ exchanges_of self.old }
         ensures limit { most_input ≤ length (history self.old.connection).unread → history self.new.connection ≡ history self.old.connection }
+        ensures since { self.new.since ≡ self.old.since }
     {
         if !self.readable || self.connection.waiting() >= most_input {
             return Work::Rests;
@@ -206,7 +213,8 @@ impl<S: Stream> Client<S> {
     }
 
     fn note_received(&mut self, received: io::Result<usize>) -> Work
-        ensures { place_of S.remaining S.contents self.new ≡ place_of S.remaining S.contents self.old }
+        ensures same { place_of S.remaining S.contents self.new ≡ place_of S.remaining S.contents self.old }
+        ensures since { self.new.since ≡ self.old.since }
     {
         match received {
             Ok(_) => Work::Goes,
@@ -222,6 +230,7 @@ impl<S: Stream> Client<S> {
     fn finish(&mut self, now: u64) -> Work
         ensures moves { Moves 0 (place_of S.remaining S.contents self.old) (place_of S.remaining S.contents self.new) }
         ensures unanswered { exchanges_of self.new ≡ exchanges_of self.old }
+        ensures timed { IsTimed now self.old self.new }
     {
         if self.connection.has_ended() {
             return Work::Ends;
@@ -236,6 +245,7 @@ impl<S: Stream> Client<S> {
         requires { self.old.finishes ≡ true }
         ensures moves { Moves 0 (place_of S.remaining S.contents self.old) (place_of S.remaining S.contents self.new) }
         ensures unanswered { exchanges_of self.new ≡ exchanges_of self.old }
+        ensures since { self.new.since ≡ self.old.since }
     {
         if !self.readable {
             return Work::Rests;

@@ -1,18 +1,15 @@
 //! The clients of a server.
-ghost use Rattle.std.specs.Prelude.{◌≡◌, ◌⊎◌, ◌+◌, [], map, flat_map, length, vec_len, All, IfOk, IfSome, IfNone};
+ghost use Rattle.std.specs.Prelude.{◌≡◌, ◌⊎◌, ◌+◌, [], Some, map, flat_map, length, vec_len, slice_get, All, IfOk, IfSome, IfNone};
 ghost use Rattle.std.specs.List.{AllZip};
 ghost use Rattle.streetmap_connections.specs.Counts.{count_of, CountsOn};
 ghost use Rattle.streetmap_connections.specs.Slots.{clients_in, past_of, ended_in, EndsLate};
 
 use crate::client::{Client, Work};
-use crate::limits::Limits;
+use crate::limits::{LEAST_IDLE, Limits};
 use crate::service::Service;
 use crate::slot::Slot;
 use crate::stream::Stream;
 use std::alloc::{AllocError, Global};
-
-/// The milliseconds for which a client is idle at least before another is let in in its place.
-const LEAST_IDLE: u64 = 1_000;
 
 /// The clients that are served at once, each in a place of its own.
 #[derive(Drop)]
@@ -20,8 +17,6 @@ pub struct Clients<S> {
     pub(crate) alloc: Global,
     pub(crate) slots: Vec<Slot<S>>,
     pub(crate) limits: Limits,
-    /// The bytes of input that wait for an answer, over all clients.
-    pub(crate) waiting: usize,
     /// How many were let in, and how many ended.
     pub(crate) begun: u64,
     pub(crate) ended: u64,
@@ -82,7 +77,8 @@ impl<S: Stream + Drop> Clients<S> {
     ghost use Rattle.streetmap_connections.specs.Interleaving.{GoesOnAs};
     ghost use Rattle.streetmap_connections.specs.Serving.{EachMoves, Serves};
     ghost use Rattle.streetmap_connections.specs.Served.{clients_of, ended_of};
-    ghost use Rattle.streetmap_connections.specs.Slots.{GivesWayAt, IsFreeAt, IsTaken};
+    ghost use Rattle.streetmap_connections.specs.Slots.{woken_in, CameAt, GivesWayAt, IsFreeAt, IsLongestIdleAt, IsTaken, NoneIdlesBeyond};
+    ghost use Rattle.streetmap_connections.specs.declared.slot.Slot.{Slot};
 
     /// No client, and room for as many as the limits allow.
     pub fn new(alloc: Global, limits: Limits) -> Result<Clients<S>, AllocError>
@@ -97,7 +93,6 @@ impl<S: Stream + Drop> Clients<S> {
             alloc,
             slots,
             limits,
-            waiting: 0,
             begun: 0,
             ended: 0,
         })
@@ -129,7 +124,9 @@ impl<S: Stream + Drop> Clients<S> {
     pub fn place_for_next(&self, now: u64) -> Option<usize>
         ensures gives_way { IfSome result (λ place. GivesWayAt self.now.slots.items place) }
         ensures free_first { IfSome result (λ place. IsFreeAt self.now.slots.items place ⊎ All IsTaken self.now.slots.items) }
+        ensures longest { IfSome result (λ place. IsFreeAt self.now.slots.items place ⊎ IsLongestIdleAt now self.now.slots.items place) }
         ensures full { IfNone result (All IsTaken self.now.slots.items) }
+        ensures none_idle { IfNone result (NoneIdlesBeyond now LEAST_IDLE self.now.slots.items) }
     {
         match self.first_free() {
             Some(place) => Some(place),
@@ -154,7 +151,9 @@ impl<S: Stream + Drop> Clients<S> {
 
     /// The place of the client that is idle the longest, where it is long enough.
     fn longest_idle(&self, now: u64) -> Option<usize>
-        ensures { IfSome result (λ place. GivesWayAt self.now.slots.items place) }
+        ensures gives_way { IfSome result (λ place. GivesWayAt self.now.slots.items place) }
+        ensures longest { IfSome result (λ place. IsLongestIdleAt now self.now.slots.items place) }
+        ensures none_idle { IfNone result (NoneIdlesBeyond now LEAST_IDLE self.now.slots.items) }
     {
         let slots = self.slots.as_slice();
         let mut found = None;
@@ -174,6 +173,7 @@ impl<S: Stream + Drop> Clients<S> {
         requires { GivesWayAt self.old.slots.items place }
         ensures unanswered { GoesOnAs (map exchanges_of (clients_of self.old)) [] (map exchanges_of (clients_of self.new)) }
         ensures one_more { length (clients_of self.new) ≡ length (clients_of self.old) + 1 }
+        ensures here { CameAt now self.new.slots.items place }
     {
         let client = Client::new(self.alloc, stream, now);
         let slot = &mut self.slots[place];
@@ -184,11 +184,21 @@ impl<S: Stream + Drop> Clients<S> {
 
     /// Notes that the stream of the client at a place became ready.
     pub fn wake(&mut self, place: usize, readable: bool, writable: bool)
-        ensures { map exchanges_of (clients_of self.new) ≡ map exchanges_of (clients_of self.old) }
+        ensures same { map exchanges_of (clients_of self.new) ≡ map exchanges_of (clients_of self.old) }
+        ensures woken { (s : Slot S) → slice_get self.old.slots.items place ≡ Some s → slice_get self.new.slots.items place ≡ Some (woken_in readable writable s) }
     {
         if place < self.slots.len() {
             self.slots[place].wake(readable, writable);
         }
+    }
+
+    /// The bytes of input that wait for an answer, over all clients.
+    fn waiting(&self) -> usize {
+        let mut waiting: usize = 0;
+        for slot in self.slots.iter() {
+            waiting = waiting.saturating_add(slot.waiting());
+        }
+        waiting
     }
 
     /// Each client takes its turn, and those that are late, or over, leave. Whether one can go on at once.
@@ -200,12 +210,11 @@ impl<S: Stream + Drop> Clients<S> {
         let mut round = Round {
             limits: self.limits,
             now,
-            waiting: self.waiting,
+            waiting: self.waiting(),
             ended: 0,
             goes: false,
         };
         round.give_turns(self.slots.as_mut_slice(), service);
-        self.waiting = round.waiting;
         self.ended = self.ended.saturating_add(round.ended);
         round.goes
     }

@@ -7,6 +7,9 @@ pub const MOST_INPUT: usize = 16_384 + 8_388_608;
 /// The bytes of the longest head. So much of a client's input is read whatever the other clients sent.
 pub(crate) const MOST_HEAD: usize = 16_384;
 
+/// The milliseconds for which a client is idle at least before another is let in in its place.
+pub const LEAST_IDLE: u64 = 1_000;
+
 /// What the clients of a server may take.
 #[derive(Drop, Clone, Copy)]
 pub struct Limits {

@@ -1,5 +1,5 @@
 //! A place for one client at a time.
-ghost use Rattle.std.specs.Prelude.{◌≡◌, ◌<◌, ◌≤◌, [], ◌∷◌, ◌++◌, Some, None, length, map, All};
+ghost use Rattle.std.specs.Prelude.{◌≡◌, ◌<◌, ◌≤◌, ℕ, [], ◌∷◌, ◌++◌, Some, None, length, map, All};
 ghost use Rattle.std.specs.Bool.{OnTrue, OnFalse};
 
 use crate::client::{Client, Work};
@@ -18,7 +18,7 @@ pub(crate) struct Slot<S> {
 
 impl<S: Stream + Drop> Slot<S> {
     ghost use Rattle.streetmap_connections.specs.Clients.{exchanges_of, IsLate};
-    ghost use Rattle.streetmap_connections.specs.Slots.{clients_in, past_of, present, GivesWay, IsTaken};
+    ghost use Rattle.streetmap_connections.specs.Slots.{clients_in, past_of, present, woken_in, GivesWay, IdlesFor, IsTaken};
     ghost use Rattle.streetmap_connections.specs.Serving.{TakesTurn};
 
     pub(crate) fn vacant() -> Slot<S>
@@ -48,7 +48,9 @@ impl<S: Stream + Drop> Slot<S> {
 
     /// The milliseconds for which the client is idle; none where it is not, or there is none.
     pub(crate) fn idle_for(&self, now: u64) -> u64
-        ensures { 0 < result → GivesWay self.now }
+        ensures gives_way { 0 < result → GivesWay self.now }
+        ensures idle { 0 < result → IdlesFor now self.now result }
+        ensures most { (n : ℕ) → IdlesFor now self.now n → n ≤ result }
     {
         match &self.client {
             Some(client) if client.is_idle() => now.saturating_sub(client.since()),
@@ -68,6 +70,7 @@ impl<S: Stream + Drop> Slot<S> {
     pub(crate) fn wake(&mut self, readable: bool, writable: bool)
         ensures same { map exchanges_of (clients_in self.new) ≡ map exchanges_of (clients_in self.old) }
         ensures past { past_of self.new ≡ past_of self.old }
+        ensures woken { self.new ≡ woken_in readable writable self.old }
     {
         if let Some(client) = &mut self.client {
             client.wake(readable, writable);

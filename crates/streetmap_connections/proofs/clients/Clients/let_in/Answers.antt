@@ -3,6 +3,7 @@ use Rattle.std.proofs.lemmas.Option.{slice_get_within}
 use Rattle.streetmap_connections.specs.Moves.{Place}
 use Rattle.streetmap_connections.specs.Slots.{clients_in, past_of, present}
 use Rattle.streetmap_connections.proofs.Counting.{count_goes_on, length_behind, longer_in_slots}
+use Rattle.streetmap_connections.proofs.Idling.{found_put}
 use Rattle.streetmap_connections.proofs.ServingLemmas.{begins_in_slots}
 use Rattle.streetmap_connections.proofs.clients.Clients.let_in.Goals as goal
 
@@ -31,3 +32,8 @@ invariant_of-self g c =
       counts_begun = count_goes_on c.args.self.now.begun c.saturating_add-self-2.result 1 _ _ c.args.self.now.counts_begun begun c.saturating_add-self-2.ensures;
       counts_ended = count_goes_on c.args.self.now.ended c.saturating_add-self.result c.count.result _ _ c.args.self.now.counts_ended ended c.saturating_add-self.ensures;
     }
+
+pub returns-clause-here : goal.returns-clause-here
+returns-clause-here g c =
+    let within : c.args.place < length c.args.self.now.slots.items = slice_get_within _ _ _ c.requires.1 in
+    (c.let_in.new.self, found_put c.args.self.now.slots.items c.args.place c.let_in.new.self within, c.new-client.result, c.let_in.ensures.here, c.new-client.ensures.since)

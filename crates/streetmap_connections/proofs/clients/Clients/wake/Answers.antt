@@ -1,13 +1,15 @@
 use Rattle.std.proofs.Common.{◌<◌, length, set, arith}
 use Rattle.std.specs.List.{flat_map}
 use Rattle.streetmap_connections.specs.Clients.{exchanges_of}
-use Rattle.streetmap_connections.specs.Slots.{clients_in, ended_in, past_of}
+use Rattle.std.proofs.lemmas.Option.{slice_get_within}
+use Rattle.streetmap_connections.specs.Slots.{clients_in, ended_in, past_of, woken_in}
 use Rattle.streetmap_connections.proofs.Counting.{count_by_length, count_by_map, longer_in_slots}
+use Rattle.streetmap_connections.proofs.Idling.{found_changed}
 use Rattle.streetmap_connections.proofs.ServingLemmas.{same_in_slots}
 use Rattle.streetmap_connections.proofs.clients.Clients.wake.Goals as goal
 
-pub returns-then-place-len : goal.returns-then-place-len
-returns-then-place-len g c =
+pub returns-then-place-len-clause-same : goal.returns-then-place-len-clause-same
+returns-then-place-len-clause-same g c =
     let within : c.args.place < length c.args.self.now.slots.items = omega (arith, c.if-place-len.true, c.len.ensures) in
     same_in_slots c.args.self.now.slots.items c.args.place c.index_mut.result.now c.wake.new.self within c.index_mut.ensures.value c.wake.ensures.same
 
@@ -23,3 +25,13 @@ invariant_of-self g c =
       counts_begun = count_by_map exchanges_of c.args.self.now.begun (flat_map clients_in slots) (flat_map clients_in (set slots c.args.place is)) same c.args.self.now.counts_begun;
       counts_ended = count_by_length c.args.self.now.ended (ended_in slots) (ended_in (set slots c.args.place is)) (omega (arith, ended)) c.args.self.now.counts_ended;
     }
+
+pub returns-then-place-len-clause-woken : goal.returns-then-place-len-clause-woken
+returns-then-place-len-clause-woken g c =
+    let within : c.args.place < length c.args.self.now.slots.items = omega (arith, c.if-place-len.true, c.len.ensures) in
+    found_changed (woken_in c.args.readable c.args.writable) c.args.self.now.slots.items c.args.place c.index_mut.result.now c.wake.new.self within c.index_mut.ensures.value c.wake.ensures.woken
+
+pub returns-else-place-len-clause-woken : goal.returns-else-place-len-clause-woken
+returns-else-place-len-clause-woken g c = λ s found.
+    let within : c.args.place < length c.args.self.now.slots.items = slice_get_within _ _ _ found in
+    absurd (omega (arith, within, c.if-place-len.false, c.len.ensures))
