@@ -81,11 +81,12 @@ fn left_unmade(files: Files<Fused>) -> Left {
 
 /// What the batches leave over tables that were made.
 fn run_over_tables(alloc: Global, mut keeper: TableKeeper<FileStore<Fused>>) -> Result<Left, Fail> {
-    let acknowledged = act(alloc, &mut keeper, 5)?;
+    let acted = act(alloc, &mut keeper, 5);
+    let files = keeper.release().into_store().close();
     Ok(Left {
         made: true,
-        acknowledged,
-        files: keeper.release().into_store().close(),
+        acknowledged: acted?,
+        files,
     })
 }
 
