@@ -62,6 +62,8 @@ refusals: build
 	@$(REFUSED) PART examples/three.lines $(PROGRAM) lines
 	@echo "The program over a file:"
 	@python3 tests/file_refusals.py $(PROGRAM)
+	@echo "The program over a file, for one of many clients:"
+	@python3 tests/file_refusals.py $(PROGRAM) clients
 	@echo "Proving and building the tests: some minutes the first time."
 	@for crate in streetmap_feature_tests streetmap_ledger_tests; do \
 	    (cd crates/$$crate && rt test > out.log 2>&1 || { cat out.log; rm -f out.log; exit 1; }; rm -f out.log) || exit 1; done

@@ -1,15 +1,18 @@
-"""Refuses each allocation of `streetmap pipe` over a file in turn, counting upwards until a run meets none.
+"""Refuses each allocation of `streetmap pipe` over a file in turn, counting upwards until a run meets none; with `clients` those of
+`streetmap serve --clients` for one client.
 
-    python3 tests/file_refusals.py PROGRAM
+    python3 tests/file_refusals.py PROGRAM [clients]
 
-Each run begins with a copy of the same file, and is asked for a batch of three edits, a page and a feature. It must answer as
-with memory, or a beginning of that and then the 503 or 500 that closes the connection, or end for want of memory before. Opened
-again with memory, the file must hold the state before the batch or the one behind it, and the latter where its 200 was begun.
-`tests/out/refuse.so` is made of `tests/refuse.c`, as `make refusals` does.
+Each run begins with a copy of the same file, and is asked for a page, for which the index is learnt, a batch of three edits, which
+the index follows, the page again, and a feature. It must answer as with memory, or a beginning of that and then the 503 or 500 that
+closes the connection, or end for want of memory before; one of many clients may be let go behind any answer. Opened again with memory, the file must hold the state before the batch or
+the one behind it, and the latter where its 200 was begun. `tests/out/refuse.so` is made of `tests/refuse.c`, as `make refusals` does.
 """
+import contextlib
 import json
 import os
 import shutil
+import socket
 import subprocess
 import sys
 import tempfile
@@ -17,6 +20,7 @@ from collections import Counter
 from pathlib import Path
 
 LIBRARY = Path(__file__).parent / "out" / "refuse.so"
+PORT = 8097
 
 
 def post(batch):
@@ -38,7 +42,7 @@ BATCH = post({"key": "second", "edits": [{"op": "delete", "collection": "lamps",
                                          {"op": "replace", "collection": "lamps", "feature": lamp("L1", 7, 7)},
                                          {"op": "insert", "collection": "lamps", "feature": lamp("L9", 8, 8)}]})
 PAGE = get("/collections/lamps/items?bbox=0,0,9,9&datetime=2024-05-01T12:00:00Z")
-ASKED = BATCH + PAGE + get("/collections/lamps/items/L9")
+ASKED = PAGE + BATCH + PAGE + get("/collections/lamps/items/L9")
 
 
 def run(program, path, stream, number=0):
@@ -46,8 +50,30 @@ def run(program, path, stream, number=0):
     return subprocess.run([program, "pipe", path], input=stream, capture_output=True, env=environment, timeout=60, check=False)
 
 
-def ends_as_it_may(got, whole):
-    """The answers are a beginning of those with memory, and then nothing or one that closes the connection."""
+def serve_one(program, path, stream, number=0):
+    """Serves one client, who sends the stream and reads to the end."""
+    environment = {**os.environ, "LD_PRELOAD": str(LIBRARY.resolve()), "REFUSE": str(number)}
+    words = [program, "serve", path, "--port", str(PORT), "--count", "1", "--clients", "4"]
+    server = subprocess.Popen(words, stdout=subprocess.PIPE, stderr=subprocess.PIPE, env=environment)
+    got = b""
+    if server.stdout.readline().startswith(b"listening"):
+        with contextlib.suppress(OSError), socket.create_connection(("127.0.0.1", PORT), timeout=60) as client:
+            client.sendall(stream)
+            client.shutdown(socket.SHUT_WR)
+            while part := client.recv(65536):
+                got += part
+    stderr = server.communicate(timeout=60)[1]
+    return subprocess.CompletedProcess(words, server.returncode, got, stderr)
+
+
+def begins_batch(got, whole):
+    """Whether the answer to the batch, the second one, was begun."""
+    first = whole.stdout.index(b"HTTP/1.1 ", 1)
+    return got.stdout.startswith(whole.stdout[:first] + b"HTTP/1.1 200")
+
+
+def ends_as_it_may(got, whole, lets_go):
+    """The answers are a beginning of those with memory, and then nothing or one that closes the connection; or the client was let go."""
     if got.stdout == whole.stdout and got.returncode == 0:
         return "as with memory"
     if got.returncode == 4 and not got.stdout and got.stderr.endswith(b"streetmap: memory\n"):
@@ -58,6 +84,8 @@ def ends_as_it_may(got, whole):
     for count in range(len(answers)):
         begun = b"HTTP/1.1 ".join(answers[:count + 1])
         rest = got.stdout[len(begun):]
+        if lets_go and got.returncode == 0 and got.stdout == begun:
+            return f"let go behind {count} answers"
         if got.stdout.startswith(begun) and rest[:12] in (b"HTTP/1.1 503", b"HTTP/1.1 500"):
             return f"{rest[9:12].decode()} behind {count} answers"
     return None
@@ -65,6 +93,7 @@ def ends_as_it_may(got, whole):
 
 def main():
     program = sys.argv[1]
+    ask = serve_one if "clients" in sys.argv[2:] else run
     with tempfile.TemporaryDirectory() as folder:
         first = os.path.join(folder, "first")
         subprocess.run([program, "create", first], check=True)
@@ -78,7 +107,7 @@ def main():
             return os.path.join(folder, "town")
 
         path = copy()
-        whole = run(program, path, ASKED)
+        whole = ask(program, path, ASKED)
         after = run(program, path, PAGE).stdout
         assert whole.returncode == 0 and before != after, whole
         number = failed = 0
@@ -86,12 +115,12 @@ def main():
         while True:
             number += 1
             path = copy()
-            got = run(program, path, ASKED, number)
+            got = ask(program, path, ASKED, number)
             if b"refused\n" not in got.stderr:
                 break
-            kind = ends_as_it_may(got, whole)
+            kind = ends_as_it_may(got, whole, ask is serve_one)
             found = run(program, path, PAGE).stdout
-            kept = found == after or (found == before and not got.stdout.startswith(b"HTTP/1.1 200"))
+            kept = found == after or (found == before and not begins_batch(got, whole))
             if kind is None or not kept:
                 failed += 1
                 print(f"at allocation {number}: status {got.returncode}, {got.stdout!r}, {got.stderr!r}, kept {kept}")
