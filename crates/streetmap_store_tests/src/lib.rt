@@ -1,14 +1,13 @@
-//! What no clause says of the tables and of the keeper over them: that the calls succeed, also beside other tables
-//! and behind one, what stands in the columns afterwards, and what a stop at each call of the files leaves.
+//! What no clause says of the tables and of the keeper over them: that the calls succeed, also beside other tables,
+//! which rows a page reads, and what a stop at each call of the files leaves. What stands in the columns of a file, and files
+//! that SQLite made or changed, are tried by `tests/file.py` on the built program.
 #![tactic(auto)]
 
 #[cfg(test)]
-mod listing;
-#[cfg(test)]
 mod opening;
+#[cfg(test)]
+mod pages;
 #[cfg(test)]
 mod sessions;
 #[cfg(test)]
 mod stops;
-#[cfg(test)]
-mod writing;

@@ -1,20 +1,7 @@
-//! Tables of a connection in memory.
-use sqlite::{Alter, Connection, Error};
+//! Tables of a connection in memory, made beside others.
+use sqlite::{Alter, Connection};
 use std::test::Fail;
-use streetmap_opening::{AdoptFault, MakeFault, adopt_tables, make_tables};
-
-/// A number that a query shows.
-fn number<S: Alter>(conn: &mut Connection<S>, sql: &str) -> Result<i64, Error> {
-    conn.query_row(sql, &[])?.get(0)
-}
-
-/// How many batches the tables have accepted; none where they are not opened.
-fn adopted<S: Alter>(conn: &mut Connection<S>) -> Option<u64> {
-    if !conn.is_autocommit() {
-        return None;
-    }
-    adopt_tables(conn).ok()
-}
+use streetmap_opening::{MakeFault, adopt_tables, make_tables};
 
 /// Whether the tables were made.
 fn made<S: Alter>(conn: &mut Connection<S>) -> bool {
@@ -26,6 +13,11 @@ fn taken<S: Alter>(conn: &mut Connection<S>) -> bool {
     conn.is_autocommit() && matches!(make_tables(conn), Err(MakeFault::Taken))
 }
 
+/// Whether the tables are opened, with no batch.
+fn opens<S: Alter>(conn: &mut Connection<S>) -> bool {
+    conn.is_autocommit() && matches!(adopt_tables(conn), Ok(0))
+}
+
 #[test]
 fn tables_are_made_once_and_opened(rt: HostRuntime) -> Result<(), Fail> {
     let mut conn = Connection::open_in_memory(rt.alloc())?;
@@ -34,24 +26,9 @@ fn tables_are_made_once_and_opened(rt: HostRuntime) -> Result<(), Fail> {
     )?;
     assert!(rt; made(&mut conn));
     assert!(rt; taken(&mut conn));
-    assert_eq!(rt; adopted(&mut conn), Some(0));
-    assert_eq!(rt;
-        number(
-            &mut conn,
-            "SELECT value FROM streetmap_meta WHERE name = 'format'"
-        )?,
-        2
-    );
-    assert_eq!(rt;
-        number(&mut conn, "SELECT count(*) FROM streetmap_features")?,
-        0
-    );
-    assert_eq!(rt; number(&mut conn, "SELECT count(*) FROM notes")?, 1);
-    conn.execute(
-        "INSERT INTO streetmap_batches VALUES ('b1', '{}', 0, 0, 0, 0, 1)",
-        &[],
-    )?;
-    assert_eq!(rt; adopted(&mut conn), Some(1));
+    assert!(rt; opens(&mut conn));
+    let left: i64 = conn.query_row("SELECT count(*) FROM notes", &[])?.get(0)?;
+    assert_eq!(rt; left, 1);
     Ok(())
 }
 
@@ -60,31 +37,5 @@ fn a_view_of_a_name_is_taken(rt: HostRuntime) -> Result<(), Fail> {
     let mut conn = Connection::open_in_memory(rt.alloc())?;
     conn.execute("CREATE VIEW Streetmap_Batches AS SELECT 1", &[])?;
     assert!(rt; taken(&mut conn));
-    Ok(())
-}
-
-#[test]
-fn other_formats_are_told_apart(rt: HostRuntime) -> Result<(), Fail> {
-    let mut conn = Connection::open_in_memory(rt.alloc())?;
-    assert!(rt;
-        conn.is_autocommit() && matches!(adopt_tables(&mut conn), Err(AdoptFault::NotOurs))
-    );
-    assert!(rt; made(&mut conn));
-    conn.execute("UPDATE streetmap_meta SET value = 1", &[])?;
-    assert!(rt;
-        conn.is_autocommit() && matches!(adopt_tables(&mut conn), Err(AdoptFault::OldFormat))
-    );
-    conn.execute("UPDATE streetmap_meta SET value = 3", &[])?;
-    assert!(rt;
-        conn.is_autocommit() && matches!(adopt_tables(&mut conn), Err(AdoptFault::NewFormat))
-    );
-    conn.execute("UPDATE streetmap_meta SET value = 0", &[])?;
-    assert!(rt;
-        conn.is_autocommit() && matches!(adopt_tables(&mut conn), Err(AdoptFault::NotOurs))
-    );
-    conn.execute("DELETE FROM streetmap_meta", &[])?;
-    assert!(rt;
-        conn.is_autocommit() && matches!(adopt_tables(&mut conn), Err(AdoptFault::NotOurs))
-    );
     Ok(())
 }

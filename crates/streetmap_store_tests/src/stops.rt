@@ -50,23 +50,30 @@ fn seen<K: Keeper>(alloc: Global, keeper: &mut K) -> Result<String, Fail> {
     Ok(String::from_utf8(written)?)
 }
 
+/// Whether a batch, given as text, was answered.
+fn answered<K: Keeper>(alloc: Global, keeper: &mut K, text: &str) -> bool {
+    match read_batch(alloc, text.as_bytes()) {
+        Ok(batch) => keeper.apply(&batch).is_ok(),
+        Err(_) => false,
+    }
+}
+
 /// Acts on the batches up to the first that is not answered. Answers how many were.
-fn act<K: Keeper>(alloc: Global, keeper: &mut K, most: usize) -> Result<usize, Fail> {
+fn act<K: Keeper>(alloc: Global, keeper: &mut K, most: usize) -> usize {
     let mut acknowledged: usize = 0;
     for text in BATCHES.iter().take(most) {
-        let batch = read_batch(alloc, text.as_bytes())?;
-        if keeper.apply(&batch).is_err() {
+        if !answered(alloc, keeper, text) {
             break;
         }
         acknowledged = acknowledged.saturating_add(1);
     }
-    Ok(acknowledged)
+    acknowledged
 }
 
 /// What is seen after so many batches.
 fn wanted(alloc: Global, count: usize) -> Result<String, Fail> {
     let mut keeper = PlainKeeper::new(alloc);
-    act(alloc, &mut keeper, count)?;
+    let _ = act(alloc, &mut keeper, count);
     seen(alloc, &mut keeper)
 }
 
@@ -80,26 +87,33 @@ fn left_unmade(files: Files<Fused>) -> Left {
 }
 
 /// What the batches leave over tables that were made.
-fn run_over_tables(alloc: Global, mut keeper: TableKeeper<FileStore<Fused>>) -> Result<Left, Fail> {
-    let acted = act(alloc, &mut keeper, 5);
+fn run_over_tables(alloc: Global, mut keeper: TableKeeper<FileStore<Fused>>) -> Left {
+    let acknowledged = act(alloc, &mut keeper, 5);
     let files = keeper.release().into_store().close();
-    Ok(Left {
+    Left {
         made: true,
-        acknowledged: acted?,
+        acknowledged,
         files,
-    })
+    }
+}
+
+/// What is left over a connection to new files.
+fn run_over(alloc: Global, conn: Connection<FileStore<Fused>>) -> Left
+    requires { conn.in_transaction ≡ false }
+{
+    match TableKeeper::make(alloc, conn) {
+        Ok(keeper) => run_over_tables(alloc, keeper),
+        Err((_, conn)) => left_unmade(conn.into_store().close()),
+    }
 }
 
 /// New files, whose calls stop after so many.
-fn run(alloc: Global, log_calls: u64, db_calls: u64) -> Result<Left, Fail> {
+fn run(alloc: Global, log_calls: u64, db_calls: u64) -> Left {
     let log = Fuse::new(Memory::new(alloc), log_calls);
     let db = Fuse::new(Memory::new(alloc), db_calls);
     match Connection::open_files(alloc, Files { log, db }, Options::new(1)) {
-        Ok(conn) => match TableKeeper::make(alloc, conn) {
-            Ok(keeper) => run_over_tables(alloc, keeper),
-            Err((_, conn)) => Ok(left_unmade(conn.into_store().close())),
-        },
-        Err((_, left)) => Ok(left_unmade(left.into_files())),
+        Ok(conn) => run_over(alloc, conn),
+        Err((_, left)) => left_unmade(left.into_files()),
     }
 }
 
@@ -116,7 +130,7 @@ fn file(alloc: Global, bytes: &[u8]) -> Result<Memory, Fail>
 /// What a keeper answers to the looks, and after all batches once more.
 fn seen_twice<K: Keeper>(alloc: Global, keeper: &mut K) -> Result<(String, String), Fail> {
     let before = seen(alloc, keeper)?;
-    act(alloc, keeper, 5)?;
+    let _ = act(alloc, keeper, 5);
     Ok((before, seen(alloc, keeper)?))
 }
 
@@ -156,7 +170,7 @@ fn is_a_beginning(alloc: Global, left: &Left) -> Result<bool, Fail> {
 
 /// Tries both what was written and what was synchronised alone. Answers whether the run came to its end.
 fn tried(alloc: Global, log_calls: u64, db_calls: u64) -> Result<bool, Fail> {
-    let mut left = run(alloc, log_calls, db_calls)?;
+    let mut left = run(alloc, log_calls, db_calls);
     if !is_a_beginning(alloc, &left)? {
         return Err(Fail::from("what was written is no beginning"));
     }
