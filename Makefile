@@ -2,7 +2,7 @@
 SHELL := /bin/bash
 PROGRAM := crates/streetmap/out/streetmap
 
-.PHONY: serve try demo build test rows program load file refusals bench
+.PHONY: serve try demo build test rows program load file stops refusals bench
 
 # Proves and builds the program, makes the file where it is missing, and serves it: make serve FILE=town.streetmap PORT=8080
 FILE ?= town.streetmap
@@ -53,6 +53,12 @@ load: build
 file: build
 	python3 tests/file.py $(PROGRAM)
 
+# The built program, stopped at each of its calls that write or synchronise its file, in turn: what opens again holds each
+# acknowledged batch. It needs a C compiler.
+stops: build
+	@mkdir -p tests/out && cc -shared -fPIC -O1 -o tests/out/stop.so tests/stop.c -ldl
+	python3 tests/stops.py $(PROGRAM)
+
 # Each allocation refused in turn: of the program on three lines, and of tests that make each refused call again. It needs
 # a C compiler.
 REFUSED := python3 tests/refusals.py
@@ -62,6 +68,8 @@ refusals: build
 	@$(REFUSED) PART examples/three.lines $(PROGRAM) lines
 	@echo "The program over a file:"
 	@python3 tests/file_refusals.py $(PROGRAM)
+	@echo "The program that makes a file:"
+	@python3 tests/file_refusals.py $(PROGRAM) create
 	@echo "The program over a file, for one of many clients:"
 	@python3 tests/file_refusals.py $(PROGRAM) clients
 	@echo "Proving and building the tests: some minutes the first time."

@@ -1,7 +1,8 @@
 """Refuses each allocation of `streetmap pipe` over a file in turn, counting upwards until a run meets none; with `clients` those of
-`streetmap serve --clients` for one client.
+`streetmap serve --clients` for one client; with `create` those of `streetmap create`, which must end for want of memory or as with
+memory, and leave a file that opens with no collection where it told that it made one, and else that or one that is none of this product.
 
-    python3 tests/file_refusals.py PROGRAM [clients]
+    python3 tests/file_refusals.py PROGRAM [clients|create]
 
 Each run begins with a copy of the same file, and is asked for a page, for which the index is learnt, a batch of three edits, which
 the index follows, the page again, and a feature. It must answer as with memory, or a beginning of that and then the 503 or 500 that
@@ -91,8 +92,41 @@ def ends_as_it_may(got, whole, lets_go):
     return None
 
 
+def refuse_making(program, folder):
+    """Makes files, with each allocation refused in turn."""
+    path = os.path.join(folder, "town")
+    words = [program, "create", path]
+
+    def made(number):
+        for end in ("", "-wal"):
+            if os.path.exists(path + end):
+                os.remove(path + end)
+        return subprocess.run(words, capture_output=True, env=refusing(number), timeout=60, check=False)
+
+    look = get("/collections")
+    made(0)
+    opening = run(program, path, look).stdout
+    number = failed = 0
+    kinds = Counter()
+    while b"refused\n" in (got := made(number + 1)).stderr:
+        number += 1
+        found = run(program, path, look)
+        opens = found.stdout == opening and found.returncode == 0
+        is_none = found.stderr in (b"streetmap: not_ours\n", b"streetmap: no_file\n")
+        if got.returncode == 0 and opens or got.returncode in (3, 4) and (opens or is_none):
+            kinds[got.stderr.split(b": ")[-1].decode().strip() if got.returncode else "as with memory"] += 1
+        else:
+            failed += 1
+            print(f"at allocation {number}: status {got.returncode}, {got.stderr!r}, and then {found.returncode}, {found.stderr!r}")
+    print(f"{number} allocations refused in turn in making a file: " + ", ".join(f"{count} {kind}" for kind, count in kinds.items()) + f", {failed} failed")
+    sys.exit(1 if failed or not number else 0)
+
+
 def main():
     program = sys.argv[1]
+    if "create" in sys.argv[2:]:
+        with tempfile.TemporaryDirectory() as folder:
+            refuse_making(program, folder)
     ask = serve_one if "clients" in sys.argv[2:] else run
     with tempfile.TemporaryDirectory() as folder:
         first = os.path.join(folder, "first")
