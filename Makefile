@@ -37,7 +37,7 @@ test: toolchain
 	python3 tests/load.py $(PROGRAM)
 	python3 tests/file.py $(PROGRAM)
 
-# The rows of the formats and of HTTP, run through the built program, each over a ledger or a file of its own.
+# The rows of the formats, of HTTP, queries, times and imports, run through the built program, and rows that are made.
 rows: build
 	python3 tests/rows.py $(PROGRAM)
 
@@ -62,6 +62,8 @@ stops: build
 # Each allocation refused in turn: of the program on three lines, and of tests that make each refused call again. It needs
 # a C compiler.
 REFUSED := python3 tests/refusals.py
+LEDGER_TESTS := crates/streetmap_ledger_tests/out/streetmap_ledger_tests_tests
+WEB_TESTS := crates/streetmap_web_tests/out/streetmap_web_tests_tests
 refusals: build
 	@mkdir -p tests/out && cc -shared -fPIC -O1 -o tests/out/refuse.so tests/refuse.c
 	@echo "The program on examples/three.lines:"
@@ -73,17 +75,21 @@ refusals: build
 	@echo "The program over a file, for one of many clients:"
 	@python3 tests/file_refusals.py $(PROGRAM) clients
 	@echo "Proving and building the tests: some minutes the first time."
-	@for crate in streetmap_feature_tests streetmap_ledger_tests; do \
+	@for crate in streetmap_ledger_tests streetmap_web_tests; do \
 	    (cd crates/$$crate && rt test > out.log 2>&1 || { cat out.log; rm -f out.log; exit 1; }; rm -f out.log) || exit 1; done
 	@echo "A collection of ten features:"
-	@$(REFUSED) WHOLE /dev/null crates/streetmap_feature_tests/out/streetmap_feature_tests_tests features::refused_memory::memory_or_the_same_is_told
+	@$(REFUSED) WHOLE /dev/null $(LEDGER_TESTS) features::refused_memory::memory_or_the_same_is_told
 	@echo "A batch read and written:"
-	@$(REFUSED) WHOLE /dev/null crates/streetmap_feature_tests/out/streetmap_feature_tests_tests batches::refused_memory_changes_no_answer
+	@$(REFUSED) WHOLE /dev/null $(LEDGER_TESTS) batches::refused_memory_changes_no_answer
+	@echo "Queries read and written:"
+	@$(REFUSED) WHOLE /dev/null $(LEDGER_TESTS) queries::refused_memory_changes_no_answer
 	@echo "Batches, pages and look-ups of a ledger:"
 	@for test in changes_nothing ends_a_run changes_no_look_up; do \
-	    $(REFUSED) WHOLE /dev/null crates/streetmap_ledger_tests/out/streetmap_ledger_tests_tests ledger::memory::refused_memory_$$test || exit 1; done
+	    $(REFUSED) WHOLE /dev/null $(LEDGER_TESTS) ledger::memory::refused_memory_$$test || exit 1; done
 	@echo "Lines, each answered again:"
-	@$(REFUSED) WHOLE /dev/null crates/streetmap_ledger_tests/out/streetmap_ledger_tests_tests answers::a_line_refused_for_memory_is_answered_again
+	@$(REFUSED) WHOLE /dev/null $(LEDGER_TESTS) answers::a_line_refused_for_memory_is_answered_again
+	@echo "A stream of requests:"
+	@$(REFUSED) WHOLE /dev/null $(WEB_TESTS) refused_memory::refused_memory_is_answered_or_not_seen
 
 # Speed and memory beside plain Python and Rust programs, on this machine.
 bench: build

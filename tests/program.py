@@ -127,12 +127,13 @@ def imports_and_exports(folder):
 def connections(folder):
     file = f"{folder}/served.db"
     run("create", file)
-    server = Server(file, "--count", "4")
+    server = Server(file, "--count", "5")
     (opened,) = server.ask(batch("b1", [OPEN, insert(1)]))
     check("a batch over a socket", opened[0], 200)
     with server.connect() as broken:
         broken.sendall(batch("b2", [insert(2)])[:-5])
         broken.setsockopt(socket.SOL_SOCKET, socket.SO_LINGER, b"\1\0\0\0\0\0\0\0")
+    check("a request that is cut is not answered", server.ask(b"GET /conf"), [])
     check("rubbish is answered", [status for status, _ in server.ask(b"rubbish\r\n\r\n")], [400])
     page, unknown = server.ask(request("GET", "/collections/lamps/items") + request("GET", "/nothing", close=True) + request("GET", "/"))
     check("a page over a socket", json.loads(page[1])["numberMatched"], 1)
@@ -148,11 +149,20 @@ def connections(folder):
     busy.ends(0)
 
 
+def heads_at_their_limits():
+    """Heads of as many bytes and field lines as there may be, and of one more, with their statuses."""
+    line, end = b"GET /conformance HTTP/1.1\r\nHost: a\r\n", b"\r\n\r\n"
+    for size, status in ((16_384, 200), (16_385, 431)):
+        yield line + b"X: ".ljust(size - len(line) - len(end), b"x") + end, status
+    for fields, status in ((64, 200), (65, 431)):
+        yield line + b"X: y\r\n" * (fields - 1) + b"\r\n", status
+
+
 def clients_at_once(folder):
     """Idle and slow clients hold up nobody, and each client gets the answers to its own requests."""
     file = f"{folder}/clients.db"
     run("create", file)
-    server = Server(file, "--clients", "8", "--count", "11")
+    server = Server(file, "--clients", "8", "--count", "15")
     idle, slow = server.connect(), server.connect()
     slow.sendall(request("GET", "/conformance")[:20])
     (opened,) = server.ask(batch("b1", [OPEN, insert(1)]))
@@ -172,6 +182,8 @@ def clients_at_once(folder):
         broken.sendall(batch("b9", [insert(99)])[:-5])
         broken.setsockopt(socket.SOL_SOCKET, socket.SO_LINGER, b"\1\0\0\0\0\0\0\0")
     check("rubbish is answered", [status for status, _ in server.ask(b"rubbish\r\n\r\n")], [400])
+    for head, status in heads_at_their_limits():
+        check(f"a head of {len(head)} bytes", [it for it, _ in server.ask(head)], [status])
     (page,) = server.ask(request("GET", "/collections/lamps/items"))
     check("the batches of all clients", json.loads(page[1])["numberMatched"], 5)
     idle.close()

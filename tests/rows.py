@@ -1,6 +1,6 @@
 """Runs the rows of examples/ through the built program: those of lines (rows.jsonl) and of features (features.jsonl), each
-over a ledger of its own, and those of HTTP (http.jsonl), each over a file of its own; and features, batches and bodies at
-their limits.
+over a ledger of its own, and those of HTTP (http.jsonl), each over a file of its own; features, batches, lines and bodies at
+their limits, and walks over pages; and the rows of times, queries, imports and polygons (`times.py` and so on).
 
     python3 tests/rows.py PROGRAM
 
@@ -12,26 +12,16 @@ import json
 import subprocess
 import sys
 import tempfile
-from pathlib import Path
+from itertools import chain
 
-EXAMPLES = Path(__file__).parent.parent / "examples"
+import imports
+import polygons
+import queries
+import times
+from served import PROGRAM, failures
+from texts import answers_to, batch_line as batch, rows_of
 
 LAMPS = 'batch {"key":"b1","edits":[{"op":"open","collection":"lamps"}]}'
-
-
-def last_answer(lines):
-    sent = "".join(f"{line}\n" for line in lines)
-    run = subprocess.run([sys.argv[1], "lines"], input=sent.encode(), capture_output=True, check=True)
-    return run.stdout.decode().removesuffix("\n").split("\n")[-1]
-
-
-def batch(key, edits):
-    return f"batch {json.dumps({'key': key, 'edits': edits})}"
-
-
-def point(number, place):
-    return {"op": "insert", "collection": "lamps", "feature": {
-        "type": "Feature", "id": f"p{number}{place}", "geometry": {"type": "Point", "coordinates": [number, place]}}}
 
 
 def of_feature(text, wanted):
@@ -71,8 +61,8 @@ def positions():
 
 
 def limits():
-    """Batches of as many edits as there may be and of one more, and a hundred thousand features. Edits are counted
-    behind the key, and before they are read."""
+    """Batches of as many edits as there may be and of one more. Edits are counted behind the key, and before they are
+    read."""
     turns = [{"op": "insert", "collection": "lamps", "feature": {"type": "Feature", "id": "T"}},
              {"op": "delete", "collection": "lamps", "id": "T"}] * 5001
     yield ([LAMPS, batch("m", turns[:10_000])],
@@ -83,11 +73,65 @@ def limits():
     yield [batch("b1", nothing[1:])], '{"code":"bad_batch","description":"The batch cannot be read.","place":1}'
     yield [batch("b1", nothing)], '{"code":"too_many_edits","description":"The batch has more than 10000 edits."}'
     yield [batch("b 1", nothing)], '{"code":"bad_key","description":"The key of the batch cannot be read."}'
-    town = [batch(f"m{number}", [point(number, place) for place in range(10_000, 20_000)]) for number in range(10, 20)]
-    shown = ",".join('{"geometry":{"coordinates":[19,%d],"type":"Point"},"id":"p19%d","properties":null,"type":"Feature"}'
-                     % (place, place) for place in (19998, 19999))
-    yield ([LAMPS, *town, "page lamps bbox=0,0,100,20000&limit=2&after=p1919997"],
-           '{"features":[%s],"numberMatched":100000,"numberReturned":2}' % shown)
+
+
+def towns():
+    """Pages of a hundred thousand features: those of a thousand numbers stand in a row, a millimetre apart."""
+    opened = LAMPS.replace("lamps", "many")
+    for count, pages in ((2_500, SOME), (100_000, MANY)):
+        numbers = range(1, count + 1)
+        lines = [batch(f"from{first}", [numbered(number) for number in numbers[first:first + 10_000]]) for first in range(0, count, 10_000)]
+        told = answers_to([opened, *lines, *(f"page many {query}" for query, _, _, _ in pages)])[-len(pages):]
+        for answer, (query, shown, matched, following) in zip(told, pages, strict=True):
+            page = json.loads(answer)
+            found = [feature["id"] for feature in page["features"]], page["numberMatched"], page.get("next")
+            yield f"of {count}: {query}", found, (shown, matched, following)
+
+
+def numbered(number):
+    geometry = {"type": "Point", "coordinates": [number % 1000, number // 1000]}
+    return {"op": "insert", "collection": "many", "feature": {"type": "Feature", "id": f"p{number:04}", "geometry": geometry}}
+
+
+# A query, the ids that are shown, how many are selected, and the last id shown where more follow.
+SOME = [("bbox=0,0,999,2&limit=3&after=p2499", ["p2500"], 2500, None),
+        ("bbox=0,0,999,2&limit=3&after=p0010", ["p0011", "p0012", "p0013"], 2500, "p0013")]
+MANY = [("bbox=10,20,12,22&limit=4", ["p20010", "p20011", "p20012", "p21010"], 9, "p21010"),
+        ("limit=3&after=p9999", ["p99990", "p99991", "p99992"], 100_000, "p99992"),
+        ("limit=3&after=p99997", ["p99998", "p99999"], 100_000, None),
+        ("bbox=0,0,999,100&limit=1&after=p99997", ["p99998"], 100_000, "p99998")]
+
+SEVEN = {"g": [5, 5], "b": [6, 0], "d": [2, 3], "a": [0, 0], "f": None, "e": [[-1, 1], [1, -1]], "c": [5, 0]}
+
+
+def walks():
+    """Walks over the pages of seven features, of which five meet a box: each page is asked behind the one before."""
+    def insert(name, at):
+        kind = "LineString" if name == "e" else "Point"
+        return {"op": "insert", "collection": "seven", "feature": {
+            "type": "Feature", "id": name, "geometry": at and {"type": kind, "coordinates": at}}}
+
+    opened = batch("seven", [{"op": "open", "collection": "seven"}, *(insert(*it) for it in SEVEN.items())])
+    for box, selected in (("", "abcdefg"), ("&bbox=0,0,5,5", "acdeg")):
+        for limit in range(1, 9):
+            after = ["", *(f"&after={selected[at - 1]}" for at in range(limit, len(selected), limit))]
+            told = answers_to([opened, *(f"page seven limit={limit}{box}{it}" for it in after)])[1:]
+            pages = [json.loads(it) for it in told]
+            found = "".join(feature["id"] for page in pages for feature in page["features"])
+            following = [page.get("next") for page in pages]
+            wanted = [it.removeprefix("&after=") for it in after[1:]] + [None]
+            yield f"limit={limit}{box}", (found, following, {page["numberMatched"] for page in pages}), (selected, wanted, {len(selected)})
+
+
+def line_limits():
+    """A line of as many bytes as there may be and of one more, its end not counted."""
+    known = b'{"code":"bad_command","description":"The command is not known."}\n'
+    most = 8_388_608
+    for length, end, fits in ((most, b"", True), (most, b"\n", True), (most - 1, b"\r\n", True), (most, b"\r\n", False),
+                              (most + 1, b"", False), (most + 1, b"\n", False), (10 * most, b"", False)):
+        run = subprocess.run([PROGRAM, "lines"], input=b"x\n" + b"a" * length + end, capture_output=True)
+        found = run.returncode, run.stdout, run.stderr
+        yield f"a line of {length} bytes and {end}", found, (0, known * 2, b"") if fits else (1, known, b"streetmap: line_too_long\n")
 
 
 def post(body):
@@ -114,43 +158,45 @@ def http_limits():
 
 
 def piped(file, sent):
-    return subprocess.run([sys.argv[1], "pipe", file], input=sent.encode(), capture_output=True, check=True).stdout.decode()
+    return subprocess.run([PROGRAM, "pipe", file], input=sent.encode(), capture_output=True, check=True).stdout.decode()
 
 
 def written(before, sent):
     """What is written over a new file in which these batches were accepted."""
     with tempfile.TemporaryDirectory() as folder:
         file = f"{folder}/rows.streetmap"
-        subprocess.run([sys.argv[1], "create", file], check=True)
+        subprocess.run([PROGRAM, "create", file], check=True)
         for body in before:
             if not piped(file, post(body)).startswith("HTTP/1.1 200 OK\r\n"):
                 return f"no batch was accepted before: {body[:200]}"
         return piped(file, sent)
 
 
-def rows_of(name):
-    return [json.loads(line) for line in (EXAMPLES / name).read_text().splitlines()]
+def of_lines():
+    told = [(row["lines"], row["answer"]) for row in rows_of("rows.jsonl")]
+    told += [of_feature(row["feature"], row["answer"]) for row in rows_of("features.jsonl")]
+    for lines, wanted in chain(told, positions(), limits()):
+        yield f"at {[line[:200] for line in lines]}", answers_to(lines)[-1], wanted
+
+
+def of_http():
+    asked = [(row["what"], row["before"], row["sent"], row["written"]) for row in rows_of("http.jsonl")]
+    for what, before, sent, wanted in chain(asked, http_limits()):
+        yield what, written(before, sent), wanted
 
 
 def main():
-    told = [(row["lines"], row["answer"]) for row in rows_of("rows.jsonl")]
-    told += [of_feature(row["feature"], row["answer"]) for row in rows_of("features.jsonl")]
-    told += [*positions(), *limits()]
-    failed = 0
-    for lines, wanted in told:
-        last = last_answer(lines)
-        if last != wanted:
+    passed = failed = 0
+    made = chain(of_lines(), of_http(), towns(), walks(), line_limits(), times.rows(), queries.rows(), imports.rows(), polygons.rows())
+    for what, got, wanted in made:
+        if got == wanted:
+            passed += 1
+        else:
             failed += 1
-            print(f"at {[line[:200] for line in lines]}: {last[:300]} is not {wanted[:300]}")
-    asked = [(row["what"], row["before"], row["sent"], row["written"]) for row in rows_of("http.jsonl")]
-    asked += http_limits()
-    for what, before, sent, wanted in asked:
-        got = written(before, sent)
-        if got != wanted:
-            failed += 1
-            print(f"{what}: {got[:600]!r} is not {wanted[:600]!r}")
-    print(f"{len(told) + len(asked) - failed} passed, {failed} failed")
-    sys.exit(1 if failed else 0)
+            print(f"{what[:600]}: {got!r:.600} is not {wanted!r:.600}")
+    print(f"{passed} passed, {failed + len(failures)} failed")
+    sys.exit(1 if failed or failures else 0)
 
 
-main()
+if __name__ == "__main__":
+    main()

@@ -1,19 +1,14 @@
-//! What no clause says: worked rows over a plain keeper, what is answered where memory is refused,
-//! and a large collection.
+//! The ledger over a plain keeper: pages as they are counted and folded, runs of batches, and memory that is refused.
 use std::alloc::Global;
 use std::test::Fail;
 use streetmap_ledger::{Keeper, Page, read_batch};
 use streetmap_memory::PlainKeeper;
 use streetmap_query::read_query;
 
-mod batches;
 mod folds;
-mod lookups;
-mod many;
 mod memory;
 mod pages;
-mod unread;
-mod walks;
+mod runs;
 
 /// What a page tells: the ids that it shows, how many features are selected and how many are
 /// examined, and the last id shown, where more follow.
@@ -58,7 +53,7 @@ fn tells(page: &Page, told: &Told) -> bool {
 }
 
 /// A keeper to which batches were handed in order.
-fn keeper_after(alloc: Global, batches: &[&str]) -> Result<PlainKeeper, Fail> {
+pub(crate) fn keeper_after(alloc: Global, batches: &[&str]) -> Result<PlainKeeper, Fail> {
     let mut keeper = PlainKeeper::new(alloc);
     for text in batches {
         let batch = read_batch(alloc, text.as_bytes())?;
@@ -73,7 +68,10 @@ fn page(
     keeper: &mut PlainKeeper,
     collection: &str,
     query: &str,
-) -> Result<Option<Page>, Fail> {
+) -> Result<Page, Fail> {
     let query = read_query(alloc, Some(query))?;
-    Ok(keeper.page(collection, &query)?)
+    match keeper.page(collection, &query)? {
+        Some(page) => Ok(page),
+        None => Err(Fail::from("no collection")),
+    }
 }

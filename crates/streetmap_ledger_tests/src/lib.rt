@@ -1,17 +1,25 @@
-//! Tests of the ledger over the keeper in memory, of lines, and of import and export: worked rows of batches,
-//! pages, look-ups and walks, what is answered where memory, reads or writes are refused, and a large
-//! collection. They use public items alone. The rows of the formats run through the built program (`tests/rows.py`).
+//! Tests of what no clause says and the built program cannot show, by public items alone: want of memory, reads and
+//! writes that fail, how many features a page examines, runs of batches, and names of faults that no answer has. The
+//! rows of the formats are data, and run through the built program (`tests/rows.py`).
 #![tactic(auto)]
 
 #[cfg(test)]
 mod answers;
 #[cfg(test)]
+mod batches;
+#[cfg(test)]
 mod exports;
 #[cfg(test)]
-mod imports;
+mod faults;
+#[cfg(test)]
+mod features;
 #[cfg(test)]
 mod ledger;
 #[cfg(test)]
 mod lines;
 #[cfg(test)]
-mod texts;
+mod queries;
+#[cfg(test)]
+mod values;
+#[cfg(test)]
+mod writers;

@@ -1,8 +1,9 @@
-//! Tests of lines that no clause covers: the limit at its edge, and reads and writes that fail.
+//! Lines whose reads or writes fail.
+use crate::writers::Narrow;
 use std::alloc::Global;
-use std::io::{self, BufReader, ErrorKind, Read, Write, repeat};
+use std::io::{self, BufReader, ErrorKind, Read};
 use std::test::Fail;
-use streetmap_lines::{LinesFault, MAX_LINE, lines};
+use streetmap_lines::{LinesFault, lines};
 
 /// What a line that is no command is answered.
 const ANSWER: &[u8] = b"{\"code\":\"bad_command\",\"description\":\"The command is not known.\"}\n";
@@ -39,32 +40,6 @@ impl Read for Faulty<'_> {
     }
 }
 
-/// A writer that takes a byte at a time, up to its room.
-#[derive(Drop)]
-struct Narrow {
-    taken: Vec<u8>,
-    room: usize,
-}
-
-impl Write for Narrow {
-    fn write(&mut self, buf: &[u8]) -> io::Result<usize> {
-        if self.taken.len() >= self.room {
-            return Err(io::Error::from(ErrorKind::BrokenPipe));
-        }
-        match buf.first() {
-            Some(byte) => {
-                self.taken.push(*byte)?;
-                Ok(1)
-            }
-            None => Ok(0),
-        }
-    }
-
-    fn flush(&mut self) -> io::Result<()> {
-        Ok(())
-    }
-}
-
 /// So many answers.
 fn answers(alloc: Global, count: usize) -> Result<Vec<u8>, Fail> {
     let mut text = Vec::new(alloc);
@@ -74,56 +49,27 @@ fn answers(alloc: Global, count: usize) -> Result<Vec<u8>, Fail> {
     Ok(text)
 }
 
-#[test]
-fn lines_are_answered_in_order(rt: HostRuntime) -> Result<(), Fail> {
-    let mut written = Vec::new(rt.alloc());
-    let mut input = INPUT;
-    assert_eq!(rt; lines(rt.alloc(), &mut input, &mut written), Ok(()));
-    assert_eq!(rt; written, answers(rt.alloc(), 3)?);
-    assert_eq!(rt; input.len(), 0);
-    Ok(())
-}
-
-#[test]
-fn a_line_has_a_limit(rt: HostRuntime) -> Result<(), Fail> {
-    let limit = MAX_LINE as u64;
-    for (length, end, fits) in [
-        (limit, b"".as_slice(), true),
-        (limit, b"\n".as_slice(), true),
-        (limit - 1, b"\r\n".as_slice(), true),
-        (limit, b"\r\n".as_slice(), false),
-        (limit + 1, b"".as_slice(), false),
-        (limit + 1, b"\n".as_slice(), false),
-        (u64::MAX, b"".as_slice(), false),
-    ] {
-        let input = b"x\n"
-            .as_slice()
-            .chain(repeat(b'a').take(length).chain(end));
-        let mut reader = BufReader::new(rt.alloc(), input)?;
-        let mut written = Vec::new(rt.alloc());
-        let result = lines(rt.alloc(), &mut reader, &mut written);
-        if fits {
-            assert_eq!(rt; result, Ok(()), "at {length}");
-            assert_eq!(rt; written, answers(rt.alloc(), 2)?, "at {length}");
-        } else {
-            assert_eq!(rt; result, Err(LinesFault::LineTooLong), "at {length}");
-            assert_eq!(rt; written, answers(rt.alloc(), 1)?, "at {length}");
-        }
-    }
-    Ok(())
+/// What is told of the input, an error of that kind in place of a read that so many came before, and what is written.
+fn told(
+    alloc: Global,
+    reads: usize,
+    kind: ErrorKind,
+) -> Result<(Result<(), LinesFault>, Vec<u8>), Fail> {
+    let faulty = Faulty {
+        bytes: INPUT,
+        reads,
+        kind,
+    };
+    let mut reader = BufReader::new(alloc, faulty)?;
+    let mut written = Vec::new(alloc);
+    let result = lines(alloc, &mut reader, &mut written);
+    Ok((result, written))
 }
 
 #[test]
 fn what_was_read_before_a_failed_read_is_answered(rt: HostRuntime) -> Result<(), Fail> {
     for reads in 0..ENDED.len() {
-        let faulty = Faulty {
-            bytes: INPUT,
-            reads,
-            kind: ErrorKind::ConnectionReset,
-        };
-        let mut reader = BufReader::new(rt.alloc(), faulty)?;
-        let mut written = Vec::new(rt.alloc());
-        let result = lines(rt.alloc(), &mut reader, &mut written);
+        let (result, written) = told(rt.alloc(), reads, ErrorKind::ConnectionReset)?;
         assert_eq!(rt; result, Err(LinesFault::ReadFailed), "at {reads}");
         assert_eq!(rt; written, answers(rt.alloc(), ENDED[reads])?, "at {reads}");
     }
@@ -133,18 +79,8 @@ fn what_was_read_before_a_failed_read_is_answered(rt: HostRuntime) -> Result<(),
 #[test]
 fn an_interrupted_read_is_made_again(rt: HostRuntime) -> Result<(), Fail> {
     for reads in 0..ENDED.len() {
-        let faulty = Faulty {
-            bytes: INPUT,
-            reads,
-            kind: ErrorKind::Interrupted,
-        };
-        let mut reader = BufReader::new(rt.alloc(), faulty)?;
-        let mut written = Vec::new(rt.alloc());
-        assert_eq!(rt;
-            lines(rt.alloc(), &mut reader, &mut written),
-            Ok(()),
-            "at {reads}"
-        );
+        let (result, written) = told(rt.alloc(), reads, ErrorKind::Interrupted)?;
+        assert_eq!(rt; result, Ok(()), "at {reads}");
         assert_eq!(rt; written, answers(rt.alloc(), 3)?, "at {reads}");
     }
     Ok(())
@@ -153,22 +89,20 @@ fn an_interrupted_read_is_made_again(rt: HostRuntime) -> Result<(), Fail> {
 #[test]
 fn a_failed_write_ends_the_answers(rt: HostRuntime) -> Result<(), Fail> {
     let whole = answers(rt.alloc(), 3)?;
-    for room in 0..whole.len() {
+    for room in 0..=whole.len() {
         let mut writer = Narrow {
             taken: Vec::new(rt.alloc()),
             room,
         };
         let mut input = INPUT;
         let result = lines(rt.alloc(), &mut input, &mut writer);
-        assert_eq!(rt; result, Err(LinesFault::WriteFailed), "at {room}");
+        let wanted = if room < whole.len() {
+            Err(LinesFault::WriteFailed)
+        } else {
+            Ok(())
+        };
+        assert_eq!(rt; result, wanted, "at {room}");
         assert_eq!(rt; writer.taken.as_slice(), &whole[..room], "at {room}");
     }
-    let mut writer = Narrow {
-        taken: Vec::new(rt.alloc()),
-        room: whole.len(),
-    };
-    let mut input = INPUT;
-    assert_eq!(rt; lines(rt.alloc(), &mut input, &mut writer), Ok(()));
-    assert_eq!(rt; writer.taken, whole);
     Ok(())
 }

@@ -1,14 +1,23 @@
-//! Tests of HTTP over the keeper in memory, by public items alone: streams that are cut or fail, memory that is refused,
-//! and connections in turn. The rows of the answers are data and run through the program, and so do many clients at once.
+//! Tests of HTTP by public items alone: heads, bodies and streams that are cut at every byte or whose reads and writes
+//! fail, memory that is refused, and many clients of another service. The rows of HTTP are data, and run through the
+//! built program (`tests/rows.py`), as do connections and many clients of it.
 #![tactic(auto)]
 
 #[cfg(test)]
-mod connections;
+mod clients;
+#[cfg(test)]
+mod cuts;
 #[cfg(test)]
 mod failing;
+#[cfg(test)]
+mod fakes;
+#[cfg(test)]
+mod readers;
 #[cfg(test)]
 mod refused_memory;
 #[cfg(test)]
 mod requests;
+#[cfg(test)]
+mod sending;
 #[cfg(test)]
 mod streams;

@@ -1,16 +1,25 @@
 //! Pages made feature by feature.
-use super::walks::SEVEN;
+use super::pages::MARKS;
 use super::{is_followed_from, keeper_after, page};
 use std::alloc::Global;
-use std::process::Abort;
 use std::test::Fail;
 use streetmap_geojson::Feature;
 use streetmap_ledger::{Page, PageFold};
-use streetmap_memory::PlainKeeper;
 use streetmap_query::read_query;
 
+/// Seven features, of which five meet the box 0,0,5,5.
+const SEVEN: &str = r#"{"key":"seven","edits":[
+    {"op":"open","collection":"seven"},
+    {"op":"insert","collection":"seven","feature":{"type":"Feature","id":"g","geometry":{"type":"Point","coordinates":[5,5]}}},
+    {"op":"insert","collection":"seven","feature":{"type":"Feature","id":"b","geometry":{"type":"Point","coordinates":[6,0]}}},
+    {"op":"insert","collection":"seven","feature":{"type":"Feature","id":"d","geometry":{"type":"Point","coordinates":[2,3]}}},
+    {"op":"insert","collection":"seven","feature":{"type":"Feature","id":"a","geometry":{"type":"Point","coordinates":[0,0]}}},
+    {"op":"insert","collection":"seven","feature":{"type":"Feature","id":"f","geometry":null}},
+    {"op":"insert","collection":"seven","feature":{"type":"Feature","id":"e","geometry":{"type":"LineString","coordinates":[[-1,1],[1,-1]]}}},
+    {"op":"insert","collection":"seven","feature":{"type":"Feature","id":"c","geometry":{"type":"Point","coordinates":[5,0]}}}]}"#;
+
 /// The page of features that are taken in order.
-pub fn folded(alloc: Global, features: &[Feature], asked: &str) -> Result<Page, Fail> {
+fn folded(alloc: Global, features: &[Feature], asked: &str) -> Result<Page, Fail> {
     let query = read_query(alloc, Some(asked))?;
     let mut fold = PageFold::new(alloc, &query);
     for feature in features {
@@ -19,24 +28,8 @@ pub fn folded(alloc: Global, features: &[Feature], asked: &str) -> Result<Page, 
     Ok(fold.end(alloc)?)
 }
 
-/// The page of the keeper's collection.
-fn kept(
-    rt: &impl Abort,
-    alloc: Global,
-    keeper: &mut PlainKeeper,
-    asked: &str,
-) -> Result<Page, Fail> {
-    match page(alloc, keeper, "seven", asked)? {
-        Some(page) => Ok(page),
-        None => {
-            assert!(rt; false, "no page at {asked}");
-            folded(alloc, &[], asked)
-        }
-    }
-}
-
 /// Whether two pages show features with the same ids.
-pub fn are_alike(one: &Page, other: &Page) -> bool {
+fn are_alike(one: &Page, other: &Page) -> bool {
     if one.features.len() != other.features.len() {
         return false;
     }
@@ -48,29 +41,52 @@ pub fn are_alike(one: &Page, other: &Page) -> bool {
     true
 }
 
+/// Whether two pages show and tell the same.
+fn is_same(one: &Page, other: &Page) -> bool {
+    let follows = match &other.next {
+        Some(id) => is_followed_from(one, Some(id.as_str())),
+        None => is_followed_from(one, None),
+    };
+    follows && one.matched == other.matched && are_alike(one, other)
+}
+
+/// A collection of seven features, and a query.
+const ASKED: &[(&str, &str)] = &[
+    ("seven", ""),
+    ("seven", "limit=7"),
+    ("seven", "limit=6"),
+    ("seven", "limit=1&bbox=0,0,5,5"),
+    ("seven", "limit=2&bbox=0,0,5,5&after=a"),
+    ("seven", "bbox=0,0,5,5&after=g"),
+    ("seven", "bbox=8,8,9,9"),
+    ("marks", ""),
+    ("marks", "limit=2"),
+    ("marks", "limit=2&after=a%22b"),
+    ("marks", "after=a%5Cb"),
+    ("marks", "limit=1&after=c"),
+    ("marks", "after=e"),
+    ("marks", "after=e%22"),
+    ("marks", "datetime=2024-05-01T00:00:00.5Z"),
+    ("marks", "datetime=2024-05-01T00:00:00.3Z/..&limit=1"),
+    (
+        "marks",
+        "datetime=2024-05-01T00:00:00.3Z/..&after=a%5Cb&limit=2",
+    ),
+    ("marks", "datetime=2024-05-01T00:00:00.3Z/..&after=b"),
+    ("marks", "bbox=0,0,2,2&datetime=2024-05-01T00:00:00.5Z/.."),
+    ("marks", "bbox=0,0,3,3&limit=1"),
+    ("marks", "bbox=0,0,3,3&limit=1&after=a%22b"),
+];
+
 #[test]
 fn a_fold_makes_the_page_of_what_it_took(rt: HostRuntime) -> Result<(), Fail> {
-    let alloc = rt.alloc();
-    let mut keeper = keeper_after(alloc, &[SEVEN])?;
-    let all = kept(&rt, alloc, &mut keeper, "")?;
-    for asked in [
-        "",
-        "limit=7",
-        "limit=6",
-        "limit=1&bbox=0,0,5,5",
-        "limit=2&bbox=0,0,5,5&after=a",
-        "bbox=0,0,5,5&after=g",
-        "bbox=8,8,9,9",
-    ] {
-        let wanted = kept(&rt, alloc, &mut keeper, asked)?;
-        let made = folded(alloc, &all.features, asked)?;
-        assert!(rt; are_alike(&made, &wanted), "at {asked}");
-        assert_eq!(rt; made.matched, wanted.matched, "at {asked}");
-        match &wanted.next {
-            Some(id) => assert!(rt; is_followed_from(&made, Some(id.as_str())), "at {asked}"),
-            None => assert!(rt; is_followed_from(&made, None), "at {asked}"),
-        }
-        assert_eq!(rt; made.examined, 7, "at {asked}");
+    let mut keeper = keeper_after(rt.alloc(), &[SEVEN, MARKS])?;
+    for (collection, asked) in ASKED {
+        let all = page(rt.alloc(), &mut keeper, collection, "")?;
+        let made = folded(rt.alloc(), &all.features, asked)?;
+        let wanted = page(rt.alloc(), &mut keeper, collection, asked)?;
+        assert!(rt; is_same(&made, &wanted), "at {collection} {asked}");
+        assert_eq!(rt; made.examined, 7, "at {collection} {asked}");
     }
     Ok(())
 }

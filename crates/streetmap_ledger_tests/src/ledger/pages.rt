@@ -1,7 +1,5 @@
-//! Pages.
-use super::{Told, keeper_after, page, tells};
-use std::alloc::Global;
-use std::process::Abort;
+//! How many features a page examines, which no answer tells. What pages show stands in rows (`examples/`).
+use super::{keeper_after, page};
 use std::test::Fail;
 
 /// A line whose extent overlaps the box 0,6,3,9 and that does not meet it, alone and beside two points.
@@ -55,236 +53,72 @@ const BOTH: &str = r#"{"key":"both","edits":[
     {"op":"insert","collection":"both","feature":{"type":"Feature","id":"D","geometry":{"type":"Point","coordinates":[1,7]}}},
     {"op":"insert","collection":"both","feature":{"type":"Feature","id":"E","properties":{"when":"2024-05-01"}}}]}"#;
 
-/// A page that a query asks of a collection.
-struct Row {
-    collection: &'static str,
-    query: &'static str,
-    told: Told,
-}
+/// Features whose ids are written with escapes and without, and whose times differ by parts of a second.
+pub const MARKS: &str = r#"{"key":"marks","edits":[
+    {"op":"open","collection":"marks","time":"when"},
+    {"op":"insert","collection":"marks","feature":{"type":"Feature","id":"a\"b","geometry":{"type":"Point","coordinates":[1,1]},"properties":{"when":"2024-05-01T00:00:00.25Z"}}},
+    {"op":"insert","collection":"marks","feature":{"type":"Feature","id":"a\\b","geometry":{"type":"Point","coordinates":[2,2]},"properties":{"when":"2024-05-01T00:00:00.75Z"}}},
+    {"op":"insert","collection":"marks","feature":{"type":"Feature","id":"a\u00e9","geometry":{"type":"Point","coordinates":[3,3]},"properties":{"when":"2024-05-01T00:00:00.5Z/2024-05-01T00:00:02Z"}}},
+    {"op":"insert","collection":"marks","feature":{"type":"Feature","id":"b","properties":{"when":"2024-05-01T00:00:01Z"}}},
+    {"op":"insert","collection":"marks","feature":{"type":"Feature","id":"c"}},
+    {"op":"insert","collection":"marks","feature":{"type":"Feature","id":"d","properties":{"when":"2024-04-30T23:59:59Z/2024-05-01T00:00:00Z"}}},
+    {"op":"insert","collection":"marks","feature":{"type":"Feature","id":"e\"","properties":{"when":"2024-05-01T00:00:03Z"}}}]}"#;
 
-/// Pages of the line and the points: the limit is taken of what meets the box, and `after` and
-/// `limit` change no number.
-const BOXES: &[Row] = &[
-    Row {
-        collection: "line",
-        query: "bbox=0,6,3,9",
-        told: Told {
-            ids: &[],
-            matched: 0,
-            examined: 1,
-            next: None,
-        },
-    },
-    Row {
-        collection: "line",
-        query: "bbox=4,5,5,6",
-        told: Told {
-            ids: &["A"],
-            matched: 1,
-            examined: 1,
-            next: None,
-        },
-    },
-    Row {
-        collection: "mixed",
-        query: "bbox=0,6,3,9&limit=1",
-        told: Told {
-            ids: &["B"],
-            matched: 2,
-            examined: 3,
-            next: Some("B"),
-        },
-    },
-    Row {
-        collection: "mixed",
-        query: "bbox=0,6,3,9&limit=1&after=B",
-        told: Told {
-            ids: &["C"],
-            matched: 2,
-            examined: 3,
-            next: None,
-        },
-    },
-    Row {
-        collection: "mixed",
-        query: "bbox=0,6,3,9&limit=2",
-        told: Told {
-            ids: &["B", "C"],
-            matched: 2,
-            examined: 3,
-            next: None,
-        },
-    },
-    Row {
-        collection: "mixed",
-        query: "after=AA",
-        told: Told {
-            ids: &["B", "C"],
-            matched: 3,
-            examined: 3,
-            next: None,
-        },
-    },
+/// A collection, a query, and how many features its page examines.
+const EXAMINED: &[(&str, &str, u64)] = &[
+    ("line", "bbox=0,6,3,9", 1),
+    ("line", "bbox=4,5,5,6", 1),
+    ("mixed", "bbox=0,6,3,9&limit=1", 3),
+    ("mixed", "bbox=0,6,3,9&limit=1&after=B", 3),
+    ("mixed", "bbox=0,6,3,9&limit=2", 3),
+    ("mixed", "after=AA", 3),
+    ("solid", "bbox=40,40,60,60", 1),
+    ("holed", "bbox=40,40,60,60", 1),
+    ("holed", "bbox=70,70,80,80", 1),
+    ("outlying", "bbox=23,3,25,5", 1),
+    ("blank", "", 2),
+    (
+        "blank",
+        "bbox=-2000000000,-2000000000,2000000000,2000000000",
+        0,
+    ),
+    ("empty", "", 0),
+    ("ids", "limit=5", 6),
+    ("halves", "datetime=2024-05-01T02:00:00+02:00", 2),
+    ("past", "datetime=2000-01-01T00:00:00Z/..", 1),
+    ("undated", "datetime=../2024-05-01T00:00:00Z", 0),
+    ("both", "bbox=0,6,3,9&datetime=2024-05-01T12:00:00Z", 2),
+    ("marks", "", 7),
+    ("marks", "limit=2", 7),
+    ("marks", "limit=2&after=a%22b", 7),
+    ("marks", "after=a%5Cb", 7),
+    ("marks", "limit=1&after=c", 7),
+    ("marks", "after=e", 7),
+    ("marks", "after=e%22", 7),
+    ("marks", "datetime=2024-05-01T00:00:00.5Z", 4),
+    ("marks", "datetime=2024-05-01T00:00:00.3Z/..&limit=1", 6),
+    (
+        "marks",
+        "datetime=2024-05-01T00:00:00.3Z/..&after=a%5Cb&limit=2",
+        6,
+    ),
+    ("marks", "datetime=2024-05-01T00:00:00.3Z/..&after=b", 6),
+    (
+        "marks",
+        "bbox=0,0,2,2&datetime=2024-05-01T00:00:00.5Z/..",
+        2,
+    ),
+    ("marks", "bbox=0,0,3,3&limit=1", 3),
+    ("marks", "bbox=0,0,3,3&limit=1&after=a%22b", 3),
 ];
 
-/// Pages of polygons, and of features without a geometry.
-const SHAPES: &[Row] = &[
-    Row {
-        collection: "solid",
-        query: "bbox=40,40,60,60",
-        told: Told {
-            ids: &["S"],
-            matched: 1,
-            examined: 1,
-            next: None,
-        },
-    },
-    Row {
-        collection: "holed",
-        query: "bbox=40,40,60,60",
-        told: Told {
-            ids: &[],
-            matched: 0,
-            examined: 1,
-            next: None,
-        },
-    },
-    Row {
-        collection: "holed",
-        query: "bbox=70,70,80,80",
-        told: Told {
-            ids: &["H"],
-            matched: 1,
-            examined: 1,
-            next: None,
-        },
-    },
-    Row {
-        collection: "outlying",
-        query: "bbox=23,3,25,5",
-        told: Told {
-            ids: &["O"],
-            matched: 1,
-            examined: 1,
-            next: None,
-        },
-    },
-    Row {
-        collection: "blank",
-        query: "",
-        told: Told {
-            ids: &["E", "N"],
-            matched: 2,
-            examined: 2,
-            next: None,
-        },
-    },
-    Row {
-        collection: "blank",
-        query: "bbox=-2000000000,-2000000000,2000000000,2000000000",
-        told: Told {
-            ids: &[],
-            matched: 0,
-            examined: 0,
-            next: None,
-        },
-    },
-];
-
-/// Pages of no feature, of ids in the order of bytes, and of times.
-const INTERVALS: &[Row] = &[
-    Row {
-        collection: "empty",
-        query: "",
-        told: Told {
-            ids: &[],
-            matched: 0,
-            examined: 0,
-            next: None,
-        },
-    },
-    Row {
-        collection: "ids",
-        query: "limit=5",
-        told: Told {
-            ids: &["10", "9", "Z", "a", "aa"],
-            matched: 6,
-            examined: 6,
-            next: Some("aa"),
-        },
-    },
-    Row {
-        collection: "halves",
-        query: "datetime=2024-05-01T02:00:00+02:00",
-        told: Told {
-            ids: &["A"],
-            matched: 1,
-            examined: 2,
-            next: None,
-        },
-    },
-    Row {
-        collection: "past",
-        query: "datetime=2000-01-01T00:00:00Z/..",
-        told: Told {
-            ids: &["P"],
-            matched: 1,
-            examined: 1,
-            next: None,
-        },
-    },
-    Row {
-        collection: "undated",
-        query: "datetime=../2024-05-01T00:00:00Z",
-        told: Told {
-            ids: &[],
-            matched: 0,
-            examined: 0,
-            next: None,
-        },
-    },
-    Row {
-        collection: "both",
-        query: "bbox=0,6,3,9&datetime=2024-05-01T12:00:00Z",
-        told: Told {
-            ids: &["B"],
-            matched: 1,
-            examined: 2,
-            next: None,
-        },
-    },
-];
-
-fn shows(rt: &impl Abort, alloc: Global, batches: &[&str], rows: &[Row]) -> Result<(), Fail> {
-    let mut keeper = keeper_after(alloc, batches)?;
-    for row in rows {
-        match page(alloc, &mut keeper, row.collection, row.query)? {
-            Some(page) => {
-                assert!(rt;
-                    tells(&page, &row.told),
-                    "at {} {}",
-                    row.collection,
-                    row.query
-                )
-            }
-            None => assert!(rt; false, "no {}", row.collection),
-        }
+#[test]
+fn pages_tell_how_many_they_examined(rt: HostRuntime) -> Result<(), Fail> {
+    let batches = [LINES, POLYGONS, NAMES, TIMES, BOTH, MARKS];
+    let mut keeper = keeper_after(rt.alloc(), &batches)?;
+    for (collection, query, examined) in EXAMINED {
+        let page = page(rt.alloc(), &mut keeper, collection, query)?;
+        assert_eq!(rt; page.examined, *examined, "at {collection} {query}");
     }
-    assert!(rt; page(alloc, &mut keeper, "poles", "")?.is_none());
     Ok(())
-}
-
-#[test]
-fn pages_of_a_box(rt: HostRuntime) -> Result<(), Fail> {
-    shows(&rt, rt.alloc(), &[LINES], BOXES)
-}
-
-#[test]
-fn pages_of_polygons(rt: HostRuntime) -> Result<(), Fail> {
-    shows(&rt, rt.alloc(), &[POLYGONS, NAMES], SHAPES)
-}
-
-#[test]
-fn pages_of_an_interval(rt: HostRuntime) -> Result<(), Fail> {
-    shows(&rt, rt.alloc(), &[NAMES, TIMES, BOTH], INTERVALS)
 }

@@ -1,0 +1,91 @@
+//! Features: what is known of one unread, its copy, and a time that is refused.
+use bytes::Bytes;
+use std::alloc::{AllocError, Global};
+use std::test::Fail;
+use streetmap_feature_text::{PackedFeature, push_feature};
+use streetmap_geojson::{Feature, JsonFault, read_feature, read_json};
+use streetmap_moment::TimeFault;
+
+mod refused_memory;
+
+/// The feature that a JSON text reads as, with the time of its property `when`.
+fn feature(alloc: Global, text: &str) -> Result<Feature, JsonFault> {
+    let value = read_json(alloc, text.as_bytes())?;
+    read_feature(alloc, &value, Some("when"))
+}
+
+/// The compact text of a feature.
+fn written(alloc: Global, feature: &Feature) -> Result<String, AllocError> {
+    let mut text = String::new(alloc);
+    push_feature(alloc, &mut text, feature)?;
+    Ok(text)
+}
+
+/// Rows of a feature and its id, and whether the id stands in the feature's text as it is.
+const IDS: &[(&str, &str, bool)] = &[
+    (r#"{"type":"Feature","id":"way/7"}"#, "way/7", true),
+    (r#"{"type":"Feature","id":17}"#, "17", true),
+    (
+        r#"{"type":"Feature","id":"\u00e9\ud83d\ude80"}"#,
+        "é🚀",
+        true,
+    ),
+    (
+        r#"{"type":"Feature","id":"a","geometry":{"type":"Point","coordinates":[1,2]},"properties":{"id":"b","when":"2024-05-01"}}"#,
+        "a",
+        true,
+    ),
+    (r#"{"type":"Feature","id":"a\"b"}"#, "a\"b", false),
+    (r#"{"type":"Feature","id":"a\\b"}"#, "a\\b", false),
+];
+
+/// The feature packed as its text.
+fn packed(alloc: Global, feature: &Feature) -> Result<PackedFeature, Fail> {
+    let mut text = String::new(alloc);
+    push_feature(alloc, &mut text, feature)?;
+    let time = feature.time();
+    Ok(PackedFeature::new(alloc, Bytes::from_string(text)?, feature, time)?)
+}
+
+#[test]
+fn ids_without_escapes_are_told_unread(rt: HostRuntime) -> Result<(), Fail> {
+    for (text, id, told) in IDS {
+        let feature = feature(rt.alloc(), text)?;
+        let packed = packed(rt.alloc(), &feature)?;
+        let wanted = if *told { Some(id.as_bytes()) } else { None };
+        assert_eq!(rt; packed.unescaped_id(), wanted, "at {text}");
+        let unpacked = packed.unpack(rt.alloc())?;
+        assert_eq!(rt; unpacked.id(), *id, "at {text}");
+        assert!(rt; unpacked.time() == feature.time(), "at {text}");
+    }
+    Ok(())
+}
+
+/// A feature with a geometry of each kind, as it is written.
+const STREET: &str =
+    r#"{"geometry":{"geometries":[{"coordinates":[1,2,3],"type":"Point"},{"coordinates":[[1,2],[3,4]],"type":"MultiPoint"},{"coordinates":[[1,2],[3,4]],"type":"LineString"},{"coordinates":[[[1,2],[3,4]],[[5,6],[7,8]]],"type":"MultiLineString"},{"coordinates":[[[0,0],[9,0],[9,9],[0,0]]],"type":"Polygon"},{"coordinates":[[[[0,0],[9,0],[9,9],[0,0]],[[5,2],[7,4],[7,2],[5,2]]]],"type":"MultiPolygon"}],"type":"GeometryCollection"},"id":"s","properties":{"a":[1,{"b":null}],"when":"1970-01-01"},"type":"Feature"}"#;
+
+#[test]
+fn copies_are_equal(rt: HostRuntime) -> Result<(), Fail> {
+    let read = feature(rt.alloc(), STREET)?;
+    let copy = read.copy(rt.alloc())?;
+    assert_eq!(rt; written(rt.alloc(), &copy)?.as_str(), STREET);
+    assert!(rt; copy.time().is_some() && copy.time() == read.time());
+    Ok(())
+}
+
+/// A feature with a time, a property that is no text, and one that is an empty interval.
+const DATED: &str =
+    r#"{"geometry":null,"id":"1","properties":{"b":7,"c":"1970-01-02T00:00:00Z/1970-01-01T00:00:00Z","when":"1970-01-01"},"type":"Feature"}"#;
+
+#[test]
+fn a_refused_time_changes_nothing(rt: HostRuntime) -> Result<(), Fail> {
+    let mut dated = feature(rt.alloc(), DATED)?;
+    let time = dated.time();
+    for (name, fault) in [("b", TimeFault::BadTime), ("c", TimeFault::EmptyInterval)] {
+        assert_eq!(rt; dated.timed(Some(name)), Err(fault), "at {name}");
+        assert!(rt; dated.time().is_some() && dated.time() == time, "at {name}");
+    }
+    assert_eq!(rt; written(rt.alloc(), &dated)?.as_str(), DATED);
+    Ok(())
+}
