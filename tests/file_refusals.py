@@ -6,8 +6,9 @@ memory, and leave a file that opens with no collection where it told that it mad
 
 Each run begins with a copy of the same file, and is asked for a page, for which the index is learnt, a batch of three edits, which
 the index follows, the page again, and a feature. It must answer as with memory, or a beginning of that and then the 503 or 500 that
-closes the connection, or end for want of memory before; one of many clients may be let go behind any answer. Opened again with memory, the file must hold the state before the batch or
-the one behind it, and the latter where its 200 was begun. `tests/out/refuse.so` is made of `tests/refuse.c`, as `make refusals` does.
+closes the connection, or end for want of memory before; one of many clients may be let go behind any answer. Opened again with
+memory, the file must hold the state before the batch or the one behind it, and the latter where its 200 was begun.
+`tests/out/refuse.so` is made of `tests/refuse.c`, as `make refusals` does.
 """
 import contextlib
 import json
@@ -46,16 +47,19 @@ PAGE = get("/collections/lamps/items?bbox=0,0,9,9&datetime=2024-05-01T12:00:00Z"
 ASKED = PAGE + BATCH + PAGE + get("/collections/lamps/items/L9")
 
 
+def refusing(number):
+    """The environment in which this one of a program's allocations is refused; 0 refuses none."""
+    return {**os.environ, "LD_PRELOAD": str(LIBRARY.resolve()), "REFUSE": str(number)}
+
+
 def run(program, path, stream, number=0):
-    environment = {**os.environ, "LD_PRELOAD": str(LIBRARY.resolve()), "REFUSE": str(number)}
-    return subprocess.run([program, "pipe", path], input=stream, capture_output=True, env=environment, timeout=60, check=False)
+    return subprocess.run([program, "pipe", path], input=stream, capture_output=True, env=refusing(number), timeout=60, check=False)
 
 
 def serve_one(program, path, stream, number=0):
     """Serves one client, who sends the stream and reads to the end."""
-    environment = {**os.environ, "LD_PRELOAD": str(LIBRARY.resolve()), "REFUSE": str(number)}
     words = [program, "serve", path, "--port", str(PORT), "--count", "1", "--clients", "4"]
-    server = subprocess.Popen(words, stdout=subprocess.PIPE, stderr=subprocess.PIPE, env=environment)
+    server = subprocess.Popen(words, stdout=subprocess.PIPE, stderr=subprocess.PIPE, env=refusing(number))
     got = b""
     if server.stdout.readline().startswith(b"listening"):
         with contextlib.suppress(OSError), socket.create_connection(("127.0.0.1", PORT), timeout=60) as client:
@@ -74,7 +78,8 @@ def begins_batch(got, whole):
 
 
 def ends_as_it_may(got, whole, lets_go):
-    """The answers are a beginning of those with memory, and then nothing or one that closes the connection; or the client was let go."""
+    """How the run ended, where it may: the answers are a beginning of those with memory, and then there is nothing, or one that
+    closes the connection, or the client was let go."""
     if got.stdout == whole.stdout and got.returncode == 0:
         return "as with memory"
     if got.returncode == 4 and not got.stdout and got.stderr.endswith(b"streetmap: memory\n"):
