@@ -65,12 +65,19 @@ fn ids_without_escapes_are_told_unread(rt: HostRuntime) -> Result<(), Fail> {
 const STREET: &str =
     r#"{"geometry":{"geometries":[{"coordinates":[1,2,3],"type":"Point"},{"coordinates":[[1,2],[3,4]],"type":"MultiPoint"},{"coordinates":[[1,2],[3,4]],"type":"LineString"},{"coordinates":[[[1,2],[3,4]],[[5,6],[7,8]]],"type":"MultiLineString"},{"coordinates":[[[0,0],[9,0],[9,9],[0,0]]],"type":"Polygon"},{"coordinates":[[[[0,0],[9,0],[9,9],[0,0]],[[5,2],[7,4],[7,2],[5,2]]]],"type":"MultiPolygon"}],"type":"GeometryCollection"},"id":"s","properties":{"a":[1,{"b":null}],"when":"1970-01-01"},"type":"Feature"}"#;
 
+/// The text of a copy of the feature that a text reads as, and whether it has the feature's time.
+fn copied(alloc: Global, text: &str) -> Result<(String, bool), Fail> {
+    let read = feature(alloc, text)?;
+    let copy = read.copy(alloc)?;
+    let is_timed = copy.time().is_some() && copy.time() == read.time();
+    Ok((written(alloc, &copy)?, is_timed))
+}
+
 #[test]
 fn copies_are_equal(rt: HostRuntime) -> Result<(), Fail> {
-    let read = feature(rt.alloc(), STREET)?;
-    let copy = read.copy(rt.alloc())?;
-    assert_eq!(rt; written(rt.alloc(), &copy)?.as_str(), STREET);
-    assert!(rt; copy.time().is_some() && copy.time() == read.time());
+    let (text, is_timed) = copied(rt.alloc(), STREET)?;
+    assert_eq!(rt; text.as_str(), STREET);
+    assert!(rt; is_timed);
     Ok(())
 }
 
