@@ -14,7 +14,7 @@ use Rattle.std.proofs.lemmas.List.Elements.{filter-append}
 use Rattle.streetmap_geojson.specs.FeatureValue.{FeatureValue}
 use Rattle.streetmap_batch.specs.Text.{Text, text_cmp}
 use Rattle.streetmap_ledger.specs.State.{Features}
-use Rattle.streetmap_ledger.specs.Outlines.{FeatureOutlineValue, feature_outline_of}
+use Rattle.streetmap_ledger.specs.Outlines.{feature_outline_of}
 use Rattle.streetmap_ledger.specs.OutlineView.{feature_outline_value, feature_outline_values}
 use Rattle.streetmap_ledger.specs.declared.outline.FeatureOutline.{FeatureOutline}
 use Rattle.streetmap_ledger.proofs.TextMaps.{one_text, first, second}
@@ -241,6 +241,17 @@ halved_at cs i old one behind within at n p q =
     let next : suc i ≡ i + 1 = omega arith in
     subst (λ m. joined (list.insert (set cs i one) m behind) ≡ joined cs) next
     (halved cs i old one behind within at (ap (λ xs. xs ++ behind.items) p ∙ (ap (λ xs. take n old.items ++ xs) q ∙ take-append-drop n old.items)))
+
+-- ---- an empty chunk that is dropped
+empty_is : (os : List FeatureOutline) → length os ≡ 0 → os ≡ []
+empty_is [] h = refl
+empty_is (o ∷ os) h = absurd (omega arith)
+
+pub shed_at : (cs : List Chunk) (i : ℕ) (c : Chunk) → i < length cs → c ≡ slice_index_or cs i c → length c.items ≡ 0 → joined (list.remove cs i) ≡ joined cs
+shed_at [] i c within at none = absurd (omega arith)
+shed_at (x ∷ []) zero c within at none = ap (λ xs. xs ++ []) (sym (empty_is x.items (ap (λ (y : Chunk). length y.items) (sym at) ∙ none)))
+shed_at (x ∷ (y ∷ cs)) zero c within at none = ap (λ xs. xs ++ joined (y ∷ cs)) (sym (empty_is x.items (ap (λ (z : Chunk). length z.items) (sym at) ∙ none)))
+shed_at (x ∷ cs) (suc i) c within at none = ap (λ xs. x.items ++ xs) (shed_at cs i c (omega arith) at none)
 
 -- ---- chunks that are cut off from the end of outlines, the last one first
 pub last_pushed : (cs ds : List Chunk) (last : Chunk) → ds ≡ cs ++ last ∷ [] → joined (reverse ds) ≡ last.items ++ joined (reverse cs)

@@ -107,6 +107,16 @@ impl Chunks {
         Ok(())
     }
 
+    /// Drops a chunk, if it is empty.
+    fn shed(&mut self, place: usize)
+        requires { place < length self.old.chunks.items }
+        ensures { joined self.new.chunks.items ≡ joined self.old.chunks.items }
+    {
+        if self.chunks[place].is_empty() {
+            drop(self.chunks.remove(place));
+        }
+    }
+
     /// Adds a chunk where there is none.
     fn begin(&mut self, alloc: Global) -> Result<(), AllocError>
         ensures same { OnOk result (joined self.new.chunks.items ≡ joined self.old.chunks.items) }
@@ -136,6 +146,7 @@ impl Chunks {
         let place = self.chunk_of(id);
         if place < self.chunks.len() {
             cut(&mut self.chunks[place], id);
+            self.shed(place);
         }
     }
 }
