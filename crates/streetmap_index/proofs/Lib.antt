@@ -5,3 +5,4 @@ pub mod Replies
 pub mod Steps
 pub mod Places
 pub mod Following
+pub mod InChunks

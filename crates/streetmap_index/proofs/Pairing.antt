@@ -1,5 +1,5 @@
 -- The outlines of a collection's features, in the order of their ids.
-use Rattle.std.proofs.Common.{◌≡◌, List, [], ◌∷◌, ◌++◌, T, cond, None, Some, map, refl, sym, ap, ◌∙◌, append_assoc, append-nil}
+use Rattle.std.proofs.Common.{◌≡◌, List, [], ◌∷◌, ◌++◌, T, cond, None, Some, map, refl, sym, ap, subst, ◌∙◌, append_assoc, append-nil}
 use Rattle.std.specs.List.{AllByRecursion}
 use Rattle.std.specs.Ordering.{is_eq}
 use Rattle.std.specs.declared.cmp.Ordering.{Ordering}
@@ -19,26 +19,14 @@ use Rattle.streetmap_ledger.specs.declared.outline.FeatureOutline.{FeatureOutlin
 use Rattle.streetmap_ledger.specs.Folds.{HoldsCandidates}
 use Rattle.streetmap_ledger.specs.declared.fold.PageFold.{PageFold}
 use Rattle.streetmap_ledger.proofs.TextMaps.{one_text, first, second, none_below}
-use Rattle.streetmap_index.specs.Index.{IsOutlineOf, AreOutlines}
+use Rattle.streetmap_index.specs.Index.{AreOutlines}
+use Rattle.streetmap_index.specs.Taking.{IsEntry, Pairs}
 
 -- a feature under its id, as a program can hold it
 pub record IsThere (features : Features) (id : Text) (f : FeatureValue) : Type 0 where
   pub named : f.id ≡ id
   pub made : IsFeature f
   pub there : get features id ≡ Some f
-
--- an outline, and the feature that it is of
-pub record IsEntry (features : Features) (o : FeatureOutline) (f : FeatureValue) : Type 0 where
-  pub known : IsOutlineOf o f
-  pub made : IsFeature f
-  pub there : get features f.id ≡ Some f
-
--- outlines and features, one by one
-abbrev pub Pairs : Features → List FeatureOutline → List FeatureValue → Type 0
-Pairs features [] [] = Unit {0}
-Pairs features [] (f ∷ fs) = ⊥
-Pairs features (o ∷ os) [] = ⊥
-Pairs features (o ∷ os) (f ∷ fs) = IsEntry features o f × Pairs features os fs
 
 -- ---- each entry is found under its key
 each_found : (P : Text → FeatureValue → Type 0) (es : List (Text × FeatureValue)) → T (is_sorted text_cmp es) → ((id : Text) (f : FeatureValue) → find text_cmp id es ≡ Some f → P id f) → AllByRecursion (λ e. P e.0 e.1) es
@@ -78,18 +66,18 @@ paired os c known holds =
 
 -- ---- a page as far as it is made
 
--- a page of the features met so far, and the outlines that are left
-pub record Going (q : QueryValue) (fold : PageFold) (features : Features) (rest : List FeatureOutline) : Type 0 where
+-- of all these features some were met, and the outlines of the others are left
+pub record Going (q : QueryValue) (fold : PageFold) (features : Features) (all : List FeatureValue) (rest : List FeatureOutline) : Type 0 where
   pub met : List FeatureValue
   pub left : List FeatureValue
-  pub whole : met ++ left ≡ values features
+  pub whole : met ++ left ≡ all
   pub pairs : Pairs features rest left
   pub holds : HoldsCandidates q fold met
 
-pub goes_on : (q : QueryValue) (old new : PageFold) (features : Features) (o : FeatureOutline) (rest : List FeatureOutline) → Going q old features (o ∷ rest)
-    → ((fs : List FeatureValue) (f : FeatureValue) → IsEntry features o f → HoldsCandidates q old fs → HoldsCandidates q new (fs ++ f ∷ [])) → Going q new features rest
-goes_on q old new features o rest going takes = by going.left going.whole going.pairs where
-  by : (left : List FeatureValue) → going.met ++ left ≡ values features → Pairs features (o ∷ rest) left → Going q new features rest
+pub goes_on : (q : QueryValue) (old new : PageFold) (features : Features) (all : List FeatureValue) (o : FeatureOutline) (rest : List FeatureOutline) → Going q old features all (o ∷ rest)
+    → ((fs : List FeatureValue) (f : FeatureValue) → IsEntry features o f → HoldsCandidates q old fs → HoldsCandidates q new (fs ++ f ∷ [])) → Going q new features all rest
+goes_on q old new features all o rest going takes = by going.left going.whole going.pairs where
+  by : (left : List FeatureValue) → going.met ++ left ≡ all → Pairs features (o ∷ rest) left → Going q new features all rest
   by [] whole pairs = absurd pairs
   by (f ∷ fs) whole pairs = record {
     met = going.met ++ f ∷ [];
@@ -99,9 +87,39 @@ goes_on q old new features o rest going takes = by going.left going.whole going.
     holds = takes going.met f pairs.0 going.holds;
   }
 
+-- the outlines in front and their features, and the others
+pub record Parted (features : Features) (front rest : List FeatureOutline) (fs : List FeatureValue) : Type 0 where
+  pub firsts : List FeatureValue
+  pub others : List FeatureValue
+  pub whole : firsts ++ others ≡ fs
+  pub first_pairs : Pairs features front firsts
+  pub other_pairs : Pairs features rest others
+
+parted : (features : Features) (front rest : List FeatureOutline) (fs : List FeatureValue) → Pairs features (front ++ rest) fs → Parted features front rest fs
+parted features [] rest fs pairs = record { firsts = []; others = fs; whole = refl; first_pairs = tt; other_pairs = pairs }
+parted features (o ∷ front) rest [] pairs = absurd pairs
+parted features (o ∷ front) rest (f ∷ fs) pairs =
+    let more = parted features front rest fs pairs.1 in
+    record { firsts = f ∷ more.firsts; others = more.others; whole = ap (λ xs. f ∷ xs) more.whole; first_pairs = (pairs.0, more.first_pairs); other_pairs = more.other_pairs }
+
+pub goes_on_behind : (q : QueryValue) (old new : PageFold) (features : Features) (all : List FeatureValue) (front rest : List FeatureOutline) → Going q old features all (front ++ rest)
+    → ((met fs : List FeatureValue) → Pairs features front fs → HoldsCandidates q old met → HoldsCandidates q new (met ++ fs)) → Going q new features all rest
+goes_on_behind q old new features all front rest going takes =
+    let parts = parted features front rest going.left going.pairs in
+    record {
+      met = going.met ++ parts.firsts;
+      left = parts.others;
+      whole = append_assoc going.met parts.firsts parts.others ∙ (ap (λ xs. going.met ++ xs) parts.whole ∙ going.whole);
+      pairs = parts.other_pairs;
+      holds = takes going.met parts.firsts parts.first_pairs going.holds;
+    }
+
 -- where no outline is left all features were met
-pub all_met : (q : QueryValue) (fold : PageFold) (features : Features) → (going : Going q fold features []) → going.met ≡ values features
-all_met q fold features going = by going.left going.whole going.pairs where
-  by : (left : List FeatureValue) → going.met ++ left ≡ values features → Pairs features [] left → going.met ≡ values features
+pub all_met : (q : QueryValue) (fold : PageFold) (features : Features) (all : List FeatureValue) → (going : Going q fold features all []) → going.met ≡ all
+all_met q fold features all going = by going.left going.whole going.pairs where
+  by : (left : List FeatureValue) → going.met ++ left ≡ all → Pairs features [] left → going.met ≡ all
   by [] whole pairs = sym (append-nil going.met) ∙ whole
   by (f ∷ fs) whole pairs = absurd pairs
+
+pub all_held : (q : QueryValue) (fold : PageFold) (features : Features) (all : List FeatureValue) → Going q fold features all [] → HoldsCandidates q fold all
+all_held q fold features all going = subst (HoldsCandidates q fold) (all_met q fold features all going) going.holds

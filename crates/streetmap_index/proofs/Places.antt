@@ -20,35 +20,35 @@ use Rattle.streetmap_ledger.specs.declared.outline.FeatureOutline.{FeatureOutlin
 use Rattle.streetmap_ledger.proofs.TextMaps.{one_text, first, second}
 use Rattle.streetmap_index.specs.Index.{IsOutlineOf, AreOutlines}
 
-abbrev Entries : Type 0
+abbrev pub Entries : Type 0
 Entries = List (Text × FeatureValue)
 
-abbrev outlines : Entries → List FeatureOutlineValue
+abbrev pub outlines : Entries → List FeatureOutlineValue
 outlines es = map (λ e. feature_outline_of e.0 e.1) es
 
 abbrev pub id_of : FeatureOutline → Text
 id_of o = string_bytes o.id
 
-head_is : (y : FeatureOutline) (ys : List FeatureOutline) (e : Text × FeatureValue) (es : Entries) → feature_outline_values (y ∷ ys) ≡ outlines (e ∷ es) → feature_outline_value y ≡ feature_outline_of e.0 e.1
+pub head_is : (y : FeatureOutline) (ys : List FeatureOutline) (e : Text × FeatureValue) (es : Entries) → feature_outline_values (y ∷ ys) ≡ outlines (e ∷ es) → feature_outline_value y ≡ feature_outline_of e.0 e.1
 head_is y ys e es is = cc
 
-tail_is : (y : FeatureOutline) (ys : List FeatureOutline) (e : Text × FeatureValue) (es : Entries) → feature_outline_values (y ∷ ys) ≡ outlines (e ∷ es) → feature_outline_values ys ≡ outlines es
+pub tail_is : (y : FeatureOutline) (ys : List FeatureOutline) (e : Text × FeatureValue) (es : Entries) → feature_outline_values (y ∷ ys) ≡ outlines (e ∷ es) → feature_outline_values ys ≡ outlines es
 tail_is y ys e es is = cc
 
-key_is : (y : FeatureOutline) (ys : List FeatureOutline) (e : Text × FeatureValue) (es : Entries) → feature_outline_values (y ∷ ys) ≡ outlines (e ∷ es) → id_of y ≡ e.0
+pub key_is : (y : FeatureOutline) (ys : List FeatureOutline) (e : Text × FeatureValue) (es : Entries) → feature_outline_values (y ∷ ys) ≡ outlines (e ∷ es) → id_of y ≡ e.0
 key_is y ys e es is = ap (λ (v : FeatureOutlineValue). v.id) (head_is y ys e es is)
 
-too_many : {A : Type 0} (e : Text × FeatureValue) (es : Entries) → feature_outline_values [] ≡ outlines (e ∷ es) → A
+pub too_many : {A : Type 0} (e : Text × FeatureValue) (es : Entries) → feature_outline_values [] ≡ outlines (e ∷ es) → A
 too_many e es is = absurd cc
 
-too_few : {A : Type 0} (y : FeatureOutline) (ys : List FeatureOutline) → feature_outline_values (y ∷ ys) ≡ outlines [] → A
+pub too_few : {A : Type 0} (y : FeatureOutline) (ys : List FeatureOutline) → feature_outline_values (y ∷ ys) ≡ outlines [] → A
 too_few y ys is = absurd cc
 
 -- ---- the order
-flip : (x y : Text) (r : Ordering) → text_cmp x y ≡ r → text_cmp y x ≡ ordering_reverse r
+pub flip : (x y : Text) (r : Ordering) → text_cmp x y ≡ r → text_cmp y x ≡ ordering_reverse r
 flip x y r e = nat_list_cmp_total.antisymm y x ∙ ap ordering_reverse e
 
-less : (r : Ordering) → T (is_lt r) → r ≡ Less
+pub less : (r : Ordering) → T (is_lt r) → r ≡ Less
 less Less h = refl
 less Equal h = absurd h
 less Greater h = absurd h
@@ -115,10 +115,10 @@ put_at (y ∷ ys) (e ∷ es) k v o (suc i) is up one place h =
     rw behind (ap (λ x. x ∷ feature_outline_values (set ys i o)) (head_is y ys e es is) ∙ ap (λ xs. feature_outline_of e.0 e.1 ∷ xs) rest)
 
 -- ---- without the entry under a key
-abbrev others : Text → Text → Bool
+abbrev pub others : Text → Text → Bool
 others k x = not (eq_by_cmp text_cmp k x)
 
-all_below : (k : Text) (es : Entries) → T (below_all text_cmp k es) → where_key text_cmp (others k) es ≡ es
+pub all_below : (k : Text) (es : Entries) → T (below_all text_cmp k es) → where_key text_cmp (others k) es ≡ es
 all_below k [] h = refl
 all_below k (e ∷ es) h =
     let off : text_cmp k e.0 ≡ Less = less _ (first _ _ h) in
@@ -152,7 +152,7 @@ turned Less x = refl
 turned Equal x = refl
 turned Greater x = refl
 
-entries_left : (features : Features) (k : Text) → entries (remove features k) ≡ where_key text_cmp (others k) (entries features)
+pub entries_left : (features : Features) (k : Text) → entries (remove features k) ≡ where_key text_cmp (others k) (entries features)
 entries_left features k =
     let es = entries features in
     let xs = where_key text_cmp (others k) es in

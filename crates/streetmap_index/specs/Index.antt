@@ -1,8 +1,9 @@
 -- What an index knows of collections without reading their features.
-use Rattle.std.specs.Prelude.{◌≡◌, List, [], map, Option, None, Some, String, string_bytes}
+use Rattle.std.specs.Prelude.{◌≡◌, List, [], map, Option, None, Some, String, string_bytes, Vec}
 use Rattle.std.specs.Option.{option_map}
 use Rattle.std.specs.Ordering.{is_eq}
 use Rattle.std.specs.Map.{lookup}
+use Rattle.std.specs.List.{flat_map}
 use Rattle.std.specs.FinMap.{get, entries}
 use Rattle.std.specs.BTreeMap.{BTreeMap}
 use Rattle.std.specs.declared.alloc.Global.{Global}
@@ -22,6 +23,10 @@ use Rattle.streetmap_index.specs.declared.outlined.OutlinedCollection.{OutlinedC
 abbrev pub IsOutlineOf : FeatureOutline → FeatureValue → Type 0
 IsOutlineOf o f = feature_outline_value o ≡ feature_outline_of f.id f
 
+-- the outlines of all chunks, those of each one behind those of the chunk before it
+abbrev pub joined : List (Vec FeatureOutline Global) → List FeatureOutline
+joined chunks = flat_map (λ chunk. chunk.items) chunks
+
 -- they are the outlines of these features, in byte order of ids
 abbrev pub AreOutlines : List FeatureOutline → Features → Type 0
 AreOutlines os features = feature_outline_values os ≡ map (λ e. feature_outline_of e.0 e.1) (entries features)
@@ -29,7 +34,7 @@ AreOutlines os features = feature_outline_values os ≡ map (λ e. feature_outli
 -- what is known of a collection is so
 pub record IsOutlined (o : OutlinedCollection) (c : Collection) : Type 0 where
   pub time : option_map string_bytes o.time ≡ c.time
-  pub outlines : AreOutlines o.outlines.items c.features
+  pub outlines : AreOutlines (joined o.outlines.chunks.items) c.features
 
 -- and the collection is there
 abbrev pub IsOutlinedIf : OutlinedCollection → Option Collection → Type 0

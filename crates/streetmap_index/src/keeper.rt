@@ -57,7 +57,7 @@ impl<K: Keeper> IndexedKeeper<K> {
         ensures reopen { IsErrOf result Fault.Reopen → AsBefore (K.stands self.old.keeper) (K.stands self.new.keeper) (K.may_leave self.old.keeper) (K.may_leave self.new.keeper) }
         ensures unlearnt { IsErr result → self.new.index ≡ self.old.index }
     {
-        match learn(&mut self.keeper, collection) {
+        match learn(self.alloc, &mut self.keeper, collection) {
             Ok(Some(outlined)) => {
                 keep(self.alloc, &mut self.index, collection, outlined);
                 Ok(())

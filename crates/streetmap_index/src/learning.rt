@@ -4,12 +4,15 @@ ghost use Rattle.streetmap_ledger.specs.State.{State};
 ghost use Rattle.streetmap_ledger.specs.Keep.{Looks, LeavesOnly, ShutsBy, AsBefore};
 ghost use Rattle.streetmap_index.specs.Index.{Learns, LearnsUnder};
 
+use crate::chunks::Chunks;
 use crate::outlined::OutlinedCollection;
+use std::alloc::Global;
 use streetmap_ledger::{Fault, Keeper};
 
 /// The outlines of an open keeper's collection, beside the property that the times are read from; none
 /// where the collection is not there, or memory for them is refused.
 fn learn_outlines<K: Keeper>(
+    alloc: Global,
     keeper: &mut K,
     collection: &str,
     time: Option<String>,
@@ -21,10 +24,10 @@ fn learn_outlines<K: Keeper>(
     ensures leaves { K.is_clean keeper.new → (s : State) → K.stands keeper.old s → LeavesOnly (K.may_leave keeper.old) (Some s) → LeavesOnly (K.may_leave keeper.new) (Some s) }
 {
     match keeper.outlines(collection) {
-        Ok(Some(mut outlines)) => {
-            outlines.shrink_to_fit();
-            Ok(Some(OutlinedCollection { time, outlines }))
-        }
+        Ok(Some(outlines)) => match Chunks::new(alloc, outlines) {
+            Ok(outlines) => Ok(Some(OutlinedCollection { time, outlines })),
+            Err(_) => Ok(None),
+        },
         Ok(None) => Ok(None),
         Err(Fault::Memory) => Ok(None),
         Err(fault) => Err(fault),
@@ -33,6 +36,7 @@ fn learn_outlines<K: Keeper>(
 
 /// What is known of a collection; none where it is not there, or memory for it is refused.
 pub fn learn<K: Keeper>(
+    alloc: Global,
     keeper: &mut K,
     collection: &str,
 ) -> Result<Option<OutlinedCollection>, Fault>
@@ -43,7 +47,7 @@ pub fn learn<K: Keeper>(
     ensures reopen { IsErrOf result Fault.Reopen → AsBefore (K.stands keeper.old) (K.stands keeper.new) (K.may_leave keeper.old) (K.may_leave keeper.new) }
 {
     match keeper.collection(collection) {
-        Ok(Some(summary)) => learn_outlines(keeper, collection, summary.time),
+        Ok(Some(summary)) => learn_outlines(alloc, keeper, collection, summary.time),
         Ok(None) => Ok(None),
         Err(Fault::Memory) => Ok(None),
         Err(fault) => Err(fault),

@@ -8,10 +8,12 @@
 //! forgotten where a batch has many edits or memory is refused, and the next page learns it again. A fault that
 //! shuts the other keeper leaves nothing known. Where a collection is not known the other keeper answers.
 //!
-//! In the order of reading: `outlined` (what is known of a collection, and how it follows edits), `learning`
-//! (how it is learnt from a keeper), `index` (what is known of some collections), `selection` and `page`, `keeper`.
+//! In the order of reading: `chunks` (outlines in chunks, where an edit moves few of them), `outlined` (what is
+//! known of a collection, and how it follows edits), `learning` (how it is learnt from a keeper), `index` (what is
+//! known of some collections), `selection` and `page`, `keeper`.
 #![tactic(auto)]
 
+mod chunks;
 mod index;
 mod keeper;
 mod learning;

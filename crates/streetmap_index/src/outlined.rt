@@ -1,15 +1,14 @@
 //! What is known of a collection without reading its features, and how it follows edits.
-ghost use Rattle.std.specs.Prelude.{◌≡◌, Ok, IfOk, OnOk, length, string_bytes};
+ghost use Rattle.std.specs.Prelude.{◌≡◌, Ok, IfOk, OnOk};
 ghost use Rattle.std.specs.Option.{option_map};
-ghost use Rattle.std.specs.FinMap.{get, insert, remove};
-ghost use Rattle.std.specs.List.Sorted.{IsSearchInRange, IsBinarySearchResult};
+ghost use Rattle.std.specs.FinMap.{get, insert};
 ghost use Rattle.streetmap_moment.specs.Views.{interval_value};
 ghost use Rattle.streetmap_geojson.specs.FeatureValue.{FeatureValue, retimed};
-ghost use Rattle.streetmap_batch.specs.Text.{text_cmp};
 ghost use Rattle.streetmap_batch.specs.BatchView.{edit_value};
-ghost use Rattle.streetmap_ledger.specs.State.{State, Collection, Features, timed, step};
-ghost use Rattle.streetmap_index.specs.Index.{IsOutlineOf, AreOutlines, IsOutlined, IsOutlinedIf, collection_of};
+ghost use Rattle.streetmap_ledger.specs.State.{State, Collection, timed, step};
+ghost use Rattle.streetmap_index.specs.Index.{IsOutlineOf, IsOutlined, IsOutlinedIf, collection_of};
 
+use crate::chunks::Chunks;
 use std::alloc::{AllocError, Global};
 use streetmap_batch::Edit;
 use streetmap_geojson::Feature;
@@ -20,36 +19,7 @@ use streetmap_moment::Interval;
 #[derive(Drop)]
 pub struct OutlinedCollection {
     pub time: Option<String>,
-    /// In byte order of ids.
-    pub outlines: Vec<FeatureOutline>,
-}
-
-/// Where the outline under an id stands among others in byte order of ids, or where it would stand.
-fn place_of(outlines: &[FeatureOutline], id: &str) -> Result<usize, usize>
-    ensures bound { IsSearchInRange result (length outlines.now) }
-    ensures place { IsBinarySearchResult (λ o. text_cmp (string_bytes o.id) id.now) outlines.now result }
-{
-    outlines.binary_search_by(|outline| outline.id.as_str().cmp(id))
-}
-
-/// Puts an outline among others in byte order of ids, in place of the one under its id, if there is one.
-fn put(outlines: &mut Vec<FeatureOutline>, outline: FeatureOutline) -> Result<(), AllocError>
-    ensures { (features : Features) (f : FeatureValue) → AreOutlines outlines.old.items features → IsOutlineOf outline f → OnOk result (AreOutlines outlines.new.items (insert features f.id f)) }
-{
-    match place_of(outlines.as_slice(), outline.id.as_str()) {
-        Ok(place) => outlines[place] = outline,
-        Err(place) => outlines.insert(place, outline)?,
-    }
-    Ok(())
-}
-
-/// Takes the outline under an id out, if there is one.
-fn cut(outlines: &mut Vec<FeatureOutline>, id: &str)
-    ensures { (features : Features) → AreOutlines outlines.old.items features → AreOutlines outlines.new.items (remove features id.now) }
-{
-    if let Ok(place) = place_of(outlines.as_slice(), id) {
-        let _ = outlines.remove(place);
-    }
+    pub outlines: Chunks,
 }
 
 /// The outline of a feature that has this time.
@@ -69,7 +39,7 @@ impl OutlinedCollection {
         ensures { (c : Collection) (g : FeatureValue) → IsOutlined self.old c → timed c.time feature.now ≡ Ok g → OnOk result (IsOutlined self.new (record c { features = insert c.features g.id g })) }
     {
         match feature.time_under(self.time.as_deref()) {
-            Ok(time) => put(&mut self.outlines, outline_of(alloc, feature, time)?),
+            Ok(time) => self.outlines.put(alloc, outline_of(alloc, feature, time)?),
             Err(_) => Ok(()),
         }
     }
@@ -83,7 +53,7 @@ impl OutlinedCollection {
             Edit::Insert { feature, .. } => self.put(alloc, feature),
             Edit::Replace { feature, .. } => self.put(alloc, feature),
             Edit::Delete { id, .. } => {
-                cut(&mut self.outlines, id.as_str());
+                self.outlines.cut(id.as_str());
                 Ok(())
             }
         }

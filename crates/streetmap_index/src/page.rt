@@ -8,8 +8,8 @@ ghost use Rattle.streetmap_ledger.specs.State.{State};
 ghost use Rattle.streetmap_ledger.specs.Pages.{is_candidate as is_candidate_of};
 ghost use Rattle.streetmap_ledger.specs.Folds.{Holds, HoldsCandidates};
 ghost use Rattle.streetmap_ledger.specs.Keep.{Looks, Shows, LeavesOnly, ShutsBy, AsBefore};
-ghost use Rattle.streetmap_index.specs.Index.{IsOutlineOf, IsOutlinedIf};
-ghost use Rattle.streetmap_index.specs.Taking.{TakesRead, IsOutlinedPage};
+ghost use Rattle.streetmap_index.specs.Index.{joined, IsOutlineOf, IsOutlinedIf};
+ghost use Rattle.streetmap_index.specs.Taking.{TakesRead, TakesOutlined, IsOutlinedPage};
 
 use crate::outlined::OutlinedCollection;
 use crate::selection::{comes_after, is_candidate, is_selected};
@@ -70,32 +70,65 @@ fn take_read<K: Keeper>(
     }
 }
 
+/// Takes the features with these outlines, which come next, and answers whether it did: not where one of them
+/// is not there, or one more than `MOST_READ` would have to be read. `read` counts those that were read.
+fn take_outlined<K: Keeper>(
+    keeper: &mut K,
+    collection: &str,
+    outlines: &[FeatureOutline],
+    query: &Query,
+    fold: &mut PageFold<'_>,
+    read: &mut usize,
+) -> Result<bool, Fault>
+    requires is_open { K.cause keeper.old ≡ None }
+    ensures began_clean { K.is_clean keeper.new → K.is_clean keeper.old }
+    ensures faults { ShutsBy result None (K.cause keeper.new) }
+    ensures takes { K.is_clean keeper.new → (s : State) → K.stands keeper.old s → Looks s (TakesOutlined s collection.now (query_value query.now) outlines.now fold.old fold.new) result (K.stands keeper.new) }
+    ensures leaves { K.is_clean keeper.new → (s : State) → K.stands keeper.old s → LeavesOnly (K.may_leave keeper.old) (Some s) → LeavesOnly (K.may_leave keeper.new) (Some s) }
+{
+    for outline in outlines {
+        if take_unread(query, fold, outline) {
+            continue;
+        }
+        if *read == MOST_READ {
+            return Ok(false);
+        }
+        *read = read.saturating_add(1);
+        match take_read(keeper, collection, outline.id.as_str(), fold) {
+            Ok(true) => {}
+            Ok(false) => return Ok(false),
+            Err(fault) => return Err(fault),
+        }
+    }
+    Ok(true)
+}
+
 /// The page of an open keeper's collection by the outlines of its features; none where one of these is not
 /// there, or more than `MOST_READ` would have to be read.
 fn page_by_outlines<K: Keeper>(
     alloc: Global,
     keeper: &mut K,
     collection: &str,
-    outlines: &[FeatureOutline],
+    chunks: &[Vec<FeatureOutline>],
     query: &Query,
 ) -> Result<Option<Page>, Fault>
     requires is_open { K.cause keeper.old ≡ None }
     ensures began_clean { K.is_clean keeper.new → K.is_clean keeper.old }
     ensures faults { ShutsBy result None (K.cause keeper.new) }
-    ensures shows { K.is_clean keeper.new → (s : State) → K.stands keeper.old s → Looks s (IsOutlinedPage s collection.now (query_value query.now) outlines.now) result (K.stands keeper.new) }
+    ensures shows { K.is_clean keeper.new → (s : State) → K.stands keeper.old s → Looks s (IsOutlinedPage s collection.now (query_value query.now) (joined chunks.now)) result (K.stands keeper.new) }
     ensures leaves { K.is_clean keeper.new → (s : State) → K.stands keeper.old s → LeavesOnly (K.may_leave keeper.old) (Some s) → LeavesOnly (K.may_leave keeper.new) (Some s) }
 {
     let mut fold = PageFold::new(alloc, query);
     let mut read: usize = 0;
-    for outline in outlines {
-        if take_unread(query, &mut fold, outline) {
-            continue;
-        }
-        if read == MOST_READ {
-            return Ok(None);
-        }
-        read = read.saturating_add(1);
-        match take_read(keeper, collection, outline.id.as_str(), &mut fold) {
+    for chunk in chunks {
+        match take_outlined(
+            keeper,
+            collection,
+            chunk.as_slice(),
+            query,
+            &mut fold,
+            &mut read,
+        ) {
             Ok(true) => {}
             Ok(false) => return Ok(None),
             Err(fault) => return Err(fault),
@@ -141,7 +174,7 @@ pub fn page_with<K: Keeper>(
                 alloc,
                 keeper,
                 collection,
-                outlined.outlines.as_slice(),
+                outlined.outlines.chunks.as_slice(),
                 query,
             ) {
                 Ok(Some(page)) => Ok(Some(page)),

@@ -1,29 +1,22 @@
-use Rattle.std.proofs.Common.{◌≡◌, ◌<◌, ◌+◌, ℕ, List, [], ◌∷◌, Some, length, drop, get_or, ap, sym, subst, refl, ◌∙◌, arith}
-use Rattle.std.specs.Option.{option_and_then}
-use Rattle.std.specs.FinMap.{get, values}
+use Rattle.std.proofs.Common.{◌≡◌, ◌<◌, ◌+◌, ℕ, List, [], ◌++◌, length, drop, get_or, ap, sym, subst, refl, ◌∙◌, arith, Vec}
+use Rattle.std.specs.FinMap.{values}
+use Rattle.std.specs.declared.alloc.Global.{Global}
 use Rattle.std.proofs.lemmas.List.{drop_more, drop_all}
-use Rattle.streetmap_geojson.specs.FeatureValue.{FeatureValue}
 use Rattle.streetmap_query.specs.Views.{query_value}
-use Rattle.streetmap_batch.specs.Text.{Text}
-use Rattle.streetmap_ledger.specs.State.{State, Collection}
-use Rattle.streetmap_ledger.specs.Pages.{candidates, page_over, feature_in}
-use Rattle.streetmap_ledger.specs.Folds.{Holds}
-use Rattle.streetmap_ledger.specs.Outlines.{FeatureOutlineValue}
+use Rattle.streetmap_ledger.specs.Pages.{candidates, page_over}
 use Rattle.streetmap_ledger.specs.declared.outline.FeatureOutline.{FeatureOutline}
-use Rattle.streetmap_ledger.proofs.Examining.{taken, same_page}
-use Rattle.streetmap_index.proofs.Pairing.{Going, paired, goes_on, all_met}
+use Rattle.streetmap_ledger.proofs.Examining.{same_page}
+use Rattle.streetmap_index.specs.Index.{joined}
+use Rattle.streetmap_index.proofs.Pairing.{Going, paired, goes_on_behind, all_met}
 use Rattle.streetmap_index.proofs.page.page_by_outlines.Goals as goal
 
--- a feature of a collection that is there
-found : (s : State) (name id : Text) (d : Collection) (f : FeatureValue) → get s.collections name ≡ Some d → id ≡ f.id → get d.features f.id ≡ Some f → feature_in s name id ≡ Some f
-found s name id d f there is has = ap (option_and_then (λ (c : Collection). get c.features id)) there ∙ (ap (get d.features) is ∙ has)
+-- the chunk that comes next
+turn : (cs : List (Vec FeatureOutline Global)) (i : ℕ) (c : Vec FeatureOutline Global) (os : List FeatureOutline) → i < length cs → c ≡ get_or cs i c → os ≡ c.items → joined (drop i cs) ≡ os ++ joined (drop (i + 1) cs)
+turn cs i c os within is items =
+    ap joined (drop_more cs i c within) ∙ (ap (λ (x : Vec FeatureOutline Global). x.items ++ joined (drop (i + 1) cs)) (sym is) ∙ ap (λ xs. xs ++ joined (drop (i + 1) cs)) (sym items))
 
--- the outline that comes next
-turn : (os : List FeatureOutline) (i : ℕ) (o : FeatureOutline) → i < length os → o ≡ get_or os i o → drop i os ≡ o ∷ drop (i + 1) os
-turn os i o within is = drop_more os i o within ∙ ap (λ (x : FeatureOutline). x ∷ drop (i + 1) os) (sym is)
-
-pub loop-outline-init : goal.loop-outline-init
-loop-outline-init g c = record {
+pub loop-chunk-init : goal.loop-chunk-init
+loop-chunk-init g c = record {
   is_open = c.requires.is_open;
   clean = λ h. h;
   stands = λ h s e. e;
@@ -34,72 +27,50 @@ loop-outline-init g c = record {
         met = [];
         left = values d.features;
         whole = refl {a = values d.features};
-        pairs = paired c.args.outlines.now d known (sound.made _ d there).holds;
+        pairs = paired (joined c.args.chunks.now) d known (sound.made _ d there).holds;
         holds = record { holds = c.new-fold.ensures; whole = refl {a = []} };
       };
 }
 
-pub loop-outline-preserved-then-take_unread : goal.loop-outline-preserved-then-take_unread
-loop-outline-preserved-then-take_unread g c =
-    let inv = c.loop-outline.invariant in
-    let q = query_value c.args.query.now in
-    let os = c.args.outlines.now in
-    let i = c.loop-outline.outline-index in
-    let o = c.outline-item.result in
-    record {
-      is_open = inv.is_open;
-      clean = inv.clean;
-      stands = inv.stands;
-      leaves = inv.leaves;
-      going = λ h s d e there known.
-          goes_on q c.loop-outline.fold c.take_unread.new.fold d.features o (drop (i + 1) os) (subst (Going q c.loop-outline.fold d.features) (turn os i o (omega arith) c.outline-item.is) (inv.going h s d e there known))
-          (λ fs f entry held. c.take_unread.ensures.taken c.if-take_unread.true fs f entry.known entry.made held);
-    }
-
-pub loop-outline-preserved : goal.loop-outline-preserved
-loop-outline-preserved g c =
-    let inv = c.loop-outline.invariant in
+pub loop-chunk-preserved : goal.loop-chunk-preserved
+loop-chunk-preserved g c =
+    let inv = c.loop-chunk.invariant in
     let says = c.in-Ok-true.ensures in
     let q = query_value c.args.query.now in
-    let os = c.args.outlines.now in
-    let i = c.loop-outline.outline-index in
-    let o = c.outline-item.result in
+    let cs = c.args.chunks.now in
+    let i = c.loop-chunk.chunk-index in
+    let os = c.as_slice.result.now in
     record {
       is_open = says.faults.1;
       clean = λ h. inv.clean (says.began_clean h);
       stands = λ h s e. (says.takes h s (inv.stands (says.began_clean h) s e)).1;
       leaves = λ h s e only. says.leaves h s (inv.stands (says.began_clean h) s e) (inv.leaves (says.began_clean h) s e only);
       going = λ h s d e there known.
-          goes_on q c.loop-outline.fold c.take_read.new.fold d.features o (drop (i + 1) os) (subst (Going q c.loop-outline.fold d.features) (turn os i o (omega arith) c.outline-item.is) (inv.going (says.began_clean h) s d e there known))
-          (λ fs f entry held.
-          let asks = held.holds.asks in
-          let candidate = c.take_unread.ensures.candidate c.if-take_unread.false f entry.known in
-          let same = c.take_unread.ensures.unchanged c.if-take_unread.false in
-          let id = ap (λ (v : FeatureOutlineValue). v.id) entry.known in
-          let takes = ((says.takes h s (inv.stands (says.began_clean h) s e)).0 f (found s _ _ d f there (c.as_str.ensures.value ∙ id) entry.there)).1 q (candidates q fs) in
-          taken q c.take_read.new.fold fs f candidate held.whole (takes (subst (λ fold. Holds q fold (candidates q fs)) (sym same) held.holds)));
+          goes_on_behind q c.loop-chunk.fold c.take_outlined.new.fold d.features (values d.features) os (joined (drop (i + 1) cs))
+          (subst (Going q c.loop-chunk.fold d.features (values d.features)) (turn cs i c.chunk-item.result os (omega arith) c.chunk-item.is c.as_slice.ensures.value) (inv.going (says.began_clean h) s d e there known))
+          (λ met fs pairs held. (says.takes h s (inv.stands (says.began_clean h) s e)).0 c.in-Ok-true.field-0-test d met fs there pairs held);
     }
 
 pub returns-in-Ok-false-clause-leaves : goal.returns-in-Ok-false-clause-leaves
 returns-in-Ok-false-clause-leaves g c = λ h s e only.
-    let inv = c.loop-outline.invariant in
+    let inv = c.loop-chunk.invariant in
     let says = c.in-Ok-false.ensures in
     says.leaves h s (inv.stands (says.began_clean h) s e) (inv.leaves (says.began_clean h) s e only)
 
 pub returns-in-Err-clause-leaves : goal.returns-in-Err-clause-leaves
 returns-in-Err-clause-leaves g c = λ h s e only.
-    let inv = c.loop-outline.invariant in
+    let inv = c.loop-chunk.invariant in
     let says = c.in-Err.ensures in
     says.leaves h s (inv.stands (says.began_clean h) s e) (inv.leaves (says.began_clean h) s e only)
 
 pub returns-in-Ok-clause-shows : goal.returns-in-Ok-clause-shows
 returns-in-Ok-clause-shows g c = λ h s e.
-    let inv = c.loop-outline.invariant in
+    let inv = c.loop-chunk.invariant in
     let q = query_value c.args.query.now in
-    let os = c.args.outlines.now in (
+    let cs = c.args.chunks.now in (
       λ d there known.
-          let going = subst (Going q c.loop-outline.fold d.features) (drop_all c.loop-outline.outline-index os (omega arith)) (inv.going h s d e there known) in
-          let cs = candidates q going.met in
-          c.in-Ok.ensures q cs going.holds.holds ∙ (same_page q (length cs) cs going.met going.holds.whole ∙ ap (page_over q) (all_met q c.loop-outline.fold d.features going)),
+          let going = subst (Going q c.loop-chunk.fold d.features (values d.features)) (ap joined (drop_all c.loop-chunk.chunk-index cs (omega arith))) (inv.going h s d e there known) in
+          let met = candidates q going.met in
+          c.in-Ok.ensures q met going.holds.holds ∙ (same_page q (length met) met going.met going.holds.whole ∙ ap (page_over q) (all_met q c.loop-chunk.fold d.features (values d.features) going)),
       inv.stands h s e,
     )

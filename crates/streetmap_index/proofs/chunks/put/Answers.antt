@@ -1,5 +1,5 @@
 use Rattle.streetmap_index.proofs.Places.{put_in_place, put_in_gap}
-use Rattle.streetmap_index.proofs.outlined.put.Goals as goal
+use Rattle.streetmap_index.proofs.chunks.put.Goals as goal
 
 pub returns-in-Ok : goal.returns-in-Ok
 returns-in-Ok c = λ features f known one.

@@ -1,5 +1,5 @@
 use Rattle.streetmap_index.proofs.Places.{cut_in_place, none_to_cut}
-use Rattle.streetmap_index.proofs.outlined.cut.Goals as goal
+use Rattle.streetmap_index.proofs.chunks.cut.Goals as goal
 
 pub returns-in-Ok : goal.returns-in-Ok
 returns-in-Ok c = λ features known.

@@ -1,0 +1,95 @@
+use Rattle.std.proofs.Common.{◌≡◌, ◌<◌, ◌+◌, ℕ, List, ◌∷◌, ◌++◌, Some, length, drop, get_or, ap, sym, subst, refl, ◌∙◌, arith}
+use Rattle.std.specs.Option.{option_and_then}
+use Rattle.std.specs.FinMap.{get}
+use Rattle.std.proofs.lemmas.List.{drop_more, drop_all}
+use Rattle.streetmap_geojson.specs.FeatureValue.{FeatureValue}
+use Rattle.streetmap_query.specs.Views.{query_value}
+use Rattle.streetmap_batch.specs.Text.{Text}
+use Rattle.streetmap_ledger.specs.State.{State, Collection}
+use Rattle.streetmap_ledger.specs.Pages.{candidates, feature_in}
+use Rattle.streetmap_ledger.specs.Folds.{Holds}
+use Rattle.streetmap_ledger.specs.Outlines.{FeatureOutlineValue}
+use Rattle.streetmap_ledger.specs.declared.outline.FeatureOutline.{FeatureOutline}
+use Rattle.streetmap_ledger.proofs.Examining.{taken}
+use Rattle.streetmap_index.proofs.Pairing.{Going, goes_on, all_held}
+use Rattle.streetmap_index.proofs.page.take_outlined.Goals as goal
+
+-- a feature of a collection that is there
+found : (s : State) (name id : Text) (d : Collection) (f : FeatureValue) → get s.collections name ≡ Some d → id ≡ f.id → get d.features f.id ≡ Some f → feature_in s name id ≡ Some f
+found s name id d f there is has = ap (option_and_then (λ (c : Collection). get c.features id)) there ∙ (ap (get d.features) is ∙ has)
+
+-- the outline that comes next
+turn : (os : List FeatureOutline) (i : ℕ) (o : FeatureOutline) → i < length os → o ≡ get_or os i o → drop i os ≡ o ∷ drop (i + 1) os
+turn os i o within is = drop_more os i o within ∙ ap (λ (x : FeatureOutline). x ∷ drop (i + 1) os) (sym is)
+
+pub loop-outline-init : goal.loop-outline-init
+loop-outline-init g c = record {
+  is_open = c.requires.is_open;
+  clean = λ h. h;
+  stands = λ h s e. e;
+  leaves = λ h s e only. only;
+  going = λ h s d met fs e there pairs held. record { met = met; left = fs; whole = refl {a = met ++ fs}; pairs = pairs; holds = held };
+}
+
+pub loop-outline-preserved-then-take_unread : goal.loop-outline-preserved-then-take_unread
+loop-outline-preserved-then-take_unread g c =
+    let inv = c.loop-outline.invariant in
+    let q = query_value c.args.query.now in
+    let os = c.args.outlines.now in
+    let i = c.loop-outline.outline-index in
+    let o = c.outline-item.result in
+    record {
+      is_open = inv.is_open;
+      clean = inv.clean;
+      stands = inv.stands;
+      leaves = inv.leaves;
+      going = λ h s d met all e there pairs held.
+          goes_on q c.loop-outline.fold c.take_unread.new.fold d.features (met ++ all) o (drop (i + 1) os) (subst (Going q c.loop-outline.fold d.features (met ++ all)) (turn os i o (omega arith) c.outline-item.is) (inv.going h s d met all e there pairs held))
+          (λ fs f entry holds. c.take_unread.ensures.taken c.if-take_unread.true fs f entry.known entry.made holds);
+    }
+
+pub loop-outline-preserved : goal.loop-outline-preserved
+loop-outline-preserved g c =
+    let inv = c.loop-outline.invariant in
+    let says = c.in-Ok-true.ensures in
+    let q = query_value c.args.query.now in
+    let os = c.args.outlines.now in
+    let i = c.loop-outline.outline-index in
+    let o = c.outline-item.result in
+    record {
+      is_open = says.faults.1;
+      clean = λ h. inv.clean (says.began_clean h);
+      stands = λ h s e. (says.takes h s (inv.stands (says.began_clean h) s e)).1;
+      leaves = λ h s e only. says.leaves h s (inv.stands (says.began_clean h) s e) (inv.leaves (says.began_clean h) s e only);
+      going = λ h s d met all e there pairs held.
+          goes_on q c.loop-outline.fold c.take_read.new.fold d.features (met ++ all) o (drop (i + 1) os) (subst (Going q c.loop-outline.fold d.features (met ++ all)) (turn os i o (omega arith) c.outline-item.is) (inv.going (says.began_clean h) s d met all e there pairs held))
+          (λ fs f entry before.
+          let asks = before.holds.asks in
+          let candidate = c.take_unread.ensures.candidate c.if-take_unread.false f entry.known in
+          let same = c.take_unread.ensures.unchanged c.if-take_unread.false in
+          let id = ap (λ (v : FeatureOutlineValue). v.id) entry.known in
+          let takes = ((says.takes h s (inv.stands (says.began_clean h) s e)).0 f (found s _ _ d f there (c.as_str.ensures.value ∙ id) entry.there)).1 q (candidates q fs) in
+          taken q c.take_read.new.fold fs f candidate before.whole (takes (subst (λ fold. Holds q fold (candidates q fs)) (sym same) before.holds)));
+    }
+
+pub returns-in-Ok-false-clause-leaves : goal.returns-in-Ok-false-clause-leaves
+returns-in-Ok-false-clause-leaves g c = λ h s e only.
+    let inv = c.loop-outline.invariant in
+    let says = c.in-Ok-false.ensures in
+    says.leaves h s (inv.stands (says.began_clean h) s e) (inv.leaves (says.began_clean h) s e only)
+
+pub returns-in-Err-clause-leaves : goal.returns-in-Err-clause-leaves
+returns-in-Err-clause-leaves g c = λ h s e only.
+    let inv = c.loop-outline.invariant in
+    let says = c.in-Err.ensures in
+    says.leaves h s (inv.stands (says.began_clean h) s e) (inv.leaves (says.began_clean h) s e only)
+
+pub returns-clause-takes : goal.returns-clause-takes
+returns-clause-takes g c = λ h s e.
+    let inv = c.loop-outline.invariant in
+    let q = query_value c.args.query.now in
+    let os = c.args.outlines.now in (
+      λ taken d met all there pairs held.
+          all_held q c.loop-outline.fold d.features (met ++ all) (subst (Going q c.loop-outline.fold d.features (met ++ all)) (drop_all c.loop-outline.outline-index os (omega arith)) (inv.going h s d met all e there pairs held)),
+      inv.stands h s e,
+    )
