@@ -1,0 +1,16 @@
+pub mod Compiles
+pub mod Seeing
+pub mod Stopping
+pub mod Rising
+pub mod RowCells
+pub mod Refusing
+pub mod Owning
+pub mod Placed
+pub mod Taking
+pub mod Simple
+pub mod Looked
+pub mod Found
+pub mod Only
+pub mod Shown
+pub mod OfState
+pub mod Serials

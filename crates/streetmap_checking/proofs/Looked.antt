@@ -1,0 +1,84 @@
+-- Looks, one after the other.
+use Rattle.std.proofs.Common.{◌≡◌, inl, inr, ℕ, List, [], ◌∷◌, ◌++◌, Ok, Err, Result, MatchResult, sym, subst}
+use Rattle.sqlite.specs.Order.{Row}
+use Rattle.sqlite.specs.State.{State as Seen, IsUnchanged}
+use Rattle.sqlite.proofs.Callers.{unchanged_then}
+use Rattle.streetmap_reading.specs.declared.fault.ReadFault.{ReadFault}
+use Rattle.streetmap_reading.specs.declared.fault.ReadFault.TheVariants.{Memory, Store, Unread}
+use Rattle.streetmap_checking.specs.Seeing.{IsSimple, Sees}
+use Rattle.streetmap_checking.specs.Folding.{Refuses, Stops}
+use Rattle.streetmap_checking.specs.Telling.{ShowsNone, TellsWhy, Looks, Known, SeesFeatures, SeesAllFeatures, SeesHeads, SeesOwners, SeesBatches, NoFeatures, NoFeaturesOfAll}
+use Rattle.streetmap_checking.specs.Good.{AreFeatureRows}
+use Rattle.streetmap_checking.specs.Statements.{select_features, select_owners, select_batches}
+use Rattle.streetmap_rows.specs.Statements.{select_collections}
+use Rattle.streetmap_checking.proofs.Simple.{features_simple, collections_simple, owners_simple, batches_simple}
+use Rattle.sqlite.specs.declared.types.Value.TheVariants.{Text as Words}
+use Rattle.streetmap_checking.proofs.Seeing.{unchanged_was, was_then, begins_there}
+use Rattle.streetmap_checking.proofs.Stopping.{sees_on, unseen_on}
+
+-- what a fold that stopped tells
+pub stopped : {F : Type 0} (Holds : F → F → List Row → Type 0) (IsGood : F → List Row → Type 0) (sql : List ℕ) (params : Row) (start : F) (Good : List Row → Type 0) → ((rows : List Row) → Good rows → IsGood start rows)
+    → (old new : Seen) (fault : ReadFault) → Stops Holds IsGood sql params start old new fault → TellsWhy (ShowsNone sql params Good old) old new fault
+stopped Holds IsGood sql params start Good good old new Memory h = h
+stopped Holds IsGood sql params start Good good old new Unread h = (inr (inl (h.0.0, h.0.1, λ later g. h.0.2 later (good (h.0.0 ++ later) g))), h.1)
+stopped Holds IsGood sql params start Good good old new (Store e) h = ((λ other. inl (h.0 other)), h.1)
+
+module _ (sql : List ℕ) (params : Row) (simple : IsSimple sql) (Good : List Row → Type 0) (a b : Seen) (same : IsUnchanged a b) (limit : b.step_limit ≡ a.step_limit) where
+  -- of a connection that was left as it was
+  pub none_on : ShowsNone sql params Good b → ShowsNone sql params Good a
+  none_on (inl h) = inl (unseen_on sql params simple a b same limit h)
+  none_on (inr (inl h)) = inr (inl (h.0, begins_there sql params simple b b a same.0.now_is h.0 h.1, h.2))
+  none_on (inr (inr h)) = inr (inr (h.0, sees_on sql params simple a b h.0 same h.1, h.2))
+
+-- a fault of a look behind another
+pub fault_on : (why first : Type 0) (a b c : Seen) (fault : ReadFault) → IsUnchanged a b → (first → why) → TellsWhy first b c fault → TellsWhy why a c fault
+fault_on why first a b c Memory same turn h = unchanged_then a b c same h
+fault_on why first a b c Unread same turn h = (turn h.0, unchanged_then a b c same h.1)
+fault_on why first a b c (Store e) same turn h = ((λ other. turn (h.0 other)), was_then a b c same h.1)
+
+-- a fault for another reason
+pub why_for : (why first : Type 0) (a b : Seen) (fault : ReadFault) → (first → why) → TellsWhy first a b fault → TellsWhy why a b fault
+why_for why first a b Memory turn h = h
+why_for why first a b Unread turn h = (turn h.0, h.1)
+why_for why first a b (Store e) turn h = ((λ other. turn (h.0 other)), h.1)
+
+-- a fault that was told by another
+pub handed : {A : Type 0} (Is : A → Type 0) (why : Type 0) (a c : Seen) (r : Result A ReadFault) (fault : ReadFault) → r ≡ Err fault → TellsWhy why a c fault → Looks Is why a c r
+handed Is why a c r fault is h = subst (Looks Is why a c) (sym is) h
+
+-- a fold that is the whole look
+pub looked : {F : Type 0} (Holds : F → F → List Row → Type 0) (IsGood : F → List Row → Type 0) (sql : List ℕ) (params : Row) (start after : F) (Good : List Row → Type 0) (Is : Type 0) (old new : Seen) (r : Result (Unit {0}) ReadFault)
+    → ((rows : List Row) → Good rows → IsGood start rows) → ((rows : List Row) → Sees sql params old rows → Holds start after rows → Is)
+    → MatchResult r (λ _. ((rows : List Row) × Sees sql params old rows × Holds start after rows) × IsUnchanged old new) (Stops Holds IsGood sql params start old new) → Looks (λ _. Is) (ShowsNone sql params Good old) old new r
+looked Holds IsGood sql params start after Good Is old new (Ok u) good is h = (is h.0.0 h.0.1 h.0.2, h.1)
+looked Holds IsGood sql params start after Good Is old new (Err fault) good is h = stopped Holds IsGood sql params start Good good old new fault h
+
+-- ---- what was told of a connection that was left as it was
+
+pub features_on : (head : Known) (count : ℕ) (a b : Seen) → IsUnchanged a b → SeesFeatures head count b → SeesFeatures head count a
+features_on head count a b same h = (h.0, sees_on select_features (Words head.0 ∷ []) features_simple a b h.0 same h.1, h.2, h.3)
+
+pub no_features_on : (head : Known) (a b : Seen) → IsUnchanged a b → b.step_limit ≡ a.step_limit → NoFeatures head b → NoFeatures head a
+no_features_on head a b same limit h = none_on select_features (Words head.0 ∷ []) features_simple (AreFeatureRows head.1) a b same limit h
+
+pub all_features_on : (heads : List Known) (count : ℕ) (a b : Seen) → IsUnchanged a b → SeesAllFeatures heads count b → SeesAllFeatures heads count a
+all_features_on [] count a b same h = h
+all_features_on (head ∷ heads) count a b same h = (h.0, h.1, features_on head h.0 a b same h.2, all_features_on heads h.1 a b same h.3, h.4)
+
+-- it gave up where nothing changed
+pub stopped_then : (why : Type 0) (old new : Seen) (fault : ReadFault) → IsUnchanged old new → Refuses ⊥ fault → TellsWhy why old new fault
+stopped_then why old new Memory same h = same
+stopped_then why old new Unread same h = absurd h
+stopped_then why old new (Store e) same h = ((λ other. absurd (other h)), unchanged_was old new same)
+
+pub no_features_all_on : (heads : List Known) (a b : Seen) → IsUnchanged a b → b.step_limit ≡ a.step_limit → NoFeaturesOfAll heads b → NoFeaturesOfAll heads a
+no_features_all_on heads a b same limit h = (h.0, h.1, no_features_on h.0 a b same limit h.2)
+
+pub heads_on : (heads : List Known) (a b : Seen) → IsUnchanged a b → SeesHeads heads b → SeesHeads heads a
+heads_on heads a b same h = (h.0, sees_on select_collections [] collections_simple a b h.0 same h.1, h.2, h.3)
+
+pub owners_on : (heads : List Known) (a b : Seen) → IsUnchanged a b → SeesOwners heads b → SeesOwners heads a
+owners_on heads a b same h = (h.0, sees_on select_owners [] owners_simple a b h.0 same h.1, h.2)
+
+pub batches_on : (count : ℕ) (a b : Seen) → IsUnchanged a b → SeesBatches count b → SeesBatches count a
+batches_on count a b same h = (h.0, sees_on select_batches [] batches_simple a b h.0 same h.1, h.2, h.3)

@@ -1,0 +1,12 @@
+-- Features that stand in their collection.
+use Rattle.std.proofs.Common.{◌≡◌, Option, refl, sym, subst}
+use Rattle.streetmap_geojson.specs.FeatureValue.{FeatureValue}
+use Rattle.streetmap_batch.specs.Text.{Text}
+use Rattle.streetmap_ledger.specs.WellFormed.{IsPlaced}
+use Rattle.streetmap_reading.specs.Candidates.{IsStored}
+
+pub stored_under : (p q : Option Text) (id : Text) (f : FeatureValue) → p ≡ q → IsPlaced q id f → IsStored p f
+stored_under p q id f same h = subst (λ o. IsStored o f) (sym same) (record { kept = h.is; timed = h.timed })
+
+pub placed_under : (p q : Option Text) (f : FeatureValue) → p ≡ q → IsStored p f → IsPlaced q f.id f
+placed_under p q f same h = subst (λ o. IsPlaced o f.id f) same (record { is = h.kept; named = refl; timed = h.timed })

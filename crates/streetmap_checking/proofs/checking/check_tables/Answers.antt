@@ -1,0 +1,34 @@
+use Rattle.std.proofs.Common.{ap}
+use Rattle.sqlite.specs.Held.{state}
+use Rattle.streetmap_opening.proofs.Stopping.{clean_back}
+use Rattle.streetmap_opening.proofs.Opened.{rests_same}
+use Rattle.streetmap_tables.specs.declared.failing.Stop.TheVariants.{Closed}
+use Rattle.streetmap_checking.proofs.Seeing.{unchanged_was}
+use Rattle.streetmap_checking.proofs.OfState.{totals_of, never_damaged, damaged_told, refused_told}
+use Rattle.streetmap_checking.proofs.checking.check_tables.Goals as goal
+
+pub returns-in-Ok-clause-same : goal.returns-in-Ok-clause-same
+returns-in-Ok-clause-same g c clean = unchanged_was _ _ (c.in-Ok.ensures.looks clean).1
+
+pub returns-in-Ok-clause-checks : goal.returns-in-Ok-clause-checks
+returns-in-Ok-clause-checks g c clean s rests =
+    let old = state g.S.Store c.args.conn.now in
+    let new = state g.S.Store c.look_at_all.new.conn in
+    let r = c.in-Ok.ensures.looks clean in
+    (totals_of old s rests c.in-Ok.totals r.0, rests_same old new s rests (unchanged_was old new r.1 rests.settled r.1.0.is_open) c.look_at_all.ensures.survives.limit r.1.0.is_open)
+
+pub returns-in-Err-Unread-clause-tells : goal.returns-in-Err-Unread-clause-tells
+returns-in-Err-Unread-clause-tells g c clean = damaged_told _ _ _ c.in-Err-Unread.field-0-is (c.in-Err-Unread.ensures.looks clean)
+
+pub returns-in-Err-Unread-clause-checks : goal.returns-in-Err-Unread-clause-checks
+returns-in-Err-Unread-clause-checks g c clean s rests = never_damaged (state g.S.Store c.args.conn.now) s rests (damaged_told _ _ _ c.in-Err-Unread.field-0-is (c.in-Err-Unread.ensures.looks clean))
+
+pub returns-in-Closed-Damaged-clause-tells : goal.returns-in-Closed-Damaged-clause-tells
+returns-in-Closed-Damaged-clause-tells g c clean =
+    let early = clean_back (state g.S.Store c.look_at_all.new.conn) (state g.S.Store c.settle.new.conn) _ c.settle.ensures.survives clean in
+    refused_told _ _ _ _ c.in-Err-Store.field-0-is (c.in-Err-Store.ensures.looks early) (c.in-Closed-Damaged.ensures.damaged.0 (ap (λ shut. Closed shut) c.in-Closed-Damaged.field-0-is))
+
+pub returns-in-Closed-Damaged-clause-checks : goal.returns-in-Closed-Damaged-clause-checks
+returns-in-Closed-Damaged-clause-checks g c clean s rests =
+    let early = clean_back (state g.S.Store c.look_at_all.new.conn) (state g.S.Store c.settle.new.conn) _ c.settle.ensures.survives clean in
+    never_damaged (state g.S.Store c.args.conn.now) s rests (refused_told _ _ _ _ c.in-Err-Store.field-0-is (c.in-Err-Store.ensures.looks early) (c.in-Closed-Damaged.ensures.damaged.0 (ap (λ shut. Closed shut) c.in-Closed-Damaged.field-0-is)))

@@ -1,0 +1,51 @@
+-- What a check of tables answers.
+use Rattle.std.specs.Prelude.{◌≡◌, ◌⊎◌, ◌+◌, ℕ, List, [], ◌∷◌, length, Result, Ok, Err, IsTrue}
+use Rattle.std.specs.FinMap.{len, entries}
+use Rattle.sqlite.specs.State.{State as Seen}
+use Rattle.streetmap_batch.specs.Text.{Text}
+use Rattle.streetmap_ledger.specs.State.{State, Collection}
+use Rattle.streetmap_tables.specs.Failing.{IsOfStore}
+use Rattle.streetmap_rows.specs.Keeping.{Rests}
+use Rattle.streetmap_checking.specs.Telling.{Known, SeesFormat, SeesHeads, SeesAllFeatures, SeesOwners, SeesBatches, NoFormat, NoHeads, NoFeaturesOfAll, NoOwners, NoBatches}
+use Rattle.streetmap_checking.specs.declared.checking.Totals.{Totals}
+use Rattle.streetmap_checking.specs.declared.checking.CheckFault.{CheckFault}
+use Rattle.streetmap_checking.specs.declared.checking.CheckFault.TheVariants.{Damaged, Device, Memory}
+
+-- the rows that are shown are good, and so many
+pub record ShowsTotals (totals : Totals) (seen : Seen) : Type 0 where
+  pub format : SeesFormat seen
+  pub heads : List Known
+  pub collections : SeesHeads heads seen
+  pub counted : totals.collections ≡ length heads
+  pub features : SeesAllFeatures heads totals.features seen
+  pub owners : SeesOwners heads seen
+  pub batches : SeesBatches totals.batches seen
+
+-- a statement is refused, or does not show good rows
+abbrev pub IsDamaged : Seen → Type 0
+IsDamaged seen = NoFormat seen ⊎ (NoHeads seen ⊎ (((heads : List Known) × SeesHeads heads seen × (NoFeaturesOfAll heads seen ⊎ NoOwners heads seen)) ⊎ NoBatches seen))
+
+-- What is answered is what the looks tell, whatever the tables are; but the store may fail, or memory be refused.
+abbrev pub ChecksBy : Seen → Result Totals CheckFault → Type 0
+ChecksBy seen (Ok totals) = ShowsTotals totals seen
+ChecksBy seen (Err Damaged) = IsDamaged seen
+ChecksBy seen (Err (Device e)) = IsOfStore e
+ChecksBy seen (Err Memory) = Unit {0}
+
+-- how many features there are in these collections
+abbrev pub feature_count : List (Text × Collection) → ℕ
+feature_count [] = 0
+feature_count (e ∷ es) = len e.1.features + feature_count es
+
+-- the numbers of a state
+pub record AreTotals (s : State) (totals : Totals) : Type 0 where
+  pub collections : totals.collections ≡ len s.collections
+  pub features : totals.features ≡ feature_count (entries s.collections)
+  pub batches : totals.batches ≡ len s.keys
+
+-- The tables of a state are never damaged: the numbers are its own, and the connection rests at it. But the store may fail, or memory be refused, which changes nothing.
+abbrev pub Checks : State → Seen → Seen → Result Totals CheckFault → Type 0
+Checks s old new (Ok totals) = AreTotals s totals × Rests new s
+Checks s old new (Err Memory) = Rests new s
+Checks s old new (Err (Device e)) = IsTrue new.is_open → Rests new s
+Checks s old new (Err Damaged) = ⊥

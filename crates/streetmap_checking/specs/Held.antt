@@ -1,0 +1,78 @@
+-- What is held of rows that were taken.
+use Rattle.std.specs.Prelude.{◌≡◌, ◌⊎◌, List, [], ◌∷◌, map, length, Option, None, Some, option_map, string_bytes, Vec}
+use Rattle.std.specs.declared.alloc.Global.{Global}
+use Rattle.std.specs.declared.cmp.Ordering.TheVariants.{Less}
+use Rattle.sqlite.specs.Order.{Row}
+use Rattle.streetmap_batch.specs.Text.{Text, text_cmp}
+use Rattle.streetmap_rows.specs.Rows.{batch_cells}
+use Rattle.streetmap_checking.specs.Good.{AreRowsOf, AreFormatRows, AreCollectionRows, AreFeatureRows, AreOwnerRows, IsAccepted, AreBatchRows, serials_of}
+use Rattle.streetmap_checking.specs.declared.formats.FormatRows.{FormatRows}
+use Rattle.streetmap_checking.specs.declared.collections.Head.{Head}
+use Rattle.streetmap_checking.specs.declared.features.FeatureRows.{FeatureRows}
+use Rattle.streetmap_checking.specs.declared.owners.OwnerRows.{OwnerRows}
+use Rattle.streetmap_checking.specs.declared.batches.BatchRows.{BatchRows}
+
+-- the last of the keys
+abbrev pub last_key : {V : Type 0} → List (Text × V) → Option Text
+last_key [] = None
+last_key (e ∷ []) = Some e.0
+last_key (e ∷ f ∷ es) = last_key (f ∷ es)
+
+-- a key stands behind the last
+abbrev pub Follows : Option Text → Text → Type 0
+Follows None key = Unit {0}
+Follows (Some last) key = text_cmp last key ≡ Less
+
+-- ---- the format
+
+abbrev pub HoldsFormat : FormatRows → FormatRows → List Row → Type 0
+HoldsFormat start now rows = ((rows ≡ []) × (now.found ≡ 0)) ⊎ (AreFormatRows rows × (now.found ≡ 1))
+
+abbrev pub IsGoodFormat : FormatRows → List Row → Type 0
+IsGoodFormat start rows = AreFormatRows rows
+
+-- ---- collections: the id and the time property of each
+
+abbrev pub known : List Head → List (Text × Option Text)
+known heads = map (λ h. (string_bytes h.id, option_map string_bytes h.time)) heads
+
+abbrev pub HoldsHeads : Vec Head Global → Vec Head Global → List Row → Type 0
+HoldsHeads start now rows = (are : AreCollectionRows rows) × (known now.items ≡ map (λ e. (e.0, e.1.time)) are.entries)
+
+abbrev pub IsGoodHeads : Vec Head Global → List Row → Type 0
+IsGoodHeads start rows = AreCollectionRows rows
+
+-- ---- features of a collection: the last id, and how many they are
+
+abbrev pub property_of : FeatureRows → Option Text
+property_of f = option_map string_bytes f.head.time
+
+pub record HoldsFeatures (start now : FeatureRows) (rows : List Row) : Type 0 where
+  pub head : now.head ≡ start.head
+  pub are : AreFeatureRows (property_of start) rows
+  pub last : option_map string_bytes now.last ≡ last_key are.entries
+  pub counted : now.count ≡ length are.entries
+
+abbrev pub IsGoodFeatures : FeatureRows → List Row → Type 0
+IsGoodFeatures start rows = AreFeatureRows (property_of start) rows
+
+-- ---- the collections that features name
+
+abbrev pub names_of : OwnerRows → List Text
+names_of o = map (λ h. string_bytes h.id) o.heads.items
+
+abbrev pub HoldsOwners : OwnerRows → OwnerRows → List Row → Type 0
+HoldsOwners start now rows = (now ≡ start) × AreOwnerRows (names_of start) rows
+
+abbrev pub IsGoodOwners : OwnerRows → List Row → Type 0
+IsGoodOwners start rows = AreOwnerRows (names_of start) rows
+
+-- ---- batches: the last key, and the serials
+
+pub record HoldsBatches (start now : BatchRows) (rows : List Row) : Type 0 where
+  pub are : AreRowsOf batch_cells IsAccepted rows
+  pub last : option_map string_bytes now.last ≡ last_key are.entries
+  pub serials : now.serials.items ≡ serials_of are.entries
+
+abbrev pub IsGoodBatches : BatchRows → List Row → Type 0
+IsGoodBatches start rows = AreBatchRows rows

@@ -1,0 +1,82 @@
+-- What the looks of a check tell, whatever the tables are.
+use Rattle.std.specs.Prelude.{◌≡◌, ◌⊎◌, ℕ, ◌+◌, List, [], ◌∷◌, ◌++◌, map, length, Option, Result, Ok, Err}
+use Rattle.sqlite.specs.declared.types.Value.TheVariants.{Text as Words}
+use Rattle.sqlite.specs.Order.{Row}
+use Rattle.sqlite.specs.State.{State as Seen, IsUnchanged}
+use Rattle.sqlite_rules.specs.Lists.{Has}
+use Rattle.streetmap_batch.specs.Text.{Text}
+use Rattle.streetmap_tables.specs.Failing.{IsOfStore}
+use Rattle.streetmap_rows.specs.Statements.{select_collections}
+use Rattle.streetmap_reading.specs.declared.fault.ReadFault.{ReadFault}
+use Rattle.streetmap_reading.specs.declared.fault.ReadFault.TheVariants.{Memory, Store, Unread}
+use Rattle.streetmap_opening.specs.Adopting.{IsAsItWas}
+use Rattle.streetmap_checking.specs.Statements.{select_formats, select_features, select_owners, select_batches}
+use Rattle.streetmap_checking.specs.Seeing.{Sees, SeesFirst, IsUnseen}
+use Rattle.streetmap_checking.specs.Good.{AreFormatRows, AreCollectionRows, AreFeatureRows, AreOwnerRows, AreBatchRows}
+
+-- a query is refused, or the rows that it shows, or those that it shows first, are not good
+abbrev pub ShowsNone : List ℕ → Row → (List Row → Type 0) → Seen → Type 0
+ShowsNone sql params Good seen =
+    IsUnseen sql params seen ⊎ (((rows : List Row) × SeesFirst sql params seen rows × ((later : List Row) → Good (rows ++ later) → ⊥)) ⊎ ((rows : List Row) × Sees sql params seen rows × (Good rows → ⊥)))
+
+-- a look tells why not, or the store failed, or memory was refused
+abbrev pub TellsWhy : Type 0 → Seen → Seen → ReadFault → Type 0
+TellsWhy why old new Memory = IsUnchanged old new
+TellsWhy why old new Unread = why × IsUnchanged old new
+TellsWhy why old new (Store e) = ((¬ (IsOfStore e)) → why) × IsAsItWas old new
+
+-- a look that leaves a connection tells this, or why not
+abbrev pub Looks : {A : Type 0} → (A → Type 0) → Type 0 → Seen → Seen → Result A ReadFault → Type 0
+Looks Is why old new (Ok a) = Is a × IsUnchanged old new
+Looks Is why old new (Err fault) = TellsWhy why old new fault
+
+-- ---- each look
+
+-- the row of the format is shown, and no other
+abbrev pub SeesFormat : Seen → Type 0
+SeesFormat seen = (rows : List Row) × Sees select_formats [] seen rows × AreFormatRows rows
+
+-- a collection by its id and its time property
+abbrev pub Known : Type 0
+Known = Text × Option Text
+
+-- these collections are shown
+abbrev pub SeesHeads : List Known → Seen → Type 0
+SeesHeads heads seen = (rows : List Row) × Sees select_collections [] seen rows × (are : AreCollectionRows rows) × (heads ≡ map (λ e. (e.0, e.1.time)) are.entries)
+
+-- so many features of a collection are shown
+abbrev pub SeesFeatures : Known → ℕ → Seen → Type 0
+SeesFeatures head count seen = (rows : List Row) × Sees select_features (Words head.0 ∷ []) seen rows × (are : AreFeatureRows head.1 rows) × (count ≡ length are.entries)
+
+-- so many of all these collections
+abbrev pub SeesAllFeatures : List Known → ℕ → Seen → Type 0
+SeesAllFeatures [] count seen = count ≡ 0
+SeesAllFeatures (head ∷ heads) count seen = (first : ℕ) × (others : ℕ) × SeesFeatures head first seen × SeesAllFeatures heads others seen × (count ≡ first + others)
+
+-- each feature names one of these collections
+abbrev pub SeesOwners : List Known → Seen → Type 0
+SeesOwners heads seen = (rows : List Row) × Sees select_owners [] seen rows × AreOwnerRows (map (λ h. h.0) heads) rows
+
+-- so many batches are shown
+abbrev pub SeesBatches : ℕ → Seen → Type 0
+SeesBatches count seen = (rows : List Row) × Sees select_batches [] seen rows × (are : AreBatchRows rows) × (count ≡ length are.0.entries)
+
+-- ---- why a look tells nothing
+
+abbrev pub NoFormat : Seen → Type 0
+NoFormat = ShowsNone select_formats [] AreFormatRows
+
+abbrev pub NoHeads : Seen → Type 0
+NoHeads = ShowsNone select_collections [] AreCollectionRows
+
+abbrev pub NoFeatures : Known → Seen → Type 0
+NoFeatures head = ShowsNone select_features (Words head.0 ∷ []) (AreFeatureRows head.1)
+
+abbrev pub NoFeaturesOfAll : List Known → Seen → Type 0
+NoFeaturesOfAll heads seen = (head : Known) × Has heads head × NoFeatures head seen
+
+abbrev pub NoOwners : List Known → Seen → Type 0
+NoOwners heads = ShowsNone select_owners [] (AreOwnerRows (map (λ h. h.0) heads))
+
+abbrev pub NoBatches : Seen → Type 0
+NoBatches = ShowsNone select_batches [] AreBatchRows

@@ -1,0 +1,87 @@
+//! A check of tables.
+ghost use Rattle.std.specs.Prelude.{◌≡◌, false};
+ghost use Rattle.sqlite.specs.Held.{state};
+ghost use Rattle.sqlite.specs.State.{HasCleanDisk, Survives};
+ghost use Rattle.streetmap_ledger.specs.State.{State};
+ghost use Rattle.streetmap_rows.specs.Keeping.{Rests};
+ghost use Rattle.streetmap_opening.specs.Adopting.{IsAsItWas};
+ghost use Rattle.streetmap_checking.specs.Telling.{Looks};
+ghost use Rattle.streetmap_checking.specs.Checking.{ShowsTotals, IsDamaged, ChecksBy, Checks};
+
+use crate::looks::{
+    check_all_features, check_batches, check_collections, check_format, check_owners,
+};
+use sqlite::{Alter, Connection, Error};
+use std::alloc::Global;
+use streetmap_reading::ReadFault;
+use streetmap_tables::{Shut, Stop, settle};
+
+/// What a check counted.
+#[derive(Clone, Copy, Debug, PartialEq, Eq)]
+pub struct Totals {
+    pub collections: u64,
+    /// The features of all collections.
+    pub features: u64,
+    pub batches: u64,
+}
+
+/// Why a check told no totals.
+#[derive(Debug, Drop)]
+pub enum CheckFault {
+    /// The rows are those of no ledger.
+    Damaged,
+    /// The store failed, or has no room: the error that told it.
+    Device(Error),
+    /// Memory was refused.
+    Memory,
+}
+
+/// The totals, or why there are none.
+fn look_at_all<S: Alter>(alloc: Global, conn: &mut Connection<S>) -> Result<Totals, ReadFault>
+    ensures looks { HasCleanDisk (state S.Store conn.new) → Looks (λ totals. ShowsTotals totals (state S.Store conn.old)) (IsDamaged (state S.Store conn.old)) (state S.Store conn.old) (state S.Store conn.new) result }
+    ensures mode { conn.old.in_transaction ≡ false → conn.new.in_transaction ≡ false }
+    ensures survives { Survives (state S.Store conn.old) (state S.Store conn.new) (λ _. ⊥) }
+{
+    check_format(conn)?;
+    let heads = check_collections(alloc, conn)?;
+    let features = check_all_features(alloc, conn, heads.as_slice())?;
+    let collections = heads.len() as u64;
+    check_owners(conn, heads)?;
+    let batches = check_batches(alloc, conn)?;
+    Ok(Totals {
+        collections,
+        features,
+        batches,
+    })
+}
+
+/// Checks the tables that a connection has: reads all their rows, and tells how many collections,
+/// features and batches they hold.
+///
+/// It writes nothing: in every case the connection holds what it held, and a stop may leave no more
+/// than before. The connection is to have no step limit.
+///
+/// # Errors
+///
+/// `Damaged` where a statement is refused or shows rows that are those of no ledger; `Memory` where memory
+/// was refused and the connection is open; `Device` where the store fails, by its error, or where memory
+/// is refused again while the connection is looked at.
+pub fn check_tables<S: Alter>(alloc: Global, conn: &mut Connection<S>) -> Result<Totals, CheckFault>
+    requires { conn.old.in_transaction ≡ false }
+    ensures idle { conn.new.in_transaction ≡ false }
+    ensures survives { Survives (state S.Store conn.old) (state S.Store conn.new) (λ _. ⊥) }
+    ensures same { HasCleanDisk (state S.Store conn.new) → IsAsItWas (state S.Store conn.old) (state S.Store conn.new) }
+    ensures tells { HasCleanDisk (state S.Store conn.new) → ChecksBy (state S.Store conn.old) result }
+    ensures checks { HasCleanDisk (state S.Store conn.new) → (s : State) → Rests (state S.Store conn.old) s → Checks s (state S.Store conn.old) (state S.Store conn.new) result }
+{
+    match look_at_all(alloc, conn) {
+        Ok(totals) => Ok(totals),
+        Err(ReadFault::Memory) => Err(CheckFault::Memory),
+        Err(ReadFault::Unread) => Err(CheckFault::Damaged),
+        Err(ReadFault::Store(error)) => match settle(conn, error) {
+            Stop::Memory => Err(CheckFault::Memory),
+            Stop::Closed(Shut::Device(error)) => Err(CheckFault::Device(error)),
+            Stop::Closed(Shut::Damaged) => Err(CheckFault::Damaged),
+        },
+    }
+}
