@@ -21,7 +21,8 @@ def words_of_the_command_line():
                   ["serve", "a", "--port", "80", "--port", "81"], ["pipe", "a", "--port", "80"], ["create", "a", "b"], ["--help"],
                   ["import", "a", "t", "--collection", "c"], ["import", "a", "t", "--key", "k"],
                   ["import", "a", "--key", "k", "--collection", "c"], ["import", "a", "t", "u", "--key", "k", "--collection", "c"],
-                  ["import", "a", "t", "--key", "k", "--collection", "c", "--replace=true"], ["export", "a", "t", "--collection", "c"]):
+                  ["import", "a", "t", "--key", "k", "--collection", "c", "--replace=true"], ["export", "a", "t", "--collection", "c"],
+                  ["check"], ["check", "a", "b"], ["check", "a", "--base", "http://localhost/"]):
         run(*words, status=2, code="usage")
 
 
@@ -29,15 +30,18 @@ def faults_of_files(folder):
     file = f"{folder}/first.db"
     run("pipe", file, status=1, code="no_file")
     run("serve", file, "--port", "9", status=1, code="no_file")
+    run("check", file, status=1, code="no_file")
     run("pipe", file, "--base", "localhost", status=1, code="bad_base")
     run("pipe", file, "--base", "http://localhost/a", status=1, code="bad_base")
     run("create", f"{folder}/none/first.db", status=3, code="device")
     check("create prints nothing", run("create", file), b"")
     run("create", file, status=1, code="exists")
     check("nothing asked", run("pipe", file), b"")
+    check("nothing to count", run("check", file), b"ok 0 0 0\n")
     text = Path(folder) / "text"
     text.write_text("no tables\n" * 200)
     run("pipe", str(text), status=1, code="not_ours")
+    run("check", str(text), status=1, code="not_ours")
     empty = Path(folder) / "empty"
     empty.touch()
     run("pipe", str(empty), status=1, code="not_ours")
@@ -51,6 +55,7 @@ def a_pipe(folder):
     first, again, page = answers(run("pipe", file, sent=sent))
     check("a batch", first, (200, b'{"deleted":0,"inserted":1,"key":"b1","opened":1,"replaced":0,"serial":1}'))
     check("the batch again", again, first)
+    check("what it has", run("check", file), b"ok 1 1 1\n")
     check("a page", json.loads(page[1])["numberMatched"], 1)
     check("the default base", b'"http://localhost/collections/lamps/items' in page[1], True)
     (based,) = answers(run("pipe", file, "--base", "https://maps.example:8443/", sent=request("GET", "/collections/lamps")))
@@ -108,7 +113,10 @@ def imports_and_exports(folder):
     check("an export of an import of an export", run("export", file, "--collection", "copy"), EXPORTED)
     short_ring = Path(folder) / "short_ring.json"
     short_ring.write_bytes(SHORT_RING)
+    before = run("check", file)
+    check("what it has before", before.startswith(b"ok 2 "), True)
     import_("i5", of=short_ring, status=1, code="bad_feature 2 short_ring")
+    check("what it has behind it", run("check", file), before)
     check("nothing is written", run("export", file, "--collection", "trees", status=1, code="no_collection"), b"")
     import_("i6", of=f"{folder}/none.json", status=1, code="no_text")
     import_("i 6", of=f"{folder}/none.json", status=1, code="no_text")

@@ -20,6 +20,8 @@ use Rattle.streetmap_files.specs.declared.fault.CreateFault.{CreateFault}
 use Rattle.streetmap_files.specs.declared.fault.CreateFault.TheVariants as creation
 use Rattle.streetmap_files.specs.declared.fault.OpenFault.{OpenFault}
 use Rattle.streetmap_files.specs.declared.fault.OpenFault.TheVariants as opening
+use Rattle.streetmap_checking.specs.declared.checking.CheckFault.{CheckFault}
+use Rattle.streetmap_checking.specs.declared.checking.CheckFault.TheVariants as checking
 use Rattle.streetmap_web.specs.declared.serving.End.{End}
 use Rattle.streetmap_web.specs.declared.serving.End.TheVariants as stream
 use Rattle.streetmap_serving.specs.declared.connections.ServeFault.{ServeFault}
@@ -29,7 +31,7 @@ use Rattle.streetmap_connections.specs.declared.serve.ServeFault.TheVariants as 
 use Rattle.streetmap_command.specs.declared.command.CommandFault.{CommandFault}
 use Rattle.streetmap_command.specs.declared.command.CommandFault.TheVariants as command
 use Rattle.streetmap.specs.declared.fault.ProgramFault.{ProgramFault}
-use Rattle.streetmap.specs.declared.fault.ProgramFault.TheVariants.{Usage, BadBase, Exists, NoFile, NotOurs, OldFormat, NewFormat, Taken, NoText, Import, Export, LineTooLong, ReadFailed, WriteFailed, Net, Device, Memory}
+use Rattle.streetmap.specs.declared.fault.ProgramFault.TheVariants.{Usage, BadBase, Exists, NoFile, NotOurs, OldFormat, NewFormat, Taken, NoText, Import, Export, LineTooLong, ReadFailed, WriteFailed, Net, Damaged, Device, Memory}
 
 -- the name that is printed
 abbrev pub code_of : ProgramFault → List ℕ
@@ -48,6 +50,7 @@ code_of LineTooLong = codes "line_too_long"
 code_of ReadFailed = codes "read_failed"
 code_of WriteFailed = codes "write_failed"
 code_of Net = codes "net"
+code_of Damaged = codes "damaged"
 code_of Device = codes "device"
 code_of Memory = codes "memory"
 
@@ -88,6 +91,7 @@ status_of LineTooLong = 1
 status_of ReadFailed = 3
 status_of WriteFailed = 3
 status_of Net = 3
+status_of Damaged = 3
 status_of Device = 3
 status_of Memory = 4
 
@@ -125,6 +129,12 @@ fault_of_open opening.OldFormat = OldFormat
 fault_of_open opening.NewFormat = NewFormat
 fault_of_open (opening.Device error) = Device
 fault_of_open opening.Memory = Memory
+
+-- where the rows of a file are not told to be a state's
+abbrev pub fault_of_check : CheckFault → ProgramFault
+fault_of_check checking.Damaged = Damaged
+fault_of_check (checking.Device error) = Device
+fault_of_check checking.Memory = Memory
 
 -- where lines are not answered to their end
 abbrev pub fault_of_lines : LinesFault → ProgramFault

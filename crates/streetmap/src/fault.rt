@@ -1,10 +1,11 @@
 //! What the program ends with when it is not done.
 ghost use Rattle.std.specs.Prelude.{◌≡◌, ◌≢◌};
 ghost use Rattle.std.specs.IoError.{error_kind};
-ghost use Rattle.streetmap.specs.Faults.{code_of, status_of, keeper_status, import_status, export_status, place_of, cause_of, fault_of_command, fault_of_base, fault_of_create, fault_of_open, fault_of_lines, fault_of_text, end_of_stream, fault_of_serve, fault_of_clients};
+ghost use Rattle.streetmap.specs.Faults.{code_of, status_of, keeper_status, import_status, export_status, place_of, cause_of, fault_of_command, fault_of_base, fault_of_create, fault_of_open, fault_of_lines, fault_of_text, end_of_stream, fault_of_serve, fault_of_clients, fault_of_check};
 
 use std::alloc::AllocError;
 use std::io::{Error, ErrorKind};
+use streetmap_checking::CheckFault;
 use streetmap_command::CommandFault;
 use streetmap_connections::ServeFault as ClientsFault;
 use streetmap_exchange::{ExportFault, ImportFault, ImportStop};
@@ -49,6 +50,8 @@ pub enum ProgramFault {
     WriteFailed,
     /// `net`: the port could not be bound, or no connection be accepted.
     Net,
+    /// `damaged`: the rows of the file are those of no state.
+    Damaged,
     /// `device`: the file could not be read, written or locked.
     Device,
     /// `memory`: memory was refused.
@@ -76,6 +79,7 @@ impl ProgramFault {
             ProgramFault::ReadFailed => "read_failed",
             ProgramFault::WriteFailed => "write_failed",
             ProgramFault::Net => "net",
+            ProgramFault::Damaged => "damaged",
             ProgramFault::Device => "device",
             ProgramFault::Memory => "memory",
         }
@@ -91,6 +95,7 @@ impl ProgramFault {
             ProgramFault::ReadFailed
             | ProgramFault::WriteFailed
             | ProgramFault::Net
+            | ProgramFault::Damaged
             | ProgramFault::Device => 3,
             ProgramFault::Memory => 4,
             ProgramFault::Import(stop) => status_of_import(stop),
@@ -254,6 +259,18 @@ impl From<OpenFault> for ProgramFault {
             OpenFault::NewFormat => ProgramFault::NewFormat,
             OpenFault::Device(_) => ProgramFault::Device,
             OpenFault::Memory => ProgramFault::Memory,
+        }
+    }
+}
+
+impl From<CheckFault> for ProgramFault {
+    ghost from_gives = { λ given fault. fault ≡ fault_of_check given };
+
+    fn from(fault: CheckFault) -> ProgramFault {
+        match fault {
+            CheckFault::Damaged => ProgramFault::Damaged,
+            CheckFault::Device(_) => ProgramFault::Device,
+            CheckFault::Memory => ProgramFault::Memory,
         }
     }
 }

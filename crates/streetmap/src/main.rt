@@ -57,6 +57,7 @@ fn run(rt: &HostRuntime) -> Result<(), ProgramFault> {
             replace,
         } => import_text(rt, file, text, key, collection, replace),
         Command::Export { file, collection } => export_collection(rt, file, collection),
+        Command::Check { file } => check_file(rt, file),
     }
 }
 
@@ -202,6 +203,14 @@ fn export_collection(rt: &HostRuntime, file: &str, collection: &str) -> Result<(
     let mut keeper = files::open(rt, file)?;
     let mut output = writer(rt);
     Ok(export(rt.alloc(), &mut keeper, collection, &mut output)?)
+}
+
+/// Tells how many collections, features and batches a file has, where its rows are those of a state.
+fn check_file(rt: &HostRuntime, file: &str) -> Result<(), ProgramFault> {
+    let totals = files::check(rt, file)?;
+    println!(rt; "ok {} {} {}", totals.collections, totals.features, totals.batches).map_err(
+        |_| ProgramFault::WriteFailed,
+    )
 }
 
 /// Prints the fault that a command ended with, with the place and the cause where there are such.

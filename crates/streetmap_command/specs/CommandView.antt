@@ -1,8 +1,8 @@
 -- A command as a value.
 use Rattle.std.specs.Prelude.{string_bytes}
 use Rattle.streetmap_command.specs.declared.command.Command.{Command}
-use Rattle.streetmap_command.specs.declared.command.Command.TheVariants.{Lines, Create, Pipe, Serve, Import, Export}
-use Rattle.streetmap_command.specs.Program.{CommandValue, lines_command, create_command, pipe_command, serve_command, import_command, export_command}
+use Rattle.streetmap_command.specs.declared.command.Command.TheVariants.{Lines, Create, Pipe, Serve, Import, Export, Check}
+use Rattle.streetmap_command.specs.Program.{CommandValue, lines_command, create_command, pipe_command, serve_command, import_command, export_command, check_command}
 
 abbrev pub command_value : Command → CommandValue
 command_value Lines = lines_command
@@ -11,3 +11,4 @@ command_value (Pipe file base) = pipe_command file.now (string_bytes base)
 command_value (Serve file port count clients log base) = serve_command file.now port count clients log (string_bytes base)
 command_value (Import file text key collection replace) = import_command file.now text.now key.now collection.now replace
 command_value (Export file collection) = export_command file.now collection.now
+command_value (Check file) = check_command file.now

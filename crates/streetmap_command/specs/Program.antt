@@ -42,9 +42,12 @@ import = with_rule (with_rule (with_rule (with_rule (with_rule (new_app (codes "
 abbrev pub export : App
 export = with_rule (with_rule (new_app (codes "export")) file) (required_option (codes "collection"))
 
+abbrev pub check : App
+check = with_rule (new_app (codes "check")) file
+
 -- the program with its subcommands
 abbrev pub program : App
-program = with_subcommand (with_subcommand (with_subcommand (with_subcommand (with_subcommand (with_subcommand (new_app (codes "streetmap")) lines.top) create.top) pipe.top) serve.top) import.top) export.top
+program = with_subcommand (with_subcommand (with_subcommand (with_subcommand (with_subcommand (with_subcommand (with_subcommand (new_app (codes "streetmap")) lines.top) create.top) pipe.top) serve.top) import.top) export.top) check.top
 
 -- what a command line asks for
 pub data CommandValue : Type 0 where
@@ -54,6 +57,7 @@ pub data CommandValue : Type 0 where
   serve_command : (file : Text) (port : ℕ) (count : Option ℕ) (clients : ℕ) (log : Bool) (base : Text) → CommandValue
   import_command : (file text key collection : Text) (replace : Bool) → CommandValue
   export_command : (file collection : Text) → CommandValue
+  check_command : (file : Text) → CommandValue
 
 -- decimal digits that write a number from 1 to `most`
 abbrev pub number_up_to : ℕ → Text → Option ℕ
@@ -112,6 +116,9 @@ import_by rows = import_given (first_of (codes "file") rows) (first_of (codes "t
 abbrev pub export_by : List Row → Option CommandValue
 export_by rows = option_and_then (λ f. option_map (λ c. export_command f c) (first_of (codes "collection") rows)) (first_of (codes "file") rows)
 
+abbrev pub check_by : List Row → Option CommandValue
+check_by rows = option_map check_command (first_of (codes "file") rows)
+
 -- by the subcommand's name and what is given with it
 abbrev pub command_named : Text → List Row → Option CommandValue
 command_named name rows =
@@ -120,7 +127,8 @@ command_named name rows =
     else (if bytes_eq name (codes "pipe") then pipe_by rows
     else (if bytes_eq name (codes "serve") then serve_by rows
     else (if bytes_eq name (codes "import") then import_by rows
-    else (if bytes_eq name (codes "export") then export_by rows else None)))))
+    else (if bytes_eq name (codes "export") then export_by rows
+    else (if bytes_eq name (codes "check") then check_by rows else None))))))
 
 abbrev pub command_by : Option (Text × List Row) → Option CommandValue
 command_by found = option_and_then (λ p. command_named p.0 p.1) found

@@ -3,7 +3,7 @@ ghost use Rattle.std.specs.Prelude.{◌≡◌, ◌≢◌, [], map, IfOk, IfErr, 
 ghost use Rattle.clap.specs.Words.{fault_of as fault_of_words, subcommand_of, subcommand_rows_of, kind_of, rows_of, found_of, first_of};
 ghost use Rattle.std.specs.List.{list_all};
 ghost use Rattle.std.specs.Char.{is_ascii_digit};
-ghost use Rattle.streetmap_command.specs.Program.{program, command_by, create_by, pipe_by, serve_by, import_by, export_by, number_up_to, port_given, count_given, clients_given, is_set, asked_by};
+ghost use Rattle.streetmap_command.specs.Program.{program, command_by, create_by, pipe_by, serve_by, import_by, export_by, check_by, number_up_to, port_given, count_given, clients_given, is_set, asked_by};
 ghost use Rattle.streetmap_command.specs.CommandView.{command_value};
 
 use crate::parser::make_parser;
@@ -49,6 +49,10 @@ pub enum Command<'a> {
     Export {
         file: &'a str,
         collection: &'a str,
+    },
+    /// `streetmap check FILE`: tell whether the rows of a file are those of a state, and how many there are.
+    Check {
+        file: &'a str,
     },
 }
 
@@ -211,6 +215,15 @@ fn read_export<'a>(found: &ArgMatches<'a>) -> Result<Command<'a>, CommandFault>
     Ok(Command::Export { file, collection })
 }
 
+/// The command `check`, of what is given with it.
+fn read_check<'a>(found: &ArgMatches<'a>) -> Result<Command<'a>, CommandFault>
+    ensures found { IfOk result (λ c. Some (command_value c) ≡ check_by (rows_of (found_of found.now))) }
+    ensures refused { IfErr result (λ e. IsSome (check_by (rows_of (found_of found.now))) → e ≡ CommandFault.Memory) }
+{
+    let file = value_of(found, "file").ok_or(CommandFault::Usage)?;
+    Ok(Command::Check { file })
+}
+
 /// The command that was found, by its name and what is given with it.
 fn command_of<'a>(alloc: Global, matches: &ArgMatches<'a>) -> Result<Command<'a>, CommandFault>
     ensures found { IfOk result (λ c. Some (command_value c) ≡ command_by (subcommand_rows_of matches.now)) }
@@ -226,6 +239,7 @@ fn command_of<'a>(alloc: Global, matches: &ArgMatches<'a>) -> Result<Command<'a>
         "serve" => read_serve(alloc, found),
         "import" => read_import(found),
         "export" => read_export(found),
+        "check" => read_check(found),
         _ => Err(CommandFault::Usage),
     }
 }

@@ -2,7 +2,7 @@
 ghost use Rattle.std.specs.Prelude.{◌≡◌, IfOk, false};
 ghost use Rattle.clap.specs.Words.{app_of, rule_of};
 ghost use Rattle.clap.specs.declared.builder.command.Command.TheViews.{out-Command as fields_of};
-ghost use Rattle.streetmap_command.specs.Program.{program, positional, option, required_option, flag, create, pipe, serve, import, export};
+ghost use Rattle.streetmap_command.specs.Program.{program, positional, option, required_option, flag, create, pipe, serve, import, export, check};
 
 use clap::{Arg, ArgAction, Command};
 use std::alloc::{AllocError, Global};
@@ -89,6 +89,13 @@ fn make_export<'a>(alloc: Global) -> Result<Command<'a>, AllocError>
         .arg(required_arg(alloc, "collection"))
 }
 
+fn make_check<'a>(alloc: Global) -> Result<Command<'a>, AllocError>
+    ensures app { IfOk result (λ c. app_of c ≡ check) }
+    ensures local { IfOk result (λ c. (fields_of c).has_globals ≡ false) }
+{
+    Command::new(alloc, "check").arg(positional_arg(alloc, "file"))
+}
+
 /// The program's command line.
 pub(crate) fn make_parser<'a>(alloc: Global) -> Result<Command<'a>, AllocError>
     ensures { IfOk result (λ c. app_of c ≡ program) }
@@ -99,5 +106,6 @@ pub(crate) fn make_parser<'a>(alloc: Global) -> Result<Command<'a>, AllocError>
         .subcommand(make_pipe(alloc)?)?
         .subcommand(make_serve(alloc)?)?
         .subcommand(make_import(alloc)?)?
-        .subcommand(make_export(alloc)?)
+        .subcommand(make_export(alloc)?)?
+        .subcommand(make_check(alloc)?)
 }

@@ -23,4 +23,5 @@ returns c =
     let three = added _ _ _ _ _ c.in_ok-subcommand-3.ensures two c.in_ok-make_pipe.ensures.local (ap (λ (x : App). x.top) c.in_ok-make_pipe.ensures.app) in
     let four = added _ _ _ _ _ c.in_ok-subcommand-4.ensures three c.in_ok-make_serve.ensures.local (ap (λ (x : App). x.top) c.in_ok-make_serve.ensures.app) in
     let five = added _ _ _ _ _ c.in_ok-subcommand-5.ensures four c.in_ok-make_import.ensures.local (ap (λ (x : App). x.top) c.in_ok-make_import.ensures.app) in
-    last_added _ _ _ _ _ c.subcommand-6.ensures five c.in_ok-make_export.ensures.local (ap (λ (x : App). x.top) c.in_ok-make_export.ensures.app)
+    let six = added _ _ _ _ _ c.in_ok-subcommand-6.ensures five c.in_ok-make_export.ensures.local (ap (λ (x : App). x.top) c.in_ok-make_export.ensures.app) in
+    last_added _ _ _ _ _ c.subcommand-7.ensures six c.in_ok-make_check.ensures.local (ap (λ (x : App). x.top) c.in_ok-make_check.ensures.app)
