@@ -208,9 +208,11 @@ fn export_collection(rt: &HostRuntime, file: &str, collection: &str) -> Result<(
 /// Tells how many collections, features and batches a file has, where its rows are those of a state.
 fn check_file(rt: &HostRuntime, file: &str) -> Result<(), ProgramFault> {
     let totals = files::check(rt, file)?;
-    println!(rt; "ok {} {} {}", totals.collections, totals.features, totals.batches).map_err(
-        |_| ProgramFault::WriteFailed,
+    println!(rt;
+        "ok {} {} {}",
+        totals.collections, totals.features, totals.batches
     )
+    .map_err(|_| ProgramFault::WriteFailed)
 }
 
 /// Prints the fault that a command ended with, with the place and the cause where there are such.
