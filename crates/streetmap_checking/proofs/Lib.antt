@@ -13,4 +13,5 @@ pub mod Found
 pub mod Only
 pub mod Shown
 pub mod OfState
+pub mod Stated
 pub mod Serials

@@ -38,7 +38,7 @@ use Rattle.streetmap_checking.specs.Statements.{select_formats, select_features,
 use Rattle.streetmap_checking.proofs.Compiles.{select_formats_means, select_formats_never, select_features_means, select_features_never, select_owners_means, select_owners_never, select_batches_means, select_batches_never}
 use Rattle.streetmap_checking.proofs.Only.{OnlyShows, only_by}
 
-found_in : {V : Type 0} (es : List (Text × V)) (q : Text) (v : V) → find text_cmp q es ≡ Some v → Has es (q, v)
+pub found_in : {V : Type 0} (es : List (Text × V)) (q : Text) (v : V) → find text_cmp q es ≡ Some v → Has es (q, v)
 found_in [] q v h = absurd (cc)
 found_in (e ∷ es) q v h = elim (cases_Bool (same_text q e.0)) [
   | inl here ↦ inl (let is : Some e.1 ≡ Some v = sym (rw here refl) ∙ h in let same : e.1 ≡ v = cc in λ i. (text_is q e.0 here i, sym same i))

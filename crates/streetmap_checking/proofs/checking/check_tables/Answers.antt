@@ -5,6 +5,7 @@ use Rattle.streetmap_opening.proofs.Opened.{rests_same}
 use Rattle.streetmap_tables.specs.declared.failing.Stop.TheVariants.{Closed}
 use Rattle.streetmap_checking.proofs.Seeing.{unchanged_was}
 use Rattle.streetmap_checking.proofs.OfState.{totals_of, never_damaged, damaged_told, refused_told}
+use Rattle.streetmap_checking.proofs.Stated.{state_of}
 use Rattle.streetmap_checking.proofs.checking.check_tables.Goals as goal
 
 pub returns-in-Ok-clause-same : goal.returns-in-Ok-clause-same
@@ -32,3 +33,6 @@ pub returns-in-Closed-Damaged-clause-checks : goal.returns-in-Closed-Damaged-cla
 returns-in-Closed-Damaged-clause-checks g c clean s rests =
     let early = clean_back (state g.S.Store c.look_at_all.new.conn) (state g.S.Store c.settle.new.conn) _ c.settle.ensures.survives clean in
     never_damaged (state g.S.Store c.args.conn.now) s rests (refused_told _ _ _ _ c.in-Err-Store.field-0-is (c.in-Err-Store.ensures.looks early) (c.in-Closed-Damaged.ensures.damaged.0 (ap (λ shut. Closed shut) c.in-Closed-Damaged.field-0-is)))
+
+pub returns-in-Ok-clause-tells : goal.returns-in-Ok-clause-tells
+returns-in-Ok-clause-tells g c clean = state_of (state g.S.Store c.args.conn.now) c.in-Ok.totals (c.in-Ok.ensures.looks clean).0
