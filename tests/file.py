@@ -216,7 +216,6 @@ WRONG_ROWS = (
     "UPDATE streetmap_features SET s1 = s1 - 1 WHERE id = 'L3'",
     "UPDATE streetmap_features SET s0 = NULL, s1 = NULL WHERE id = 'L3'",
     "UPDATE streetmap_features SET s0 = 0, s1 = 0 WHERE collection = 'lamps'",
-    "UPDATE streetmap_features SET collection = 'none' WHERE id = 'L4'",
     "UPDATE streetmap_collections SET time = NULL WHERE id = 'works'",
     "UPDATE streetmap_collections SET title = 'a' || char(10) WHERE id = 'lamps'",
     "INSERT INTO streetmap_collections VALUES ('.', 'Dot', NULL)",
@@ -230,18 +229,21 @@ WRONG_ROWS = (
 )
 
 
+# What the file is not opened for: a feature that refers to no collection, and a table that is not there.
+NOT_OPENED = ("UPDATE streetmap_features SET collection = 'none' WHERE id = 'L4'", "DROP TABLE streetmap_batches")
+
+
 def rows_of_no_state(path):
     """`check` counts what the program wrote, and tells each wrong row."""
     check("the counts", checked(path), (0, b"ok 2 4 3\n", b""))
+    damaged, not_ours = (3, b"", b"streetmap: damaged\n"), (1, b"", b"streetmap: not_ours\n")
     wrong = f"{path}.wrong"
-    for sql in WRONG_ROWS:
+    for sql, wanted in [(sql, damaged) for sql in WRONG_ROWS] + [(sql, not_ours) for sql in NOT_OPENED]:
         for end in ("", "-wal"):
             if Path(path + end).exists():
                 shutil.copy(path + end, wrong + end)
         changed(wrong, sql)
-        check(sql, checked(wrong), (3, b"", b"streetmap: damaged\n"))
-    changed(wrong, "DROP TABLE streetmap_batches")
-    check("no batches", checked(wrong), (1, b"", b"streetmap: not_ours\n"))
+        check(sql, checked(wrong), wanted)
 
 
 def main():
