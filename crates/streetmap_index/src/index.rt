@@ -65,7 +65,7 @@ fn follow_edit(alloc: Global, index: &mut BTreeMap<String, OutlinedCollection>, 
 }
 
 /// Follows edits that were done. Where they are many, their collections are forgotten, since each one that
-/// is followed may move all outlines of its collection.
+/// is followed looks for its chunk and moves the outlines in it.
 pub fn follow(alloc: Global, index: &mut BTreeMap<String, OutlinedCollection>, edits: &[Edit])
     ensures { (s t : State) (place : ℕ) → edited place s (edit_values edits.now) ≡ Ok t → IsIndexOf index.old s → IsIndexOf index.new t }
 {
