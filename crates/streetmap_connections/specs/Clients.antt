@@ -34,7 +34,7 @@ module _ {S : Type 0} where
   abbrev pub woken : Bool → Bool → Client S → Client S
   woken readable writable c = record c { readable = c.readable || readable; writable = c.writable || writable }
 
-  -- it was last answered, or last took a byte, when it did before or now
+  -- the time from which its patience is counted is now, or the one before
   abbrev pub IsTimed : ℕ → Client S → Client S → Type 0
   IsTimed now old new = (new.since ≡ now) ⊎ (new.since ≡ old.since)
 

@@ -22,7 +22,8 @@ pub struct FeatureOutline {
 }
 
 impl FeatureOutline {
-    /// The outline of a feature with this id, extent and time.
+    /// The outline of a feature with this id, extent (in millimetres) and time. The error is that memory for
+    /// the id is refused.
     pub fn new(
         alloc: Global,
         id: &str,

@@ -61,7 +61,7 @@ pub fn comes_after(query: &Query, feature: &Feature) -> bool
     }
 }
 
-/// Whether the extent overlaps the box, where one is asked: that of a geometry, or none.
+/// Whether the extent overlaps the box, where one is asked: that of a geometry, or none. Both are in millimetres.
 pub fn overlaps_box(query: &Query, extent: Option<GridBox>) -> bool
     ensures { (geometry : Option GeometryValue) → option_map box_value extent ≡ option_map extent_of geometry → result ≡ passes extent_overlaps geometry (query_value query.now).bbox }
 {
@@ -74,7 +74,8 @@ pub fn overlaps_box(query: &Query, extent: Option<GridBox>) -> bool
     }
 }
 
-/// Whether the extent lies within the box, where one is asked: then the geometry that it is of meets it.
+/// Whether the extent lies within the box, where one is asked: then the geometry that it is of meets it. Both are
+/// in millimetres.
 pub fn lies_within_box(query: &Query, extent: Option<GridBox>) -> bool
     ensures { IsTrue result → (geometry : Option GeometryValue) → option_map box_value extent ≡ option_map extent_of geometry → IsGeometryIf geometry → passes geometry_meets geometry (query_value query.now).bbox ≡ true }
 {
