@@ -1,4 +1,4 @@
--- The format row goes into tables that were made.
+-- The format row goes into tables that have every other row of a state.
 use Rattle.std.proofs.Common.{◌≡◌, ◌≢◌, ℕ, ◌≤◌, pos, List, [], ◌∷◌, length, codes, Ok, refl, None, Option, true, is_ok, sym, subst, ◌∙◌, arith}
 use Rattle.std.specs.List.{AllByRecursion}
 use Rattle.std.specs.FinMap.{empty, get-empty}
@@ -7,7 +7,7 @@ use Rattle.sqlite.specs.Order.{Row}
 use Rattle.sqlite.specs.Term.{Term, lit}
 use Rattle.sqlite.specs.Schema.{Schema}
 use Rattle.sqlite.specs.Table.{Table}
-use Rattle.sqlite.specs.Effect.{IsDatabase}
+use Rattle.sqlite.specs.Effect.{Database, IsDatabase}
 use Rattle.sqlite.specs.Source.TheVariants.{Values}
 use Rattle.sqlite.specs.Command.TheVariants.{Insert}
 use Rattle.sqlite.specs.State.{State as Seen, Executes}
@@ -23,24 +23,22 @@ use Rattle.sqlite_trees.specs.Tree.{Trees}
 use Rattle.sqlite_rules.specs.Lists.{Has}
 use Rattle.sqlite_rules.specs.Edit.{next_rowid}
 use Rattle.sqlite_rules.proofs.ListLemmas.{all_has}
-use Rattle.streetmap_ledger.specs.State.{opening_state}
-use Rattle.streetmap_ledger.proofs.StatesStay.{opening_sound}
+use Rattle.streetmap_ledger.specs.State.{State, opening_state}
 use Rattle.streetmap_tables.specs.Holds.{Holds, KeyPair, first_key, is_first, pair_key, has_pair}
 use Rattle.streetmap_tables.proofs.Casts.{cast_null, cast_int}
 use Rattle.streetmap_tables.proofs.Drafts.{parsed_of, was_parsed}
 use Rattle.streetmap_tables.proofs.Finding.{IsFound}
-use Rattle.streetmap_tables.proofs.Holding.{holds_put}
+use Rattle.streetmap_tables.proofs.Holding.{holds_put, holds_same}
 use Rattle.streetmap_tables.proofs.Keys.{first_is, first_self}
 use Rattle.streetmap_tables.proofs.Resolving.{Means, means, insert_planned, command_is, is_plain, is_fit}
 use Rattle.streetmap_tables.proofs.Running as run
 use Rattle.streetmap_rows.specs.Tables.{Roots, IsOurs, meta, collections, batches, features, meta_name}
 use Rattle.streetmap_rows.specs.Rows.{feature_at, meta_cells}
-use Rattle.streetmap_rows.specs.Stands.{CanBeRead}
-use Rattle.streetmap_rows.specs.Keeping.{Keeps}
+use Rattle.streetmap_rows.specs.Stands.{CanBeRead, StandsFor}
 use Rattle.streetmap_rows.specs.Elsewhere.{is_our_name, IsSameElsewhere}
 use Rattle.streetmap_rows.proofs.Elsewhere.{same_elsewhere}
 use Rattle.streetmap_rows.proofs.Placing as placing
-use Rattle.streetmap_opening.specs.Making.{AreMade, format_text}
+use Rattle.streetmap_opening.specs.Making.{AreMade, LacksFormat, format_text}
 
 -- ---- what the text means
 
@@ -69,7 +67,7 @@ format_means schema tree found =
 
 -- ---- tables with no row
 
-holds_none : {K : Type 0} (key : Row → K) (is_at : K → Row → _) (cells : K → Option Row) (rows : List Row) → rows ≡ [] → ((k : K) → cells k ≡ None) → Holds key is_at cells rows
+pub holds_none : {K : Type 0} (key : Row → K) (is_at : K → Row → _) (cells : K → Option Row) (rows : List Row) → rows ≡ [] → ((k : K) → cells k ≡ None) → Holds key is_at cells rows
 holds_none key is_at cells rows empty none = subst (Holds key is_at cells) (sym empty) (record { table = tt; keyed = tt; apart = tt; found = λ k. sym (none k) })
 
 no_feature : (p : KeyPair) → feature_at opening_state p ≡ None
@@ -85,11 +83,23 @@ meta_ours : is_our_name meta_name ≡ true
 unfolding everything
 meta_ours = refl
 
+-- tables that were made have all rows of the opening state but that of the format
+pub lacks_format : (db : Database) → AreMade db → LacksFormat opening_state db
+lacks_format db made = record {
+  roots = made.roots;
+  ours = made.ours;
+  meta_empty = made.meta_empty;
+  collections = holds_none first_key is_first _ _ made.collections_empty (λ name. rw (get-empty _ name) refl);
+  batches = holds_none first_key is_first _ _ made.batches_empty (λ key. rw (get-empty _ key) refl);
+  features = holds_none pair_key has_pair _ _ made.features_empty (λ p. rw (no_feature p) refl);
+  readable = readable;
+}
+
 -- ---- the row
 
-module _ (old new : Seen) (limit : old.step_limit ≡ None) (made : AreMade old.now) (sound : IsDatabase old.now) where
+module _ (s : State) (old new : Seen) (limit : old.step_limit ≡ None) (lacks : LacksFormat s old.now) (sound : IsDatabase old.now) where
   abbrev roots : Roots
-  roots = made.roots
+  roots = lacks.roots
 
   abbrev schema : Schema
   schema = old.now.schema
@@ -98,33 +108,30 @@ module _ (old new : Seen) (limit : old.step_limit ≡ None) (made : AreMade old.
   db = old.now.trees
 
   found : IsFound schema meta_name (meta roots.meta)
-  found = placing.meta_found roots old.now made.ours sound
+  found = placing.meta_found roots old.now lacks.ours sound
 
   abbrev row : Row
   row = Int (next_rowid (db roots.meta)) ∷ Words (codes "format") ∷ Int (pos 2) ∷ []
 
-  stays : (next : Trees) → AllByRecursion (λ t. t.tree ≢ roots.meta → next t.tree ≡ db t.tree) schema.tables → (t : Table) → Has schema.tables t → t.tree ≢ roots.meta → db t.tree ≡ [] → next t.tree ≡ []
-  stays next all t there other was = all_has (λ (u : Table). u.tree ≢ roots.meta → next u.tree ≡ db u.tree) schema.tables t all there other ∙ was
+  kept : (next : Trees) → AllByRecursion (λ t. t.tree ≢ roots.meta → next t.tree ≡ db t.tree) schema.tables → (t : Table) → Has schema.tables t → t.tree ≢ roots.meta → next t.tree ≡ db t.tree
+  kept next all t there other = all_has (λ (u : Table). u.tree ≢ roots.meta → next u.tree ≡ db u.tree) schema.tables t all there other
 
-  pub format_put : (count : ℕ) → Executes format_text [] old new (Ok count) → Keeps opening_state new.now × IsSameElsewhere old.now new.now
+  pub format_put : (count : ℕ) → Executes format_text [] old new (Ok count) → StandsFor s new.now × IsSameElsewhere old.now new.now
   format_put count h =
       let it = format_means schema roots.meta found in
       let r = run.inserted _ roots.meta _ _ _ _ _ found.at format_terms 3 format_text [] old new schema row refl limit (command_is schema format_text 0 _ it) (is_plain schema format_text 0 _ it) (is_fit schema format_text 0 _ it refl)
       refl found.listed (rw (cast_null, cast_int (pos 2)) refl) count h in (
         record {
-          well = opening_sound;
-          rows = record {
-            roots = roots;
-            ours = subst (IsOurs roots) (sym r.same_schema) made.ours;
-            of = record {
-              format = subst (Holds first_key is_first meta_cells) (sym r.step.rows) (holds_put first_key is_first first_is first_self (λ _. None) (db roots.meta) (holds_none first_key is_first (λ _. None) (db roots.meta) made.meta_empty (λ _. refl)) row meta_cells (rw made.meta_empty refl) refl refl (λ q. refl));
-              collections = holds_none first_key is_first _ _ (stays new.now.trees r.step.tables (collections roots.collections) (placing.collections_there roots schema made.ours) (λ e. placing.meta_collections roots schema made.ours (sym e)) made.collections_empty) (λ name. rw (get-empty _ name) refl);
-              batches = holds_none first_key is_first _ _ (stays new.now.trees r.step.tables (batches roots.batches) (placing.batches_there roots schema made.ours) (λ e. placing.meta_batches roots schema made.ours (sym e)) made.batches_empty) (λ key. rw (get-empty _ key) refl);
-              features = holds_none pair_key has_pair _ _ (stays new.now.trees r.step.tables (features roots.features) (placing.features_there roots schema made.ours) (λ e. placing.meta_features roots schema made.ours (sym e)) made.features_empty) (λ p. rw (no_feature p) refl);
-            };
-            readable = readable;
-            sound = r.sound;
+          roots = roots;
+          ours = subst (IsOurs roots) (sym r.same_schema) lacks.ours;
+          of = record {
+            format = subst (Holds first_key is_first meta_cells) (sym r.step.rows) (holds_put first_key is_first first_is first_self (λ _. None) (db roots.meta) (holds_none first_key is_first (λ _. None) (db roots.meta) lacks.meta_empty (λ _. refl)) row meta_cells (rw lacks.meta_empty refl) refl refl (λ q. refl));
+            collections = holds_same first_key is_first _ _ (db roots.collections) (new.now.trees roots.collections) (kept new.now.trees r.step.tables (collections roots.collections) (placing.collections_there roots schema lacks.ours) (λ e. placing.meta_collections roots schema lacks.ours (sym e))) (λ _. refl) lacks.collections;
+            batches = holds_same first_key is_first _ _ (db roots.batches) (new.now.trees roots.batches) (kept new.now.trees r.step.tables (batches roots.batches) (placing.batches_there roots schema lacks.ours) (λ e. placing.meta_batches roots schema lacks.ours (sym e))) (λ _. refl) lacks.batches;
+            features = holds_same pair_key has_pair _ _ (db roots.features) (new.now.trees roots.features) (kept new.now.trees r.step.tables (features roots.features) (placing.features_there roots schema lacks.ours) (λ e. placing.meta_features roots schema lacks.ours (sym e))) (λ _. refl) lacks.features;
           };
+          readable = lacks.readable;
+          sound = r.sound;
         },
-        same_elsewhere old.now new.now _ _ made.ours.apart (placing.meta_there roots schema made.ours) meta_ours r.same_schema r.step,
+        same_elsewhere old.now new.now _ _ lacks.ours.apart (placing.meta_there roots schema lacks.ours) meta_ours r.same_schema r.step,
       )

@@ -37,6 +37,15 @@ FindsKeys old result = (s : State) → old.step_limit ≡ None → Keeps s old.n
 abbrev pub IsAsItWas : Seen → Seen → Type 0
 IsAsItWas old new = old.now ≡ old.committed → IsTrue new.is_open → HasSame old new
 
+-- it is open after the batches or format 1 are told, and after memory was refused
+abbrev pub StaysOpen : Seen → Result ℕ AdoptFault → Type 0
+StaysOpen new (Ok count) = IsTrue new.is_open
+StaysOpen new (Err OldFormat) = IsTrue new.is_open
+StaysOpen new (Err Memory) = IsTrue new.is_open
+StaysOpen new (Err NotOurs) = Unit {0}
+StaysOpen new (Err NewFormat) = Unit {0}
+StaysOpen new (Err (Device e)) = Unit {0}
+
 -- a stop may leave the same
 abbrev pub LeavesTheSame : Seen → Seen → Type 0
 LeavesTheSame old new = ((trees : Trees) → new.may_leave trees → old.may_leave trees) × ((trees : Trees) → old.may_leave trees → new.may_leave trees)

@@ -1,5 +1,5 @@
 -- Making the tables of the opening state.
-use Rattle.std.specs.Prelude.{◌≡◌, ◌⊎◌, ℕ, Bool, ◌||◌, not, true, false, [], List, codes, Ok, Err, Result, None, Some, IsTrue}
+use Rattle.std.specs.Prelude.{◌≡◌, ◌⊎◌, ℕ, Bool, ◌||◌, not, true, false, [], List, codes, Ok, Err, Result, None, Some, option_map, IsTrue}
 use Rattle.std.specs.List.{AllByRecursion, list_all}
 use Rattle.sqlite.specs.Schema.{Schema}
 use Rattle.sqlite.specs.Table.{Table}
@@ -11,9 +11,13 @@ use Rattle.sqlite_schema.specs.Names.{same_name}
 use Rattle.sqlite_trees.specs.Tree.{Trees, IsAscending}
 use Rattle.sqlite_catalog.specs.Change.{is_used}
 use Rattle.sqlite_rules.specs.Lists.{Has}
-use Rattle.streetmap_ledger.specs.State.{opening_state}
+use Rattle.std.specs.FinMap.{get}
+use Rattle.streetmap_ledger.specs.State.{State, opening_state}
 use Rattle.streetmap_ledger.specs.Keep.{LeavesOnly}
 use Rattle.streetmap_rows.specs.Tables.{Roots, IsOurs, meta_name, collections_name, batches_name, features_name}
+use Rattle.streetmap_tables.specs.Holds.{Holds, first_key, is_first, pair_key, has_pair}
+use Rattle.streetmap_rows.specs.Rows.{feature_at, collection_cells, batch_cells, feature_cells}
+use Rattle.streetmap_rows.specs.Stands.{CanBeRead}
 use Rattle.streetmap_rows.specs.Elsewhere.{is_our_name}
 use Rattle.streetmap_rows.specs.Keeping.{Keeps, Rests, MayLeave}
 use Rattle.streetmap_opening.specs.declared.making.MakeFault.{MakeFault}
@@ -48,6 +52,16 @@ pub record AreMade (db : Database) : Type 0 where
   pub collections_empty : db.trees roots.collections ≡ []
   pub batches_empty : db.trees roots.batches ≡ []
   pub features_empty : db.trees roots.features ≡ []
+
+-- the tables are ours, and have all rows of a state but that of the format
+pub record LacksFormat (s : State) (db : Database) : Type 0 where
+  pub roots : Roots
+  pub ours : IsOurs roots db.schema
+  pub meta_empty : db.trees roots.meta ≡ []
+  pub collections : Holds first_key is_first (λ name. option_map (collection_cells name) (get s.collections name)) (db.trees roots.collections)
+  pub batches : Holds first_key is_first (λ key. option_map (batch_cells key) (get s.keys key)) (db.trees roots.batches)
+  pub features : Holds pair_key has_pair (λ p. option_map (feature_cells p) (feature_at s p)) (db.trees roots.features)
+  pub readable : CanBeRead s
 
 -- it has the database that it had
 abbrev pub HasSame : Seen → Seen → Type 0

@@ -5,7 +5,7 @@ ghost use Rattle.sqlite.specs.State.{HasCleanDisk, KeepsCommit, Survives};
 ghost use Rattle.streetmap_ledger.specs.State.{State};
 ghost use Rattle.streetmap_rows.specs.Keeping.{Rests};
 ghost use Rattle.streetmap_rows.specs.Statements.{select_format};
-ghost use Rattle.streetmap_opening.specs.Adopting.{serials_text, FindsFormat, FindsSerials, FindsKeys, IsAsItWas, Adopts};
+ghost use Rattle.streetmap_opening.specs.Adopting.{serials_text, FindsFormat, FindsSerials, FindsKeys, IsAsItWas, StaysOpen, Adopts};
 ghost use Rattle.streetmap_opening.specs.Telling.{format_in, LooksAt, IsFoundIn, IsRefusedFor, AdoptsBy};
 
 use sqlite::types::ValueRef;
@@ -51,11 +51,12 @@ fn read_format<S: Alter>(tx: &mut Transaction<'_, S>) -> Result<Vec<Row>, Error>
     )
 }
 
-/// The serials of all batches.
-fn read_serials<S: Alter>(tx: &mut Transaction<'_, S>) -> Result<Vec<Row>, Error>
+/// The serials of all batches, a row for each.
+pub fn read_serials<S: Alter>(tx: &mut Transaction<'_, S>) -> Result<Vec<Row>, Error>
     ensures same_reference { tx.new.conn.ghost_name ≡ tx.old.conn.ghost_name }
     ensures finds { HasCleanDisk (state S.Store tx.new.conn.now) → FindsSerials (state S.Store tx.old.conn.now) result }
     ensures tells { HasCleanDisk (state S.Store tx.new.conn.now) → LooksAt serials_text (state S.Store tx.old.conn.now) (state S.Store tx.new.conn.now) result }
+    ensures inside { HasCleanDisk (state S.Store tx.new.conn.now) → IsTrue (state S.Store tx.old.conn.now).in_transaction → OnOk result (IsTrue (state S.Store tx.new.conn.now).in_transaction) }
     ensures kept { HasCleanDisk (state S.Store tx.new.conn.now) → IsTrue (state S.Store tx.old.conn.now).in_transaction → KeepsCommit (state S.Store tx.old.conn.now) (state S.Store tx.new.conn.now) }
     ensures survives { Survives (state S.Store tx.old.conn.now) (state S.Store tx.new.conn.now) (λ _. ⊥) }
 {
@@ -128,19 +129,24 @@ fn refusal_of(format: Option<i64>) -> AdoptFault
 /// `OldFormat` for format 1 and `NewFormat` for a format above 2; `NotOurs` for any other, where there
 /// is no format row, and where a look at it or at the batches is refused; `Memory` where memory was
 /// refused and the connection is open; `Device` where the store fails, by its error. That the connection
-/// is open is found out by `probe`, before the batches are told and after memory was refused: where
-/// memory is refused to that look too, it is `Device`, by that error.
+/// is open is found out by `probe`, before the batches or format 1 are told and after memory was refused:
+/// where memory is refused to that look too, it is `Device`, by that error.
 pub fn adopt_tables<S: Alter>(conn: &mut Connection<S>) -> Result<u64, AdoptFault>
     requires { conn.old.in_transaction ≡ false }
     ensures idle { conn.new.in_transaction ≡ false }
     ensures survives { Survives (state S.Store conn.old) (state S.Store conn.new) (λ _. ⊥) }
     ensures same { HasCleanDisk (state S.Store conn.new) → IsAsItWas (state S.Store conn.old) (state S.Store conn.new) }
     ensures tells { HasCleanDisk (state S.Store conn.new) → AdoptsBy (state S.Store conn.old) result }
+    ensures live { HasCleanDisk (state S.Store conn.new) → StaysOpen (state S.Store conn.new) result }
     ensures adopts { HasCleanDisk (state S.Store conn.new) → (s : State) → Rests (state S.Store conn.old) s → Adopts s (state S.Store conn.old) (state S.Store conn.new) result }
 {
     match look_alone(conn) {
         Ok(Found::Keys(count)) => match probe(conn) {
             Ok(()) => Ok(count),
+            Err(error) => Err(AdoptFault::Device(error)),
+        },
+        Ok(Found::Other(Some(1))) => match probe(conn) {
+            Ok(()) => Err(AdoptFault::OldFormat),
             Err(error) => Err(AdoptFault::Device(error)),
         },
         Ok(Found::Other(format)) => Err(refusal_of(format)),

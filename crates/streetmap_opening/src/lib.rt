@@ -11,5 +11,5 @@
 mod adopting;
 mod making;
 
-pub use adopting::{AdoptFault, adopt_tables};
-pub use making::{MakeFault, make_tables};
+pub use adopting::{AdoptFault, adopt_tables, read_serials};
+pub use making::{MakeFault, create_table, insert_format, make_tables};

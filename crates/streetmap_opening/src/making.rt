@@ -7,12 +7,13 @@ ghost use Rattle.sqlite.specs.Does.{lacks_sequence};
 ghost use Rattle.sqlite.specs.Effect.{IsDatabase};
 ghost use Rattle.sqlite.specs.Table.{Table};
 ghost use Rattle.sqlite_catalog.specs.Change.{created, is_used};
-ghost use Rattle.streetmap_ledger.specs.State.{opening_state};
+ghost use Rattle.streetmap_ledger.specs.State.{State, opening_state};
 ghost use Rattle.streetmap_rows.specs.Keeping.{Keeps};
+ghost use Rattle.streetmap_rows.specs.Stands.{StandsFor};
 ghost use Rattle.streetmap_rows.specs.Elsewhere.{IsSameElsewhere};
 ghost use Rattle.streetmap_opening.specs.Made.{IsTableText, Created};
 ghost use Rattle.streetmap_opening.specs.Adopting.{IsAsItWas};
-ghost use Rattle.streetmap_opening.specs.Making.{is_taken, HasRoom, IsReady, AreMade, KeepsOtherTables, MayOpen, MakesAlone, Makes};
+ghost use Rattle.streetmap_opening.specs.Making.{is_taken, HasRoom, IsReady, LacksFormat, KeepsOtherTables, MayOpen, MakesAlone, Makes};
 
 use sqlite::{Alter, Connection, Error, Transaction};
 use sqlite_schema::schema::Schema;
@@ -60,10 +61,10 @@ pub fn create_table<S: Alter>(tx: &mut Transaction<'_, S>, sql: &str) -> Result<
     Ok(())
 }
 
-/// Writes the row of format 2 into tables that were made.
-fn insert_format<S: Alter>(tx: &mut Transaction<'_, S>) -> Result<(), Error>
+/// Writes the row of format 2 into tables that have every other row of a state.
+pub fn insert_format<S: Alter>(tx: &mut Transaction<'_, S>) -> Result<(), Error>
     ensures same_reference { tx.new.conn.ghost_name ≡ tx.old.conn.ghost_name }
-    ensures made { HasCleanDisk (state S.Store tx.new.conn.now) → IsTrue (state S.Store tx.old.conn.now).in_transaction → (state S.Store tx.old.conn.now).step_limit ≡ None → AreMade (state S.Store tx.old.conn.now).now → IsDatabase (state S.Store tx.old.conn.now).now → OnOk result (Keeps opening_state (state S.Store tx.new.conn.now).now × IsSameElsewhere (state S.Store tx.old.conn.now).now (state S.Store tx.new.conn.now).now) }
+    ensures put { HasCleanDisk (state S.Store tx.new.conn.now) → IsTrue (state S.Store tx.old.conn.now).in_transaction → (state S.Store tx.old.conn.now).step_limit ≡ None → (s : State) → LacksFormat s (state S.Store tx.old.conn.now).now → IsDatabase (state S.Store tx.old.conn.now).now → OnOk result (StandsFor s (state S.Store tx.new.conn.now).now × IsSameElsewhere (state S.Store tx.old.conn.now).now (state S.Store tx.new.conn.now).now) }
     ensures inside { HasCleanDisk (state S.Store tx.new.conn.now) → IsTrue (state S.Store tx.old.conn.now).in_transaction → OnOk result (IsTrue (state S.Store tx.new.conn.now).in_transaction) }
     ensures kept { HasCleanDisk (state S.Store tx.new.conn.now) → IsTrue (state S.Store tx.old.conn.now).in_transaction → KeepsCommit (state S.Store tx.old.conn.now) (state S.Store tx.new.conn.now) }
     ensures survives { Survives (state S.Store tx.old.conn.now) (state S.Store tx.new.conn.now) (λ _. ⊥) }

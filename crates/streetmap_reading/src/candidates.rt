@@ -21,7 +21,14 @@ use streetmap_geojson::{Feature, JsonFault, read_feature, read_json};
 use streetmap_ledger::PageFold;
 
 /// The feature of a text that is kept of it, under a collection's time property.
-fn read_body(alloc: Global, body: &[u8], property: Option<&str>) -> Result<Feature, JsonFault>
+///
+/// The text is JSON (RFC 8259) of a GeoJSON Feature (RFC 7946), as `push_feature` writes it.
+///
+/// # Errors
+///
+/// `Memory` where memory was refused; `Fault` where the text reads as no feature, which never comes of
+/// a text that is kept.
+pub fn read_body(alloc: Global, body: &[u8], property: Option<&str>) -> Result<Feature, JsonFault>
     ensures { (f : FeatureValue) → body.now ≡ feature_text f → IsStored (option_copied property.entry) f → Gives feature_value result (Ok f) }
 {
     let value = read_json(alloc, body)?;

@@ -17,6 +17,7 @@ mod fault;
 mod feature;
 mod page;
 
+pub use candidates::read_body;
 pub use fault::{ReadFault, unread};
 pub use feature::feature_of;
 pub use page::{collection_row, page_of};

@@ -1,8 +1,11 @@
 use Rattle.std.proofs.Common.{◌∙◌}
 use Rattle.sqlite.specs.Held.{state}
+use Rattle.streetmap_ledger.specs.State.{opening_state}
+use Rattle.streetmap_ledger.proofs.StatesStay.{opening_sound}
 use Rattle.streetmap_rows.specs.Tables.{meta, collections, batches, features}
 use Rattle.streetmap_opening.proofs.Texts.{meta_is, collections_is, batches_is, features_is}
 use Rattle.streetmap_opening.proofs.Grown.{meta_counts, collections_counts, batches_counts, features_counts, room_one, room_two, room_three, are_made}
+use Rattle.streetmap_opening.proofs.PutFormat.{lacks_format}
 use Rattle.streetmap_opening.proofs.Stopping.{clean_back, ok_then}
 use Rattle.streetmap_opening.proofs.Others.{others_then, others_elsewhere}
 use Rattle.streetmap_opening.proofs.Growing.{others_kept}
@@ -34,8 +37,8 @@ returns-clause-made g c clean inside limit room =
     let unlimited = c.create_table-4.ensures.survives.limit ∙ c.create_table-3.ensures.survives.limit ∙ c.create_table-2.ensures.survives.limit ∙ c.create_table.ensures.survives.limit ∙ limit in
     let grown = others_then s0.now s2.now s4.now (others_then s0.now s1.now s2.now (others_kept (meta 0) s0.now s1.now one) (others_kept (collections 0) s1.now s2.now two))
     (others_then s2.now s3.now s4.now (others_kept (batches 0) s2.now s3.now three) (others_kept (features 0) s3.now s4.now four)) in
-    let put = c.insert_format.ensures.made clean i4 unlimited (are_made s0.now s1.now one room s2.now two s3.now three s4.now four) four.sound in
-    ok_then _ _ c.insert_format.result put (λ h. (h.0, others_then s0.now s4.now s5.now grown (others_elsewhere s4.now s5.now h.1)))
+    let put = c.insert_format.ensures.put clean i4 unlimited opening_state (lacks_format s4.now (are_made s0.now s1.now one room s2.now two s3.now three s4.now four)) four.sound in
+    ok_then _ _ c.insert_format.result put (λ h. (record { well = opening_sound; rows = h.0 }, others_then s0.now s4.now s5.now grown (others_elsewhere s4.now s5.now h.1)))
 
 pub returns-clause-inside : goal.returns-clause-inside
 returns-clause-inside g c clean inside =
