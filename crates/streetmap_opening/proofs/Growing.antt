@@ -54,14 +54,14 @@ or_false false = refl
 
 -- ---- the table of counts
 
-abbrev is_sequence : Table → Bool
+abbrev pub is_sequence : Table → Bool
 is_sequence t = same_name t.name (codes "sqlite_sequence")
 
-sequence_found : (schema : Schema) → is_some (sequence schema) ≡ true → (o : Option Table) → find is_sequence schema.tables ≡ o → (t : Table) × (find is_sequence schema.tables ≡ Some t)
+pub sequence_found : (schema : Schema) → is_some (sequence schema) ≡ true → (o : Option Table) → find is_sequence schema.tables ≡ o → (t : Table) × (find is_sequence schema.tables ≡ Some t)
 sequence_found schema h (Some t) is = (t, is)
 sequence_found schema h None is = absurd (true≢false (sym (rw (not_found is_sequence 0 schema.tables is) at h)))
 
-found_sequence : (schema : Schema) (t : Table) → find is_sequence schema.tables ≡ Some t → is_some (sequence schema) ≡ true
+pub found_sequence : (schema : Schema) (t : Table) → find is_sequence schema.tables ≡ Some t → is_some (sequence schema) ≡ true
 found_sequence schema t h =
     let it = stands_at is_sequence 0 schema.tables t h in
     let at : table_named schema (codes "sqlite_sequence") ≡ Some it.at = it.position ∙ ap (λ k. Some k) (omega arith) in

@@ -13,7 +13,7 @@ use Rattle.streetmap_opening.specs.Made.{Created}
 use Rattle.streetmap_opening.specs.Making.{HasRoom, AreMade}
 use Rattle.streetmap_opening.proofs.Growing.{references_none, OnTree, room_created, room_after, named_kept, named_new, on_kept, on_new, any_kept, any_new, below, rows_kept}
 
-meta_alone : references_none (meta 0)
+pub meta_alone : references_none (meta 0)
 meta_alone = refl
 
 collections_alone : references_none (collections 0)
@@ -22,11 +22,11 @@ collections_alone = refl
 batches_alone : references_none (batches 0)
 batches_alone = refl
 
-features_alone : references_none (features 0)
+pub features_alone : references_none (features 0)
 unfolding everything
 features_alone = refl
 
-same_meta : same_name meta_name meta_name ≡ true
+pub same_meta : same_name meta_name meta_name ≡ true
 unfolding everything
 same_meta = refl
 
@@ -38,7 +38,7 @@ same_batches : same_name batches_name batches_name ≡ true
 unfolding everything
 same_batches = refl
 
-same_features : same_name features_name features_name ≡ true
+pub same_features : same_name features_name features_name ≡ true
 unfolding everything
 same_features = refl
 

@@ -1,8 +1,8 @@
 //! A feature that is put into its collection, inside a transaction.
-ghost use Rattle.std.specs.Prelude.{◌≡◌, IfOk, string_bytes};
+ghost use Rattle.std.specs.Prelude.{◌≡◌, IfOk, IsTrue, OnOk, string_bytes};
 ghost use Rattle.std.specs.Option.{option_copied};
 ghost use Rattle.sqlite.specs.Held.{state};
-ghost use Rattle.sqlite.specs.State.{HasCleanDisk, Survives};
+ghost use Rattle.sqlite.specs.State.{HasCleanDisk, KeepsCommit, Survives};
 ghost use Rattle.streetmap_rows.specs.Rows.{feature_text};
 ghost use Rattle.streetmap_writing.specs.Storing.{Puts};
 
@@ -26,6 +26,10 @@ fn text_of(alloc: Global, feature: &Feature) -> Result<String, AllocError>
 
 /// Puts a feature that is not there into a collection that is, with the time that the collection's
 /// property tells; or tells that it tells none that can be read.
+///
+/// # Errors
+///
+/// The error of the store; or, where the tables are not those of a state, that the statement was refused.
 pub fn put_feature<S: Alter>(
     tx: &mut Transaction<'_, S>,
     alloc: Global,
@@ -35,6 +39,8 @@ pub fn put_feature<S: Alter>(
 ) -> Result<Option<Refusal>, Error>
     ensures same_reference { tx.new.conn.ghost_name ≡ tx.old.conn.ghost_name }
     ensures puts { HasCleanDisk (state S.Store tx.new.conn.now) → Puts collection.now (option_copied property.entry) feature.now (state S.Store tx.old.conn.now) (state S.Store tx.new.conn.now) result }
+    ensures inside { HasCleanDisk (state S.Store tx.new.conn.now) → IsTrue (state S.Store tx.old.conn.now).in_transaction → OnOk result (IsTrue (state S.Store tx.new.conn.now).in_transaction) }
+    ensures kept { HasCleanDisk (state S.Store tx.new.conn.now) → IsTrue (state S.Store tx.old.conn.now).in_transaction → KeepsCommit (state S.Store tx.old.conn.now) (state S.Store tx.new.conn.now) }
     ensures survives { Survives (state S.Store tx.old.conn.now) (state S.Store tx.new.conn.now) (λ _. ⊥) }
 {
     let Ok(seconds) = seconds_under(feature, property) else {
