@@ -1,5 +1,5 @@
 """Reads a file that the program wrote by SQLite itself: its integrity, its tables and their rows. And has the program serve files
-that SQLite itself made or changed: tables in another order and beside another, other formats, rows that cannot be read.
+that SQLite itself made or changed: tables in another order and beside another, format 1, other formats, rows that cannot be read.
 
     python3 tests/file.py PROGRAM
 """
@@ -164,13 +164,55 @@ def checked(path):
 
 def other_formats(path):
     subprocess.run([PROGRAM, "create", path], check=True)
-    for sql, code in (("UPDATE streetmap_meta SET value = 1", "old_format"), ("UPDATE streetmap_meta SET value = 3", "new_format"),
+    for sql, code in (("UPDATE streetmap_meta SET value = 3", "new_format"),
                       ("UPDATE streetmap_meta SET value = 0", "not_ours"), ("DELETE FROM streetmap_meta", "not_ours"),
                       ("DROP TABLE streetmap_meta", "not_ours")):
         changed(path, sql)
         ended = subprocess.run([PROGRAM, "pipe", path], input=get("/"), capture_output=True, check=False)
         check(sql, (ended.returncode, ended.stdout, ended.stderr), (1, b"", f"streetmap: {code}\n".encode()))
         check(f"{sql}, checked", checked(path), (1, b"", f"streetmap: {code}\n".encode()))
+
+
+# The tables of format 1, from those of format 2.
+FORMAT_1 = """
+CREATE TABLE old AS SELECT collection, id, body FROM streetmap_features;
+DROP TABLE streetmap_features;
+CREATE TABLE streetmap_features (collection TEXT NOT NULL REFERENCES streetmap_collections(id), id TEXT NOT NULL, body TEXT NOT NULL, PRIMARY KEY (collection, id)) STRICT;
+INSERT INTO streetmap_features SELECT * FROM old;
+DROP TABLE old;
+UPDATE streetmap_meta SET value = 1;
+CREATE TABLE IF NOT EXISTS notes (text TEXT);
+INSERT INTO notes VALUES ('beside');
+"""
+COLUMNS = "SELECT collection, id, body, x0, y0, x1, y1, s0, s1 FROM streetmap_features ORDER BY collection, id"
+
+
+def carried_over(path):
+    """A file of format 1 is carried over when it is opened: every column, and no more; a damaged one stays as it is."""
+    subprocess.run([PROGRAM, "create", path], check=True)
+    served = subprocess.run([PROGRAM, "pipe", path], input=b"".join(map(post, BATCHES)), capture_output=True, check=True)
+    check("answers before", served.stdout.count(b"HTTP/1.1 200 OK"), 3)
+    wanted, batches = rows(path, COLUMNS), rows(path, "SELECT * FROM streetmap_batches ORDER BY serial")
+    changed(path, FORMAT_1)
+    check("format 1", rows(path, "SELECT value FROM streetmap_meta"), [(1,)])
+    again = subprocess.run([PROGRAM, "pipe", path], input=post(BATCHES[0]), capture_output=True, check=True)
+    check("a repeat over format 1", again.stdout.endswith(b'{"deleted":0,"inserted":1,"key":"b1","opened":1,"replaced":0,"serial":1}'), True)
+    check("format 2", rows(path, "SELECT * FROM streetmap_meta"), [("format", 2)])
+    check("every column", rows(path, COLUMNS), wanted)
+    check("a point", rows(path, "SELECT x0, y0, x1, y1, s0, s1 FROM streetmap_features WHERE id = 'L1'"), [(1000, 2000, 1000, 2000, None, None)])
+    check("the batches", rows(path, "SELECT * FROM streetmap_batches ORDER BY serial"), batches)
+    check("another table", rows(path, "SELECT * FROM notes"), [("beside",)])
+    check("its counts", checked(path), (0, b"ok 2 4 3\n", b""))
+    read(path)
+    changed(path, FORMAT_1 + "UPDATE streetmap_features SET body = 'unreadable' WHERE id = 'L4';")
+    old = rows(path, "SELECT * FROM streetmap_features ORDER BY id"), rows(path, "SELECT * FROM streetmap_meta")
+    check("a damaged row in format 1", checked(path), (3, b"", b"streetmap: damaged\n"))
+    check("stays", (rows(path, "SELECT * FROM streetmap_features ORDER BY id"), rows(path, "SELECT * FROM streetmap_meta")), old)
+    empty = f"{path}.empty"
+    subprocess.run([PROGRAM, "create", empty], check=True)
+    changed(empty, FORMAT_1)
+    check("format 1 with no row", checked(empty), (0, b"ok 0 0 0\n", b""))
+    check("carried over with no row", rows(empty, "SELECT * FROM streetmap_meta"), [("format", 2)])
 
 
 def ids(page):
@@ -263,6 +305,7 @@ def main():
         rows_of_no_state(path)
         tables_beside_another(f"{folder}/beside")
         other_formats(f"{folder}/formats")
+        carried_over(f"{folder}/old")
         rows_that_cannot_be_read(f"{folder}/damaged")
     print("all as wanted" if not failures else f"{len(failures)} not as wanted")
     sys.exit(1 if failures else 0)

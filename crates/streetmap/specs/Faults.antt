@@ -31,7 +31,7 @@ use Rattle.streetmap_connections.specs.declared.serve.ServeFault.TheVariants as 
 use Rattle.streetmap_command.specs.declared.command.CommandFault.{CommandFault}
 use Rattle.streetmap_command.specs.declared.command.CommandFault.TheVariants as command
 use Rattle.streetmap.specs.declared.fault.ProgramFault.{ProgramFault}
-use Rattle.streetmap.specs.declared.fault.ProgramFault.TheVariants.{Usage, BadBase, Exists, NoFile, NotOurs, OldFormat, NewFormat, Taken, NoText, Import, Export, LineTooLong, ReadFailed, WriteFailed, Net, Damaged, Device, Memory}
+use Rattle.streetmap.specs.declared.fault.ProgramFault.TheVariants.{Usage, BadBase, Exists, NoFile, NotOurs, NewFormat, Taken, NoText, Import, Export, LineTooLong, ReadFailed, WriteFailed, Net, Damaged, Device, Memory}
 
 -- the name that is printed
 abbrev pub code_of : ProgramFault → List ℕ
@@ -40,7 +40,6 @@ code_of BadBase = codes "bad_base"
 code_of Exists = codes "exists"
 code_of NoFile = codes "no_file"
 code_of NotOurs = codes "not_ours"
-code_of OldFormat = codes "old_format"
 code_of NewFormat = codes "new_format"
 code_of Taken = codes "taken"
 code_of NoText = codes "no_text"
@@ -81,7 +80,6 @@ status_of BadBase = 1
 status_of Exists = 1
 status_of NoFile = 1
 status_of NotOurs = 1
-status_of OldFormat = 1
 status_of NewFormat = 1
 status_of Taken = 1
 status_of NoText = 1
@@ -125,8 +123,8 @@ fault_of_create creation.Memory = Memory
 -- where a file is not opened
 abbrev pub fault_of_open : OpenFault → ProgramFault
 fault_of_open opening.NotOurs = NotOurs
-fault_of_open opening.OldFormat = OldFormat
 fault_of_open opening.NewFormat = NewFormat
+fault_of_open opening.Damaged = Damaged
 fault_of_open (opening.Device error) = Device
 fault_of_open opening.Memory = Memory
 

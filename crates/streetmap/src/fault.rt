@@ -30,8 +30,6 @@ pub enum ProgramFault {
     NoFile,
     /// `not_ours`: the file is none of this product.
     NotOurs,
-    /// `old_format`: the file has format 1.
-    OldFormat,
     /// `new_format`: the file has a format above 2.
     NewFormat,
     /// `taken`: a table, an index or a view of the file has one of the names of its tables.
@@ -69,7 +67,6 @@ impl ProgramFault {
             ProgramFault::Exists => "exists",
             ProgramFault::NoFile => "no_file",
             ProgramFault::NotOurs => "not_ours",
-            ProgramFault::OldFormat => "old_format",
             ProgramFault::NewFormat => "new_format",
             ProgramFault::Taken => "taken",
             ProgramFault::NoText => "no_text",
@@ -255,8 +252,8 @@ impl From<OpenFault> for ProgramFault {
     fn from(fault: OpenFault) -> ProgramFault {
         match fault {
             OpenFault::NotOurs => ProgramFault::NotOurs,
-            OpenFault::OldFormat => ProgramFault::OldFormat,
             OpenFault::NewFormat => ProgramFault::NewFormat,
+            OpenFault::Damaged => ProgramFault::Damaged,
             OpenFault::Device(_) => ProgramFault::Device,
             OpenFault::Memory => ProgramFault::Memory,
         }

@@ -11,8 +11,9 @@ use Rattle.sqlite.specs.Files.{file_state}
 use Rattle.streetmap_ledger.specs.State.{State}
 use Rattle.streetmap_rows.specs.Keeping.{Keeps, Rests}
 use Rattle.streetmap_opening.specs.Making.{HasRoom, IsReady, is_taken}
-use Rattle.streetmap_store.proofs.Reopened.{keeps_too}
-use Rattle.streetmap_files.specs.Holding.{IsJustOpenedOn, HoldsState, LeavesRoom}
+use Rattle.streetmap_carrying.specs.Old.{KeepsOld, RestsOld}
+use Rattle.streetmap_store.proofs.Reopened.{keeps_too, old_too}
+use Rattle.streetmap_files.specs.Holding.{IsJustOpenedOn, HoldsState, HoldsOldState, LeavesRoom}
 use Rattle.streetmap_files.specs.Reasons.{RefusesToCreate}
 use Rattle.streetmap_files.specs.declared.fault.CreateFault.TheVariants.{Taken}
 
@@ -26,6 +27,13 @@ module _ {D : Type 0} {g : disk.Ghosts D} (image : Image) (c : Held (FileStore D
       let same : (file_state c).committed.trees ≡ held.0 = (on.found clean).holds held.0 held.1 in
       let kept : Keeps s (file_state c).committed = keeps_too s held.2.0 (file_state c).committed.schema (file_state c).committed.trees sound (subst (λ trees. Keeps s (record { schema = held.2.0; trees = trees })) (sym same) held.2.1) in
       record { kept = subst (Keeps s) (sym it.0.clean) kept; settled = it.0.clean; live = it.0.is_open; unlimited = on.fresh.unlimited }
+
+  pub rests_old : (s : State) → HoldsOldState image s → RestsOld (file_state c) s
+  rests_old s held =
+      let it = on.opened clean in
+      let same : (file_state c).committed.trees ≡ held.0 = (on.found clean).holds held.0 held.1 in
+      let kept : KeepsOld s (file_state c).committed = old_too s held.2.0 (file_state c).committed.schema (file_state c).committed.trees sound (subst (λ trees. KeepsOld s (record { schema = held.2.0; trees = trees })) (sym same) held.2.1) in
+      record { kept = subst (KeepsOld s) (sym it.0.clean) kept; settled = it.0.clean; live = it.0.is_open; unlimited = on.fresh.unlimited }
 
   pub ready : LeavesRoom image → IsReady (file_state c)
   ready room =

@@ -15,9 +15,10 @@ use Rattle.sqlite.specs.Held.{Held}
 use Rattle.sqlite_store.specs.declared.store.FileStore.{FileStore}
 use Rattle.sqlite.specs.Files.{IsNothing, FailsToOpenFiles, image_of}
 use Rattle.streetmap_ledger.specs.State.{State}
-use Rattle.streetmap_opening.specs.Adopting.{Adopts}
-use Rattle.streetmap_opening.specs.Telling.{AdoptsBy, TellsFault, TellsNothing}
-use Rattle.streetmap_opening.specs.declared.adopting.AdoptFault.{AdoptFault}
+use Rattle.streetmap_opening.specs.Telling.{TellsFault, TellsNothing}
+use Rattle.streetmap_carrying.specs.Carrying.{IsOld, Carries, Opens, OpensBy}
+use Rattle.streetmap_carrying.specs.declared.opening.TablesFault.{TablesFault}
+use Rattle.streetmap_carrying.specs.declared.opening.TablesFault.TheVariants as tables
 use Rattle.streetmap_opening.specs.declared.adopting.AdoptFault.TheVariants as adopting
 use Rattle.streetmap_opening.specs.declared.making.MakeFault.{MakeFault}
 use Rattle.streetmap_opening.specs.declared.making.MakeFault.TheVariants as making
@@ -126,20 +127,28 @@ still_held image (left.Connection c) h = record { first = h.first; on = h.on; cl
 -- ---- a connection
 
 -- tables that are not opened
-pub not_adopted_for : {D : Type 0} {g : disk.Ghosts D} (image : Image) (rest : Left (Leftover D g) (Held (FileStore D g))) (seen : Seen) → ((P : Seen → Type 0) → P seen → Showed image P rest) → (fault : AdoptFault)
-    → AdoptsBy seen (Err fault) → RefusesToOpen image (not_adopted fault) rest
-not_adopted_for image rest seen show adopting.NotOurs by = inr (show (λ x. TellsFault x adopting.NotOurs ⊎ TellsNothing x) by)
-not_adopted_for image rest seen show adopting.OldFormat by = show (λ x. TellsFault x adopting.OldFormat) by
-not_adopted_for image rest seen show adopting.NewFormat by = show (λ x. TellsFault x adopting.NewFormat) by
-not_adopted_for image rest seen show (adopting.Device e) by = inr by
-not_adopted_for image rest seen show adopting.Memory by = tt
+pub not_adopted_for : {D : Type 0} {g : disk.Ghosts D} (image : Image) (rest : Left (Leftover D g) (Held (FileStore D g))) (seen : Seen) → ((P : Seen → Type 0) → P seen → Showed image P rest) → (fault : TablesFault)
+    → OpensBy seen (Err fault) → RefusesToOpen image (not_adopted fault) rest
+not_adopted_for image rest seen show tables.NotOurs by = inr (show (λ x. TellsFault x adopting.NotOurs ⊎ TellsNothing x) by)
+not_adopted_for image rest seen show tables.NewFormat by = show (λ x. TellsFault x adopting.NewFormat) by
+not_adopted_for image rest seen show tables.Damaged by = show IsOld by
+not_adopted_for image rest seen show (tables.Device e) (inl of) = inr (inl of)
+not_adopted_for image rest seen show (tables.Device e) (inr old) = inr (inr (show IsOld old))
+not_adopted_for image rest seen show tables.Memory by = tt
 
-pub ours_spared : (s : State) (old new : Seen) (fault : AdoptFault) → Adopts s old new (Err fault) → OpenBlamesNoFile (not_adopted fault)
-ours_spared s old new adopting.NotOurs h = absurd h
-ours_spared s old new adopting.OldFormat h = absurd h
-ours_spared s old new adopting.NewFormat h = absurd h
-ours_spared s old new (adopting.Device e) h = tt
-ours_spared s old new adopting.Memory h = tt
+pub ours_spared : (s : State) (old new : Seen) (fault : TablesFault) → Opens s old new (Err fault) → OpenBlamesNoFile (not_adopted fault)
+ours_spared s old new tables.NotOurs h = absurd h
+ours_spared s old new tables.NewFormat h = absurd h
+ours_spared s old new tables.Damaged h = absurd h
+ours_spared s old new (tables.Device e) h = tt
+ours_spared s old new tables.Memory h = tt
+
+pub old_spared : (s : State) (old new : Seen) (fault : TablesFault) → Carries s old new (Err fault) → OpenBlamesNoFile (not_adopted fault)
+old_spared s old new tables.NotOurs h = absurd h
+old_spared s old new tables.NewFormat h = absurd h
+old_spared s old new tables.Damaged h = absurd h
+old_spared s old new (tables.Device e) h = tt
+old_spared s old new tables.Memory h = tt
 
 -- tables that are not made
 pub not_made_for : (image : Image) (fault : MakeFault) → (fault ≡ making.Taken → RefusesToCreate image created.Taken) → RefusesToCreate image (not_made fault)

@@ -13,6 +13,7 @@ use Rattle.sqlite.specs.Files.{HoldsDatabase, AreFoundIn, IsOpened, file_state}
 use Rattle.streetmap_ledger.specs.State.{State}
 use Rattle.streetmap_rows.specs.Keeping.{Tells}
 use Rattle.streetmap_opening.specs.Making.{HasRoom}
+use Rattle.streetmap_carrying.specs.Old.{KeepsOld}
 
 -- a connection that was just opened on files: while they return what was written, it is open and shows the database that they held
 pub record IsJustOpenedOn {D : Type 0} {g : disk.Ghosts D} (image : Image) (c : Held (FileStore D g)) : Type 0 where
@@ -23,6 +24,10 @@ pub record IsJustOpenedOn {D : Type 0} {g : disk.Ghosts D} (image : Image) (c : 
 -- the files hold a database with the tables of a state
 abbrev pub HoldsState : Image → State → Type 0
 HoldsState image s = (db : Trees) × HoldsDatabase image db × Tells db (Some s)
+
+-- the files hold a database with the tables of a state in format 1
+abbrev pub HoldsOldState : Image → State → Type 0
+HoldsOldState image s = (db : Trees) × HoldsDatabase image db × ((schema : Schema) × KeepsOld s (record { schema = schema; trees = db }))
 
 -- the tables of whatever database the files are read as, if any, leave room for ours
 abbrev pub LeavesRoom : Image → Type 0

@@ -11,7 +11,7 @@ use Rattle.sqlite.specs.declared.error.Error.{Error}
 use Rattle.sqlite.specs.declared.error.Error.TheVariants.{SqliteFailure}
 use Rattle.sqlite.specs.declared.error.ErrorCode.TheVariants.{NotADatabase}
 use Rattle.sqlite.specs.declared.file.Leftover.{Leftover}
-use Rattle.sqlite.specs.State.{State as Seen, HasCleanDisk, Survives}
+use Rattle.sqlite.specs.State.{State as Seen, HasCleanDisk}
 use Rattle.sqlite.specs.Held.{Held}
 use Rattle.sqlite.specs.Opening.{is_open_error}
 use Rattle.sqlite.specs.Files.{HoldsDatabase, IsNothing, AreFoundIn, IsCleanLeft, LeavesFiles, image_of, file_state}
@@ -19,6 +19,9 @@ use Rattle.streetmap_tables.specs.Failing.{IsOfStore}
 use Rattle.streetmap_opening.specs.Adopting.{IsAsItWas}
 use Rattle.streetmap_opening.specs.Telling.{TellsFault, TellsNothing}
 use Rattle.streetmap_opening.specs.Making.{is_taken}
+use Rattle.streetmap_ledger.specs.State.{State}
+use Rattle.streetmap_carrying.specs.Old.{RestsOld}
+use Rattle.streetmap_carrying.specs.Carrying.{IsOld, LeavesUnlessOld, MayCarry}
 use Rattle.streetmap_opening.specs.declared.adopting.AdoptFault.TheVariants as adopting
 use Rattle.streetmap_files.specs.Holding.{IsJustOpenedOn, LeavesRoom}
 use Rattle.streetmap_files.specs.declared.fault.OpenFault.{OpenFault}
@@ -35,8 +38,8 @@ IsForeign image = ¬ (((db : Trees) × HoldsDatabase image db) ⊎ IsNothing ima
 -- the files are not to blame: the device failed, or memory was refused
 abbrev pub OpenBlamesNoFile : OpenFault → Type 0
 OpenBlamesNoFile opened.NotOurs = ⊥
-OpenBlamesNoFile opened.OldFormat = ⊥
 OpenBlamesNoFile opened.NewFormat = ⊥
+OpenBlamesNoFile opened.Damaged = ⊥
 OpenBlamesNoFile (opened.Device e) = ⊤
 OpenBlamesNoFile opened.Memory = ⊤
 
@@ -54,9 +57,9 @@ module _ {D : Type 0} {g : disk.Ghosts D} where
     pub clean : HasCleanDisk (file_state first)
     pub showed : P first
 
-  -- the connection holds what it held when it was opened on the files, and a stop leaves no more
+  -- The connection holds what it held when it was opened on the files. A stop leaves no more; but of a state's tables in format 1 it may leave those in format 2.
   abbrev pub HoldsAsOpened : Image → Held (FileStore D g) → Type 0
-  HoldsAsOpened image c = ShowedFirst image (λ first. IsAsItWas (file_state first) (file_state c) × Survives (file_state first) (file_state c) (λ _. ⊥))
+  HoldsAsOpened image c = ShowedFirst image (λ first. IsAsItWas (file_state first) (file_state c) × LeavesUnlessOld (file_state first) (file_state c) × ((s : State) → RestsOld (file_state first) s → MayCarry s (file_state first) (file_state c)))
 
   -- what an opening that failed leaves of the files is as SQLite says: a stop leaves what it left before, or what the next opening reads as the same
   abbrev pub LeavesHeld : Image → Leftover D g → Type 0
@@ -87,12 +90,12 @@ module _ {D : Type 0} {g : disk.Ghosts D} where
   HoldsStill image (left.Files rest) = LeavesHeld image rest
   HoldsStill image (left.Connection c) = ShowedFirst image (λ (first : Held (FileStore D g)). IsAsItWas (file_state first) (file_state c))
 
-  -- Why files are not opened: they are no database; the format row is not ours, is 1, or is above 2, as a look told, or the look was refused; a call of SQLite failed with that error; memory was refused.
+  -- Why files are not opened: they are no database; the format row is not ours, or is above 2, as a look told, or the look was refused; it is 1, and the tables are damaged; a call of SQLite failed with that error, or it is 1, and a statement that makes its tables anew was refused with it; memory was refused.
   abbrev pub RefusesToOpen : Image → OpenFault → Left (Leftover D g) (Held (FileStore D g)) → Type 0
   RefusesToOpen image opened.NotOurs rest = IsForeign image ⊎ Showed image (λ seen. TellsFault seen adopting.NotOurs ⊎ TellsNothing seen) rest
-  RefusesToOpen image opened.OldFormat rest = Showed image (λ seen. TellsFault seen adopting.OldFormat) rest
   RefusesToOpen image opened.NewFormat rest = Showed image (λ seen. TellsFault seen adopting.NewFormat) rest
-  RefusesToOpen image (opened.Device e) rest = IsTrue (is_open_error e) ⊎ IsOfStore e
+  RefusesToOpen image opened.Damaged rest = Showed image IsOld rest
+  RefusesToOpen image (opened.Device e) rest = IsTrue (is_open_error e) ⊎ (IsOfStore e ⊎ Showed image IsOld rest)
   RefusesToOpen image opened.Memory rest = ⊤
 
   -- no connection was opened: this is an error of opening, files that it calls no database are none, and they hold what they held

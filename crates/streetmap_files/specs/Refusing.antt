@@ -3,8 +3,8 @@ use Rattle.std.specs.Prelude.{ℕ, List, codes}
 use Rattle.sqlite.specs.declared.error.Error.{Error}
 use Rattle.sqlite.specs.declared.error.Error.TheVariants.{SqliteFailure}
 use Rattle.sqlite.specs.declared.error.ErrorCode.TheVariants.{NotADatabase, OutOfMemory}
-use Rattle.streetmap_opening.specs.declared.adopting.AdoptFault.{AdoptFault}
-use Rattle.streetmap_opening.specs.declared.adopting.AdoptFault.TheVariants as adopting
+use Rattle.streetmap_carrying.specs.declared.opening.TablesFault.{TablesFault}
+use Rattle.streetmap_carrying.specs.declared.opening.TablesFault.TheVariants as tables
 use Rattle.streetmap_opening.specs.declared.making.MakeFault.{MakeFault}
 use Rattle.streetmap_opening.specs.declared.making.MakeFault.TheVariants as making
 use Rattle.streetmap_files.specs.declared.fault.OpenFault.{OpenFault}
@@ -15,8 +15,8 @@ use Rattle.streetmap_files.specs.declared.fault.CreateFault.TheVariants as creat
 -- their names
 abbrev pub open_code : OpenFault → List ℕ
 open_code opened.NotOurs = codes "not_ours"
-open_code opened.OldFormat = codes "old_format"
 open_code opened.NewFormat = codes "new_format"
+open_code opened.Damaged = codes "damaged"
 open_code (opened.Device e) = codes "device"
 open_code opened.Memory = codes "memory"
 
@@ -38,12 +38,12 @@ refused_to_create (SqliteFailure OutOfMemory) = created.Memory
 refused_to_create e = created.Device e
 
 -- tables that are not opened, or not made
-abbrev pub not_adopted : AdoptFault → OpenFault
-not_adopted adopting.NotOurs = opened.NotOurs
-not_adopted adopting.OldFormat = opened.OldFormat
-not_adopted adopting.NewFormat = opened.NewFormat
-not_adopted (adopting.Device e) = opened.Device e
-not_adopted adopting.Memory = opened.Memory
+abbrev pub not_adopted : TablesFault → OpenFault
+not_adopted tables.NotOurs = opened.NotOurs
+not_adopted tables.NewFormat = opened.NewFormat
+not_adopted tables.Damaged = opened.Damaged
+not_adopted (tables.Device e) = opened.Device e
+not_adopted tables.Memory = opened.Memory
 
 abbrev pub not_made : MakeFault → CreateFault
 not_made making.Taken = created.Taken

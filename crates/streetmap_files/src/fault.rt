@@ -3,17 +3,18 @@ ghost use Rattle.std.specs.Prelude.{◌≡◌};
 ghost use Rattle.streetmap_files.specs.Refusing.{open_code, create_code, refused_to_open, refused_to_create, not_adopted, not_made};
 
 use sqlite::{Error, ErrorCode};
-use streetmap_opening::{AdoptFault, MakeFault};
+use streetmap_carrying::TablesFault;
+use streetmap_opening::MakeFault;
 
 /// Why a file was not opened.
 #[derive(Debug, Drop)]
 pub enum OpenFault {
     /// `not_ours`: it is no database of SQLite, or none with the tables of this product.
     NotOurs,
-    /// `old_format`: its tables are of format 1.
-    OldFormat,
     /// `new_format`: its tables are of a format above 2.
     NewFormat,
+    /// `damaged`: its tables are of format 1, and a row is none that this product writes.
+    Damaged,
     /// `device`: it cannot be opened, is in use, or the store failed: the error that told it.
     Device(Error),
     /// `memory`: memory was refused.
@@ -51,8 +52,8 @@ impl OpenFault {
     {
         match self {
             OpenFault::NotOurs => "not_ours",
-            OpenFault::OldFormat => "old_format",
             OpenFault::NewFormat => "new_format",
+            OpenFault::Damaged => "damaged",
             OpenFault::Device(_) => "device",
             OpenFault::Memory => "memory",
         }
@@ -70,15 +71,15 @@ impl OpenFault {
     }
 
     /// The fault of tables that were not opened.
-    pub(crate) fn of_tables(fault: AdoptFault) -> OpenFault
+    pub(crate) fn of_tables(fault: TablesFault) -> OpenFault
         ensures { result ≡ not_adopted fault }
     {
         match fault {
-            AdoptFault::NotOurs => OpenFault::NotOurs,
-            AdoptFault::OldFormat => OpenFault::OldFormat,
-            AdoptFault::NewFormat => OpenFault::NewFormat,
-            AdoptFault::Device(error) => OpenFault::Device(error),
-            AdoptFault::Memory => OpenFault::Memory,
+            TablesFault::NotOurs => OpenFault::NotOurs,
+            TablesFault::NewFormat => OpenFault::NewFormat,
+            TablesFault::Damaged => OpenFault::Damaged,
+            TablesFault::Device(error) => OpenFault::Device(error),
+            TablesFault::Memory => OpenFault::Memory,
         }
     }
 }

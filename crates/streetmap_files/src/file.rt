@@ -7,7 +7,7 @@ ghost use Rattle.streetmap_ledger.specs.State.{State, opening_state};
 ghost use Rattle.streetmap_ledger.specs.Keep.{LeavesOnly};
 ghost use Rattle.streetmap_rows.specs.Keeping.{MayLeave};
 ghost use Rattle.streetmap_store.specs.Serving.{Serves};
-ghost use Rattle.streetmap_files.specs.Holding.{IsJustOpenedOn, HoldsState, LeavesRoom};
+ghost use Rattle.streetmap_files.specs.Holding.{IsJustOpenedOn, HoldsState, HoldsOldState, LeavesRoom};
 ghost use Rattle.streetmap_files.specs.Reasons.{IsCleanRest, FailsToConnect, RefusesToOpen, RefusesToCreate, OpenBlamesNoFile, CreateBlamesNoFile, StaysAsItWas, HoldsStill};
 
 use crate::fault::{CreateFault, Left, OpenFault};
@@ -67,24 +67,28 @@ pub fn create<S: Start>(
     }
 }
 
-/// Opens the tables of the database at a path, and keeps their state.
+/// Opens the tables of the database at a path, and keeps their state. Those of format 1 are carried over
+/// to format 2 first, in one transaction: a stop within leaves the state in one format or the other.
 ///
 /// A file that is missing is made, and refused as `NotOurs`: look first whether it is there. After a
 /// refusal the files hold what they held. What is left of them is given back beside it.
 ///
 /// # Errors
 ///
-/// `NotOurs` where the file is no database or has no format row of this product, `OldFormat` for
-/// format 1 and `NewFormat` for a format above 2, `Device` where it cannot be opened, is in use or the
-/// store fails, and `Memory`. On the tables of a state it is one of the last two.
+/// `NotOurs` where the file is no database or has no format row of this product, `NewFormat` for a format
+/// above 2, `Damaged` for format 1 with a row that this product does not write, `Device` where it cannot
+/// be opened, is in use or the store fails, and `Memory`. On the tables of a state, of either format, it
+/// is one of the last two.
 pub fn open<S: Start>(
     rt: &HostRuntime,
     path: &str,
     start: S,
 ) -> Result<FileKeeper<S>, (OpenFault, FilesLeft<S>)>
     ensures opened { IfOk result (λ keeper. HasCleanDisk (file_state keeper.conn) → (s : State) → HoldsState (image_at S.Start) s → Serves keeper.shut (file_state keeper.conn) keeper.count s × LeavesOnly (MayLeave (file_state keeper.conn)) (Some s)) }
+    ensures carried { IfOk result (λ keeper. HasCleanDisk (file_state keeper.conn) → (s : State) → HoldsOldState (image_at S.Start) s → Serves keeper.shut (file_state keeper.conn) keeper.count s × LeavesOnly (MayLeave (file_state keeper.conn)) (Some s)) }
     ensures refused { IfErr result (λ refused. IsCleanRest refused.1 → RefusesToOpen (image_at S.Start) refused.0 refused.1) }
     ensures ours { IfErr result (λ refused. IsCleanRest refused.1 → (s : State) → HoldsState (image_at S.Start) s → OpenBlamesNoFile refused.0) }
+    ensures ours_old { IfErr result (λ refused. IsCleanRest refused.1 → (s : State) → HoldsOldState (image_at S.Start) s → OpenBlamesNoFile refused.0) }
     ensures stays { IfErr result (λ refused. IsCleanRest refused.1 → StaysAsItWas (image_at S.Start) refused.1) }
 {
     let conn = match connect(rt, path, start) {

@@ -7,6 +7,7 @@ use Rattle.sqlite.specs.Order.{Row, column}
 use Rattle.sqlite.specs.Table.{Table}
 use Rattle.sqlite.specs.Schema.{Schema}
 use Rattle.sqlite.specs.Effect.{Database, IsDatabase}
+use Rattle.sqlite.specs.Does.{lacks_sequence}
 use Rattle.sqlite_schema.specs.Names.{same_name}
 use Rattle.sqlite_schema.specs.declared.schema.Index.{Index}
 use Rattle.sqlite_rules.specs.Lists.{Has}
@@ -20,9 +21,10 @@ use Rattle.sqlite_resolve.specs.Lowering.{Checked}
 use Rattle.streetmap_ledger.specs.State.{State}
 use Rattle.streetmap_ledger.specs.Keep.{LeavesOnly, LeavesEither}
 use Rattle.streetmap_tables.proofs.Schemas.{one_schema}
-use Rattle.streetmap_rows.specs.Tables.{Roots, IsOurs, IsNamed, features_name}
+use Rattle.streetmap_rows.specs.Tables.{Roots, IsOurs, IsNamed, meta_name, features_name}
 use Rattle.sqlite.specs.State.{State as Seen}
 use Rattle.streetmap_rows.specs.Keeping.{Keeps, Rests, MayLeave}
+use Rattle.streetmap_carrying.specs.Old.{KeepsOld}
 use Rattle.streetmap_store.specs.Reopening.{IsJustOpened, OpensWithin}
 
 -- a definition is that of one index of a name in a tree
@@ -98,6 +100,34 @@ keeps_too s a b trees sound it = record {
     sound = sound;
   };
 }
+
+-- so are those of a state in format 1
+pub old_too : (s : State) (a b : Schema) (trees : Trees) → IsSound b trees → KeepsOld s (record { schema = a; trees = trees }) → KeepsOld s (record { schema = b; trees = trees })
+old_too s a b trees sound it =
+    let tables = one_schema a b trees it.sound sound in
+    let indexes = one_indexes a b trees it.sound sound in
+    record {
+      well = it.well;
+      roots = it.roots;
+      ours = record {
+        meta_is = ap (find _) (sym tables) ∙ it.ours.meta_is;
+        collections_is = ap (find _) (sym tables) ∙ it.ours.collections_is;
+        batches_is = ap (find _) (sym tables) ∙ it.ours.batches_is;
+        features_is = ap (find _) (sym tables) ∙ it.ours.features_is;
+        room = record {
+          apart = subst (IsAscending (λ s t. s.tree ≡ t.tree → ⊥)) tables it.ours.room.apart;
+          alone = subst (AllByRecursion (λ t. list_all (λ ref. not (same_name features_name ref.parent)) t.references ≡ true)) tables it.ours.room.alone;
+          counted = ap (λ ts. lacks_sequence (record a { tables = ts })) (sym tables) ∙ it.ours.room.counted;
+        };
+        guarded = ap (list_any _) (sym indexes) ∙ it.ours.guarded;
+        on_collections = λ i has. it.ours.on_collections i (subst (λ is. Has is i) (sym indexes) has);
+        on_batches = λ i has. it.ours.on_batches i (subst (λ is. Has is i) (sym indexes) has);
+        free = subst (AllByRecursion (λ t. list_all (λ ref. not (same_name meta_name ref.parent)) t.references ≡ true)) tables it.ours.free;
+      };
+      of = it.of;
+      readable = it.readable;
+      sound = sound;
+    }
 
 -- a state of which a stop leaves the trees stands where they are opened again
 pub opens_only : (old new : Seen) (P : State → Type 0) → ((o : Option State) → MayLeave old o → (s : State) × (o ≡ Some s) × P s) → old.may_leave new.now.trees → IsJustOpened new → OpensWithin P new

@@ -8,18 +8,20 @@ ghost use Rattle.streetmap_ledger.specs.Keep.{ShutsBy, LeavesOnly, LeavesEither}
 ghost use Rattle.streetmap_tables.specs.Failing.{IsOfStore};
 ghost use Rattle.streetmap_writing.specs.Acting.{IsToldByStore};
 ghost use Rattle.streetmap_rows.specs.Keeping.{Rests, MayLeave};
-ghost use Rattle.streetmap_opening.specs.Adopting.{Adopts, IsAsItWas};
-ghost use Rattle.streetmap_opening.specs.Telling.{AdoptsBy};
+ghost use Rattle.streetmap_opening.specs.Adopting.{IsAsItWas};
 ghost use Rattle.streetmap_opening.specs.Making.{is_taken, IsReady, KeepsOtherTables, Makes, MayOpen};
+ghost use Rattle.streetmap_carrying.specs.Old.{RestsOld};
+ghost use Rattle.streetmap_carrying.specs.Carrying.{LeavesUnlessOld, MayCarry, Carries, Opens, OpensBy};
 ghost use Rattle.streetmap_store.specs.Reopening.{IsJustOpened, OpensAs, OpensAsEither};
 ghost use Rattle.streetmap_store.specs.Serving.{Serves, EndsLook, is_named, cause_in, error_in, count_after, shut_by, fault_by};
 
 use sqlite::{Alter, Connection, Error};
 use std::alloc::Global;
+use streetmap_carrying::{TablesFault, open_tables};
 use streetmap_geojson::Feature;
 use streetmap_ledger::{Batch, Fault, FeatureOutline, Keeper, Page, Reply, Summary};
 use streetmap_listing::{outlines_of, summaries_of, summary_of};
-use streetmap_opening::{AdoptFault, MakeFault, adopt_tables, make_tables};
+use streetmap_opening::{MakeFault, make_tables};
 use streetmap_query::Query;
 use streetmap_reading::{ReadFault, feature_of, page_of};
 use streetmap_tables::{Shut, Stop, settle};
@@ -126,27 +128,34 @@ impl<S: Alter> TableKeeper<S> {
         }
     }
 
-    /// Opens the tables that a connection has, and keeps their state.
+    /// Opens the tables that a connection has, and keeps their state. Those of format 1 are carried over
+    /// to format 2 first (`open_tables`); where the format is not 1 it writes nothing.
     ///
-    /// It writes nothing. The connection is to have no step limit.
+    /// The connection is to have no step limit. After a refusal an open connection holds what it held.
     ///
     /// # Errors
     ///
-    /// `NotOurs` where there is no format row of this product, `OldFormat` for format 1 and `NewFormat`
-    /// for a format above 2, `Device` where the store fails, `Memory`.
+    /// `NotOurs` where there is no format row of this product, `NewFormat` for a format above 2, `Damaged`
+    /// where the format is 1 and a row is none that this product writes, `Device` where the store fails,
+    /// `Memory`.
     pub fn adopt(
         alloc: Global,
         mut conn: Connection<S>,
-    ) -> Result<TableKeeper<S>, (AdoptFault, Connection<S>)>
+    ) -> Result<TableKeeper<S>, (TablesFault, Connection<S>)>
         requires { conn.in_transaction ≡ false }
         ensures idle { IfErr result (λ refused. refused.1.in_transaction ≡ false) }
-        ensures survives { MatchResult result (λ keeper. Survives (state S.Store conn) (state S.Store keeper.conn) (λ _. ⊥)) (λ refused. Survives (state S.Store conn) (state S.Store refused.1) (λ _. ⊥)) }
-        ensures same { MatchResult result (λ keeper. HasCleanDisk (state S.Store keeper.conn) → IsAsItWas (state S.Store conn) (state S.Store keeper.conn)) (λ refused. HasCleanDisk (state S.Store refused.1) → IsAsItWas (state S.Store conn) (state S.Store refused.1)) }
-        ensures tells { MatchResult result (λ keeper. HasCleanDisk (state S.Store keeper.conn) → AdoptsBy (state S.Store conn) (Ok keeper.count)) (λ refused. HasCleanDisk (state S.Store refused.1) → AdoptsBy (state S.Store conn) (Err refused.0)) }
+        ensures clean { MatchResult result (λ keeper. HasCleanDisk (state S.Store keeper.conn) → HasCleanDisk (state S.Store conn)) (λ refused. HasCleanDisk (state S.Store refused.1) → HasCleanDisk (state S.Store conn)) }
+        ensures unwritten { MatchResult result (λ keeper. HasCleanDisk (state S.Store keeper.conn) → LeavesUnlessOld (state S.Store conn) (state S.Store keeper.conn)) (λ refused. HasCleanDisk (state S.Store refused.1) → LeavesUnlessOld (state S.Store conn) (state S.Store refused.1)) }
+        ensures same { IfErr result (λ refused. HasCleanDisk (state S.Store refused.1) → IsAsItWas (state S.Store conn) (state S.Store refused.1)) }
+        ensures tells { MatchResult result (λ keeper. HasCleanDisk (state S.Store keeper.conn) → OpensBy (state S.Store conn) (Ok keeper.count)) (λ refused. HasCleanDisk (state S.Store refused.1) → OpensBy (state S.Store conn) (Err refused.0)) }
         ensures adopted { IfOk result (λ keeper. HasCleanDisk (state S.Store keeper.conn) → (s : State) → Rests (state S.Store conn) s → Serves keeper.shut (state S.Store keeper.conn) keeper.count s × LeavesOnly (MayLeave (state S.Store keeper.conn)) (Some s)) }
-        ensures refused { IfErr result (λ refused. HasCleanDisk (state S.Store refused.1) → (s : State) → Rests (state S.Store conn) s → Adopts s (state S.Store conn) (state S.Store refused.1) (Err refused.0)) }
+        ensures refused { IfErr result (λ refused. HasCleanDisk (state S.Store refused.1) → (s : State) → Rests (state S.Store conn) s → Opens s (state S.Store conn) (state S.Store refused.1) (Err refused.0)) }
+        ensures carried { IfOk result (λ keeper. HasCleanDisk (state S.Store keeper.conn) → (s : State) → RestsOld (state S.Store conn) s → Serves keeper.shut (state S.Store keeper.conn) keeper.count s × LeavesOnly (MayLeave (state S.Store keeper.conn)) (Some s)) }
+        ensures refused_old { IfErr result (λ refused. HasCleanDisk (state S.Store refused.1) → (s : State) → RestsOld (state S.Store conn) s → Carries s (state S.Store conn) (state S.Store refused.1) (Err refused.0)) }
+        ensures elsewhere { IfOk result (λ keeper. HasCleanDisk (state S.Store keeper.conn) → (s : State) → RestsOld (state S.Store conn) s → KeepsOtherTables (state S.Store conn).now (state S.Store keeper.conn).now) }
+        ensures crash { MatchResult result (λ keeper. HasCleanDisk (state S.Store keeper.conn) → (s : State) → RestsOld (state S.Store conn) s → MayCarry s (state S.Store conn) (state S.Store keeper.conn)) (λ refused. HasCleanDisk (state S.Store refused.1) → (s : State) → RestsOld (state S.Store conn) s → MayCarry s (state S.Store conn) (state S.Store refused.1)) }
     {
-        match adopt_tables(&mut conn) {
+        match open_tables(alloc, &mut conn) {
             Ok(count) => Ok(TableKeeper {
                 alloc,
                 conn,

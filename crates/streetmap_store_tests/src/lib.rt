@@ -4,6 +4,8 @@
 #![tactic(auto)]
 
 #[cfg(test)]
+mod carrying;
+#[cfg(test)]
 mod opening;
 #[cfg(test)]
 mod pages;

@@ -8,15 +8,15 @@ use sqlite_disk::{Crash, Disk, Files, Fuse, Memory};
 use sqlite_pager::Options;
 use std::alloc::Global;
 use std::test::Fail;
+use streetmap_carrying::TablesFault;
 use streetmap_ledger::{Keeper, read_batch};
 use streetmap_memory::PlainKeeper;
-use streetmap_opening::AdoptFault;
 use streetmap_routes::Base;
 use streetmap_store::TableKeeper;
 use streetmap_web::serve;
 
 /// A file that stops taking calls.
-type Fused = Fuse<Memory>;
+pub type Fused = Fuse<Memory>;
 
 /// What stops are tried on.
 const BATCHES: [&str; 5] = [
@@ -51,7 +51,7 @@ fn seen<K: Keeper>(alloc: Global, keeper: &mut K) -> Result<String, Fail> {
 }
 
 /// Whether a batch, given as text, was answered.
-fn answered<K: Keeper>(alloc: Global, keeper: &mut K, text: &str) -> bool {
+pub fn answered<K: Keeper>(alloc: Global, keeper: &mut K, text: &str) -> bool {
     match read_batch(alloc, text.as_bytes()) {
         Ok(batch) => keeper.apply(&batch).is_ok(),
         Err(_) => false,
@@ -118,7 +118,7 @@ fn run(alloc: Global, log_calls: u64, db_calls: u64) -> Left {
 }
 
 /// A file with these bytes.
-fn file(alloc: Global, bytes: &[u8]) -> Result<Memory, Fail>
+pub fn file(alloc: Global, bytes: &[u8]) -> Result<Memory, Fail>
     ensures { IfOk result (λ file. IsTrue (memory_is_usable file)) }
 {
     let mut file = Memory::new(alloc);
@@ -143,7 +143,7 @@ fn adopted(
 {
     match TableKeeper::adopt(alloc, conn) {
         Ok(mut keeper) => Ok(Some(seen_twice(alloc, &mut keeper)?)),
-        Err((AdoptFault::NotOurs, _)) => Ok(None),
+        Err((TablesFault::NotOurs, _)) => Ok(None),
         Err((fault, _)) => Err(fault)?,
     }
 }

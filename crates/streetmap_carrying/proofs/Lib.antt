@@ -1,0 +1,10 @@
+pub mod Dropping
+pub mod Lists
+pub mod Without
+pub mod Remade
+pub mod DropTexts
+pub mod OldRows
+pub mod SelectOld
+pub mod Taken
+pub mod Parts
+pub mod Ended

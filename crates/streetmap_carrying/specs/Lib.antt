@@ -1,0 +1,4 @@
+pub mod Old
+pub mod Dropping
+pub mod Part
+pub mod Carrying
