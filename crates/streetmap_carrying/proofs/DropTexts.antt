@@ -1,5 +1,5 @@
 -- The texts that drop the tables of the features and of the format.
-use Rattle.std.proofs.Common.{◌≡◌, ℕ, List, [], codes, Ok, refl, true, false, is_ok}
+use Rattle.std.proofs.Common.{◌≡◌, ℕ, List, [], codes, refl, true, false, is_ok}
 use Rattle.sqlite_ast.specs.declared.Statement.TheVariants as written
 use Rattle.sqlite_resolve.specs.Compile.{first}
 use Rattle.sqlite_tied.specs.Compute.{everything}

@@ -1,5 +1,5 @@
 -- What a DROP TABLE that succeeded did, over any schema.
-use Rattle.std.proofs.Common.{◌≡◌, inl, inr, ℕ, ◌+◌, Bool, List, [], ◌∷◌, length, Ok, Err, Result, refl, None, Some, Option, true, false, not, ◌&&◌, is_some, if◌then◌else◌, MatchBool, ap, sym, subst, subst₂, ◌∙◌, find, slice_get, arith}
+use Rattle.std.proofs.Common.{◌≡◌, inl, inr, ℕ, Bool, List, [], ◌∷◌, Ok, Err, Result, refl, None, Some, Option, true, false, is_some, if◌then◌else◌, MatchBool, ap, sym, subst, subst₂, ◌∙◌, slice_get, arith}
 use Rattle.std.specs.List.{list_any}
 use Rattle.std.proofs.lemmas.Bool.{cases_Bool, true≢false}
 use Rattle.sqlite.specs.Schema.{Schema}
@@ -9,7 +9,6 @@ use Rattle.sqlite.specs.Command.{Command}
 use Rattle.sqlite.specs.Command.TheVariants.{DropTable}
 use Rattle.sqlite.specs.Does.{Tally, Drops, UncountsIn, AtPlace, is_acted_on}
 use Rattle.sqlite.specs.declared.run.Mode.{Mode}
-use Rattle.sqlite.specs.declared.error.Error.{Error}
 use Rattle.sqlite.specs.Rows.{Task, Edited, Gives, sequence}
 use Rattle.sqlite_rules.specs.Edit.{edit_of}
 use Rattle.sqlite_rules.specs.declared.error.Rowids.TheVariants.{Given}
@@ -21,9 +20,7 @@ use Rattle.sqlite.specs.State.{State as Seen, mode_of, Runs, Writes, ExecutesIn,
 use Rattle.sqlite.specs.Listing.{understood, reads_listing, if_select, listing_schema}
 use Rattle.sqlite_schema.specs.declared.command.Returning.{Returning}
 use Rattle.sqlite_schema.specs.declared.schema.Keys.{Keys}
-use Rattle.sqlite_schema.specs.declared.schema.Reference.{Reference}
 use Rattle.sqlite_schema.specs.Names.{same_name, table_named, view_named}
-use Rattle.sqlite_rules.specs.Action.{deed_for}
 use Rattle.sqlite_trees.specs.Tree.{Trees}
 use Rattle.sqlite_rules.specs.Lists.{Has}
 use Rattle.sqlite_resolve.specs.Compile.{meaning, planned, compiled, command, drop_table, dropped, is_reserved, timed, returning, with_command}

@@ -8,3 +8,4 @@ pub mod SelectOld
 pub mod Taken
 pub mod Parts
 pub mod Ended
+pub mod Closing

@@ -1,21 +1,20 @@
 -- The rows of the features of a state in format 1, in whatever order they are shown.
-use Rattle.std.proofs.Common.{◌≡◌, ◌≢◌, inl, inr, ℕ, suc, ◌+◌, ◌≤◌, List, [], ◌∷◌, map, filter, length, Bool, true, false, not, ◌&&◌, cond, drop, find, Option, Some, None, option_map, nat_le, ◌^◌, refl, sym, ap, subst, ◌∙◌, arith, IsTrue}
+use Rattle.std.proofs.Common.{◌≡◌, ◌≢◌, inl, inr, ℕ, ◌≤◌, List, [], ◌∷◌, map, filter, Bool, true, false, ◌&&◌, cond, drop, Option, Some, None, option_map, nat_le, ◌^◌, refl, sym, ap, subst, ◌∙◌, arith}
 use Rattle.std.specs.List.{AllByRecursion, list_all, sum_by}
-use Rattle.std.specs.Option.{option_to_list}
 use Rattle.std.specs.List.Sorted.{IsPermutation}
-use Rattle.std.proofs.lemmas.List.Sorted.{IsPermutation-map, sum_by-IsPermutation, Contains-permutation}
+use Rattle.std.proofs.lemmas.List.Sorted.{IsPermutation-map, sum_by-IsPermutation, Contains-permutation, All-permutation}
 use Rattle.std.proofs.lemmas.Bool.{cases_Bool, and_parts, and_from, false_from_ne_true}
 use Rattle.std.proofs.lemmas.List.Sums.{sum_by-cons}
-use Rattle.std_alloc.proofs.Permutation.{every_shuffled}
+use Rattle.std.proofs.lemmas.List.Elements.{All-from_recursion, recursion_from_All}
 use Rattle.sqlite.specs.declared.types.Value.TheVariants.{Null, Text as Words}
-use Rattle.sqlite.specs.Order.{Row, column, bytes}
-use Rattle.sqlite.specs.Term.{Term, holds}
+use Rattle.sqlite.specs.Order.{Row, column}
+use Rattle.sqlite.specs.Term.{holds}
 use Rattle.sqlite_sql.specs.Term.{eval_all}
 use Rattle.sqlite.specs.Query.{IsAnswerAs, Output, output}
 use Rattle.sqlite.specs.Program.{overlay}
 use Rattle.sqlite_trees.specs.Tree.{Trees, IsAscending}
 use Rattle.sqlite_rules.specs.Lists.{Has}
-use Rattle.sqlite_rules.proofs.ListLemmas.{all_has, all_from, has_contained, contains_had}
+use Rattle.sqlite_rules.proofs.ListLemmas.{all_has, has_contained, contains_had}
 use Rattle.streetmap_geojson.specs.FeatureValue.{FeatureValue}
 use Rattle.streetmap_ledger.specs.State.{State}
 use Rattle.streetmap_tables.specs.Holds.{Holds, KeyPair, pair_key, has_pair, same_text}
@@ -90,10 +89,10 @@ once (r ∷ rows) apart p =
     elim (cases_Bool (is_pair p (pair_in r))) [
       | inl here ↦
           (let one : times p r ≡ 1 = rw here refl in
-           let more = never p rows (subst (λ q. AllByRecursion (λ x. q ≢ pair_in x) rows) (sym (pair_same p (pair_in r) here)) apart.0) in omega (arith, one, more, both))
+          let more = never p rows (subst (λ q. AllByRecursion (λ x. q ≢ pair_in x) rows) (sym (pair_same p (pair_in r) here)) apart.0) in omega (arith, one, more, both))
       | inr other ↦
           (let none : times p r ≡ 0 = rw other refl in
-           let more = once rows apart.1 p in omega (arith, none, more, both))
+          let more = once rows apart.1 p in omega (arith, none, more, both))
     ]
 
 others : (p : KeyPair) (rows : List Row) → sum_by (times p) rows ≡ 0 → AllByRecursion (λ x. p ≢ pair_in x) rows
@@ -101,7 +100,8 @@ others p [] none = tt
 others p (r ∷ rows) none =
     let both = sum_by-cons (times p) r rows in (
       λ same.
-          let one : times p r ≡ 1 = subst (λ q. cond (is_pair p q) 1 0 ≡ 1) same (rw (pair_own p) refl) in
+          let here : is_pair p (pair_in r) ≡ true = ap (is_pair p) (sym same) ∙ pair_own p in
+          let one : times p r ≡ 1 = rw here refl in
           omega (arith, one, both, none),
       others p rows (omega (arith, both, none)),
     )
@@ -153,7 +153,7 @@ module _ (s : State) (db : Trees) (tree : ℕ) (has : Holds pair_key has_pair (�
   are_rows rows low a =
       let same = all_shown db tree rows low a in
       record {
-        each = every_shuffled (IsRowOf s) (map shown (db tree)) rows same (all_mapped (IsRowOf s) shown (db tree) row_is);
+        each = recursion_from_All (IsRowOf s) rows (All-permutation (IsRowOf s) (map shown (db tree)) rows same (All-from_recursion (IsRowOf s) (map shown (db tree)) (all_mapped (IsRowOf s) shown (db tree) row_is)));
         apart = apart_shuffled (map shown (db tree)) rows same (apart_mapped (db tree) has.apart);
         all = λ p f is. has_contained rows (old_cells p f) (Contains-permutation (map shown (db tree)) rows (old_cells p f) same (contains_had (map shown (db tree)) (old_cells p f) (has_row p f is)));
       }

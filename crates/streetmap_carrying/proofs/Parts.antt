@@ -1,24 +1,21 @@
 -- A state whose features are put in, one after the other.
-use Rattle.std.proofs.Common.{◌≡◌, ◌≢◌, ◌⊎◌, inl, inr, List, [], ◌∷◌, Bool, true, false, ◌&&◌, cond, Option, Some, None, option_map, Result, Ok, Err, refl, sym, ap, subst, ◌∙◌}
+use Rattle.std.proofs.Common.{◌≡◌, ◌≢◌, inl, inr, List, [], ◌∷◌, false, cond, Option, Some, None, option_map, Result, Ok, Err, refl, sym, ap, subst, ◌∙◌}
 use Rattle.std.specs.Prelude.{option_and_then}
-use Rattle.std.specs.List.{AllByRecursion}
 use Rattle.std.specs.FinMap.{get, insert, get-insert, same_map}
 use Rattle.std.specs.Cmp.Lexicographic.{nat_list_cmp_total}
 use Rattle.std.proofs.lemmas.Bool.{cases_Bool, false_from_ne_true, true≢false}
 use Rattle.sqlite.specs.Order.{Row}
-use Rattle.sqlite_rules.specs.Lists.{Has}
 use Rattle.sqlite_rules.proofs.ListLemmas.{all_has, all_from}
 use Rattle.streetmap_geojson.specs.FeatureValue.{FeatureValue}
-use Rattle.streetmap_geojson.specs.Times.{time_of}
 use Rattle.streetmap_batch.specs.Text.{Text}
-use Rattle.streetmap_ledger.specs.State.{State, Collection, timed, with_feature, with_features}
+use Rattle.streetmap_ledger.specs.State.{State, Collection, timed, with_features}
 use Rattle.streetmap_ledger.specs.WellFormed.{IsState, IsPlaced}
 use Rattle.streetmap_ledger.specs.declared.reply.Refusal.{Refusal}
 use Rattle.streetmap_tables.specs.Holds.{KeyPair, same_text}
-use Rattle.streetmap_tables.proofs.Keys.{one_text, text_is, text_self}
+use Rattle.streetmap_tables.proofs.Keys.{one_text, text_is}
 use Rattle.streetmap_rows.specs.Rows.{feature_at}
 use Rattle.streetmap_carrying.specs.Old.{old_cells}
-use Rattle.streetmap_carrying.specs.Part.{bare, emptied, pair_in, IsRowOf, AreRowsOf, Lacks}
+use Rattle.streetmap_carrying.specs.Part.{bare, emptied, pair_in, AreRowsOf, Lacks}
 use Rattle.streetmap_carrying.proofs.OldRows.{is_pair, pair_same, pair_own}
 use Rattle.streetmap_carrying.proofs.Remade.{get_emptied, no_feature}
 
@@ -156,7 +153,7 @@ module _ (s t : State) (row : Row) (more : List Row) (l : Lacks (row ∷ more) s
       within = λ q g h. elim (cases_Bool (is_pair q it.p)) [
         | inl here ↦
             (let some : Some it.f ≡ Some g = sym (stored q ∙ (rw here refl)) ∙ h in
-             ap (feature_at s) (pair_same q it.p here) ∙ it.own ∙ some)
+            ap (feature_at s) (pair_same q it.p here) ∙ it.own ∙ some)
         | inr other ↦ l.within q g (sym (elsewhere q other) ∙ h)
       ];
       all = λ q g is. elim (cases_Bool (is_pair q it.p)) [
@@ -166,7 +163,7 @@ module _ (s t : State) (row : Row) (more : List Row) (l : Lacks (row ∷ more) s
           | inr has ↦ elim has [
             | inl same ↦
                 (let at : q ≡ it.p = ap pair_in same ∙ pair_is it.p it.f it.row_is in
-                 absurd (true≢false (sym (pair_own q) ∙ ap (is_pair q) at ∙ other)))
+                absurd (true≢false (sym (pair_own q) ∙ ap (is_pair q) at ∙ other)))
             | inr later ↦ inr later
           ]
         ]

@@ -1,16 +1,15 @@
 -- The two tables made anew: what stands then, step by step.
-use Rattle.std.proofs.Common.{◌≡◌, ◌≢◌, ◌⊎◌, inl, inr, ℕ, List, [], ◌∷◌, length, map, Bool, true, false, not, ◌&&◌, cond, Option, Some, None, option_map, refl, sym, ap, subst, ◌∙◌, true≢false, arith, eq-eqb}
+use Rattle.std.proofs.Common.{◌≡◌, ◌≢◌, ◌⊎◌, inl, inr, ℕ, List, [], ◌∷◌, length, map, true, false, cond, Option, Some, None, option_map, refl, sym, ap, subst, ◌∙◌, true≢false, arith}
 use Rattle.std.specs.Prelude.{option_and_then}
 use Rattle.std.specs.List.{list_any}
 use Rattle.std.specs.Ordering.{eq_by_cmp}
-use Rattle.std.specs.FinMap.{get, entries, from_entries, get-entries, get-from_entries, get-empty, find}
+use Rattle.std.specs.FinMap.{get, entries, get-entries, get-from_entries, get-empty, find}
 use Rattle.std.specs.Cmp.Lexicographic.{nat_list_cmp_total}
 use Rattle.std.proofs.lemmas.Bool.{ne_eqb, and_parts, not-true}
 use Rattle.sqlite.specs.Schema.{Schema}
 use Rattle.sqlite.specs.Table.{Table}
 use Rattle.sqlite.specs.Effect.{Database}
 use Rattle.sqlite_schema.specs.declared.schema.Index.{Index}
-use Rattle.sqlite_schema.specs.declared.schema.Reference.{Reference}
 use Rattle.sqlite_schema.specs.Names.{same_name}
 use Rattle.sqlite_schema.specs.Rules.{is_index_for}
 use Rattle.sqlite_catalog.specs.Change.{next_tree}
@@ -22,7 +21,7 @@ use Rattle.streetmap_ledger.specs.State.{State, Collection}
 use Rattle.streetmap_tables.specs.Holds.{KeyPair, first_key, is_first, pair_key, has_pair}
 use Rattle.streetmap_tables.proofs.Finding.{trees_differ}
 use Rattle.streetmap_tables.proofs.Holding.{holds_same}
-use Rattle.streetmap_rows.specs.Tables.{Roots, IsNamed, IsKey, IsOurs, to_key, meta, collections, batches, features, meta_name, collections_name, batches_name, features_name}
+use Rattle.streetmap_rows.specs.Tables.{Roots, IsNamed, IsKey, to_key, meta, collections, batches, features, meta_name, collections_name, batches_name, features_name}
 use Rattle.streetmap_rows.specs.Rows.{feature_at, collection_cells}
 use Rattle.streetmap_rows.specs.Stands.{IsReadable, CanBeRead}
 use Rattle.streetmap_rows.specs.Elsewhere.{is_our_name}
@@ -35,7 +34,7 @@ use Rattle.streetmap_opening.proofs.Others.{others_then}
 use Rattle.streetmap_carrying.specs.Old.{WereOurs, KeepsOld, old_features}
 use Rattle.streetmap_carrying.specs.Dropping.{CanGo, Dropped}
 use Rattle.streetmap_carrying.specs.Part.{bare, emptied}
-use Rattle.streetmap_carrying.proofs.Without.{named_left, was_there, there_still, rows_left, others_left, index_was, any_left, room_left}
+use Rattle.streetmap_carrying.proofs.Without.{named_left, was_there, rows_left, others_left, index_was, any_left, room_left}
 
 -- ---- a state without its features
 
@@ -97,7 +96,7 @@ module _ (roots : Roots) (old new : Database) (rest : IsRest roots old.schema) (
   at = there old.schema name table named
 
   off : (i : Index) → is_index_for (to_key roots) i ≡ true → i.table ≢ table.tree
-  off i h same = true≢false (sym (and_parts _ _ (and_parts _ _ h).1).0 ∙ ne_eqb i.table roots.collections (λ here. from_collections (sym here ∙ same)))
+  off i h same = true≢false (sym (and_parts _ _ (and_parts _ _ (and_parts _ _ h).0).0).1 ∙ ne_eqb i.table roots.collections (λ here. from_collections (sym here ∙ same)))
 
   rest_left : IsRest roots new.schema
   rest_left = record {

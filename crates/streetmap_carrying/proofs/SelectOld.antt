@@ -31,7 +31,6 @@ rows_text = codes "SELECT collection, id, body FROM streetmap_features"
 abbrev pub cells : List Term
 cells = col 1 1 ∷ col 1 2 ∷ col 1 3 ∷ []
 
-
 select_rows_reads : is_ok (first rows_text) ≡ true
 unfolding everything
 select_rows_reads = refl

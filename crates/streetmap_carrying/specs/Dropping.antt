@@ -1,5 +1,5 @@
 -- What dropping a table does.
-use Rattle.std.specs.Prelude.{◌≡◌, ◌≤◌, ℕ, List, [], length, false, Ok}
+use Rattle.std.specs.Prelude.{◌≡◌, ℕ, List, [], false, Ok}
 use Rattle.sqlite.specs.Table.{Table}
 use Rattle.sqlite.specs.Schema.{Schema}
 use Rattle.sqlite.specs.Effect.{Database, IsDatabase}

@@ -1,5 +1,5 @@
 -- Format 1: the tables, and the rows of a state in them. It differs from format 2 in the number of its format row, and in that the features have no extent and no seconds.
-use Rattle.std.specs.Prelude.{◌≡◌, ◌⊎◌, ℕ, not, true, false, List, [], ◌∷◌, codes, Option, None, Some, option_map, pos, IsTrue, if◌then◌else◌}
+use Rattle.std.specs.Prelude.{◌≡◌, ◌⊎◌, ℕ, not, true, [], ◌∷◌, codes, Option, None, Some, option_map, pos, IsTrue, if◌then◌else◌}
 use Rattle.std.specs.List.{AllByRecursion, list_any, list_all}
 use Rattle.std.specs.FinMap.{get}
 use Rattle.sqlite.specs.declared.types.Value.TheVariants.{Int, Text as Words}

@@ -1,5 +1,5 @@
 -- A state whose features are put in one after the other.
-use Rattle.std.specs.Prelude.{◌≡◌, ◌≢◌, ◌⊎◌, ℕ, List, [], ◌∷◌, map, Option, None, Some, option_map, Result, Ok, Err, Vec, String, string_bytes, MatchResult, IsTrue}
+use Rattle.std.specs.Prelude.{◌≡◌, ◌≢◌, ◌⊎◌, List, ◌∷◌, map, Option, None, Some, option_map, Result, Vec, String, string_bytes, MatchResult, IsTrue}
 use Rattle.std.specs.List.{AllByRecursion}
 use Rattle.std.specs.FinMap.{get, empty, entries, from_entries}
 use Rattle.std.specs.declared.alloc.Global.{Global}

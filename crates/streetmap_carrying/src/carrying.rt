@@ -1,5 +1,5 @@
 //! Format 1 is carried over, in one transaction.
-ghost use Rattle.std.specs.Prelude.{◌≡◌, ◌≤◌, IsTrue, OnOk, IfErr, MatchResult, false};
+ghost use Rattle.std.specs.Prelude.{◌≡◌, ◌≢◌, ◌≤◌, IsTrue, OnOk, IfErr, false};
 ghost use Rattle.sqlite.specs.Held.{state};
 ghost use Rattle.sqlite.specs.State.{HasCleanDisk, KeepsCommit, Survives};
 ghost use Rattle.sqlite.specs.View.{doubt};
@@ -8,6 +8,7 @@ ghost use Rattle.streetmap_opening.specs.Adopting.{IsAsItWas};
 ghost use Rattle.streetmap_opening.specs.Making.{KeepsOtherTables};
 ghost use Rattle.streetmap_carrying.specs.Old.{RestsOld};
 ghost use Rattle.streetmap_carrying.specs.Carrying.{CarriesInside, CarriesAlone, MayCarry, Carries, IsNamedFault};
+ghost use Rattle.streetmap_carrying.specs.Part.{IsSpared};
 
 use crate::features::{fault_of, put_rows, take_rows};
 use crate::opening::TablesFault;
@@ -61,6 +62,29 @@ fn carry_alone<S: Alter>(alloc: Global, conn: &mut Connection<S>) -> Result<u64,
     }
 }
 
+/// Tells why tables were not carried over, after their transaction was undone.
+fn tell<S: Alter>(conn: &mut Connection<S>, fault: ReadFault) -> TablesFault
+    requires { conn.old.in_transaction ≡ false }
+    ensures idle { conn.new.in_transaction ≡ false }
+    ensures survives { Survives (state S.Store conn.old) (state S.Store conn.new) (λ _. ⊥) }
+    ensures named { IsNamedFault result }
+    ensures spared { IsSpared fault → result ≢ TablesFault.Damaged }
+    ensures settled { IsTrue (state S.Store conn.new).is_open → (state S.Store conn.new).now ≡ (state S.Store conn.new).committed }
+    ensures kept { HasCleanDisk (state S.Store conn.new) → KeepsCommit (state S.Store conn.old) (state S.Store conn.new) }
+    ensures live { HasCleanDisk (state S.Store conn.new) → result ≡ TablesFault.Memory → IsTrue (state S.Store conn.new).is_open }
+{
+    // Between two transactions it holds what was committed.
+    let _idle = conn.is_autocommit();
+    match fault {
+        ReadFault::Unread => TablesFault::Damaged,
+        ReadFault::Store(error) if !is_memory(error) => TablesFault::Device(error),
+        _ => match probe(conn) {
+            Ok(()) => TablesFault::Memory,
+            Err(error) => TablesFault::Device(error),
+        },
+    }
+}
+
 /// Carries tables of format 1 over to format 2, in one transaction, and tells how many batches they have
 /// accepted.
 ///
@@ -87,17 +111,7 @@ pub fn carry_tables<S: Alter>(alloc: Global, conn: &mut Connection<S>) -> Result
     ensures crash { HasCleanDisk (state S.Store conn.new) → (s : State) → RestsOld (state S.Store conn.old) s → MayCarry s (state S.Store conn.old) (state S.Store conn.new) }
 {
     match carry_alone(alloc, conn) {
-        Ok(count) => return Ok(count),
-        Err(ReadFault::Unread) => return Err(TablesFault::Damaged),
-        Err(ReadFault::Store(error)) => {
-            if !is_memory(error) {
-                return Err(TablesFault::Device(error));
-            }
-        }
-        Err(ReadFault::Memory) => {}
-    }
-    match probe(conn) {
-        Ok(()) => Err(TablesFault::Memory),
-        Err(error) => Err(TablesFault::Device(error)),
+        Ok(count) => Ok(count),
+        Err(fault) => Err(tell(conn, fault)),
     }
 }

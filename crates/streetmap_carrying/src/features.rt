@@ -115,11 +115,7 @@ fn feature_in(alloc: Global, row: &Row, property: Option<&str>) -> Result<Featur
 }
 
 /// Puts the feature of a row in, with its extent and its seconds.
-fn put_row<S: Alter>(
-    tx: &mut Transaction<'_, S>,
-    alloc: Global,
-    row: &Row,
-) -> Result<(), ReadFault>
+fn put_row<S: Alter>(tx: &mut Transaction<'_, S>, alloc: Global, row: &Row) -> Result<(), ReadFault>
     ensures same_reference { tx.new.conn.ghost_name ≡ tx.old.conn.ghost_name }
     ensures puts { HasCleanDisk (state S.Store tx.new.conn.now) → PutsRow row.now (state S.Store tx.old.conn.now) (state S.Store tx.new.conn.now) result }
     ensures inside { HasCleanDisk (state S.Store tx.new.conn.now) → IsTrue (state S.Store tx.old.conn.now).in_transaction → OnOk result (IsTrue (state S.Store tx.new.conn.now).in_transaction) }

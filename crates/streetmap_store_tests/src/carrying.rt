@@ -113,12 +113,7 @@ fn reopened(alloc: Global, files: &Files<Fused>) -> Result<String, Fail> {
 }
 
 /// Tries both what was written and what was synchronised alone. Answers whether the tables were opened.
-fn tried(
-    alloc: Global,
-    old: &Files<Memory>,
-    log_calls: u64,
-    db_calls: u64,
-) -> Result<bool, Fail> {
+fn tried(alloc: Global, old: &Files<Memory>, log_calls: u64, db_calls: u64) -> Result<bool, Fail> {
     let state = wanted(alloc)?;
     let (whole, mut files) = opened(alloc, old, log_calls, db_calls)?;
     if reopened(alloc, &files)? != state {
@@ -197,7 +192,9 @@ fn extents_and_seconds_are_put_in(rt: HostRuntime) -> Result<(), Fail> {
     assert!(rt; nowhere == [None, None, None, None, None, None]);
     let works = columns(&mut conn, "W1")?;
     assert!(rt; works == [Some(0), Some(-9), Some(9), Some(4), Some(-60), Some(60)]);
-    let format: i64 = conn.query_row("SELECT value FROM streetmap_meta", &[])?.get(0)?;
+    let format: i64 = conn
+        .query_row("SELECT value FROM streetmap_meta", &[])?
+        .get(0)?;
     assert_eq!(rt; format, 2);
     Ok(())
 }

@@ -1,13 +1,11 @@
-use Rattle.std.proofs.Common.{◌≡◌, ◌∙◌, None, Ok, Err, Result, OnOk}
+use Rattle.std.proofs.Common.{◌∙◌}
 use Rattle.sqlite.specs.Held.{state}
-use Rattle.streetmap_ledger.specs.State.{State}
 use Rattle.streetmap_rows.specs.Tables.{meta, features, meta_name, features_name}
 use Rattle.streetmap_opening.proofs.Texts.{meta_is, features_is}
 use Rattle.streetmap_opening.proofs.Grown.{meta_counts, features_counts}
 use Rattle.streetmap_opening.proofs.Others.{others_then, others_elsewhere}
 use Rattle.streetmap_opening.proofs.Stopping.{clean_back, ok_then}
 use Rattle.streetmap_carrying.specs.Old.{KeepsOld, old_features}
-use Rattle.streetmap_carrying.specs.Carrying.{Remakes}
 use Rattle.streetmap_carrying.specs.Part.{emptied}
 use Rattle.streetmap_carrying.proofs.DropTexts.{drops_features, drops_meta}
 use Rattle.streetmap_carrying.proofs.Remade.{features_go, meta_goes, rest2, rest3, lacks_format, others_remade}
@@ -32,12 +30,12 @@ returns-clause-made g c clean inside limit =
     let i4 = c.in_ok-create_table-2.ensures.inside k4 i3 in
     let unlimited = c.create_table-2.ensures.survives.limit ∙ c.create_table.ensures.survives.limit ∙ c.drop_table-2.ensures.survives.limit ∙ c.drop_table.ensures.survives.limit ∙ limit in
     each_state (λ s. KeepsOld s s0.now) _ c.insert_format.result (λ s keeps.
-        let one = c.in_ok-drop_table.ensures.dropped k1 inside features_name (old_features keeps.roots.features) drops_features (features_go s s0.now keeps) in
-        let two = c.in_ok-drop_table-2.ensures.dropped k2 i1 meta_name (meta keeps.roots.meta) drops_meta (meta_goes s s0.now keeps s1.now one) in
-        let three = c.in_ok-create_table.ensures.created k3 i2 (meta 0) meta_is (meta_counts s2.now.schema (rest2 s s0.now keeps s1.now one s2.now two).room) in
-        let four = c.in_ok-create_table-2.ensures.created k4 i3 (features 0) features_is (features_counts s3.now.schema (rest3 s s0.now keeps s1.now one s2.now two s3.now three).room) in
-        let put = c.insert_format.ensures.put clean i4 unlimited (emptied s) (lacks_format s s0.now keeps s1.now one s2.now two s3.now three s4.now four) four.sound in
-        ok_then _ _ c.insert_format.result put (λ h. (h.0, others_then s0.now s4.now s5.now (others_remade s s0.now keeps s1.now one s2.now two s3.now three s4.now four) (others_elsewhere s4.now s5.now h.1))))
+    let one = c.in_ok-drop_table.ensures.dropped k1 inside features_name (old_features keeps.roots.features) drops_features (features_go s s0.now keeps) in
+    let two = c.in_ok-drop_table-2.ensures.dropped k2 i1 meta_name (meta keeps.roots.meta) drops_meta (meta_goes s s0.now keeps s1.now one) in
+    let three = c.in_ok-create_table.ensures.created k3 i2 (meta 0) meta_is (meta_counts s2.now.schema (rest2 s s0.now keeps s1.now one s2.now two).room) in
+    let four = c.in_ok-create_table-2.ensures.created k4 i3 (features 0) features_is (features_counts s3.now.schema (rest3 s s0.now keeps s1.now one s2.now two s3.now three).room) in
+    let put = c.insert_format.ensures.put clean i4 unlimited (emptied s) (lacks_format s s0.now keeps s1.now one s2.now two s3.now three s4.now four) four.sound in
+    ok_then _ _ c.insert_format.result put (λ h. (h.0, others_then s0.now s4.now s5.now (others_remade s s0.now keeps s1.now one s2.now two s3.now three s4.now four) (others_elsewhere s4.now s5.now h.1))))
 
 pub returns-clause-inside : goal.returns-clause-inside
 returns-clause-inside g c clean inside =
