@@ -34,6 +34,10 @@ pub on_ok_map : {A E P Q : Type 0} (r : Result A E) → (P → Q) → OnOk r P �
 on_ok_map (Ok x) f h = f h
 on_ok_map (Err x) f h = h
 
+pub on_ok_both : {A E P Q R : Type 0} (r : Result A E) → (P → Q → R) → OnOk r P → OnOk r Q → OnOk r R
+on_ok_both (Ok x) f h k = f h k
+on_ok_both (Err x) f h k = h
+
 -- the collection that was changed
 left : (s t : State) (name : Text) (c : Collection) → t.collections ≡ insert s.collections name c → get t.collections name ≡ Some c
 left s t name c is = ap (λ m. get m name) is ∙ (get-insert nat_list_cmp_total s.collections name c name ∙ ap (λ r. cond (is_eq r) (Some c) (get s.collections name)) (tied_itself nat_list_cmp_total name))

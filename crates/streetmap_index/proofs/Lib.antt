@@ -6,3 +6,4 @@ pub mod Steps
 pub mod Places
 pub mod Following
 pub mod InChunks
+pub mod Filled

@@ -1,9 +1,9 @@
 -- What an index knows of collections without reading their features.
-use Rattle.std.specs.Prelude.{◌≡◌, List, [], map, Option, None, Some, String, string_bytes, Vec}
+use Rattle.std.specs.Prelude.{◌≡◌, ◌<◌, List, [], length, map, Option, None, Some, String, string_bytes, Vec}
 use Rattle.std.specs.Option.{option_map}
 use Rattle.std.specs.Ordering.{is_eq}
 use Rattle.std.specs.Map.{lookup}
-use Rattle.std.specs.List.{flat_map}
+use Rattle.std.specs.List.{AllByRecursion, flat_map}
 use Rattle.std.specs.FinMap.{get, entries}
 use Rattle.std.specs.BTreeMap.{BTreeMap}
 use Rattle.std.specs.declared.alloc.Global.{Global}
@@ -31,10 +31,19 @@ joined chunks = flat_map (λ chunk. chunk.items) chunks
 abbrev pub AreOutlines : List FeatureOutline → Features → Type 0
 AreOutlines os features = feature_outline_values os ≡ map (λ e. feature_outline_of e.0 e.1) (entries features)
 
+-- no chunk is empty
+abbrev pub AreFilled : List (Vec FeatureOutline Global) → Type 0
+AreFilled chunks = AllByRecursion (λ chunk. 0 < length chunk.items) chunks
+
+-- chunks with the outlines of these features, in byte order of ids
+pub record AreChunksOf (chunks : List (Vec FeatureOutline Global)) (features : Features) : Type 0 where
+  pub outlines : AreOutlines (joined chunks) features
+  pub filled : AreFilled chunks
+
 -- what is known of a collection is so
 pub record IsOutlined (o : OutlinedCollection) (c : Collection) : Type 0 where
   pub time : option_map string_bytes o.time ≡ c.time
-  pub outlines : AreOutlines (joined o.outlines.chunks.items) c.features
+  pub outlines : AreChunksOf o.outlines.chunks.items c.features
 
 -- and the collection is there
 abbrev pub IsOutlinedIf : OutlinedCollection → Option Collection → Type 0
