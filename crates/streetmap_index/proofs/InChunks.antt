@@ -1,5 +1,5 @@
 -- What an edit in the chunk that an id is for does to the outlines of all chunks.
-use Rattle.std.proofs.Common.{◌≡◌, ℕ, zero, suc, ◌+◌, ◌-◌, ◌<◌, List, [], ◌∷◌, ◌++◌, Bool, true, false, T, Vec, length, take, drop, reverse, set, string_bytes, refl, sym, ap, subst, ◌∙◌, arith, append_assoc, append-nil}
+use Rattle.std.proofs.Common.{◌≡◌, ℕ, zero, suc, ◌+◌, ◌-◌, ◌<◌, List, [], ◌∷◌, ◌++◌, Bool, true, false, T, Vec, length, take, drop, get_or, reverse, set, string_bytes, refl, sym, ap, subst, ◌∙◌, arith, append_assoc, append-nil}
 use Rattle.std.specs.Prelude.{◌&&◌, ◌≤◌, not, slice_index_or}
 use Rattle.std.specs.List as list
 use Rattle.std.specs.List.Sorted.{IsPartitionedBy, IsPartitionPoint}
@@ -10,7 +10,7 @@ use Rattle.std.specs.declared.alloc.Global.{Global}
 use Rattle.std.specs.Cmp.Lexicographic.{nat_list_cmp_total}
 use Rattle.std.specs.FinMap.{entries, entries_sorted, insert, remove, put, is_sorted, from_sorted, entries-from_sorted, entries-insert}
 use Rattle.std.specs.FinMap.Entries.{below_all, where_key}
-use Rattle.std.proofs.lemmas.List.{map-append, reverse-append, take-append-drop, length-drop}
+use Rattle.std.proofs.lemmas.List.{map-append, reverse-append, take-append-drop, length-drop, drop_more}
 use Rattle.std.proofs.lemmas.List.Elements.{filter-append}
 use Rattle.streetmap_geojson.specs.FeatureValue.{FeatureValue}
 use Rattle.streetmap_batch.specs.Text.{Text, text_cmp}
@@ -89,7 +89,7 @@ put_front k v [] fs h = absurd cc
 put_front k v (e ∷ []) fs h = put_front_by k v e [] fs (text_cmp k e.0) refl (λ is. not_behind k e h is)
 put_front k v (e ∷ (f ∷ es)) fs h = put_front_by k v e (f ∷ es) fs (text_cmp k e.0) refl (λ is. put_front k v (f ∷ es) fs h)
 
-both : (a b : Bool) → T a → T b → T (a && b)
+pub both : (a b : Bool) → T a → T b → T (a && b)
 both true b p q = q
 both false b p q = absurd p
 
@@ -352,3 +352,8 @@ pub cut_off : (os front : List FeatureOutline) (n : ℕ) (cs ds : List Chunk) (l
 cut_off os front n cs ds last p q is =
     ap (λ xs. front ++ xs) (last_pushed cs ds last is)
     ∙ (sym (append_assoc front last.items (joined (reverse cs))) ∙ ap (λ xs. xs ++ joined (reverse cs)) (ap (λ xs. xs ++ last.items) p ∙ (ap (λ xs. take n os ++ xs) q ∙ take-append-drop n os)))
+
+-- ---- the chunk that comes next
+pub next_chunk : (cs : List Chunk) (i : ℕ) (c : Chunk) (os : List FeatureOutline) → i < length cs → c ≡ get_or cs i c → os ≡ c.items → joined (drop i cs) ≡ os ++ joined (drop (i + 1) cs)
+next_chunk cs i c os within is items =
+    ap joined (drop_more cs i c within) ∙ (ap (λ (x : Chunk). x.items ++ joined (drop (i + 1) cs)) (sym is) ∙ ap (λ xs. xs ++ joined (drop (i + 1) cs)) (sym items))

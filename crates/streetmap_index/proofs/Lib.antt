@@ -7,3 +7,5 @@ pub mod Places
 pub mod Following
 pub mod InChunks
 pub mod Filled
+pub mod Extents
+pub mod Listing

@@ -16,4 +16,4 @@ returns-in-Delete c = λ s t.
     let old = c.args.self.now in
     let new = record old { outlines = c.cut.new.self } in
     follows_delete old new s t c.in-Delete.collection (edit_value c.args.edit.now) c.in-Delete.id (ap edit_value c.in-Delete.is)
-    (λ d known. record { time = known.time; outlines = subst (λ k. AreChunksOf c.cut.new.self.chunks.items (remove d.features k)) c.as_str.ensures.value (c.cut.ensures d.features known.outlines) })
+    (λ d known. record { title = known.title; time = known.time; outlines = subst (λ k. AreChunksOf c.cut.new.self.chunks.items (remove d.features k)) c.as_str.ensures.value (c.cut.ensures d.features known.outlines) })
