@@ -8,6 +8,8 @@ mod opening;
 #[cfg(test)]
 mod pages;
 #[cfg(test)]
+mod refused;
+#[cfg(test)]
 mod sessions;
 #[cfg(test)]
 mod stops;
