@@ -62,8 +62,8 @@ impl Index {
         self.looks_off = LOOKS_OFF;
     }
 
-    /// Whether a collection is to be learnt at this look: it is not known, and nothing is off. A look at one
-    /// that is not known is counted.
+    /// Whether a collection is to be learnt at this look: it is not known, and nothing is put off. While it
+    /// is, looks at collections that are not known are counted down.
     pub fn is_due(&mut self, name: &str) -> bool
         ensures index { (s : State) → IsIndexOf self.old s → IsIndexOf self.new s }
         ensures due { known_under name.now self.old.known.entries ≡ None → result ≡ nat_eq self.old.looks_off 0 }
