@@ -165,7 +165,7 @@ fn answers<K: Keeper>(alloc: Global, keeper: &mut K, requests: &str) -> Result<V
 }
 
 /// A keeper over new tables.
-fn over_tables(alloc: Global) -> Result<TableKeeper<MemStore>, Fail> {
+pub(crate) fn over_tables(alloc: Global) -> Result<TableKeeper<MemStore>, Fail> {
     let conn = Connection::open_in_memory(alloc)?;
     if !conn.is_autocommit() {
         return Err(Fail::from("a transaction is open"));
