@@ -12,7 +12,7 @@ mod texts;
 
 use crate::fault::ProgramFault;
 use crate::files::IndexedFileKeeper;
-use crate::progress::Lines;
+use crate::progress::ProgressLines;
 use std::env;
 use std::io::{BufReader, BufWriter, writer};
 use std::net::{Ipv4Addr, TcpListener};
@@ -197,7 +197,7 @@ fn import_from(
     progress: bool,
 ) -> Result<String, ProgramFault> {
     let text = texts::read(rt, path)?;
-    let mut lines = Lines {
+    let mut lines = ProgressLines {
         output: progress.then(|| rt.stderr()),
     };
     Ok(import(
@@ -220,7 +220,7 @@ fn export_collection(
 ) -> Result<(), ProgramFault> {
     let mut keeper = files::open(rt, file)?;
     let mut output = writer(rt);
-    let mut lines = Lines {
+    let mut lines = ProgressLines {
         output: progress.then(|| rt.stderr()),
     };
     Ok(export(rt.alloc(), &mut keeper, collection, &mut output, &mut lines)?)
