@@ -198,7 +198,7 @@ fn answers<K: Keeper>(
 }
 
 /// A keeper over new tables.
-fn over_tables(alloc: Global) -> Result<TableKeeper<MemStore>, Fail> {
+pub(crate) fn over_tables(alloc: Global) -> Result<TableKeeper<MemStore>, Fail> {
     let conn = Connection::open_in_memory(alloc)?;
     if !conn.is_autocommit() {
         return Err(Fail::from("a transaction is open"));

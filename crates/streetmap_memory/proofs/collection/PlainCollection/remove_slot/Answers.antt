@@ -1,6 +1,6 @@
 use Rattle.std.proofs.Common.{string_bytes, option_map, ap}
 use Rattle.streetmap_memory.proofs.Maps.{map_cut}
-use Rattle.streetmap_memory.proofs.collection.PlainCollection.cut.Goals as goal
+use Rattle.streetmap_memory.proofs.collection.PlainCollection.remove_slot.Goals as goal
 
 pub returns : goal.returns
 returns c =

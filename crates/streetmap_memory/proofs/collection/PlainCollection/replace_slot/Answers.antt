@@ -2,8 +2,8 @@ use Rattle.std.proofs.Common.{Some, IsSome, string_bytes, option_map, ap, sym, s
 use Rattle.std.specs.FinMap.{get}
 use Rattle.streetmap_memory.specs.Slots.{SlotCollection}
 use Rattle.streetmap_memory.proofs.Maps.{get_of, reset_some, reset_none}
-use Rattle.streetmap_memory.proofs.collection.PlainCollection.reset.Goals as goal
-use Rattle.streetmap_memory.proofs.collection.PlainCollection.reset.Goals.{in-Some, in-None}
+use Rattle.streetmap_memory.proofs.collection.PlainCollection.replace_slot.Goals as goal
+use Rattle.streetmap_memory.proofs.collection.PlainCollection.replace_slot.Goals.{in-Some, in-None}
 
 pub returns-clause-after : goal.returns-clause-after
 returns-clause-after c =
