@@ -64,6 +64,7 @@ stops: build
 REFUSED := python3 tests/refusals.py
 LEDGER_TESTS := crates/streetmap_ledger_tests/out/streetmap_ledger_tests_tests
 WEB_TESTS := crates/streetmap_web_tests/out/streetmap_web_tests_tests
+STORE_TESTS := crates/streetmap_store_tests/out/streetmap_store_tests_tests
 refusals: build
 	@mkdir -p tests/out && cc -shared -fPIC -O1 -o tests/out/refuse.so tests/refuse.c
 	@echo "The program on examples/three.lines:"
@@ -75,7 +76,7 @@ refusals: build
 	@echo "The program over a file, for one of many clients:"
 	@python3 tests/file_refusals.py $(PROGRAM) clients
 	@echo "Proving and building the tests: some minutes the first time."
-	@for crate in streetmap_ledger_tests streetmap_web_tests; do \
+	@for crate in streetmap_ledger_tests streetmap_web_tests streetmap_store_tests; do \
 	    (cd crates/$$crate && rt test > out.log 2>&1 || { cat out.log; rm -f out.log; exit 1; }; rm -f out.log) || exit 1; done
 	@echo "A collection of ten features:"
 	@$(REFUSED) WHOLE /dev/null $(LEDGER_TESTS) features::refused_memory::memory_or_the_same_is_told
@@ -88,6 +89,8 @@ refusals: build
 	    $(REFUSED) WHOLE /dev/null $(LEDGER_TESTS) ledger::memory::refused_memory_$$test || exit 1; done
 	@echo "Lines, each answered again:"
 	@$(REFUSED) WHOLE /dev/null $(LEDGER_TESTS) answers::a_line_refused_for_memory_is_answered_again
+	@echo "An index that is learnt, told from, and follows a batch:"
+	@$(REFUSED) WHOLE /dev/null $(STORE_TESTS) refused::refused_memory_changes_no_summary
 	@echo "A stream of requests:"
 	@$(REFUSED) WHOLE /dev/null $(WEB_TESTS) refused_memory::refused_memory_is_answered_or_not_seen
 

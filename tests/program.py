@@ -22,6 +22,9 @@ def words_of_the_command_line():
                   ["import", "a", "t", "--collection", "c"], ["import", "a", "t", "--key", "k"],
                   ["import", "a", "--key", "k", "--collection", "c"], ["import", "a", "t", "u", "--key", "k", "--collection", "c"],
                   ["import", "a", "t", "--key", "k", "--collection", "c", "--replace=true"], ["export", "a", "t", "--collection", "c"],
+                  ["import", "a", "t", "--key", "k", "--collection", "c", "--progress", "--progress"],
+                  ["export", "a", "--collection", "c", "--progress=true"], ["export", "a", "--progress", "--collection", "c", "--progress"],
+                  ["check", "a", "--progress"],
                   ["check"], ["check", "a", "b"], ["check", "a", "--base", "http://localhost/"]):
         run(*words, status=2, code="usage")
 
@@ -130,6 +133,28 @@ def imports_and_exports(folder):
     with open("/dev/full", "wb") as full:
         ended = subprocess.run([PROGRAM, "export", file, "--collection", "lamps"], stdout=full, stderr=subprocess.PIPE, timeout=60)
     check("an export to a full output", (ended.returncode, ended.stderr), (3, b"streetmap: write_failed\n"))
+
+
+def progress(folder):
+    """Lines on standard error tell how far an import and an export are, where they are asked for; all else is as without them."""
+    file, text = f"{folder}/progress.db", Path(folder) / "many.json"
+    text.write_text(json.dumps({"type": "FeatureCollection", "features": [{"type": "Feature"}] * 2_500}))
+    run("create", file)
+    run("pipe", file, sent=batch("b1", [OPEN]))
+    lines = b"streetmap: 1000 features\nstreetmap: 2000 features\n"
+    import_ = ["import", file, str(text), "--key", "i1", "--collection", "lamps"]
+    export = ["export", file, "--collection", "lamps"]
+
+    def with_progress(words, stderr=subprocess.PIPE):
+        ended = subprocess.run([PROGRAM, *words, "--progress"], stdout=subprocess.PIPE, stderr=stderr, timeout=60)
+        return ended.returncode, ended.stdout, ended.stderr
+
+    check("an import that tells", with_progress(import_), (0, run(*import_), lines))
+    check("an export that tells", with_progress(export), (0, run(*export), lines))
+    check("a refusal behind the lines", with_progress([*import_, "--replace"]), (1, b"", lines + b"streetmap: key_used\n"))
+    check("nothing to tell", with_progress([*export[:-1], "trees"]), (1, b"", b"streetmap: no_collection\n"))
+    with open("/dev/full", "wb") as full:
+        check("an export whose lines cannot be written", with_progress(export, full), (0, run(*export), None))
 
 
 def connections(folder):
@@ -245,6 +270,7 @@ def main():
         a_pipe(folder)
         faults_of_a_pipe(folder)
         imports_and_exports(folder)
+        progress(folder)
         connections(folder)
         clients_at_once(folder)
         a_log(folder)

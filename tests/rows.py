@@ -1,6 +1,6 @@
 """Runs the rows of examples/ through the built program: those of lines (rows.jsonl) and of features (features.jsonl), each
-over a ledger of its own, and those of HTTP (http.jsonl), each over a file of its own; features, batches, lines and bodies at
-their limits, and walks over pages; and the rows of times, queries, imports and polygons (`times.py` and so on).
+over a ledger of its own; those of HTTP (crates/streetmap_store_tests/src/rows.rt), each over a file of its own; features, batches,
+lines and bodies at their limits, and walks over pages; and the rows of times, queries, imports and polygons (`times.py` and so on).
 
     python3 tests/rows.py PROGRAM
 
@@ -19,7 +19,7 @@ import polygons
 import queries
 import times
 from served import PROGRAM, failures
-from texts import answers_to, batch_line as batch, rows_of
+from texts import answers_to, batch_line as batch, rows_of, rows_of_http
 
 LAMPS = 'batch {"key":"b1","edits":[{"op":"open","collection":"lamps"}]}'
 
@@ -180,7 +180,7 @@ def of_lines():
 
 
 def of_http():
-    asked = [(row["what"], row["before"], row["sent"], row["written"]) for row in rows_of("http.jsonl")]
+    asked = [(row["what"], row["before"], row["sent"], row["written"]) for row in rows_of_http()]
     for what, before, sent, wanted in chain(asked, http_limits()):
         yield what, written(before, sent), wanted
 

@@ -2,15 +2,17 @@
 //! exported, or read and changed by lines.
 //!
 //! Modules, in the order of reading: `fault` (what is printed, and the exit status), `files` (the keeper of a
-//! file), `texts` (the text that is imported). The command line and what the commands do stand in the crates below.
+//! file), `texts` (the text that is imported), `progress` (how far an import or an export is). The command line and what the commands do stand in the crates below.
 #![tactic(auto)]
 
 pub mod fault;
 mod files;
+mod progress;
 mod texts;
 
 use crate::fault::ProgramFault;
 use crate::files::IndexedFileKeeper;
+use crate::progress::ProgressLines;
 use std::env;
 use std::io::{BufReader, BufWriter, writer};
 use std::net::{Ipv4Addr, TcpListener};
@@ -55,8 +57,13 @@ fn run(rt: &HostRuntime) -> Result<(), ProgramFault> {
             key,
             collection,
             replace,
-        } => import_text(rt, file, text, key, collection, replace),
-        Command::Export { file, collection } => export_collection(rt, file, collection),
+            progress,
+        } => import_text(rt, file, text, key, collection, replace, progress),
+        Command::Export {
+            file,
+            collection,
+            progress,
+        } => export_collection(rt, file, collection, progress),
         Command::Check { file } => check_file(rt, file),
     }
 }
@@ -172,9 +179,10 @@ fn import_text(
     key: &str,
     collection: &str,
     replace: bool,
+    progress: bool,
 ) -> Result<(), ProgramFault> {
     let mut keeper = files::open(rt, file)?;
-    let reply = import_from(rt, &mut keeper, text, key, collection, replace)?;
+    let reply = import_from(rt, &mut keeper, text, key, collection, replace, progress)?;
     println!(rt; "{reply}").map_err(|_| ProgramFault::WriteFailed)
 }
 
@@ -186,8 +194,12 @@ fn import_from(
     key: &str,
     collection: &str,
     replace: bool,
+    progress: bool,
 ) -> Result<String, ProgramFault> {
     let text = texts::read(rt, path)?;
+    let mut lines = ProgressLines {
+        output: progress.then(|| rt.stderr()),
+    };
     Ok(import(
         rt.alloc(),
         keeper,
@@ -195,14 +207,23 @@ fn import_from(
         key,
         collection,
         replace,
+        &mut lines,
     )?)
 }
 
 /// Writes a collection on standard output.
-fn export_collection(rt: &HostRuntime, file: &str, collection: &str) -> Result<(), ProgramFault> {
+fn export_collection(
+    rt: &HostRuntime,
+    file: &str,
+    collection: &str,
+    progress: bool,
+) -> Result<(), ProgramFault> {
     let mut keeper = files::open(rt, file)?;
     let mut output = writer(rt);
-    Ok(export(rt.alloc(), &mut keeper, collection, &mut output)?)
+    let mut lines = ProgressLines {
+        output: progress.then(|| rt.stderr()),
+    };
+    Ok(export(rt.alloc(), &mut keeper, collection, &mut output, &mut lines)?)
 }
 
 /// Tells how many collections, features and batches a file has, where its rows are those of a state.

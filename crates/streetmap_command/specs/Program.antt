@@ -35,12 +35,12 @@ pipe = with_rule (with_rule (new_app (codes "pipe")) file) (option (codes "base"
 abbrev pub serve : App
 serve = with_rule (with_rule (with_rule (with_rule (with_rule (with_rule (new_app (codes "serve")) file) (required_option (codes "port"))) (option (codes "count"))) (option (codes "clients"))) (flag (codes "log"))) (option (codes "base"))
 
--- FILE, TEXT, the key, the collection, and whether features are replaced
+-- FILE, TEXT, the key, the collection, whether features are replaced, and whether it is told how far the import is
 abbrev pub import : App
-import = with_rule (with_rule (with_rule (with_rule (with_rule (new_app (codes "import")) file) (positional (codes "text"))) (required_option (codes "key"))) (required_option (codes "collection"))) (flag (codes "replace"))
+import = with_rule (with_rule (with_rule (with_rule (with_rule (with_rule (new_app (codes "import")) file) (positional (codes "text"))) (required_option (codes "key"))) (required_option (codes "collection"))) (flag (codes "replace"))) (flag (codes "progress"))
 
 abbrev pub export : App
-export = with_rule (with_rule (new_app (codes "export")) file) (required_option (codes "collection"))
+export = with_rule (with_rule (with_rule (new_app (codes "export")) file) (required_option (codes "collection"))) (flag (codes "progress"))
 
 abbrev pub check : App
 check = with_rule (new_app (codes "check")) file
@@ -55,8 +55,8 @@ pub data CommandValue : Type 0 where
   create_command : (file : Text) → CommandValue
   pipe_command : (file base : Text) → CommandValue
   serve_command : (file : Text) (port : ℕ) (count : Option ℕ) (clients : ℕ) (log : Bool) (base : Text) → CommandValue
-  import_command : (file text key collection : Text) (replace : Bool) → CommandValue
-  export_command : (file collection : Text) → CommandValue
+  import_command : (file text key collection : Text) (replace progress : Bool) → CommandValue
+  export_command : (file collection : Text) (progress : Bool) → CommandValue
   check_command : (file : Text) → CommandValue
 
 -- decimal digits that write a number from 1 to `most`
@@ -105,16 +105,20 @@ serve_given file port count clients log base =
 abbrev pub serve_by : List Row → Option CommandValue
 serve_by rows = serve_given (first_of (codes "file") rows) (first_of (codes "port") rows) (first_of (codes "count") rows) (first_of (codes "clients") rows) (first_of (codes "log") rows) (first_of (codes "base") rows)
 
--- what imports, of what is given for its file, text, key, collection and flag
-abbrev pub import_given : (file text key collection replace : Option Text) → Option CommandValue
-import_given file text key collection replace =
-    option_and_then (λ f. option_and_then (λ t. option_and_then (λ k. option_map (λ c. import_command f t k c (is_set replace)) collection) key) text) file
+-- what imports, of what is given for its file, text, key, collection and flags
+abbrev pub import_given : (file text key collection replace progress : Option Text) → Option CommandValue
+import_given file text key collection replace progress =
+    option_and_then (λ f. option_and_then (λ t. option_and_then (λ k. option_map (λ c. import_command f t k c (is_set replace) (is_set progress)) collection) key) text) file
 
 abbrev pub import_by : List Row → Option CommandValue
-import_by rows = import_given (first_of (codes "file") rows) (first_of (codes "text") rows) (first_of (codes "key") rows) (first_of (codes "collection") rows) (first_of (codes "replace") rows)
+import_by rows = import_given (first_of (codes "file") rows) (first_of (codes "text") rows) (first_of (codes "key") rows) (first_of (codes "collection") rows) (first_of (codes "replace") rows) (first_of (codes "progress") rows)
+
+-- what exports, of what is given for its file, collection and flag
+abbrev pub export_given : (file collection progress : Option Text) → Option CommandValue
+export_given file collection progress = option_and_then (λ f. option_map (λ c. export_command f c (is_set progress)) collection) file
 
 abbrev pub export_by : List Row → Option CommandValue
-export_by rows = option_and_then (λ f. option_map (λ c. export_command f c) (first_of (codes "collection") rows)) (first_of (codes "file") rows)
+export_by rows = export_given (first_of (codes "file") rows) (first_of (codes "collection") rows) (first_of (codes "progress") rows)
 
 abbrev pub check_by : List Row → Option CommandValue
 check_by rows = option_map check_command (first_of (codes "file") rows)

@@ -37,18 +37,22 @@ pub enum Command<'a> {
         base: String,
     },
     /// `streetmap import FILE TEXT`: put the features of the file `text` into a collection by one batch,
-    /// with `replace` in the place of those with their ids.
+    /// with `replace` in the place of those with their ids; with `progress` lines on standard error tell how far
+    /// it is.
     Import {
         file: &'a str,
         text: &'a str,
         key: &'a str,
         collection: &'a str,
         replace: bool,
+        progress: bool,
     },
-    /// `streetmap export FILE`: write a collection on standard output.
+    /// `streetmap export FILE`: write a collection on standard output; with `progress` lines on standard error
+    /// tell how far it is.
     Export {
         file: &'a str,
         collection: &'a str,
+        progress: bool,
     },
     /// `streetmap check FILE`: tell whether the rows of a file are those of a state, and how many there are.
     Check {
@@ -202,6 +206,7 @@ fn read_import<'a>(found: &ArgMatches<'a>) -> Result<Command<'a>, CommandFault>
         key,
         collection,
         replace: has_flag(found, "replace"),
+        progress: has_flag(found, "progress"),
     })
 }
 
@@ -212,7 +217,12 @@ fn read_export<'a>(found: &ArgMatches<'a>) -> Result<Command<'a>, CommandFault>
 {
     let file = value_of(found, "file").ok_or(CommandFault::Usage)?;
     let collection = value_of(found, "collection").ok_or(CommandFault::Usage)?;
-    Ok(Command::Export { file, collection })
+    let progress = has_flag(found, "progress");
+    Ok(Command::Export {
+        file,
+        collection,
+        progress,
+    })
 }
 
 /// The command `check`, of what is given with it.

@@ -77,7 +77,8 @@ fn make_import<'a>(alloc: Global) -> Result<Command<'a>, AllocError>
         .arg(positional_arg(alloc, "text"))?
         .arg(required_arg(alloc, "key"))?
         .arg(required_arg(alloc, "collection"))?
-        .arg(flag_arg(alloc, "replace"))
+        .arg(flag_arg(alloc, "replace"))?
+        .arg(flag_arg(alloc, "progress"))
 }
 
 fn make_export<'a>(alloc: Global) -> Result<Command<'a>, AllocError>
@@ -86,7 +87,8 @@ fn make_export<'a>(alloc: Global) -> Result<Command<'a>, AllocError>
 {
     Command::new(alloc, "export")
         .arg(positional_arg(alloc, "file"))?
-        .arg(required_arg(alloc, "collection"))
+        .arg(required_arg(alloc, "collection"))?
+        .arg(flag_arg(alloc, "progress"))
 }
 
 fn make_check<'a>(alloc: Global) -> Result<Command<'a>, AllocError>

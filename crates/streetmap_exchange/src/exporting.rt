@@ -10,17 +10,19 @@ ghost use Rattle.streetmap_exchange.specs.Exports.{Exports, part_query};
 
 use crate::fault::ExportFault;
 use crate::part::{next_id, page_behind, write_bytes, write_end, write_part};
+use crate::progress::{Progress, tell};
 use std::alloc::Global;
 use std::io::Write;
 use streetmap_ledger::{Keeper, Page};
 
 /// Writes the text of a collection, of which this is the first page.
-fn write_pages<K: Keeper, W: Write>(
+fn write_pages<K: Keeper, W: Write, P: Progress>(
     alloc: Global,
     keeper: &mut K,
     collection: &str,
     writer: &mut W,
     first: Page,
+    progress: &mut P,
 ) -> Result<(), ExportFault>
     requires { K.cause keeper.old ≡ None }
     ensures began_clean { K.is_clean keeper.new → K.is_clean keeper.old }
@@ -32,9 +34,12 @@ fn write_pages<K: Keeper, W: Write>(
     write_bytes(writer, b"{\"features\":[")?;
     let mut page = first;
     let mut later = false;
+    let mut written = 0u64;
     for _turn in 0..u64::MAX {
         write_part(alloc, writer, page.features.as_slice(), later)?;
         later = later || !page.features.is_empty();
+        written = written.saturating_add(page.features.len() as u64);
+        tell(progress, written);
         match next_id(page) {
             Some(id) => page = page_behind(keeper, collection, Some(id))?,
             None => return write_end(writer),
@@ -45,18 +50,19 @@ fn write_pages<K: Keeper, W: Write>(
 
 /// Writes the FeatureCollection (RFC 7946, section 3.3) of all features of a collection, in byte order of
 /// their ids, as compact JSON text with a line feed behind it. It asks the keeper for pages of a
-/// thousand features.
+/// thousand features, and tells `progress` how many are written.
 ///
 /// # Errors
 ///
 /// `NoCollection` where the collection is not there, and then nothing is written; a fault of the keeper, want of
 /// memory, or a write that failed, and then a beginning of the text is. After 2^64 - 1 pages it ends as
 /// after a failed write.
-pub fn export<K: Keeper, W: Write>(
+pub fn export<K: Keeper, W: Write, P: Progress>(
     alloc: Global,
     keeper: &mut K,
     collection: &str,
     writer: &mut W,
+    progress: &mut P,
 ) -> Result<(), ExportFault>
     ensures began_clean { K.is_clean keeper.new → K.is_clean keeper.old }
     // A shut keeper answers `Reopen` and no other does; `Device` and `Damaged` shut it.
@@ -69,5 +75,5 @@ pub fn export<K: Keeper, W: Write>(
     ensures reopen { IsErrOf result (ExportFault.Stopped Reopen) → AsBefore (K.stands keeper.old) (K.stands keeper.new) (K.may_leave keeper.old) (K.may_leave keeper.new) }
 {
     let first = page_behind(keeper, collection, None)?;
-    write_pages(alloc, keeper, collection, writer, first)
+    write_pages(alloc, keeper, collection, writer, first, progress)
 }

@@ -9,6 +9,7 @@ ghost use Rattle.streetmap_exchange.specs.ImportMeaning.{IsImport};
 ghost use Rattle.streetmap_exchange.specs.Imports.{edit_of, features_of, import_text, import_of};
 
 use crate::fault::ImportFault;
+use crate::progress::{Progress, tell};
 use std::alloc::Global;
 use streetmap_batch::{Batch, Edit, is_collection_id, is_key};
 use streetmap_geojson::{CollectionFault, Feature, JsonFault, read_collection, read_json};
@@ -58,11 +59,12 @@ fn make_edit(
 }
 
 /// The edits that put the features into the collection, in their order.
-fn make_edits(
+fn make_edits<P: Progress>(
     alloc: Global,
     collection: &str,
     replace: bool,
     features: Vec<Feature>,
+    progress: &mut P,
 ) -> Result<Vec<Edit>, ImportFault>
     requires { IsTrue (is_collection_id collection.now) }
     ensures { Gives (λ edits. edit_values edits.items) result (Ok (map (edit_of replace collection.now) (map feature_value features.items))) }
@@ -70,6 +72,7 @@ fn make_edits(
     let mut edits = Vec::with_capacity(alloc, features.len())?;
     for feature in features {
         edits.push(make_edit(alloc, collection, replace, feature)?)?;
+        tell(progress, edits.len() as u64);
     }
     Ok(edits)
 }
@@ -87,12 +90,13 @@ fn make_batch(alloc: Global, key: &str, edits: Vec<Edit>) -> Result<Batch, Impor
 }
 
 /// The batch of a text, where the names are in order.
-fn read_text(
+fn read_text<P: Progress>(
     alloc: Global,
     text: &[u8],
     key: &str,
     collection: &str,
     replace: bool,
+    progress: &mut P,
 ) -> Result<Batch, ImportFault>
     requires keyed { IsTrue (is_key key.now) }
     requires placed { IsTrue (is_collection_id collection.now) }
@@ -102,18 +106,19 @@ fn read_text(
     if features.len() > MAX_FEATURES {
         return Err(ImportFault::TooManyEdits);
     }
-    let edits = make_edits(alloc, collection, replace, features)?;
+    let edits = make_edits(alloc, collection, replace, features, progress)?;
     make_batch(alloc, key, edits)
 }
 
 /// The batch of a text, or the first refusal.
 #[tactic(auto, unfolding(crate::specs::Imports::import_of))]
-fn read_import(
+fn read_import<P: Progress>(
     alloc: Global,
     text: &[u8],
     key: &str,
     collection: &str,
     replace: bool,
+    progress: &mut P,
 ) -> Result<Batch, ImportFault>
     ensures { Gives batch_value result (import_of replace key.now collection.now text.now) }
 {
@@ -126,25 +131,26 @@ fn read_import(
     if text.len() > MAX_TEXT {
         return Err(ImportFault::TextTooLarge);
     }
-    read_text(alloc, text, key, collection, replace)
+    read_text(alloc, text, key, collection, replace, progress)
 }
 
 /// The batch that inserts each feature of a FeatureCollection text (RFC 7946, section 3.3) into the
 /// collection, in the order of the text, or with `replace` puts each in the place of the one with its id.
 /// A feature without `id` takes its place in the text, counted from 1, as id. The features are read
-/// without a time property: their times are set when the batch acts.
+/// without a time property: their times are set when the batch acts. `progress` is told how many are read.
 ///
 /// # Errors
 ///
 /// The first in this order: `BadKey`, `BadBatch` where `collection` is no collection id, `TextTooLarge`
 /// above 8,388,608 bytes, `NotJson`, `WrongType`, `BadFeature` at the first feature at fault,
 /// `TooManyEdits` above 10,000 features. `Memory` may come in place of any.
-pub fn import_batch(
+pub fn import_batch<P: Progress>(
     alloc: Global,
     text: &[u8],
     key: &str,
     collection: &str,
     replace: bool,
+    progress: &mut P,
 ) -> Result<Batch, ImportFault>
     // The batch is the one that the text is imported by.
     ensures found { IfOk result (λ b. IsImport replace key.now collection.now text.now (batch_value b)) }
@@ -153,5 +159,5 @@ pub fn import_batch(
     // Which refusal it is, and where.
     ensures exact { Gives batch_value result (import_of replace key.now collection.now text.now) }
 {
-    read_import(alloc, text, key, collection, replace)
+    read_import(alloc, text, key, collection, replace, progress)
 }

@@ -9,6 +9,7 @@ ghost use Rattle.streetmap_exchange.specs.KeeperImports.{IsTold, BatchTells, Bat
 
 use crate::fault::{ImportFault, ImportStop};
 use crate::importing::import_batch;
+use crate::progress::Progress;
 use std::alloc::Global;
 use streetmap_batch::Batch;
 use streetmap_bodies::push_reply_body;
@@ -60,19 +61,20 @@ fn apply<K: Keeper>(keeper: &mut K, batch: &Batch, body: String) -> Result<Strin
 
 /// Puts the features of a FeatureCollection text into a collection by one batch (`import_batch`), and
 /// answers the body of its reply, as compact JSON text. The room for it is taken before the batch is
-/// applied, so a batch that acted is answered.
+/// applied, so a batch that acted is answered. `progress` is told how many features are read.
 ///
 /// # Errors
 ///
 /// `NotRead` with the first refusal of `import_batch`, and then nothing changed; `Refused` where the
 /// batch is, which changed nothing either; `Stopped` with the fault of the keeper.
-pub fn import<K: Keeper>(
+pub fn import<K: Keeper, P: Progress>(
     alloc: Global,
     keeper: &mut K,
     text: &[u8],
     key: &str,
     collection: &str,
     replace: bool,
+    progress: &mut P,
 ) -> Result<String, ImportStop>
     ensures began_clean { K.is_clean keeper.new → K.is_clean keeper.old }
     // A shut keeper that is asked answers `Reopen` and no other does; `Device` and `Damaged` shut it.
@@ -83,7 +85,7 @@ pub fn import<K: Keeper>(
     ensures leaves { K.is_clean keeper.new → (s : State) → K.stands keeper.old s → LeavesOnly (K.may_leave keeper.old) (Some s) → ImportLeaves s (import_of replace key.now collection.now text.now) result (K.may_leave keeper.new) }
     ensures reopen { IsErrOf result (ImportStop.Stopped Reopen) → AsBefore (K.stands keeper.old) (K.stands keeper.new) (K.may_leave keeper.old) (K.may_leave keeper.new) }
 {
-    let batch = import_batch(alloc, text, key, collection, replace)?;
+    let batch = import_batch(alloc, text, key, collection, replace, progress)?;
     let body = room(alloc)?;
     apply(keeper, &batch, body)
 }

@@ -8,7 +8,9 @@
 //! `export` writes the text of a whole collection, page by page, over any keeper; which text, and what
 //! was written where it ends early, is `specs/Exports`.
 //!
-//! Modules, in the order of reading: `fault`, `importing`, `keeping`, `part`, `exporting`, `laws`.
+//! Each tells how far it is to a `Progress`, which can do nothing to the result.
+//!
+//! Modules, in the order of reading: `fault`, `progress`, `importing`, `keeping`, `part`, `exporting`, `laws`.
 #![tactic(auto)]
 
 mod exporting;
@@ -17,8 +19,10 @@ mod importing;
 mod keeping;
 pub mod laws;
 mod part;
+mod progress;
 
 pub use exporting::export;
 pub use fault::{ExportFault, ImportFault, ImportStop};
 pub use importing::{MAX_TEXT, import_batch};
 pub use keeping::import;
+pub use progress::Progress;

@@ -1,6 +1,6 @@
 //! Why a file is not made or opened, and what is left of it.
 ghost use Rattle.std.specs.Prelude.{◌≡◌};
-ghost use Rattle.streetmap_files.specs.Refusing.{open_code, create_code, refused_to_open, refused_to_create, not_adopted, not_made};
+ghost use Rattle.streetmap_files.specs.Refusing.{open_code, create_code, open_description, create_description, refused_to_open, refused_to_create, not_adopted, not_made};
 
 use sqlite::{Error, ErrorCode};
 use streetmap_carrying::TablesFault;
@@ -59,6 +59,19 @@ impl OpenFault {
         }
     }
 
+    /// A sentence on it.
+    pub fn description(&self) -> &'static str
+        ensures { result.now ≡ open_description self.now }
+    {
+        match self {
+            OpenFault::NotOurs => "The file is none of this product.",
+            OpenFault::OldFormat => "The file has format 1.",
+            OpenFault::NewFormat => "The file has a format above 2.",
+            OpenFault::Device(_) => "The file cannot be opened, is in use, or its device failed.",
+            OpenFault::Memory => "Memory was refused; the call may be made again.",
+        }
+    }
+
     /// The fault of files that a connection was refused for.
     pub(crate) fn of_files(error: Error) -> OpenFault
         ensures { result ≡ refused_to_open error }
@@ -94,6 +107,19 @@ impl CreateFault {
             CreateFault::Taken => "taken",
             CreateFault::Device(_) => "device",
             CreateFault::Memory => "memory",
+        }
+    }
+
+    /// A sentence on it.
+    pub fn description(&self) -> &'static str
+        ensures { result.now ≡ create_description self.now }
+    {
+        match self {
+            CreateFault::NotOurs => "The file is no database of SQLite.",
+            CreateFault::Taken =>
+                "A table, an index or a view of the file has one of the names of the tables.",
+            CreateFault::Device(_) => "The file cannot be opened, is in use, or its device failed.",
+            CreateFault::Memory => "Memory was refused; the call may be made again.",
         }
     }
 

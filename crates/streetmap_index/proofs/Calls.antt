@@ -1,5 +1,5 @@
 -- What two calls of a keeper say together.
-use Rattle.std.proofs.Common.{Result, Ok, Err}
+use Rattle.std.proofs.Common.{◌≡◌, Result, Ok, Err, subst}
 use Rattle.streetmap_ledger.specs.State.{State}
 use Rattle.streetmap_ledger.specs.Keep.{Looks}
 use Rattle.streetmap_ledger.specs.declared.reply.Fault.{Fault}
@@ -19,3 +19,7 @@ looks_err T U s Is As Memory P h = h
 looks_err T U s Is As Device P h = tt
 looks_err T U s Is As Damaged P h = h
 looks_err T U s Is As Reopen P h = h
+
+-- where memory was refused the keeper stands as it did
+pub memory_stays : {T : Type 0} (s : State) (Is : T → Type 0) (fault : Fault) (P : State → Type 0) → fault ≡ Memory → Looks s Is (Err fault) P → P s
+memory_stays {T} s Is fault P is h = subst (λ f. Looks {T = T} s Is (Err f) P) is h

@@ -1,13 +1,13 @@
--- What is known of a collection after an edit of it, and of all after it is forgotten.
-use Rattle.std.proofs.Common.{◌≡◌, List, true, cond, Option, None, Some, Result, Ok, Err, String, sym, ap, subst, ◌∙◌}
-use Rattle.std.specs.Result.{OnOk, is_ok}
+-- What is known of a collection after an edit of it, and of all.
+use Rattle.std.proofs.Common.{◌≡◌, false, cond, Option, None, Some, IsSome, Result, Ok, Err, refl, sym, ap, subst, ◌∙◌}
+use Rattle.std.specs.Result.{OnOk, is_err}
 use Rattle.std.specs.String.{string_cmp}
 use Rattle.std.specs.Ordering.{is_eq, eq_by_cmp}
 use Rattle.std.specs.Map.{KeepsOthers}
 use Rattle.std.specs.FinMap.{get, insert, remove, get-insert}
 use Rattle.std.specs.Cmp.Lexicographic.{nat_list_cmp_total}
-use Rattle.std.specs.declared.alloc.Global.{Global}
 use Rattle.std.proofs.lemmas.Cmp.{tied_itself}
+use Rattle.std.proofs.lemmas.Option.{same_Some}
 use Rattle.streetmap_moment.specs.IntervalValue.{IntervalValue}
 use Rattle.streetmap_geojson.specs.FeatureValue.{FeatureValue, retimed}
 use Rattle.streetmap_geojson.specs.Times.{time_of}
@@ -15,24 +15,36 @@ use Rattle.streetmap_batch.specs.Text.{Text, text_cmp}
 use Rattle.streetmap_batch.specs.BatchValue as edit
 use Rattle.streetmap_batch.specs.BatchValue.{EditValue}
 use Rattle.streetmap_ledger.specs.State.{State, Collection, timed, step}
-use Rattle.streetmap_index.specs.Index.{IsOutlined, IsOutlinedIf, known_under, collection_of}
+use Rattle.streetmap_index.specs.Index.{IsOutlined, IsOutlinedIf, AreKnown, KnowsAll, known_under, collection_of}
 use Rattle.streetmap_index.specs.declared.outlined.OutlinedCollection.{OutlinedCollection}
-use Rattle.streetmap_index.proofs.Known.{at_text, known_after, nothing_known}
+use Rattle.streetmap_index.proofs.Known.{Known, at_text, known_after, all_known_after, keeps_all, nothing_known}
 use Rattle.streetmap_index.proofs.Steps.{Puts, Cuts, did, other_stays}
 
--- the collection of an edit is forgotten
-pub forgotten : (es fs : List (String Global × OutlinedCollection)) (s t : State) (e : EditValue) (name : Text) → name ≡ collection_of e → step s e ≡ Ok t
-    → ((other : Text) (o : OutlinedCollection) → known_under other es ≡ Some o → IsOutlinedIf o (get s.collections other))
-    → KeepsOthers (eq_by_cmp string_cmp) (at_text name) es fs → known_under name fs ≡ None
-    → (other : Text) (o : OutlinedCollection) → known_under other fs ≡ Some o → IsOutlinedIf o (get t.collections other)
-forgotten es fs s t e name is done known keeps none =
-    known_after es fs s t name keeps known
-    (λ other off. other_stays s t e (did s t e done) other (ap (λ (k : Text). is_eq (text_cmp other k)) (sym is) ∙ off))
-    (λ o there. nothing_known o (sym none ∙ there))
+module _ (s t : State) (e : EditValue) (name : Text) (is : name ≡ collection_of e) (done : step s e ≡ Ok t) where
+  -- every other collection stays
+  other_than : (other : Text) → is_eq (text_cmp other name) ≡ false → get t.collections other ≡ get s.collections other
+  other_than other off = other_stays s t e (did s t e done) other (ap (λ (k : Text). is_eq (text_cmp other k)) (sym is) ∙ off)
+
+  -- the collection of an edit is not known
+  pub still_known : (es : Known) → AreKnown es s → known_under name es ≡ None → AreKnown es t
+  still_known es known none = known_after es es s t name (keeps_all es name) known other_than (λ o there. nothing_known o (sym none ∙ there))
+
+  -- the collection of an edit is known, and was followed
+  pub followed : (es fs : Known) (o : OutlinedCollection) → KeepsOthers (eq_by_cmp string_cmp) (at_text name) es fs → known_under name fs ≡ Some o → AreKnown es s → IsOutlinedIf o (get t.collections (collection_of e)) → AreKnown fs t
+  followed es fs o keeps there known now =
+      known_after es fs s t name keeps known other_than
+      (λ p found. subst (λ (x : OutlinedCollection). IsOutlinedIf x (get t.collections name)) (same_Some o p (sym there ∙ found)) (subst (λ (k : Text). IsOutlinedIf o (get t.collections k)) (sym is) now))
+
+  pub all_followed : (es fs : Known) (o : OutlinedCollection) → KeepsOthers (eq_by_cmp string_cmp) (at_text name) es fs → known_under name fs ≡ Some o → KnowsAll es s → KnowsAll fs t
+  all_followed es fs o keeps there = all_known_after es fs s t name keeps other_than (subst IsSome (sym there) refl)
 
 pub on_ok_map : {A E P Q : Type 0} (r : Result A E) → (P → Q) → OnOk r P → OnOk r Q
 on_ok_map (Ok x) f h = f h
 on_ok_map (Err x) f h = h
+
+pub on_ok_both : {A E P Q R : Type 0} (r : Result A E) → (P → Q → R) → OnOk r P → OnOk r Q → OnOk r R
+on_ok_both (Ok x) f h k = f h k
+on_ok_both (Err x) f h k = h
 
 -- the collection that was changed
 left : (s t : State) (name : Text) (c : Collection) → t.collections ≡ insert s.collections name c → get t.collections name ≡ Some c
@@ -78,6 +90,6 @@ module _ (o p : OutlinedCollection) (s t : State) (name : Text) (e : EditValue) 
 pub told_time : (property : Option Text) (f g : FeatureValue) (t : Option IntervalValue) → time_of property f.properties ≡ Ok t → timed property f ≡ Ok g → retimed f t ≡ g
 told_time property f g t told h = let e = rw told at h in cc
 
-pub on_ok_at : {A E P : Type 0} (r : Result A E) → is_ok r ≡ true → OnOk r P → P
-on_ok_at (Ok x) is h = h
-on_ok_at (Err x) is h = absurd cc
+pub on_ok_not_err : {A E P : Type 0} (r : Result A E) → is_err r ≡ false → OnOk r P → P
+on_ok_not_err (Ok x) is h = h
+on_ok_not_err (Err x) is h = absurd cc

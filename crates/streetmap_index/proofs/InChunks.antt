@@ -1,7 +1,8 @@
 -- What an edit in the chunk that an id is for does to the outlines of all chunks.
-use Rattle.std.proofs.Common.{◌≡◌, ℕ, zero, suc, ◌+◌, ◌<◌, List, [], ◌∷◌, ◌++◌, Bool, true, false, T, Vec, length, take, drop, reverse, set, string_bytes, refl, sym, ap, subst, ◌∙◌, arith, append_assoc, append-nil}
-use Rattle.std.specs.Prelude.{◌&&◌, slice_index_or}
+use Rattle.std.proofs.Common.{◌≡◌, ℕ, zero, suc, ◌+◌, ◌-◌, ◌<◌, List, [], ◌∷◌, ◌++◌, Bool, true, false, T, Vec, length, take, drop, get_or, reverse, set, string_bytes, refl, sym, ap, subst, ◌∙◌, arith, append_assoc, append-nil}
+use Rattle.std.specs.Prelude.{◌&&◌, ◌≤◌, not, slice_index_or}
 use Rattle.std.specs.List as list
+use Rattle.std.specs.List.Sorted.{IsPartitionedBy, IsPartitionPoint}
 use Rattle.std.specs.Ordering.{is_lt, is_ge}
 use Rattle.std.specs.declared.cmp.Ordering.{Ordering}
 use Rattle.std.specs.declared.cmp.Ordering.TheVariants.{Less, Equal, Greater}
@@ -9,7 +10,7 @@ use Rattle.std.specs.declared.alloc.Global.{Global}
 use Rattle.std.specs.Cmp.Lexicographic.{nat_list_cmp_total}
 use Rattle.std.specs.FinMap.{entries, entries_sorted, insert, remove, put, is_sorted, from_sorted, entries-from_sorted, entries-insert}
 use Rattle.std.specs.FinMap.Entries.{below_all, where_key}
-use Rattle.std.proofs.lemmas.List.{map-append, reverse-append, take-append-drop}
+use Rattle.std.proofs.lemmas.List.{map-append, reverse-append, take-append-drop, length-drop, drop_more}
 use Rattle.std.proofs.lemmas.List.Elements.{filter-append}
 use Rattle.streetmap_geojson.specs.FeatureValue.{FeatureValue}
 use Rattle.streetmap_batch.specs.Text.{Text, text_cmp}
@@ -18,7 +19,7 @@ use Rattle.streetmap_ledger.specs.Outlines.{feature_outline_of}
 use Rattle.streetmap_ledger.specs.OutlineView.{feature_outline_value, feature_outline_values}
 use Rattle.streetmap_ledger.specs.declared.outline.FeatureOutline.{FeatureOutline}
 use Rattle.streetmap_ledger.proofs.TextMaps.{one_text, first, second}
-use Rattle.streetmap_index.specs.Index.{joined, AreOutlines}
+use Rattle.streetmap_index.specs.Index.{joined, AreOutlines, AreFilled, AreChunksOf}
 use Rattle.streetmap_index.specs.Chunks.{reaches}
 use Rattle.streetmap_index.proofs.Places.{Entries, outlines, head_is, tail_is, key_is, too_many, too_few, flip, less, others, all_below, entries_left}
 
@@ -88,7 +89,7 @@ put_front k v [] fs h = absurd cc
 put_front k v (e ∷ []) fs h = put_front_by k v e [] fs (text_cmp k e.0) refl (λ is. not_behind k e h is)
 put_front k v (e ∷ (f ∷ es)) fs h = put_front_by k v e (f ∷ es) fs (text_cmp k e.0) refl (λ is. put_front k v (f ∷ es) fs h)
 
-both : (a b : Bool) → T a → T b → T (a && b)
+pub both : (a b : Bool) → T a → T b → T (a && b)
 both true b p q = q
 both false b p q = absurd p
 
@@ -148,6 +149,76 @@ split (x ∷ xs) ys (e ∷ es) is =
 two : (xs ys : List FeatureOutline) (es fs : Entries) → feature_outline_values xs ≡ outlines es → feature_outline_values ys ≡ outlines fs → feature_outline_values (xs ++ ys) ≡ outlines (es ++ fs)
 two xs ys es fs p q =
     map-append feature_outline_value xs ys ∙ (ap (λ a. a ++ feature_outline_values ys) p ∙ (ap (λ b. outlines es ++ b) q ∙ sym (map-append (λ (e : Text × FeatureValue). feature_outline_of e.0 e.1) es fs)))
+
+-- ---- where an id is looked for by halving
+goes_above : (k : Text) (es : Entries) → T (below_all text_cmp k es) → 0 < length es → goes_to k es ≡ true
+goes_above k [] up some = absurd (omega arith)
+goes_above k (e ∷ []) up some = ap is_ge (flip k e.0 Less (less _ (first _ _ up)))
+goes_above k (e ∷ (f ∷ es)) up some = goes_above k (f ∷ es) (second _ _ up) (omega arith)
+
+some_entries : (os : List FeatureOutline) (es : Entries) → feature_outline_values os ≡ outlines es → 0 < length os → 0 < length es
+some_entries [] es is some = absurd (omega arith)
+some_entries (y ∷ ys) [] is some = too_few y ys is
+some_entries (y ∷ ys) (e ∷ es) is some = omega arith
+
+below_back : (x : Text) (es fs : Entries) → T (below_all text_cmp x (es ++ fs)) → T (below_all text_cmp x fs)
+below_back x [] fs up = up
+below_back x (e ∷ es) fs up = below_back x es fs (second _ _ up)
+
+-- each chunk reaches an id that is before all outlines
+all_reach : (k : Text) (cs : List Chunk) (es : Entries) (j : ℕ) (d : Chunk) → feature_outline_values (joined cs) ≡ outlines es → T (below_all text_cmp k es) → AreFilled cs → j < length cs → reaches k (slice_index_or cs j d).items ≡ true
+all_reach k [] es j d is up filled h = absurd (omega arith)
+all_reach k (c ∷ cs) es zero d is up filled h =
+    let parts = split c.items (joined cs) es is in
+    let above = subst (λ zs. T (below_all text_cmp k zs)) (sym parts.whole) up in
+    reaches_keys c.items parts.front k parts.fronts ∙ goes_above k parts.front (below_front k parts.front parts.rest above) (some_entries c.items parts.front parts.fronts filled.0)
+all_reach k (c ∷ cs) es (suc j) d is up filled h =
+    let parts = split c.items (joined cs) es is in
+    let above = subst (λ zs. T (below_all text_cmp k zs)) (sym parts.whole) up in
+    all_reach k cs parts.rest j d parts.rests (below_back k parts.front parts.rest above) filled.1 (omega arith)
+
+-- a chunk before one that does not reach an id does not reach it
+none_reach : (k : Text) (cs : List Chunk) (es : Entries) (i j : ℕ) (d : Chunk) → feature_outline_values (joined cs) ≡ outlines es → T (is_sorted text_cmp es) → AreFilled cs → i ≤ j → j < length cs
+    → reaches k (slice_index_or cs j d).items ≡ false → reaches k (slice_index_or cs i d).items ≡ false
+none_reach k [] es i j d is up filled from h short = absurd (omega arith)
+none_reach k (c ∷ cs) es zero zero d is up filled from h short = short
+none_reach k (c ∷ cs) es (suc i) zero d is up filled from h short = absurd (omega arith)
+none_reach k (c ∷ cs) es (suc i) (suc j) d is up filled from h short =
+    let parts = split c.items (joined cs) es is in
+    none_reach k cs parts.rest i j d parts.rests (sorted_rest parts.front parts.rest (subst (λ zs. T (is_sorted text_cmp zs)) (sym parts.whole) up)) filled.1 (omega arith) (omega arith) short
+none_reach k (c ∷ cs) es zero (suc j) d is up filled from h short = by (reaches k c.items) refl where
+  by : (b : Bool) → reaches k c.items ≡ b → reaches k c.items ≡ false
+  by false e = e
+  by true e =
+      let parts = split c.items (joined cs) es is in
+      let both_up = subst (λ zs. T (is_sorted text_cmp zs)) (sym parts.whole) up in
+      let yes = all_reach k cs parts.rest j d parts.rests (below_rest k parts.front parts.rest both_up (sym (reaches_keys c.items parts.front k parts.fronts) ∙ e)) filled.1 (omega arith) in
+      absurd cc
+
+abbrev pub falls_short_of : Text → Chunk → Bool
+falls_short_of k c = not (reaches k c.items)
+
+off : (b : Bool) → not b ≡ true → b ≡ false
+off true e = absurd cc
+off false e = refl
+
+on : (b : Bool) → not b ≡ false → b ≡ true
+on true e = refl
+on false e = absurd cc
+
+-- chunks of features, which were searched as the slice l for the id k
+module _ (cs l : List Chunk) (searched : l ≡ cs) (k : Text) (place : ℕ) (point : IsPartitionedBy (falls_short_of k) l → IsPartitionPoint (λ c. falls_short_of k c ≡ true) (λ c. falls_short_of k c ≡ false) l place)
+    (features : Features) (known : AreChunksOf cs features) where
+  at_point : IsPartitionPoint (λ c. falls_short_of k c ≡ true) (λ c. falls_short_of k c ≡ false) cs place
+  at_point =
+      subst (λ xs. IsPartitionedBy (falls_short_of k) xs → IsPartitionPoint (λ c. falls_short_of k c ≡ true) (λ c. falls_short_of k c ≡ false) xs place) searched point
+      (λ i j d from h short. ap not (none_reach k cs (entries features) i j d known.outlines (entries_sorted features) known.filled from h (off _ short)))
+
+  pub short_before : (j : ℕ) (d : Chunk) → j < place → place ≤ length cs → reaches k (slice_index_or cs j d).items ≡ false
+  short_before j d h within = off _ (at_point.0 j d (omega arith) h)
+
+  pub reached_here : (d : Chunk) → place < length cs → reaches k (slice_index_or cs place d).items ≡ true
+  reached_here d h = on _ (at_point.1 place d (omega arith) h)
 
 -- ---- an edit under a key: of features, and of their entries
 record IsEdit (k : Text) (op : Entries → Entries) (change : Features → Features) : Type 0 where
@@ -223,9 +294,25 @@ none_left k [] is = is
 none_left k (e ∷ es) is = too_many e es is
 
 -- where there is no chunk there is no outline
-pub none_in_chunks : (cs : List Chunk) (i : ℕ) (k : Text) (features : Features) → (0 < length cs → i < length cs) → (i < length cs → ⊥) → AreOutlines (joined cs) features → AreOutlines (joined cs) (remove features k)
-none_in_chunks [] i k features bound off known = none_left k (entries features) known ∙ ap outlines (sym (entries_left features k))
+none_there : (features : Features) → AreChunksOf [] features → entries features ≡ []
+none_there features known = by (entries features) known.outlines where
+  by : (es : Entries) → feature_outline_values [] ≡ outlines es → es ≡ []
+  by [] is = refl
+  by (e ∷ es) is = too_many e es is
+
+pub none_in_chunks : (cs : List Chunk) (i : ℕ) (k : Text) (features : Features) → (0 < length cs → i < length cs) → (i < length cs → ⊥) → AreChunksOf cs features → AreChunksOf cs (remove features k)
+none_in_chunks [] i k features bound off known =
+    let none = none_there features known in
+    record { outlines = ap outlines (sym (entries_left features k ∙ ap (where_key text_cmp (others k)) none)); filled = tt }
 none_in_chunks (c ∷ cs) i k features bound off known = absurd (off (bound (omega arith)))
+
+-- the first chunk
+pub first_chunk : (cs ds : List Chunk) (first : Chunk) (features : Features) (f : FeatureValue) → cs ≡ [] → ds ≡ cs ++ first ∷ [] → 0 < length first.items
+    → ((fs : Features) → AreOutlines [] fs → AreOutlines first.items (insert fs f.id f)) → AreChunksOf cs features → AreChunksOf ds (insert features f.id f)
+first_chunk cs ds first features f none is some put known =
+    let had = subst (λ xs. AreChunksOf xs features) none known in
+    subst (λ xs. AreChunksOf xs (insert features f.id f)) (sym (is ∙ ap (λ xs. xs ++ first ∷ []) none))
+    (record { outlines = ap feature_outline_values (append-nil first.items) ∙ put features had.outlines; filled = (some, tt) })
 
 -- ---- a chunk that is cut in two
 halved : (cs : List Chunk) (i : ℕ) (old one behind : Chunk) → i < length cs → old ≡ slice_index_or cs i old → one.items ++ behind.items ≡ old.items → joined (list.insert (set cs i one) (suc i) behind) ≡ joined cs
@@ -243,7 +330,7 @@ halved_at cs i old one behind within at n p q =
     (halved cs i old one behind within at (ap (λ xs. xs ++ behind.items) p ∙ (ap (λ xs. take n old.items ++ xs) q ∙ take-append-drop n old.items)))
 
 -- ---- an empty chunk that is dropped
-empty_is : (os : List FeatureOutline) → length os ≡ 0 → os ≡ []
+pub empty_is : (os : List FeatureOutline) → length os ≡ 0 → os ≡ []
 empty_is [] h = refl
 empty_is (o ∷ os) h = absurd (omega arith)
 
@@ -253,6 +340,10 @@ shed_at (x ∷ []) zero c within at none = ap (λ xs. xs ++ []) (sym (empty_is x
 shed_at (x ∷ (y ∷ cs)) zero c within at none = ap (λ xs. xs ++ joined (y ∷ cs)) (sym (empty_is x.items (ap (λ (z : Chunk). length z.items) (sym at) ∙ none)))
 shed_at (x ∷ cs) (suc i) c within at none = ap (λ xs. x.items ++ xs) (shed_at cs i c (omega arith) at none)
 
+-- ---- what is left behind a place
+pub dropped_some : (os last : List FeatureOutline) (n : ℕ) → last ≡ drop n os → n < length os → 0 < length last
+dropped_some os last n is h = let left : length last ≡ length os - n = ap length is ∙ length-drop n os in omega arith
+
 -- ---- chunks that are cut off from the end of outlines, the last one first
 pub last_pushed : (cs ds : List Chunk) (last : Chunk) → ds ≡ cs ++ last ∷ [] → joined (reverse ds) ≡ last.items ++ joined (reverse cs)
 last_pushed cs ds last is = ap joined (ap reverse is ∙ reverse-append cs (last ∷ []))
@@ -261,3 +352,8 @@ pub cut_off : (os front : List FeatureOutline) (n : ℕ) (cs ds : List Chunk) (l
 cut_off os front n cs ds last p q is =
     ap (λ xs. front ++ xs) (last_pushed cs ds last is)
     ∙ (sym (append_assoc front last.items (joined (reverse cs))) ∙ ap (λ xs. xs ++ joined (reverse cs)) (ap (λ xs. xs ++ last.items) p ∙ (ap (λ xs. take n os ++ xs) q ∙ take-append-drop n os)))
+
+-- ---- the chunk that comes next
+pub next_chunk : (cs : List Chunk) (i : ℕ) (c : Chunk) (os : List FeatureOutline) → i < length cs → c ≡ get_or cs i c → os ≡ c.items → joined (drop i cs) ≡ os ++ joined (drop (i + 1) cs)
+next_chunk cs i c os within is items =
+    ap joined (drop_more cs i c within) ∙ (ap (λ (x : Chunk). x.items ++ joined (drop (i + 1) cs)) (sym is) ∙ ap (λ xs. xs ++ joined (drop (i + 1) cs)) (sym items))

@@ -6,3 +6,6 @@ pub mod Steps
 pub mod Places
 pub mod Following
 pub mod InChunks
+pub mod Filled
+pub mod Extents
+pub mod Listing

@@ -1,11 +1,12 @@
 -- The outlines of a collection's features, in the order of their ids.
-use Rattle.std.proofs.Common.{◌≡◌, List, [], ◌∷◌, ◌++◌, T, cond, None, Some, map, refl, sym, ap, subst, ◌∙◌, append_assoc, append-nil}
+use Rattle.std.proofs.Common.{◌≡◌, List, [], ◌∷◌, ◌++◌, T, false, cond, None, Some, map, refl, sym, ap, subst, ◌∙◌, append_assoc, append-nil}
 use Rattle.std.specs.List.{AllByRecursion}
-use Rattle.std.specs.Ordering.{is_eq}
+use Rattle.std.specs.Ordering.{is_lt, is_eq}
 use Rattle.std.specs.declared.cmp.Ordering.{Ordering}
 use Rattle.std.specs.declared.cmp.Ordering.TheVariants.{Less, Equal, Greater}
 use Rattle.std.specs.Cmp.Lexicographic.{nat_list_cmp_total}
 use Rattle.std.specs.FinMap.{get, entries, entries_sorted, values, find, is_sorted, get-entries}
+use Rattle.std.specs.FinMap.Entries.{below_all}
 use Rattle.std.proofs.lemmas.Cmp.{tied_itself}
 use Rattle.streetmap_geojson.specs.FeatureValue.{FeatureValue}
 use Rattle.streetmap_geojson.specs.FeatureInvariant.{IsFeature}
@@ -18,7 +19,7 @@ use Rattle.streetmap_ledger.specs.OutlineView.{feature_outline_value, feature_ou
 use Rattle.streetmap_ledger.specs.declared.outline.FeatureOutline.{FeatureOutline}
 use Rattle.streetmap_ledger.specs.Folds.{HoldsCandidates}
 use Rattle.streetmap_ledger.specs.declared.fold.PageFold.{PageFold}
-use Rattle.streetmap_ledger.proofs.TextMaps.{one_text, first, second, none_below}
+use Rattle.streetmap_ledger.proofs.TextMaps.{one_text, first, second}
 use Rattle.streetmap_index.specs.Index.{AreOutlines}
 use Rattle.streetmap_index.specs.Taking.{IsEntry, Pairs}
 
@@ -28,19 +29,30 @@ pub record IsThere (features : Features) (id : Text) (f : FeatureValue) : Type 0
   pub made : IsFeature f
   pub there : get features id ≡ Some f
 
+not_equal : (r : Ordering) → T (is_lt r) → is_eq r ≡ false
+not_equal Less h = refl
+not_equal Equal h = absurd h
+not_equal Greater h = absurd h
+
 -- ---- each entry is found under its key
-each_found : (P : Text → FeatureValue → Type 0) (es : List (Text × FeatureValue)) → T (is_sorted text_cmp es) → ((id : Text) (f : FeatureValue) → find text_cmp id es ≡ Some f → P id f) → AllByRecursion (λ e. P e.0 e.1) es
-each_found P [] up found = tt
-each_found P (e ∷ es) up found = (
-  found e.0 e.1 (ap (λ r. cond (is_eq r) (Some e.1) (find text_cmp e.0 es)) (tied_itself nat_list_cmp_total e.0)),
-  each_found P es (second _ _ up) (λ id f there. found id f (later id f there (text_cmp id e.0) refl)),
-) where
-  later : (id : Text) (f : FeatureValue) → find text_cmp id es ≡ Some f → (r : Ordering) → text_cmp id e.0 ≡ r → cond (is_eq (text_cmp id e.0)) (Some e.1) (find text_cmp id es) ≡ Some f
-  later id f there Less is = ap (λ r. cond (is_eq r) (Some e.1) (find text_cmp id es)) is ∙ there
-  later id f there Greater is = ap (λ r. cond (is_eq r) (Some e.1) (find text_cmp id es)) is ∙ there
-  later id f there Equal is =
-      let none : find text_cmp id es ≡ None = ap (λ k. find text_cmp k es) (one_text id e.0 is) ∙ none_below e.0 es (first _ _ up) in
-      cc
+module _ {X : Type 0} where
+  -- a key below all the others is not found among them
+  none_below : (k : Text) (es : List (Text × X)) → T (below_all text_cmp k es) → find text_cmp k es ≡ None
+  none_below k [] h = refl
+  none_below k (e ∷ es) h = ap (λ b. cond b (Some e.1) (find text_cmp k es)) (not_equal _ (first _ _ h)) ∙ none_below k es (second _ _ h)
+
+  pub each_found : (P : Text → X → Type 0) (es : List (Text × X)) → T (is_sorted text_cmp es) → ((id : Text) (x : X) → find text_cmp id es ≡ Some x → P id x) → AllByRecursion (λ e. P e.0 e.1) es
+  each_found P [] up found = tt
+  each_found P (e ∷ es) up found = (
+    found e.0 e.1 (ap (λ r. cond (is_eq r) (Some e.1) (find text_cmp e.0 es)) (tied_itself nat_list_cmp_total e.0)),
+    each_found P es (second _ _ up) (λ id x there. found id x (later id x there (text_cmp id e.0) refl)),
+  ) where
+    later : (id : Text) (x : X) → find text_cmp id es ≡ Some x → (r : Ordering) → text_cmp id e.0 ≡ r → cond (is_eq (text_cmp id e.0)) (Some e.1) (find text_cmp id es) ≡ Some x
+    later id x there Less is = ap (λ r. cond (is_eq r) (Some e.1) (find text_cmp id es)) is ∙ there
+    later id x there Greater is = ap (λ r. cond (is_eq r) (Some e.1) (find text_cmp id es)) is ∙ there
+    later id x there Equal is =
+        let none : find text_cmp id es ≡ None = ap (λ k. find text_cmp k es) (one_text id e.0 is) ∙ none_below e.0 es (first _ _ up) in
+        cc
 
 abbrev outlines : List (Text × FeatureValue) → List FeatureOutlineValue
 outlines es = map (λ e. feature_outline_of e.0 e.1) es
@@ -95,7 +107,7 @@ pub record Parted (features : Features) (front rest : List FeatureOutline) (fs :
   pub first_pairs : Pairs features front firsts
   pub other_pairs : Pairs features rest others
 
-parted : (features : Features) (front rest : List FeatureOutline) (fs : List FeatureValue) → Pairs features (front ++ rest) fs → Parted features front rest fs
+pub parted : (features : Features) (front rest : List FeatureOutline) (fs : List FeatureValue) → Pairs features (front ++ rest) fs → Parted features front rest fs
 parted features [] rest fs pairs = record { firsts = []; others = fs; whole = refl; first_pairs = tt; other_pairs = pairs }
 parted features (o ∷ front) rest [] pairs = absurd pairs
 parted features (o ∷ front) rest (f ∷ fs) pairs =

@@ -1,11 +1,10 @@
 -- What an index knows of collections without reading their features.
-use Rattle.std.specs.Prelude.{◌≡◌, List, [], map, Option, None, Some, String, string_bytes, Vec}
+use Rattle.std.specs.Prelude.{◌≡◌, ◌<◌, List, [], length, map, Option, None, Some, IsSome, IsTrue, String, string_bytes, Vec}
 use Rattle.std.specs.Option.{option_map}
 use Rattle.std.specs.Ordering.{is_eq}
 use Rattle.std.specs.Map.{lookup}
-use Rattle.std.specs.List.{flat_map}
+use Rattle.std.specs.List.{AllByRecursion, flat_map}
 use Rattle.std.specs.FinMap.{get, entries}
-use Rattle.std.specs.BTreeMap.{BTreeMap}
 use Rattle.std.specs.declared.alloc.Global.{Global}
 use Rattle.streetmap_geojson.specs.FeatureValue.{FeatureValue}
 use Rattle.streetmap_batch.specs.Text.{Text, text_cmp}
@@ -18,6 +17,7 @@ use Rattle.streetmap_ledger.specs.declared.outline.FeatureOutline.{FeatureOutlin
 use Rattle.streetmap_ledger.specs.declared.reply.Fault.{Fault}
 use Rattle.streetmap_ledger.specs.declared.reply.Fault.TheVariants.{Memory, Device, Damaged, Reopen}
 use Rattle.streetmap_index.specs.declared.outlined.OutlinedCollection.{OutlinedCollection}
+use Rattle.streetmap_index.specs.declared.index.Index.{Index}
 
 -- it is the outline of the feature under its id
 abbrev pub IsOutlineOf : FeatureOutline → FeatureValue → Type 0
@@ -31,10 +31,20 @@ joined chunks = flat_map (λ chunk. chunk.items) chunks
 abbrev pub AreOutlines : List FeatureOutline → Features → Type 0
 AreOutlines os features = feature_outline_values os ≡ map (λ e. feature_outline_of e.0 e.1) (entries features)
 
+-- no chunk is empty
+abbrev pub AreFilled : List (Vec FeatureOutline Global) → Type 0
+AreFilled chunks = AllByRecursion (λ chunk. 0 < length chunk.items) chunks
+
+-- chunks with the outlines of these features, in byte order of ids
+pub record AreChunksOf (chunks : List (Vec FeatureOutline Global)) (features : Features) : Type 0 where
+  pub outlines : AreOutlines (joined chunks) features
+  pub filled : AreFilled chunks
+
 -- what is known of a collection is so
 pub record IsOutlined (o : OutlinedCollection) (c : Collection) : Type 0 where
+  pub title : string_bytes o.title ≡ c.title
   pub time : option_map string_bytes o.time ≡ c.time
-  pub outlines : AreOutlines (joined o.outlines.chunks.items) c.features
+  pub outlines : AreChunksOf o.outlines.chunks.items c.features
 
 -- and the collection is there
 abbrev pub IsOutlinedIf : OutlinedCollection → Option Collection → Type 0
@@ -45,19 +55,27 @@ IsOutlinedIf o (Some c) = IsOutlined o c
 abbrev pub known_under : Text → List (String Global × OutlinedCollection) → Option OutlinedCollection
 known_under name known = lookup (λ key. is_eq (text_cmp name (string_bytes key))) known
 
--- each collection that the index knows is there, and as the index knows it
-abbrev pub IsIndexOf : BTreeMap (String Global) OutlinedCollection → State → Type 0
-IsIndexOf index s = (name : Text) (o : OutlinedCollection) → known_under name index.entries ≡ Some o → IsOutlinedIf o (get s.collections name)
+-- each collection that is known is there, and as it is known
+abbrev pub AreKnown : List (String Global × OutlinedCollection) → State → Type 0
+AreKnown known s = (name : Text) (o : OutlinedCollection) → known_under name known ≡ Some o → IsOutlinedIf o (get s.collections name)
+
+-- each collection that is there is known
+abbrev pub KnowsAll : List (String Global × OutlinedCollection) → State → Type 0
+KnowsAll known s = (name : Text) (c : Collection) → get s.collections name ≡ Some c → IsSome (known_under name known)
+
+-- what an index knows is so, and it knows all where it says that
+abbrev pub IsIndexOf : Index → State → Type 0
+IsIndexOf index s = AreKnown index.known.entries s × (IsTrue index.is_whole → KnowsAll index.known.entries s)
 
 -- what was learnt of a collection, if it was, is so
 abbrev pub Learns : State → Text → Option OutlinedCollection → Type 0
 Learns s name None = Unit {0}
 Learns s name (Some o) = IsOutlinedIf o (get s.collections name)
 
--- if the times of its features are read from this property
-abbrev pub LearnsUnder : State → Text → Option (String Global) → Option OutlinedCollection → Type 0
-LearnsUnder s name property o =
-    (c : Collection) → get s.collections name ≡ Some c → option_map string_bytes property ≡ c.time → Learns s name o
+-- if it has this title, and the times of its features are read from this property
+abbrev pub LearnsUnder : State → Text → String Global → Option (String Global) → Option OutlinedCollection → Type 0
+LearnsUnder s name title property o =
+    (c : Collection) → get s.collections name ≡ Some c → string_bytes title ≡ c.title → option_map string_bytes property ≡ c.time → Learns s name o
 
 -- the collection that an edit is of
 abbrev pub collection_of : EditValue → Text
@@ -67,8 +85,8 @@ collection_of (edit.replace name f) = name
 collection_of (edit.delete name id) = name
 
 -- where memory was refused the index stays, and a fault that shuts the keeper leaves nothing known
-abbrev pub IsHeeded : Fault → BTreeMap (String Global) OutlinedCollection → BTreeMap (String Global) OutlinedCollection → Type 0
+abbrev pub IsHeeded : Fault → Index → Index → Type 0
 IsHeeded Memory old new = new ≡ old
-IsHeeded Device old new = new.entries ≡ []
-IsHeeded Damaged old new = new.entries ≡ []
-IsHeeded Reopen old new = new.entries ≡ []
+IsHeeded Device old new = new.known.entries ≡ []
+IsHeeded Damaged old new = new.known.entries ≡ []
+IsHeeded Reopen old new = new.known.entries ≡ []

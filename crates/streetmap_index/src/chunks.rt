@@ -1,22 +1,22 @@
 //! Outlines of features in byte order of ids, in chunks, so that one that comes or goes moves few others.
-ghost use Rattle.std.specs.Prelude.{◌≡◌, ℕ, ◌+◌, ◌<◌, true, false, IfOk, OnOk, length, slice_index_or, string_bytes, Vec};
+ghost use Rattle.std.specs.Prelude.{◌≡◌, ℕ, ◌+◌, ◌<◌, [], true, false, IfOk, OnOk, length, slice_index_or, string_bytes, Vec};
 ghost use Rattle.std.specs.FinMap.{insert, remove};
 ghost use Rattle.std.specs.List.Sorted.{IsSearchInRange, IsBinarySearchResult};
 ghost use Rattle.std.specs.declared.alloc.Global.{Global};
 ghost use Rattle.streetmap_geojson.specs.FeatureValue.{FeatureValue};
 ghost use Rattle.streetmap_batch.specs.Text.{text_cmp};
 ghost use Rattle.streetmap_ledger.specs.State.{Features};
-ghost use Rattle.streetmap_index.specs.Index.{joined, IsOutlineOf, AreOutlines};
+ghost use Rattle.streetmap_index.specs.Index.{joined, IsOutlineOf, AreOutlines, AreFilled, AreChunksOf};
 ghost use Rattle.streetmap_index.specs.Chunks.{reaches as reaches_of};
 
 use std::alloc::{AllocError, Global};
 use streetmap_ledger::FeatureOutline;
 
 /// How many outlines a chunk has at most. A chunk that has come to so many is cut in two.
-const MOST_IN_CHUNK: usize = 1024;
+const MOST_IN_CHUNK: usize = 512;
 
 /// How many outlines a chunk has that is learnt, which leaves room for others.
-const LEARNT_IN_CHUNK: usize = 512;
+const LEARNT_IN_CHUNK: usize = 256;
 
 /// Where the outline under an id stands among others in byte order of ids, or where it would stand.
 fn place_of(outlines: &[FeatureOutline], id: &str) -> Result<usize, usize>
@@ -28,7 +28,8 @@ fn place_of(outlines: &[FeatureOutline], id: &str) -> Result<usize, usize>
 
 /// Puts an outline among others in byte order of ids, in place of the one under its id, if there is one.
 fn put(outlines: &mut Vec<FeatureOutline>, outline: FeatureOutline) -> Result<(), AllocError>
-    ensures { (features : Features) (f : FeatureValue) → AreOutlines outlines.old.items features → IsOutlineOf outline f → OnOk result (AreOutlines outlines.new.items (insert features f.id f)) }
+    ensures some { OnOk result (0 < length outlines.new.items) }
+    ensures outlines { (features : Features) (f : FeatureValue) → AreOutlines outlines.old.items features → IsOutlineOf outline f → OnOk result (AreOutlines outlines.new.items (insert features f.id f)) }
 {
     match place_of(outlines.as_slice(), outline.id.as_str()) {
         Ok(place) => outlines[place] = outline,
@@ -56,7 +57,8 @@ fn reaches(outlines: &[FeatureOutline], id: &str) -> bool
     }
 }
 
-/// Outlines of features in byte order of ids: those of each chunk behind those of the chunk before it.
+/// Outlines of features in byte order of ids: those of each chunk behind those of the chunk before it, and
+/// no chunk is empty.
 #[derive(Drop)]
 pub struct Chunks {
     pub chunks: Vec<Vec<FeatureOutline>>,
@@ -65,15 +67,18 @@ pub struct Chunks {
 impl Chunks {
     /// Moves outlines into chunks.
     pub fn new(alloc: Global, mut outlines: Vec<FeatureOutline>) -> Result<Self, AllocError>
-        ensures { IfOk result (λ made. joined made.chunks.items ≡ outlines.items) }
+        ensures same { IfOk result (λ made. joined made.chunks.items ≡ outlines.items) }
+        ensures filled { IfOk result (λ made. AreFilled made.chunks.items) }
     {
         let mut chunks = Vec::new(alloc);
         while outlines.len() > LEARNT_IN_CHUNK {
             let last = outlines.split_off(outlines.len() - LEARNT_IN_CHUNK)?;
             chunks.push(last)?;
         }
-        outlines.shrink_to_fit();
-        chunks.push(outlines)?;
+        if !outlines.is_empty() {
+            outlines.shrink_to_fit();
+            chunks.push(outlines)?;
+        }
         chunks.reverse();
         Ok(Chunks { chunks })
     }
@@ -82,21 +87,21 @@ impl Chunks {
     /// would stand.
     fn chunk_of(&self, id: &str) -> usize
         ensures bound { 0 < length self.now.chunks.items → result < length self.now.chunks.items }
-        ensures before { (k : ℕ) (d : Vec FeatureOutline Global) → k < result → reaches_of id.now (slice_index_or self.now.chunks.items k d).items ≡ false }
-        ensures here { (d : Vec FeatureOutline Global) → result + 1 < length self.now.chunks.items → reaches_of id.now (slice_index_or self.now.chunks.items result d).items ≡ true }
+        ensures before { (features : Features) → AreChunksOf self.now.chunks.items features → (k : ℕ) (d : Vec FeatureOutline Global) → k < result → reaches_of id.now (slice_index_or self.now.chunks.items k d).items ≡ false }
+        ensures here { (features : Features) → AreChunksOf self.now.chunks.items features → (d : Vec FeatureOutline Global) → result + 1 < length self.now.chunks.items → reaches_of id.now (slice_index_or self.now.chunks.items result d).items ≡ true }
     {
-        for (place, chunk) in self.chunks.iter().enumerate() {
-            if reaches(chunk.as_slice(), id) {
-                return place;
-            }
-        }
-        self.chunks.len().saturating_sub(1)
+        let place = self
+            .chunks
+            .as_slice()
+            .partition_point(|chunk| !reaches(chunk.as_slice(), id));
+        place.min(self.chunks.len().saturating_sub(1))
     }
 
     /// Cuts a chunk in two, if it has come to the most outlines that one has.
     fn halve(&mut self, place: usize) -> Result<(), AllocError>
         requires { place < length self.old.chunks.items }
-        ensures { OnOk result (joined self.new.chunks.items ≡ joined self.old.chunks.items) }
+        ensures same { OnOk result (joined self.new.chunks.items ≡ joined self.old.chunks.items) }
+        ensures filled { AreFilled self.old.chunks.items → OnOk result (AreFilled self.new.chunks.items) }
     {
         let len = self.chunks[place].len();
         if len < MOST_IN_CHUNK {
@@ -107,46 +112,40 @@ impl Chunks {
         Ok(())
     }
 
-    /// Drops a chunk, if it is empty.
-    fn shed(&mut self, place: usize)
-        requires { place < length self.old.chunks.items }
-        ensures { joined self.new.chunks.items ≡ joined self.old.chunks.items }
+    /// Makes a first chunk of an outline, where there is none.
+    fn begin(&mut self, alloc: Global, outline: FeatureOutline) -> Result<(), AllocError>
+        requires { self.old.chunks.items ≡ [] }
+        ensures { (features : Features) (f : FeatureValue) → AreChunksOf self.old.chunks.items features → IsOutlineOf outline f → OnOk result (AreChunksOf self.new.chunks.items (insert features f.id f)) }
     {
-        if self.chunks[place].is_empty() {
-            drop(self.chunks.remove(place));
-        }
-    }
-
-    /// Adds a chunk where there is none.
-    fn begin(&mut self, alloc: Global) -> Result<(), AllocError>
-        ensures same { OnOk result (joined self.new.chunks.items ≡ joined self.old.chunks.items) }
-        ensures begun { OnOk result (0 < length self.new.chunks.items) }
-    {
-        if self.chunks.is_empty() {
-            self.chunks.push(Vec::new(alloc))?;
-        }
+        let mut first = Vec::new(alloc);
+        put(&mut first, outline)?;
+        self.chunks.push(first)?;
         Ok(())
     }
 
     /// Puts an outline in, in place of the one under its id, if there is one. After an error outlines may
     /// be missing.
     pub fn put(&mut self, alloc: Global, outline: FeatureOutline) -> Result<(), AllocError>
-        ensures { (features : Features) (f : FeatureValue) → AreOutlines (joined self.old.chunks.items) features → IsOutlineOf outline f → OnOk result (AreOutlines (joined self.new.chunks.items) (insert features f.id f)) }
+        ensures { (features : Features) (f : FeatureValue) → AreChunksOf self.old.chunks.items features → IsOutlineOf outline f → OnOk result (AreChunksOf self.new.chunks.items (insert features f.id f)) }
     {
-        self.begin(alloc)?;
+        if self.chunks.is_empty() {
+            return self.begin(alloc, outline);
+        }
         let place = self.chunk_of(outline.id.as_str());
         put(&mut self.chunks[place], outline)?;
         self.halve(place)
     }
 
-    /// Takes the outline under an id out, if there is one.
+    /// Takes the outline under an id out, if there is one, and its chunk, if that is empty then.
     pub fn cut(&mut self, id: &str)
-        ensures { (features : Features) → AreOutlines (joined self.old.chunks.items) features → AreOutlines (joined self.new.chunks.items) (remove features id.now) }
+        ensures { (features : Features) → AreChunksOf self.old.chunks.items features → AreChunksOf self.new.chunks.items (remove features id.now) }
     {
         let place = self.chunk_of(id);
         if place < self.chunks.len() {
             cut(&mut self.chunks[place], id);
-            self.shed(place);
+            if self.chunks[place].is_empty() {
+                drop(self.chunks.remove(place));
+            }
         }
     }
 }

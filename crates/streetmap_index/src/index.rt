@@ -1,35 +1,31 @@
 //! What is known of some collections.
-ghost use Rattle.std.specs.Prelude.{◌≡◌, ℕ, Ok};
+ghost use Rattle.std.specs.Prelude.{◌≡◌, ◌-◌, ℕ, [], Ok, None, IsTrue, nat_eq, OnOk};
 ghost use Rattle.std.specs.FinMap.{get};
 ghost use Rattle.streetmap_batch.specs.BatchView.{edit_value, edit_values};
 ghost use Rattle.streetmap_ledger.specs.State.{State, step};
 ghost use Rattle.streetmap_ledger.specs.Batches.{edited};
-ghost use Rattle.streetmap_index.specs.Index.{IsIndexOf, IsOutlinedIf, collection_of as collection_of_value};
+ghost use Rattle.streetmap_ledger.specs.Summaries.{summaries_in};
+ghost use Rattle.streetmap_ledger.specs.SummaryView.{summary_values};
+ghost use Rattle.streetmap_index.specs.Index.{IsIndexOf, IsOutlinedIf, known_under, collection_of as collection_of_value};
 
 use crate::outlined::OutlinedCollection;
-use std::alloc::Global;
+use std::alloc::{AllocError, Global};
 use std::collections::BTreeMap;
 use streetmap_batch::Edit;
+use streetmap_ledger::Summary;
 
-/// How many edits of a batch are followed at most.
-const MOST_FOLLOWED: usize = 64;
+/// At how many looks nothing is learnt after memory was refused.
+const LOOKS_OFF: u8 = 63;
 
-/// Keeps what is known of a collection, where memory for it is there.
-pub fn keep(
-    alloc: Global,
-    index: &mut BTreeMap<String, OutlinedCollection>,
-    name: &str,
-    outlined: OutlinedCollection,
-)
-    ensures { (s : State) → IsIndexOf index.old s → IsOutlinedIf outlined (get s.collections name.now) → IsIndexOf index.new s }
-{
-    match String::from_str(alloc, name) {
-        Ok(key) => match index.insert(key, outlined) {
-            Ok(_) => {}
-            Err(failed) => drop(failed),
-        },
-        Err(_) => drop(outlined),
-    }
+/// What is known of some collections.
+#[derive(Drop)]
+pub struct Index {
+    /// What is known of each of them, by its id.
+    pub known: BTreeMap<String, OutlinedCollection>,
+    /// Whether these are all collections that are there; `false` where that is not known.
+    pub is_whole: bool,
+    /// At how many looks more nothing is learnt, since memory was refused.
+    pub looks_off: u8,
 }
 
 /// The id of the collection that an edit is of.
@@ -44,37 +40,96 @@ fn collection_of(edit: &Edit) -> &str
     }
 }
 
-/// Forgets the collection of an edit that was done.
-fn forget(index: &mut BTreeMap<String, OutlinedCollection>, edit: &Edit)
-    ensures { (s t : State) → step s (edit_value edit.now) ≡ Ok t → IsIndexOf index.old s → IsIndexOf index.new t }
-{
-    let _ = index.remove(collection_of(edit));
-}
-
-/// Follows an edit that was done. Where memory is refused for that, its collection is forgotten.
-fn follow_edit(alloc: Global, index: &mut BTreeMap<String, OutlinedCollection>, edit: &Edit)
-    ensures { (s t : State) → step s (edit_value edit.now) ≡ Ok t → IsIndexOf index.old s → IsIndexOf index.new t }
-{
-    let name = collection_of(edit);
-    let Some(mut outlined) = index.remove(name) else {
-        return;
-    };
-    if outlined.follow(alloc, edit).is_ok() {
-        keep(alloc, index, name, outlined);
+impl Index {
+    /// No collection is known.
+    pub fn new(alloc: Global) -> Self
+        ensures index { (s : State) → IsIndexOf result s }
+        ensures none { result.known.entries ≡ [] }
+    {
+        Index {
+            known: BTreeMap::new(alloc),
+            is_whole: false,
+            looks_off: 0,
+        }
     }
-}
 
-/// Follows edits that were done. Where they are many, their collections are forgotten, since each one that
-/// is followed looks for its chunk and moves the outlines in it.
-pub fn follow(alloc: Global, index: &mut BTreeMap<String, OutlinedCollection>, edits: &[Edit])
-    ensures { (s t : State) (place : ℕ) → edited place s (edit_values edits.now) ≡ Ok t → IsIndexOf index.old s → IsIndexOf index.new t }
-{
-    let few = edits.len() <= MOST_FOLLOWED;
-    for edit in edits {
-        if few {
-            follow_edit(alloc, index, edit);
-        } else {
-            forget(index, edit);
+    /// Forgets all, since memory was refused, and has nothing learnt at the next looks.
+    pub fn give_up(&mut self, alloc: Global)
+        ensures index { (s : State) → IsIndexOf self.new s }
+        ensures off { self.new.looks_off ≡ 63 }
+    {
+        *self = Index::new(alloc);
+        self.looks_off = LOOKS_OFF;
+    }
+
+    /// Whether a collection is to be learnt at this look: it is not known, and nothing is put off. While it
+    /// is, looks at collections that are not known are counted down.
+    pub fn is_due(&mut self, name: &str) -> bool
+        ensures index { (s : State) → IsIndexOf self.old s → IsIndexOf self.new s }
+        ensures due { known_under name.now self.old.known.entries ≡ None → result ≡ nat_eq self.old.looks_off 0 }
+        ensures counted { known_under name.now self.old.known.entries ≡ None → self.new.looks_off ≡ self.old.looks_off - 1 }
+    {
+        if self.known.contains_key(name) {
+            return false;
+        }
+        if self.looks_off == 0 {
+            return true;
+        }
+        self.looks_off -= 1;
+        false
+    }
+
+    /// Keeps what is known of a collection. Where memory for it is refused, all is forgotten.
+    pub fn keep(&mut self, alloc: Global, name: &str, outlined: OutlinedCollection)
+        ensures { (s : State) → IsIndexOf self.old s → IsOutlinedIf outlined (get s.collections name.now) → IsIndexOf self.new s }
+    {
+        let Ok(key) = String::from_str(alloc, name) else {
+            self.give_up(alloc);
+            return;
+        };
+        match self.known.insert(key, outlined) {
+            Ok(_) => {}
+            Err(failed) => {
+                drop(failed);
+                self.give_up(alloc);
+            }
+        }
+    }
+
+    /// Notes whether these collections, which are all that are there, are known.
+    pub fn note(&mut self, summaries: &[Summary])
+        ensures { (s : State) → summary_values summaries.now ≡ summaries_in s → IsIndexOf self.old s → IsIndexOf self.new s }
+    {
+        for summary in summaries {
+            if !self.known.contains_key(summary.id.as_str()) {
+                return;
+            }
+        }
+        self.is_whole = true;
+    }
+
+    /// Follows an edit that was done. After an error nothing may be right any more.
+    fn follow_edit(&mut self, alloc: Global, edit: &Edit) -> Result<(), AllocError>
+        ensures { (s t : State) → step s (edit_value edit.now) ≡ Ok t → IsIndexOf self.old s → OnOk result (IsIndexOf self.new t) }
+    {
+        match self.known.get_mut(collection_of(edit)) {
+            Some(outlined) => outlined.follow(alloc, edit),
+            None => {
+                self.is_whole = false;
+                Ok(())
+            }
+        }
+    }
+
+    /// Follows edits that were done. Where memory for that is refused, all is forgotten.
+    pub fn follow(&mut self, alloc: Global, edits: &[Edit])
+        ensures { (s t : State) (place : ℕ) → edited place s (edit_values edits.now) ≡ Ok t → IsIndexOf self.old s → IsIndexOf self.new t }
+    {
+        for edit in edits {
+            if self.follow_edit(alloc, edit).is_err() {
+                self.give_up(alloc);
+                return;
+            }
         }
     }
 }

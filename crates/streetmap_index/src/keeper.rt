@@ -1,27 +1,26 @@
 //! A keeper with an index.
 ghost use Rattle.std.specs.Prelude.{◌≡◌, [], Some, None, IsErr, IsErrOf};
 ghost use Rattle.streetmap_ledger.specs.State.{State};
-ghost use Rattle.streetmap_ledger.specs.Keep.{Looks, Shows, LeavesOnly, ShutsBy, AsBefore};
+ghost use Rattle.streetmap_ledger.specs.Keep.{Looks, Shows, Tells, Lists, LeavesOnly, ShutsBy, AsBefore};
 ghost use Rattle.streetmap_index.specs.Index.{IsIndexOf, IsHeeded};
 
-use crate::index::{follow, keep};
+use crate::index::Index;
 use crate::learning::learn;
-use crate::outlined::OutlinedCollection;
 use crate::page::page_with;
+use crate::telling::{collection_with, collections_with};
 use std::alloc::Global;
-use std::collections::BTreeMap;
 use streetmap_geojson::Feature;
 use streetmap_ledger::{Batch, Fault, FeatureOutline, Keeper, Page, Reply, Summary};
 use streetmap_query::Query;
 
-/// A keeper that answers the pages of another one by what it knows of the features, and reads few of them.
-/// What it knows of a collection it learns at a page, and keeps right by each batch. Where memory for that
-/// is refused the other keeper answers.
+/// A keeper that answers pages and tells of collections of another one by what it knows of the features, and
+/// reads few of them. What it knows of a collection it learns at the first look, and keeps right by each
+/// batch. Where memory for that is refused the other keeper answers, and nothing is learnt at the next looks.
 #[derive(Drop)]
 pub struct IndexedKeeper<K> {
     alloc: Global,
     keeper: K,
-    index: BTreeMap<String, OutlinedCollection>,
+    index: Index,
 }
 
 impl<K: Keeper> IndexedKeeper<K> {
@@ -33,7 +32,7 @@ impl<K: Keeper> IndexedKeeper<K> {
         IndexedKeeper {
             alloc,
             keeper,
-            index: BTreeMap::new(alloc),
+            index: Index::new(alloc),
         }
     }
 
@@ -44,7 +43,7 @@ impl<K: Keeper> IndexedKeeper<K> {
     {
         match fault {
             Fault::Memory => {}
-            _ => self.index = BTreeMap::new(self.alloc),
+            _ => self.index = Index::new(self.alloc),
         }
     }
 
@@ -59,10 +58,14 @@ impl<K: Keeper> IndexedKeeper<K> {
     {
         match learn(self.alloc, &mut self.keeper, collection) {
             Ok(Some(outlined)) => {
-                keep(self.alloc, &mut self.index, collection, outlined);
+                self.index.keep(self.alloc, collection, outlined);
                 Ok(())
             }
             Ok(None) => Ok(()),
+            Err(Fault::Memory) => {
+                self.index.give_up(self.alloc);
+                Ok(())
+            }
             Err(fault) => Err(fault),
         }
     }
@@ -76,13 +79,13 @@ impl<K: Keeper> IndexedKeeper<K> {
         ensures reopen { IsErrOf result Fault.Reopen → AsBefore (K.stands self.old.keeper) (K.stands self.new.keeper) (K.may_leave self.old.keeper) (K.may_leave self.new.keeper) }
         ensures index { self.new.index ≡ self.old.index }
     {
-        match self.index.get(collection) {
+        match self.index.known.get(collection) {
             Some(outlined) => page_with(self.alloc, &mut self.keeper, collection, outlined, query),
             None => self.keeper.page(collection, query),
         }
     }
 
-    /// The page of a collection, which is learnt before where it is not known.
+    /// The page of a collection, which is learnt before where it is due.
     fn page_learnt(&mut self, collection: &str, query: &Query) -> Result<Option<Page>, Fault>
         ensures began_clean { K.is_clean self.new.keeper → K.is_clean self.old.keeper }
         ensures faults { ShutsBy result (K.cause self.old.keeper) (K.cause self.new.keeper) }
@@ -90,11 +93,63 @@ impl<K: Keeper> IndexedKeeper<K> {
         ensures leaves { K.is_clean self.new.keeper → (s : State) → K.stands self.old.keeper s → IsIndexOf self.old.index s → LeavesOnly (K.may_leave self.old.keeper) (Some s) → LeavesOnly (K.may_leave self.new.keeper) (Some s) }
         ensures reopen { IsErrOf result Fault.Reopen → AsBefore (K.stands self.old.keeper) (K.stands self.new.keeper) (K.may_leave self.old.keeper) (K.may_leave self.new.keeper) }
     {
-        if self.index.contains_key(collection) {
+        if !self.index.is_due(collection) {
             return self.page_known(collection, query);
         }
         match self.learn(collection) {
             Ok(()) => self.page_known(collection, query),
+            Err(fault) => Err(fault),
+        }
+    }
+
+    /// What is told of a collection by what is known of it, or else the keeper's own answer.
+    fn collection_known(&mut self, id: &str) -> Result<Option<Summary>, Fault>
+        ensures began_clean { K.is_clean self.new.keeper → K.is_clean self.old.keeper }
+        ensures faults { ShutsBy result (K.cause self.old.keeper) (K.cause self.new.keeper) }
+        ensures tells { K.is_clean self.new.keeper → (s : State) → K.stands self.old.keeper s → IsIndexOf self.old.index s → Tells s id.now result (K.stands self.new.keeper) }
+        ensures leaves { K.is_clean self.new.keeper → (s : State) → K.stands self.old.keeper s → LeavesOnly (K.may_leave self.old.keeper) (Some s) → LeavesOnly (K.may_leave self.new.keeper) (Some s) }
+        ensures reopen { IsErrOf result Fault.Reopen → AsBefore (K.stands self.old.keeper) (K.stands self.new.keeper) (K.may_leave self.old.keeper) (K.may_leave self.new.keeper) }
+        ensures index { self.new.index ≡ self.old.index }
+    {
+        match self.index.known.get(id) {
+            Some(outlined) => collection_with(self.alloc, &mut self.keeper, id, outlined),
+            None => self.keeper.collection(id),
+        }
+    }
+
+    /// What is told of a collection, which is learnt before where it is due.
+    fn collection_learnt(&mut self, id: &str) -> Result<Option<Summary>, Fault>
+        ensures began_clean { K.is_clean self.new.keeper → K.is_clean self.old.keeper }
+        ensures faults { ShutsBy result (K.cause self.old.keeper) (K.cause self.new.keeper) }
+        ensures tells { K.is_clean self.new.keeper → (s : State) → K.stands self.old.keeper s → IsIndexOf self.old.index s → Tells s id.now result (λ t. K.stands self.new.keeper t × IsIndexOf self.new.index t) }
+        ensures leaves { K.is_clean self.new.keeper → (s : State) → K.stands self.old.keeper s → IsIndexOf self.old.index s → LeavesOnly (K.may_leave self.old.keeper) (Some s) → LeavesOnly (K.may_leave self.new.keeper) (Some s) }
+        ensures reopen { IsErrOf result Fault.Reopen → AsBefore (K.stands self.old.keeper) (K.stands self.new.keeper) (K.may_leave self.old.keeper) (K.may_leave self.new.keeper) }
+    {
+        if !self.index.is_due(id) {
+            return self.collection_known(id);
+        }
+        match self.learn(id) {
+            Ok(()) => self.collection_known(id),
+            Err(fault) => Err(fault),
+        }
+    }
+
+    /// What is told of all collections: by what is known of them, where all are known.
+    fn collections_known(&mut self) -> Result<Vec<Summary>, Fault>
+        ensures began_clean { K.is_clean self.new.keeper → K.is_clean self.old.keeper }
+        ensures faults { ShutsBy result (K.cause self.old.keeper) (K.cause self.new.keeper) }
+        ensures lists { K.is_clean self.new.keeper → (s : State) → K.stands self.old.keeper s → IsIndexOf self.old.index s → Lists s result (λ t. K.stands self.new.keeper t × IsIndexOf self.new.index t) }
+        ensures leaves { K.is_clean self.new.keeper → (s : State) → K.stands self.old.keeper s → LeavesOnly (K.may_leave self.old.keeper) (Some s) → LeavesOnly (K.may_leave self.new.keeper) (Some s) }
+        ensures reopen { IsErrOf result Fault.Reopen → AsBefore (K.stands self.old.keeper) (K.stands self.new.keeper) (K.may_leave self.old.keeper) (K.may_leave self.new.keeper) }
+    {
+        if self.index.is_whole {
+            return collections_with(self.alloc, &mut self.keeper, &self.index.known);
+        }
+        match self.keeper.collections() {
+            Ok(summaries) => {
+                self.index.note(summaries.as_slice());
+                Ok(summaries)
+            }
             Err(fault) => Err(fault),
         }
     }
@@ -124,7 +179,7 @@ impl<K: Keeper> Keeper for IndexedKeeper<K> {
     fn apply(&mut self, batch: &Batch) -> Result<Reply, Fault> {
         match self.keeper.apply(batch) {
             Ok(Reply::Accepted(counts, serial)) => {
-                follow(self.alloc, &mut self.index, batch.edits());
+                self.index.follow(self.alloc, batch.edits());
                 Ok(Reply::Accepted(counts, serial))
             }
             Ok(reply) => Ok(reply),
@@ -156,7 +211,7 @@ impl<K: Keeper> Keeper for IndexedKeeper<K> {
     }
 
     fn collection(&mut self, id: &str) -> Result<Option<Summary>, Fault> {
-        match self.keeper.collection(id) {
+        match self.collection_learnt(id) {
             Ok(summary) => Ok(summary),
             Err(fault) => {
                 self.heed(fault);
@@ -166,7 +221,7 @@ impl<K: Keeper> Keeper for IndexedKeeper<K> {
     }
 
     fn collections(&mut self) -> Result<Vec<Summary>, Fault> {
-        match self.keeper.collections() {
+        match self.collections_known() {
             Ok(summaries) => Ok(summaries),
             Err(fault) => {
                 self.heed(fault);

@@ -9,32 +9,36 @@ use crate::outlined::OutlinedCollection;
 use std::alloc::Global;
 use streetmap_ledger::{Fault, Keeper};
 
-/// The outlines of an open keeper's collection, beside the property that the times are read from; none
-/// where the collection is not there, or memory for them is refused.
+/// The outlines of an open keeper's collection, beside its title and the property that the times are read
+/// from; none where the collection is not there.
 fn learn_outlines<K: Keeper>(
     alloc: Global,
     keeper: &mut K,
     collection: &str,
+    title: String,
     time: Option<String>,
 ) -> Result<Option<OutlinedCollection>, Fault>
     requires is_open { K.cause keeper.old ≡ None }
     ensures began_clean { K.is_clean keeper.new → K.is_clean keeper.old }
     ensures faults { ShutsBy result None (K.cause keeper.new) }
-    ensures learns { K.is_clean keeper.new → (s : State) → K.stands keeper.old s → Looks s (LearnsUnder s collection.now time) result (K.stands keeper.new) }
+    ensures learns { K.is_clean keeper.new → (s : State) → K.stands keeper.old s → Looks s (LearnsUnder s collection.now title time) result (K.stands keeper.new) }
     ensures leaves { K.is_clean keeper.new → (s : State) → K.stands keeper.old s → LeavesOnly (K.may_leave keeper.old) (Some s) → LeavesOnly (K.may_leave keeper.new) (Some s) }
 {
     match keeper.outlines(collection) {
         Ok(Some(outlines)) => match Chunks::new(alloc, outlines) {
-            Ok(outlines) => Ok(Some(OutlinedCollection { time, outlines })),
-            Err(_) => Ok(None),
+            Ok(outlines) => Ok(Some(OutlinedCollection {
+                title,
+                time,
+                outlines,
+            })),
+            Err(_) => Err(Fault::Memory),
         },
         Ok(None) => Ok(None),
-        Err(Fault::Memory) => Ok(None),
         Err(fault) => Err(fault),
     }
 }
 
-/// What is known of a collection; none where it is not there, or memory for it is refused.
+/// What is known of a keeper's collection; none where it is not there.
 pub fn learn<K: Keeper>(
     alloc: Global,
     keeper: &mut K,
@@ -47,9 +51,10 @@ pub fn learn<K: Keeper>(
     ensures reopen { IsErrOf result Fault.Reopen → AsBefore (K.stands keeper.old) (K.stands keeper.new) (K.may_leave keeper.old) (K.may_leave keeper.new) }
 {
     match keeper.collection(collection) {
-        Ok(Some(summary)) => learn_outlines(alloc, keeper, collection, summary.time),
+        Ok(Some(summary)) => {
+            learn_outlines(alloc, keeper, collection, summary.title, summary.time)
+        }
         Ok(None) => Ok(None),
-        Err(Fault::Memory) => Ok(None),
         Err(fault) => Err(fault),
     }
 }

@@ -1,18 +1,20 @@
-//! A keeper that answers the pages of any other one from an index in memory.
+//! A keeper that answers pages and what is told of collections of any other one from an index in memory.
 //!
-//! An index has the outlines of the features of a collection, in byte order of their ids: each one's id, its
-//! extent, and the first and the last second of its time. By these a page is counted, and only those features
-//! are read that the page shows, or of which the outline does not tell whether the query selects them.
+//! An index has a collection's title and time property, and the outlines of its features, in byte order of their
+//! ids: each one's id, its extent, and the first and the last second of its time. By these a page is counted, and
+//! only those features are read that the page shows, or of which the outline does not tell whether the query
+//! selects them; and by these the collection is told.
 //!
-//! What is known of a collection is learnt at its first page, and follows each batch that is accepted. It is
-//! forgotten where a batch has many edits or memory is refused, and the next page learns it again. A fault that
-//! shuts the other keeper leaves nothing known. Where a collection is not known the other keeper answers.
+//! What is known of a collection is learnt at the first look at it, and follows each batch that is accepted. Where
+//! memory is refused for that all is forgotten, and nothing is learnt at the next looks. A fault that shuts the
+//! other keeper leaves nothing known. Where a collection is not known the other keeper answers.
 //!
 //! In the order of reading: `chunks` (outlines in chunks, where an edit moves few of them), `outlined` (what is
 //! known of a collection, and how it follows edits), `learning` (how it is learnt from a keeper), `index` (what is
-//! known of some collections), `selection` and `page`, `keeper`.
+//! known of some collections), `asking`, `selection` and `page`, `telling`, `keeper`.
 #![tactic(auto)]
 
+mod asking;
 mod chunks;
 mod index;
 mod keeper;
@@ -20,5 +22,6 @@ mod learning;
 mod outlined;
 mod page;
 mod selection;
+mod telling;
 
 pub use keeper::IndexedKeeper;

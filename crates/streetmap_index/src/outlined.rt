@@ -15,9 +15,10 @@ use streetmap_geojson::Feature;
 use streetmap_ledger::FeatureOutline;
 use streetmap_moment::Interval;
 
-/// The property that the times of a collection's features are read from, and the features' outlines.
+/// A collection's title, the property that the times of its features are read from, and their outlines.
 #[derive(Drop)]
 pub struct OutlinedCollection {
+    pub title: String,
     pub time: Option<String>,
     pub outlines: Chunks,
 }

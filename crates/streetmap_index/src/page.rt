@@ -11,6 +11,7 @@ ghost use Rattle.streetmap_ledger.specs.Keep.{Looks, Shows, LeavesOnly, ShutsBy,
 ghost use Rattle.streetmap_index.specs.Index.{joined, IsOutlineOf, IsOutlinedIf};
 ghost use Rattle.streetmap_index.specs.Taking.{TakesRead, TakesOutlined, IsOutlinedPage};
 
+use crate::asking::ask;
 use crate::outlined::OutlinedCollection;
 use crate::selection::{comes_after, is_candidate, is_selected};
 use std::alloc::Global;
@@ -137,20 +138,6 @@ fn page_by_outlines<K: Keeper>(
     match fold.end(alloc) {
         Ok(page) => Ok(Some(page)),
         Err(_) => Err(Fault::Memory),
-    }
-}
-
-/// Asks the keeper whether it is open, by a look-up of an id that no feature has.
-fn ask<K: Keeper>(keeper: &mut K, collection: &str) -> Result<(), Fault>
-    ensures began_clean { K.is_clean keeper.new → K.is_clean keeper.old }
-    ensures faults { ShutsBy result (K.cause keeper.old) (K.cause keeper.new) }
-    ensures stays { K.is_clean keeper.new → (s : State) → K.stands keeper.old s → Looks s (λ _. Unit {0}) result (K.stands keeper.new) }
-    ensures leaves { K.is_clean keeper.new → (s : State) → K.stands keeper.old s → LeavesOnly (K.may_leave keeper.old) (Some s) → LeavesOnly (K.may_leave keeper.new) (Some s) }
-    ensures reopen { IsErrOf result Fault.Reopen → AsBefore (K.stands keeper.old) (K.stands keeper.new) (K.may_leave keeper.old) (K.may_leave keeper.new) }
-{
-    match keeper.feature(collection, "") {
-        Ok(_) => Ok(()),
-        Err(fault) => Err(fault),
     }
 }
 

@@ -2,7 +2,7 @@
 use crate::ledger::keeper_after;
 use crate::writers::Narrow;
 use std::test::Fail;
-use streetmap_exchange::{ExportFault, export};
+use streetmap_exchange::{ExportFault, Progress, export};
 
 /// Opens a collection, and inserts two features.
 const LAMPS: &str = r#"{"key":"lamps","edits":[
@@ -14,6 +14,13 @@ const LAMPS: &str = r#"{"key":"lamps","edits":[
 const EXPORTED: &[u8] =
     b"{\"features\":[{\"geometry\":{\"coordinates\":[1001,7],\"type\":\"Point\"},\"id\":\"L1001\",\"properties\":null,\"type\":\"Feature\"},{\"geometry\":{\"coordinates\":[1002,7],\"type\":\"Point\"},\"id\":\"L1002\",\"properties\":null,\"type\":\"Feature\"}],\"type\":\"FeatureCollection\"}\n";
 
+/// Is told how far an export is, and keeps nothing of it.
+struct Unheard;
+
+impl Progress for Unheard {
+    fn reached(&mut self, _features: u64) {}
+}
+
 #[test]
 fn a_failed_write_leaves_a_beginning(rt: HostRuntime) -> Result<(), Fail> {
     let mut keeper = keeper_after(rt.alloc(), &[LAMPS])?;
@@ -22,7 +29,7 @@ fn a_failed_write_leaves_a_beginning(rt: HostRuntime) -> Result<(), Fail> {
             taken: Vec::new(rt.alloc()),
             room,
         };
-        let told = export(rt.alloc(), &mut keeper, "lamps", &mut writer);
+        let told = export(rt.alloc(), &mut keeper, "lamps", &mut writer, &mut Unheard);
         let wanted = if room < EXPORTED.len() {
             Err(ExportFault::WriteFailed)
         } else {

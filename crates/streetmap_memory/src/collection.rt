@@ -116,7 +116,11 @@ impl PlainCollection {
     }
 
     /// Puts this into the slot at the id, where there is one, and answers what that was.
-    pub fn reset(&mut self, id: &str, slot: Option<PackedFeature>) -> Option<Option<PackedFeature>>
+    pub fn replace_slot(
+        &mut self,
+        id: &str,
+        slot: Option<PackedFeature>,
+    ) -> Option<Option<PackedFeature>>
         ensures after { self.new ≡ reset_slot self.old id.now slot }
         ensures was { result ≡ get self.old.slots id.now }
     {
@@ -130,7 +134,7 @@ impl PlainCollection {
     }
 
     /// Takes the slot out.
-    pub fn cut(&mut self, id: &str)
+    pub fn remove_slot(&mut self, id: &str)
         ensures { self.new ≡ cut_slot self.old id.now }
     {
         let _ = self.slots.remove(id);
@@ -151,7 +155,7 @@ impl PlainCollection {
         ensures { self.new ≡ swept_slot self.old id.now }
     {
         if self.is_emptied(id) {
-            self.cut(id);
+            self.remove_slot(id);
         }
     }
 

@@ -22,16 +22,16 @@ use streetmap_geojson::Feature;
 use streetmap_ledger::Summary;
 
 /// Takes a slot out of a collection.
-fn cut(collections: &mut BTreeMap<String, PlainCollection>, name: &str, id: &str)
+fn remove_slot(collections: &mut BTreeMap<String, PlainCollection>, name: &str, id: &str)
     ensures { map_of collections.new.entries ≡ cut_in (map_of collections.old.entries) name.now id.now }
 {
     if let Some(collection) = collections.get_mut(name) {
-        collection.cut(id);
+        collection.remove_slot(id);
     }
 }
 
 /// Puts this into a slot that is there, and answers what that was.
-pub fn reset(
+pub fn replace_slot(
     collections: &mut BTreeMap<String, PlainCollection>,
     name: &str,
     id: &str,
@@ -41,7 +41,7 @@ pub fn reset(
     ensures was { result ≡ slot_in (map_of collections.old.entries) name.now id.now }
 {
     match collections.get_mut(name) {
-        Some(collection) => collection.reset(id, slot),
+        Some(collection) => collection.replace_slot(id, slot),
         None => None,
     }
 }
@@ -84,7 +84,7 @@ pub fn put(
 }
 
 /// What takes back that a slot was written which was this before.
-pub fn note<'a>(name: &'a str, id: &'a str, was: Option<Option<PackedFeature>>) -> Undo<'a>
+pub fn undo_of<'a>(name: &'a str, id: &'a str, was: Option<Option<PackedFeature>>) -> Undo<'a>
     ensures { (t : SlotCollections) (slot : Option FeatureValue) → slot_in t name.now id.now ≡ was → undone result (put_in t name.now id.now slot) ≡ t }
 {
     match was {
@@ -123,9 +123,9 @@ fn undo(collections: &mut BTreeMap<String, PlainCollection>, edit: Undo<'_>)
         Undo::Open(name) => {
             let _ = collections.remove(name);
         }
-        Undo::Add(name, id) => cut(collections, name, id),
+        Undo::Add(name, id) => remove_slot(collections, name, id),
         Undo::Set(name, id, slot) => {
-            let _ = reset(collections, name, id, slot);
+            let _ = replace_slot(collections, name, id, slot);
         }
     }
 }

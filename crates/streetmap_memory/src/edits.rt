@@ -9,7 +9,7 @@ ghost use Rattle.streetmap_memory.specs.Does.{DoesOne, DoesAll};
 
 use crate::acted::Acted;
 use crate::collection::PlainCollection;
-use crate::collections::{note, open, packed, put, reset, rewind, sweep};
+use crate::collections::{open, packed, put, replace_slot, rewind, sweep, undo_of};
 use crate::cutter::Cutter;
 use crate::undo::Undo;
 use bytes::Bytes;
@@ -77,7 +77,7 @@ fn act_insert<'a>(
             match packed(alloc, collections, name, text, feature)? {
                 Some(packed) => {
                     let was = put(alloc, collections, name, id, packed)?;
-                    Ok(Acted::Done(note(name, id, was)))
+                    Ok(Acted::Done(undo_of(name, id, was)))
                 }
                 None => Ok(Acted::Refused(Refusal::BadTime)),
             }
@@ -104,7 +104,7 @@ fn act_replace<'a>(
             match packed(alloc, collections, name, text, feature)? {
                 Some(packed) => {
                     let was = put(alloc, collections, name, id, packed)?;
-                    Ok(Acted::Done(note(name, id, was)))
+                    Ok(Acted::Done(undo_of(name, id, was)))
                 }
                 None => Ok(Acted::Refused(Refusal::BadTime)),
             }
@@ -123,8 +123,8 @@ fn act_delete<'a>(
         Found::NoCollection => Acted::Refused(Refusal::NoCollection),
         Found::NoFeature => Acted::Refused(Refusal::NoFeature),
         Found::There => {
-            let was = reset(collections, name, id, None);
-            Acted::Done(note(name, id, was))
+            let was = replace_slot(collections, name, id, None);
+            Acted::Done(undo_of(name, id, was))
         }
     }
 }

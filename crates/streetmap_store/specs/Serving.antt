@@ -4,7 +4,7 @@ use Rattle.std.specs.Option.{option_map}
 use mathlib.Core.Path.{subst}
 use Rattle.std.specs.FinMap.{len}
 use Rattle.sqlite.specs.declared.error.Error.{Error}
-use Rattle.sqlite.specs.State.{State as Seen, IsUnchanged}
+use Rattle.sqlite.specs.State.{State as Seen, HasCleanDisk, IsUnchanged}
 use Rattle.streetmap_ledger.specs.State.{State}
 use Rattle.streetmap_ledger.specs.declared.reply.Reply.{Reply}
 use Rattle.streetmap_ledger.specs.declared.reply.Reply.TheVariants.{Accepted, Repeated, Refused}
@@ -18,6 +18,7 @@ use Rattle.streetmap_tables.specs.declared.failing.Shut.{Shut}
 use Rattle.streetmap_tables.specs.declared.failing.Shut.TheVariants.{Device, Damaged}
 use Rattle.streetmap_tables.specs.Failing.{IsOfStore, is_of_store}
 use Rattle.streetmap_rows.specs.Keeping.{Rests, MayLeave}
+use Rattle.streetmap_writing.specs.Acting.{LeavesOtherTables}
 use Rattle.streetmap_reading.specs.declared.fault.ReadFault.{ReadFault}
 use Rattle.streetmap_reading.specs.declared.fault.ReadFault.TheVariants as read
 
@@ -44,6 +45,10 @@ pub record Serves (shut : Option Shut) (seen : Seen) (count : ℕ) (s : State) :
   pub counted : len s.keys ≡ count
   pub only : (t : State) → Rests seen t → t ≡ s
   pub left : MayLeave seen (Some s)
+
+-- a batch spares the tables of others: where the keeper stands for a state, and its connection is open afterwards, each is as it was
+abbrev pub SparesOthers : Option Shut → ℕ → Seen → Seen → Type 0
+SparesOthers shut count old new = HasCleanDisk new → (s : State) → Serves shut old count s → LeavesOtherTables old new
 
 -- a keeper without a cause is not shut
 pub never_shut : {B : Type 0} (shut : Option Shut) → shut ≡ None → IsSome (option_map cause_in shut) → B

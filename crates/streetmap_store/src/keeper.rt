@@ -204,7 +204,7 @@ impl<S: Alter> Keeper for TableKeeper<S> {
     ghost use Rattle.std.specs.Prelude.{option_map};
     ghost use Rattle.sqlite.specs.Held.{state};
     ghost use Rattle.sqlite.specs.State.{HasCleanDisk};
-    ghost use Rattle.streetmap_store.specs.Serving.{Serves, never_shut, cause_in};
+    ghost use Rattle.streetmap_store.specs.Serving.{Serves, SparesOthers, never_shut, cause_in};
     ghost use Rattle.streetmap_rows.specs.Keeping.{MayLeave};
 
     ghost stands = { λ k s. Serves k.shut (state S.Store k.conn) k.count s };
@@ -214,6 +214,8 @@ impl<S: Alter> Keeper for TableKeeper<S> {
     ghost cause = { λ k. option_map cause_in k.shut };
 
     ghost is_clean = { λ k. HasCleanDisk (state S.Store k.conn) };
+
+    ghost applies = { λ k b result after. SparesOthers k.shut k.count (state S.Store k.conn) (state S.Store after.conn) };
 
     ghost one_state = { λ k s t p q. q.only s p.rests };
 

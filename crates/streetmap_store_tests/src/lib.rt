@@ -1,14 +1,21 @@
 //! What no clause says of the tables and of the keeper over them: that the calls succeed, also beside other tables,
-//! which rows a page reads, and what a stop at each call of the files leaves. What stands in the columns of a file, and files
+//! which rows a page reads, that the rows of HTTP and made sessions are answered as in memory, and what a stop at each call
+//! of the files leaves. What stands in the columns of a file, and files
 //! that SQLite made or changed, are tried by `tests/file.py` on the built program.
 #![tactic(auto)]
 
 #[cfg(test)]
 mod carrying;
 #[cfg(test)]
+mod http_rows;
+#[cfg(test)]
 mod opening;
 #[cfg(test)]
 mod pages;
+#[cfg(test)]
+mod refused;
+#[cfg(test)]
+mod rows;
 #[cfg(test)]
 mod sessions;
 #[cfg(test)]

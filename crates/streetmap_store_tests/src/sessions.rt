@@ -14,6 +14,14 @@ const SESSIONS: u64 = 300;
 
 const REQUESTS: u64 = 14;
 
+/// How many sessions ask for all that is told of collections behind each batch, and how many batches each has.
+const TOLD_SESSIONS: u64 = 60;
+
+const TOLD_BATCHES: u64 = 10;
+
+/// What such a session asks behind a batch: each collection, and twice all of them.
+const TOLD: [&str; 5] = ["/c0", "/c1", "/c2", "", ""];
+
 /// Numbers by a linear congruence.
 #[derive(Drop)]
 struct Dice {
@@ -118,6 +126,15 @@ fn question(alloc: Global, dice: &mut Dice) -> Result<String, Fail> {
     })
 }
 
+/// A request that sends a batch.
+fn sent(alloc: Global, dice: &mut Dice) -> Result<String, Fail> {
+    let batch = batch(alloc, dice)?;
+    let len = batch.len();
+    Ok(format!(in alloc;
+        "POST /batches HTTP/1.1\r\nHost: localhost\r\nContent-Length: {len}\r\n\r\n{batch}"
+    )?)
+}
+
 /// A request.
 fn request(alloc: Global, dice: &mut Dice) -> Result<String, Fail> {
     match dice.roll(5) {
@@ -131,13 +148,7 @@ fn request(alloc: Global, dice: &mut Dice) -> Result<String, Fail> {
                 "GET /collections/c{name}{question} HTTP/1.1\r\nHost: localhost\r\n\r\n"
             )?)
         }
-        _ => {
-            let batch = batch(alloc, dice)?;
-            let len = batch.len();
-            Ok(format!(in alloc;
-                "POST /batches HTTP/1.1\r\nHost: localhost\r\nContent-Length: {len}\r\n\r\n{batch}"
-            )?)
-        }
+        _ => sent(alloc, dice),
     }
 }
 
@@ -152,20 +163,42 @@ fn session(alloc: Global, seed: u64) -> Result<String, Fail> {
     Ok(requests)
 }
 
-/// The answers of a keeper to requests.
-fn answers<K: Keeper>(alloc: Global, keeper: &mut K, requests: &str) -> Result<Vec<u8>, Fail> {
+/// The requests of a session that asks for all that is told of collections behind each batch.
+fn told_session(alloc: Global, seed: u64) -> Result<String, Fail> {
+    let mut dice = Dice { seed };
+    let mut requests = String::new(alloc);
+    for _ in 0..TOLD_BATCHES {
+        let next = sent(alloc, &mut dice)?;
+        requests.push_str(next.as_str())?;
+        for path in TOLD {
+            let next = format!(in alloc;
+                "GET /collections{path} HTTP/1.1\r\nHost: localhost\r\n\r\n"
+            )?;
+            requests.push_str(next.as_str())?;
+        }
+    }
+    Ok(requests)
+}
+
+/// The answers of a keeper to so many requests.
+fn answers<K: Keeper>(
+    alloc: Global,
+    keeper: &mut K,
+    requests: &str,
+    count: u64,
+) -> Result<Vec<u8>, Fail> {
     let base = Base::new(alloc, "http://localhost/")?;
     let mut reader = requests.as_bytes();
     let mut written: Vec<u8> = Vec::new(alloc);
     let served = serve(alloc, keeper, &base, &mut reader, &mut written);
-    if served.answers != REQUESTS {
+    if served.answers != count {
         return Err(Fail::from("not all requests were answered"));
     }
     Ok(written)
 }
 
 /// A keeper over new tables.
-fn over_tables(alloc: Global) -> Result<TableKeeper<MemStore>, Fail> {
+pub(crate) fn over_tables(alloc: Global) -> Result<TableKeeper<MemStore>, Fail> {
     let conn = Connection::open_in_memory(alloc)?;
     if !conn.is_autocommit() {
         return Err(Fail::from("a transaction is open"));
@@ -182,8 +215,8 @@ fn tables_answer_as_memory_does(rt: HostRuntime) -> Result<(), Fail> {
         let requests = session(rt.alloc(), seed)?;
         let mut plain = PlainKeeper::new(rt.alloc());
         let mut tables = over_tables(rt.alloc())?;
-        let wanted = answers(rt.alloc(), &mut plain, requests.as_str())?;
-        let found = answers(rt.alloc(), &mut tables, requests.as_str())?;
+        let wanted = answers(rt.alloc(), &mut plain, requests.as_str(), REQUESTS)?;
+        let found = answers(rt.alloc(), &mut tables, requests.as_str(), REQUESTS)?;
         assert_eq!(rt; String::from_utf8(found)?, String::from_utf8(wanted)?);
     }
     Ok(())
@@ -196,10 +229,27 @@ fn an_index_answers_as_the_keeper_below_it(rt: HostRuntime) -> Result<(), Fail> 
         let mut plain = PlainKeeper::new(rt.alloc());
         let mut over_plain = IndexedKeeper::new(rt.alloc(), PlainKeeper::new(rt.alloc()));
         let mut over_tables = IndexedKeeper::new(rt.alloc(), over_tables(rt.alloc())?);
-        let wanted = answers(rt.alloc(), &mut plain, requests.as_str())?;
-        let found = answers(rt.alloc(), &mut over_plain, requests.as_str())?;
+        let wanted = answers(rt.alloc(), &mut plain, requests.as_str(), REQUESTS)?;
+        let found = answers(rt.alloc(), &mut over_plain, requests.as_str(), REQUESTS)?;
         assert_eq!(rt; found.as_slice(), wanted.as_slice());
-        let found = answers(rt.alloc(), &mut over_tables, requests.as_str())?;
+        let found = answers(rt.alloc(), &mut over_tables, requests.as_str(), REQUESTS)?;
+        assert_eq!(rt; found.as_slice(), wanted.as_slice());
+    }
+    Ok(())
+}
+
+#[test]
+fn an_index_tells_as_the_keeper_below_it(rt: HostRuntime) -> Result<(), Fail> {
+    let count = TOLD_BATCHES * 6;
+    for seed in 0..TOLD_SESSIONS {
+        let requests = told_session(rt.alloc(), seed)?;
+        let mut plain = PlainKeeper::new(rt.alloc());
+        let mut over_plain = IndexedKeeper::new(rt.alloc(), PlainKeeper::new(rt.alloc()));
+        let mut over_tables = IndexedKeeper::new(rt.alloc(), over_tables(rt.alloc())?);
+        let wanted = answers(rt.alloc(), &mut plain, requests.as_str(), count)?;
+        let found = answers(rt.alloc(), &mut over_plain, requests.as_str(), count)?;
+        assert_eq!(rt; found.as_slice(), wanted.as_slice());
+        let found = answers(rt.alloc(), &mut over_tables, requests.as_str(), count)?;
         assert_eq!(rt; found.as_slice(), wanted.as_slice());
     }
     Ok(())

@@ -1,6 +1,6 @@
 //! Tests of HTTP by public items alone: heads, bodies and streams that are cut at every byte or whose reads and writes
-//! fail, memory that is refused, and many clients of another service. The rows of HTTP are data, and run through the
-//! built program (`tests/rows.py`), as do connections and many clients of it.
+//! fail, memory that is refused, one connection of a listener, and many clients of another service. The rows of HTTP are
+//! data, and run through the built program (`tests/rows.py`), as do more connections and many clients of it.
 #![tactic(auto)]
 
 #[cfg(test)]
@@ -11,6 +11,8 @@ mod cuts;
 mod failing;
 #[cfg(test)]
 mod fakes;
+#[cfg(test)]
+mod listener;
 #[cfg(test)]
 mod readers;
 #[cfg(test)]

@@ -7,7 +7,8 @@ returns-clause-app c =
     let two = added _ _ _ _ _ c.in_ok-arg-2.ensures one c.positional_arg-2.ensures.rule c.positional_arg-2.ensures.local in
     let three = added _ _ _ _ _ c.in_ok-arg-3.ensures two c.required_arg.ensures.rule c.required_arg.ensures.local in
     let four = added _ _ _ _ _ c.in_ok-arg-4.ensures three c.required_arg-2.ensures.rule c.required_arg-2.ensures.local in
-    last_added _ _ _ _ _ c.arg-5.ensures four c.flag_arg.ensures.rule c.flag_arg.ensures.local
+    let five = added _ _ _ _ _ c.in_ok-arg-5.ensures four c.flag_arg.ensures.rule c.flag_arg.ensures.local in
+    last_added _ _ _ _ _ c.arg-6.ensures five c.flag_arg-2.ensures.rule c.flag_arg-2.ensures.local
 
 pub returns-clause-local : goal.returns-clause-local
 returns-clause-local c =
@@ -15,4 +16,5 @@ returns-clause-local c =
     let two = still_local _ _ _ c.in_ok-arg-2.ensures one c.positional_arg-2.ensures.local in
     let three = still_local _ _ _ c.in_ok-arg-3.ensures two c.required_arg.ensures.local in
     let four = still_local _ _ _ c.in_ok-arg-4.ensures three c.required_arg-2.ensures.local in
-    last_local _ _ _ c.arg-5.ensures four c.flag_arg.ensures.local
+    let five = still_local _ _ _ c.in_ok-arg-5.ensures four c.flag_arg.ensures.local in
+    last_local _ _ _ c.arg-6.ensures five c.flag_arg-2.ensures.local

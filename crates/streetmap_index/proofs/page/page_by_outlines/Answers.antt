@@ -1,19 +1,13 @@
-use Rattle.std.proofs.Common.{◌≡◌, ◌<◌, ◌+◌, ℕ, List, [], ◌++◌, length, drop, get_or, ap, sym, subst, refl, ◌∙◌, arith, Vec}
+use Rattle.std.proofs.Common.{◌+◌, [], length, drop, ap, subst, refl, ◌∙◌, arith}
 use Rattle.std.specs.FinMap.{values}
-use Rattle.std.specs.declared.alloc.Global.{Global}
-use Rattle.std.proofs.lemmas.List.{drop_more, drop_all}
+use Rattle.std.proofs.lemmas.List.{drop_all}
 use Rattle.streetmap_query.specs.Views.{query_value}
 use Rattle.streetmap_ledger.specs.Pages.{candidates, page_over}
-use Rattle.streetmap_ledger.specs.declared.outline.FeatureOutline.{FeatureOutline}
 use Rattle.streetmap_ledger.proofs.Examining.{same_page}
 use Rattle.streetmap_index.specs.Index.{joined}
+use Rattle.streetmap_index.proofs.InChunks.{next_chunk}
 use Rattle.streetmap_index.proofs.Pairing.{Going, paired, goes_on_behind, all_met}
 use Rattle.streetmap_index.proofs.page.page_by_outlines.Goals as goal
-
--- the chunk that comes next
-turn : (cs : List (Vec FeatureOutline Global)) (i : ℕ) (c : Vec FeatureOutline Global) (os : List FeatureOutline) → i < length cs → c ≡ get_or cs i c → os ≡ c.items → joined (drop i cs) ≡ os ++ joined (drop (i + 1) cs)
-turn cs i c os within is items =
-    ap joined (drop_more cs i c within) ∙ (ap (λ (x : Vec FeatureOutline Global). x.items ++ joined (drop (i + 1) cs)) (sym is) ∙ ap (λ xs. xs ++ joined (drop (i + 1) cs)) (sym items))
 
 pub loop-chunk-init : goal.loop-chunk-init
 loop-chunk-init g c = record {
@@ -47,7 +41,7 @@ loop-chunk-preserved g c =
       leaves = λ h s e only. says.leaves h s (inv.stands (says.began_clean h) s e) (inv.leaves (says.began_clean h) s e only);
       going = λ h s d e there known.
           goes_on_behind q c.loop-chunk.fold c.take_outlined.new.fold d.features (values d.features) os (joined (drop (i + 1) cs))
-          (subst (Going q c.loop-chunk.fold d.features (values d.features)) (turn cs i c.chunk-item.result os (omega arith) c.chunk-item.is c.as_slice.ensures.value) (inv.going (says.began_clean h) s d e there known))
+          (subst (Going q c.loop-chunk.fold d.features (values d.features)) (next_chunk cs i c.chunk-item.result os (omega arith) c.chunk-item.is c.as_slice.ensures.value) (inv.going (says.began_clean h) s d e there known))
           (λ met fs pairs held. (says.takes h s (inv.stands (says.began_clean h) s e)).0 c.in-Ok-true.field-0-test d met fs there pairs held);
     }
 

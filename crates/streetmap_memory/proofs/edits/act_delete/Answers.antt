@@ -19,7 +19,7 @@ returns-in-There c =
     let t = map_of c.args.collections.now.entries in
     let name = c.args.name.now in
     let id = c.args.id.now in
-    does t (map_of c.reset-was.new.collections.entries) (put_in t name id None) (edit.delete name id) c.note.result
+    does t (map_of c.replace_slot-was.new.collections.entries) (put_in t name id None) (edit.delete name id) c.undo_of.result
     (λ keys. delete_step t keys name id ∙ ap (delete_gives t keys name id) (sym c.in-There.ensures))
-    (c.reset-was.ensures.after ∙ reset_is_put t name id None (sym c.in-There.ensures))
-    (c.note.ensures t None (sym c.reset-was.ensures.was))
+    (c.replace_slot-was.ensures.after ∙ reset_is_put t name id None (sym c.in-There.ensures))
+    (c.undo_of.ensures t None (sym c.replace_slot-was.ensures.was))

@@ -37,9 +37,9 @@ returns-in_ok-was-in-Some-clause-done c =
     let says = c.in_ok-was-in-Some.ensures in
     let is : timed_in t name f ≡ Some g = sym c.in_ok-packed-in-NoFeature.ensures ∙ c.in-Some.is in
     let id : c.id-id.result.now ≡ g.id = c.id-id.ensures ∙ sym (same_id t name f g is) in
-    does t (map_of c.put.new.collections.entries) (put_in t name g.id (Some g)) (edit.insert name f) c.note.result
+    does t (map_of c.put.new.collections.entries) (put_in t name g.id (Some g)) (edit.insert name f) c.undo_of.result
     (λ keys. insert_step t keys name f
     ∙ (ap (λ w. insert_gives t keys name w (timed_in t name f)) (ap (found_in t name) (sym c.id-id.ensures) ∙ sym c.in-NoFeature.ensures)
     ∙ ap (insert_gives t keys name found.NoFeature) is))
     (says.ok ∙ ap (λ i. put_in t name i (Some g)) id)
-    (subst (λ i. undone c.note.result (put_in t name i (Some g)) ≡ t) id (c.note.ensures t (Some g) (sym says.was)))
+    (subst (λ i. undone c.undo_of.result (put_in t name i (Some g)) ≡ t) id (c.undo_of.ensures t (Some g) (sym says.was)))

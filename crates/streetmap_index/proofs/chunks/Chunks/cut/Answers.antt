@@ -1,16 +1,37 @@
-use Rattle.std.proofs.Common.{◌<◌, length, arith, sym, subst}
+use Rattle.std.proofs.Common.{◌≡◌, ◌<◌, length, set, arith, ap, sym, subst, ◌∙◌, rules}
 use Rattle.std.specs.FinMap.{remove}
-use Rattle.streetmap_index.specs.Index.{AreOutlines}
-use Rattle.streetmap_index.proofs.InChunks.{cut_in_chunk, none_in_chunks}
+use Rattle.streetmap_index.specs.Index.{joined, AreOutlines, AreFilled}
+use Rattle.streetmap_index.proofs.InChunks.{cut_in_chunk, none_in_chunks, shed_at}
+use Rattle.streetmap_index.proofs.Filled.{filled_set, filled_without}
 use Rattle.streetmap_index.proofs.chunks.Chunks.cut.Goals as goal
 
-pub returns-then-place-len : goal.returns-then-place-len
-returns-then-place-len c = λ features known.
+pub returns-then-is_empty : goal.returns-then-is_empty
+returns-then-is_empty c = λ features known.
+    let cs = c.args.self.now.chunks.items in
+    let place = c.chunk_of-place.result in
+    let new = c.cut.new.outlines in
     let found = c.chunk_of-place.ensures in
-    let within : c.chunk_of-place.result < length c.args.self.now.chunks.items = omega arith in
-    subst (λ os. AreOutlines os (remove features c.args.id.now)) (sym c.shed.ensures)
-    (cut_in_chunk c.args.self.now.chunks.items c.chunk_of-place.result c.index_mut.result.now c.cut.new.outlines c.args.id.now features known found.before found.here within c.index_mut.ensures.value c.cut.ensures)
+    let within : place < length cs = omega arith in
+    let still : place < length (set cs place new) = search rules in
+    let none : length c.index.result.now.items ≡ 0 = search rules in
+    let done = cut_in_chunk cs place c.index_mut.result.now new c.args.id.now features known.outlines (found.before features known) (found.here features known) within c.index_mut.ensures.value c.cut.ensures in
+    record {
+      outlines = subst (λ os. AreOutlines os (remove features c.args.id.now)) (sym (ap joined c.remove.ensures.items ∙ shed_at (set cs place new) place c.index.result.now still c.index.ensures none)) done;
+      filled = subst AreFilled (sym c.remove.ensures.items) (filled_without cs place new within known.filled);
+    }
+
+pub returns-else-is_empty : goal.returns-else-is_empty
+returns-else-is_empty c = λ features known.
+    let cs = c.args.self.now.chunks.items in
+    let place = c.chunk_of-place.result in
+    let new = c.cut.new.outlines in
+    let found = c.chunk_of-place.ensures in
+    let within : place < length cs = omega arith in
+    let some : 0 < length new.items = search rules in
+    record {
+      outlines = cut_in_chunk cs place c.index_mut.result.now new c.args.id.now features known.outlines (found.before features known) (found.here features known) within c.index_mut.ensures.value c.cut.ensures;
+      filled = filled_set cs place new some known.filled;
+    }
 
 pub returns-else-place-len : goal.returns-else-place-len
-returns-else-place-len c = λ features known.
-    none_in_chunks c.args.self.now.chunks.items c.chunk_of-place.result c.args.id.now features c.chunk_of-place.ensures.bound (λ h. omega arith) known
+returns-else-place-len c = λ features known. none_in_chunks c.args.self.now.chunks.items c.chunk_of-place.result c.args.id.now features c.chunk_of-place.ensures.bound (λ h. omega arith) known

@@ -1,43 +1,43 @@
-use Rattle.std.proofs.Common.{◌≡◌, Option, Err, String, sym, subst, refl}
-use Rattle.std.specs.BTreeMap.{BTreeMap}
-use Rattle.std.specs.declared.alloc.Global.{Global}
+use Rattle.std.proofs.Common.{◌≡◌, Option, Err, sym, subst, refl}
 use Rattle.std.specs.Option.{option_map}
 use Rattle.streetmap_query.specs.Views.{query_value}
 use Rattle.streetmap_ledger.specs.Pages.{page_in}
 use Rattle.streetmap_ledger.specs.PageView.{page_value}
 use Rattle.streetmap_ledger.specs.declared.page.Page.{Page}
-use Rattle.streetmap_index.specs.declared.outlined.OutlinedCollection.{OutlinedCollection}
+use Rattle.streetmap_index.specs.declared.index.Index.{Index}
 use Rattle.streetmap_index.specs.Index.{IsIndexOf}
 use Rattle.streetmap_index.proofs.Calls.{looks_too, looks_err}
 use Rattle.streetmap_index.proofs.keeper.IndexedKeeper.page_learnt.Goals as goal
 
-pub returns-then-contains_key-clause-shows : goal.returns-then-contains_key-clause-shows
-returns-then-contains_key-clause-shows g c = λ h s e index.
+pub returns-then-not-is_due-clause-shows : goal.returns-then-not-is_due-clause-shows
+returns-then-not-is_due-clause-shows g c = λ h s e index.
     let says = c.page_known.ensures in
-    looks_too s _ c.page_known.result _ _ (says.shows h s e index) (subst (λ (m : BTreeMap (String Global) OutlinedCollection). IsIndexOf m s) (sym says.index) index)
+    let due = c.is_due.ensures.index s index in
+    looks_too s _ c.page_known.result _ _ (says.shows h s e due) (subst (λ (m : Index). IsIndexOf m s) (sym says.index) due)
 
-pub returns-then-contains_key-clause-leaves : goal.returns-then-contains_key-clause-leaves
-returns-then-contains_key-clause-leaves g c = λ h s e index only. c.page_known.ensures.leaves h s e only
+pub returns-then-not-is_due-clause-leaves : goal.returns-then-not-is_due-clause-leaves
+returns-then-not-is_due-clause-leaves g c = λ h s e index only. c.page_known.ensures.leaves h s e only
 
 pub returns-in-Ok-clause-shows : goal.returns-in-Ok-clause-shows
 returns-in-Ok-clause-shows g c = λ h s e index.
     let says = c.page_known-in-Ok.ensures in
-    let seen = c.in-Ok.ensures.learns (says.began_clean h) s e index in
-    looks_too s _ c.page_known-in-Ok.result _ _ (says.shows h s seen.1 seen.0) (subst (λ (m : BTreeMap (String Global) OutlinedCollection). IsIndexOf m s) (sym says.index) seen.0)
+    let seen = c.in-Ok.ensures.learns (says.began_clean h) s e (c.is_due.ensures.index s index) in
+    looks_too s _ c.page_known-in-Ok.result _ _ (says.shows h s seen.1 seen.0) (subst (λ (m : Index). IsIndexOf m s) (sym says.index) seen.0)
 
 pub returns-in-Ok-clause-leaves : goal.returns-in-Ok-clause-leaves
 returns-in-Ok-clause-leaves g c = λ h s e index only.
     let says = c.page_known-in-Ok.ensures in
     let clean = says.began_clean h in
-    says.leaves h s (c.in-Ok.ensures.learns clean s e index).1 (c.in-Ok.ensures.leaves clean s e only)
+    says.leaves h s (c.in-Ok.ensures.learns clean s e (c.is_due.ensures.index s index)).1 (c.in-Ok.ensures.leaves clean s e only)
 
 pub returns-in-Err-clause-shows : goal.returns-in-Err-clause-shows
 returns-in-Err-clause-shows g c = λ h s e index.
     let says = c.in-Err.ensures in
+    let due = c.is_due.ensures.index s index in
     let known = IsIndexOf c.learn.new.self.index in
     looks_err (Unit {0}) (Option Page) s (λ _. known s) (λ page. option_map page_value page ≡ page_in s c.args.collection.now (query_value c.args.query.now)) c.in-Err.fault (λ t. g.K.Keeper.stands c.learn.new.self.keeper t × known t)
-    (looks_too {T = Unit {0}} s (λ _. known s) (Err c.in-Err.fault) (g.K.Keeper.stands c.learn.new.self.keeper) known (says.learns h s e index)
-    (subst (λ (m : BTreeMap (String Global) OutlinedCollection). IsIndexOf m s) (sym (says.unlearnt refl)) index))
+    (looks_too {T = Unit {0}} s (λ _. known s) (Err c.in-Err.fault) (g.K.Keeper.stands c.learn.new.self.keeper) known (says.learns h s e due)
+    (subst (λ (m : Index). IsIndexOf m s) (sym (says.unlearnt refl)) due))
 
 pub returns-in-Err-clause-leaves : goal.returns-in-Err-clause-leaves
 returns-in-Err-clause-leaves g c = λ h s e index only. c.in-Err.ensures.leaves h s e only

@@ -13,4 +13,4 @@ returns-in_ok-outline_of-in-Ok c = λ d g known told.
     let property = c.as_deref.ensures.value ∙ known.time in
     let time : time_of d.time f.properties ≡ Ok t = ap (λ p. time_of p f.properties) (sym property) ∙ c.in-Ok.ensures.told in
     let outline = subst (λ (x : FeatureValue). IsOutlineOf c.in_ok-outline_of-in-Ok.field-0 x) (told_time d.time f g t time told) c.in_ok-outline_of-in-Ok.ensures in
-    on_ok_map c.put.result (λ are. record { time = known.time; outlines = are }) (c.put.ensures d.features g known.outlines outline)
+    on_ok_map c.put.result (λ are. record { title = known.title; time = known.time; outlines = are }) (c.put.ensures d.features g known.outlines outline)

@@ -1,0 +1,133 @@
+//! What is told of collections by what is known of them.
+ghost use Rattle.std.specs.Prelude.{◌≡◌, ◌++◌, List, Some, None, IfOk, IsErrOf, option_map, option_copied, string_bytes};
+ghost use Rattle.std.specs.FinMap.{get};
+ghost use Rattle.streetmap_grid.specs.Bounds.{AreBounds};
+ghost use Rattle.streetmap_grid.specs.Values.{PositionValue};
+ghost use Rattle.streetmap_geojson.specs.FeatureValue.{FeatureValue};
+ghost use Rattle.streetmap_ledger.specs.State.{State, Collection, Features};
+ghost use Rattle.streetmap_ledger.specs.WellFormed.{IsState, HoldsFeatures};
+ghost use Rattle.streetmap_ledger.specs.Summaries.{all_vertices, feature_vertices, summary_of, summaries_in};
+ghost use Rattle.streetmap_ledger.specs.SummaryView.{summary_value, summary_values};
+ghost use Rattle.streetmap_ledger.specs.Keep.{Tells, Lists, LeavesOnly, ShutsBy, AsBefore};
+ghost use Rattle.streetmap_index.specs.Index.{joined, IsOutlined, IsOutlinedIf, AreKnown, KnowsAll};
+ghost use Rattle.streetmap_index.specs.Taking.{IsEntry, Pairs};
+
+use crate::asking::ask;
+use crate::outlined::OutlinedCollection;
+use std::alloc::{AllocError, Global};
+use std::collections::BTreeMap;
+use streetmap_grid::GridBox;
+use streetmap_ledger::{Fault, FeatureOutline, Keeper, Summary};
+
+/// The bounds of the positions of both.
+fn bounds_of_both(one: Option<GridBox>, other: Option<GridBox>) -> Option<GridBox>
+    ensures { (ps qs : List PositionValue) → AreBounds ps one → AreBounds qs other → AreBounds (ps ++ qs) result }
+{
+    match (one, other) {
+        (one, None) => one,
+        (None, other) => other,
+        (Some(one), Some(other)) => Some(one.union(&other)),
+    }
+}
+
+/// The bounds so far, with those of the features with these outlines.
+fn grown(bounds: Option<GridBox>, outlines: &[FeatureOutline]) -> Option<GridBox>
+    ensures { (features : Features) (ps : List PositionValue) (fs : List FeatureValue) → Pairs features outlines.now fs → AreBounds ps bounds → AreBounds (ps ++ all_vertices fs) result }
+{
+    let mut bounds = bounds;
+    for outline in outlines {
+        bounds = bounds_of_both(bounds, outline.extent);
+    }
+    bounds
+}
+
+/// The extent of the features with the outlines in these chunks, in millimetres; none where none has a
+/// geometry.
+fn extent_of(chunks: &[Vec<FeatureOutline>]) -> Option<GridBox>
+    ensures { (features : Features) (fs : List FeatureValue) → Pairs features (joined chunks.now) fs → AreBounds (all_vertices fs) result }
+{
+    let mut bounds = None;
+    for chunk in chunks {
+        bounds = grown(bounds, chunk.as_slice());
+    }
+    bounds
+}
+
+/// A text of its own, where there is one.
+fn owned(alloc: Global, text: Option<&str>) -> Result<Option<String>, AllocError>
+    ensures { IfOk result (λ own. option_map string_bytes own ≡ option_copied text.entry) }
+{
+    match text {
+        Some(text) => Ok(Some(String::from_str(alloc, text)?)),
+        None => Ok(None),
+    }
+}
+
+/// What is told of a collection by what is known of it.
+fn summary(alloc: Global, id: &str, outlined: &OutlinedCollection) -> Result<Summary, AllocError>
+    ensures { (c : Collection) → IsOutlined outlined.now c → HoldsFeatures c → IfOk result (λ told. summary_value told ≡ summary_of id.now c) }
+{
+    Ok(Summary {
+        id: String::from_str(alloc, id)?,
+        title: String::from_str(alloc, outlined.title.as_str())?,
+        time: owned(alloc, outlined.time.as_deref())?,
+        extent: extent_of(outlined.outlines.chunks.as_slice()),
+    })
+}
+
+/// What is told of collections by what is known of them, in byte order of ids.
+fn summaries(
+    alloc: Global,
+    known: &BTreeMap<String, OutlinedCollection>,
+) -> Result<Vec<Summary>, AllocError>
+    ensures { (s : State) → IsState s → AreKnown known.now.entries s → KnowsAll known.now.entries s → IfOk result (λ told. summary_values told.items ≡ summaries_in s) }
+{
+    let mut told = Vec::new(alloc);
+    for (id, outlined) in known.iter() {
+        told.push(summary(alloc, id.as_str(), outlined)?)?;
+    }
+    Ok(told)
+}
+
+/// What is told of a keeper's collection by what is known of it.
+pub fn collection_with<K: Keeper>(
+    alloc: Global,
+    keeper: &mut K,
+    id: &str,
+    outlined: &OutlinedCollection,
+) -> Result<Option<Summary>, Fault>
+    ensures began_clean { K.is_clean keeper.new → K.is_clean keeper.old }
+    ensures faults { ShutsBy result (K.cause keeper.old) (K.cause keeper.new) }
+    ensures tells { K.is_clean keeper.new → (s : State) → K.stands keeper.old s → IsOutlinedIf outlined.now (get s.collections id.now) → Tells s id.now result (K.stands keeper.new) }
+    ensures leaves { K.is_clean keeper.new → (s : State) → K.stands keeper.old s → LeavesOnly (K.may_leave keeper.old) (Some s) → LeavesOnly (K.may_leave keeper.new) (Some s) }
+    ensures reopen { IsErrOf result Fault.Reopen → AsBefore (K.stands keeper.old) (K.stands keeper.new) (K.may_leave keeper.old) (K.may_leave keeper.new) }
+{
+    match ask(keeper, id) {
+        Ok(()) => match summary(alloc, id, outlined) {
+            Ok(summary) => Ok(Some(summary)),
+            Err(_) => Err(Fault::Memory),
+        },
+        Err(fault) => Err(fault),
+    }
+}
+
+/// What is told of all collections of a keeper by what is known of them, in byte order of ids.
+pub fn collections_with<K: Keeper>(
+    alloc: Global,
+    keeper: &mut K,
+    known: &BTreeMap<String, OutlinedCollection>,
+) -> Result<Vec<Summary>, Fault>
+    ensures began_clean { K.is_clean keeper.new → K.is_clean keeper.old }
+    ensures faults { ShutsBy result (K.cause keeper.old) (K.cause keeper.new) }
+    ensures lists { K.is_clean keeper.new → (s : State) → K.stands keeper.old s → AreKnown known.now.entries s → KnowsAll known.now.entries s → Lists s result (K.stands keeper.new) }
+    ensures leaves { K.is_clean keeper.new → (s : State) → K.stands keeper.old s → LeavesOnly (K.may_leave keeper.old) (Some s) → LeavesOnly (K.may_leave keeper.new) (Some s) }
+    ensures reopen { IsErrOf result Fault.Reopen → AsBefore (K.stands keeper.old) (K.stands keeper.new) (K.may_leave keeper.old) (K.may_leave keeper.new) }
+{
+    match ask(keeper, "") {
+        Ok(()) => match summaries(alloc, known) {
+            Ok(summaries) => Ok(summaries),
+            Err(_) => Err(Fault::Memory),
+        },
+        Err(fault) => Err(fault),
+    }
+}
