@@ -29,7 +29,7 @@ create_code created.Memory = codes "memory"
 -- what is said of them
 abbrev pub open_description : OpenFault → List ℕ
 open_description opened.NotOurs = codes "The file is none of this product."
-open_description opened.OldFormat = codes "The file has format 1."
+open_description opened.Damaged = codes "The file has a row that this product does not write."
 open_description opened.NewFormat = codes "The file has a format above 2."
 open_description (opened.Device e) = codes "The file cannot be opened, is in use, or its device failed."
 open_description opened.Memory = codes "Memory was refused; the call may be made again."

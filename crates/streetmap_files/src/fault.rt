@@ -65,7 +65,7 @@ impl OpenFault {
     {
         match self {
             OpenFault::NotOurs => "The file is none of this product.",
-            OpenFault::OldFormat => "The file has format 1.",
+            OpenFault::Damaged => "The file has a row that this product does not write.",
             OpenFault::NewFormat => "The file has a format above 2.",
             OpenFault::Device(_) => "The file cannot be opened, is in use, or its device failed.",
             OpenFault::Memory => "Memory was refused; the call may be made again.",
