@@ -1,5 +1,5 @@
 -- How many batches were accepted, after a batch.
-use Rattle.std.proofs.Common.{◌≡◌, ℕ, ◌+◌, Option, None, Some, Result, Ok, Err, IfOk, cond, refl, sym, ap, ◌∙◌, nat_eq, nat_lt}
+use Rattle.std.proofs.Common.{◌≡◌, ℕ, ◌+◌, Option, None, Some, Result, Ok, Err, IfOk, cond, refl, ap, ◌∙◌, nat_eq, nat_lt}
 use Rattle.std.specs.Option.{is_some}
 use Rattle.std.specs.Cmp.Lexicographic.{pointwise, nat_list_cmp_total}
 use Rattle.std.specs.FinMap.{get, insert, len, len-insert}

@@ -6,7 +6,6 @@ use Rattle.sqlite.specs.declared.types.Value.TheVariants.{Null, Int, Real, Text 
 use Rattle.sqlite.specs.Order.{Row, column}
 use Rattle.sqlite.specs.Table.{Table}
 use Rattle.sqlite.specs.Schema.{Schema}
-use Rattle.sqlite.specs.Effect.{Database, IsDatabase}
 use Rattle.sqlite.specs.Does.{lacks_sequence}
 use Rattle.sqlite_schema.specs.Names.{same_name}
 use Rattle.sqlite_schema.specs.declared.schema.Index.{Index}
@@ -16,14 +15,13 @@ use Rattle.sqlite_trees.specs.Objects.{catalog_tree}
 use Rattle.sqlite_catalog.specs.Listing.{IsSound, IsIndexRow, IsDefined, automatic, is_index_row}
 use Rattle.sqlite_catalog.proofs.StepLemmas.{same_itself, named_once}
 use Rattle.sqlite_catalog.proofs.AlterLemmas.{numbers_differ}
-use Rattle.sqlite_resolve.specs.Compile.{index_defined_by}
 use Rattle.sqlite_resolve.specs.Lowering.{Checked}
 use Rattle.streetmap_ledger.specs.State.{State}
 use Rattle.streetmap_ledger.specs.Keep.{LeavesOnly, LeavesEither}
 use Rattle.streetmap_tables.proofs.Schemas.{one_schema}
 use Rattle.streetmap_rows.specs.Tables.{Roots, IsOurs, IsNamed, meta_name, features_name}
 use Rattle.sqlite.specs.State.{State as Seen}
-use Rattle.streetmap_rows.specs.Keeping.{Keeps, Rests, MayLeave}
+use Rattle.streetmap_rows.specs.Keeping.{Keeps, MayLeave}
 use Rattle.streetmap_carrying.specs.Old.{KeepsOld}
 use Rattle.streetmap_store.specs.Reopening.{IsJustOpened, OpensWithin}
 
