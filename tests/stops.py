@@ -3,12 +3,15 @@ what was never synchronised is lost. What opens again must be the state of a beg
 
     python3 tests/stops.py PROGRAM
 
-Stopped are `create`; `pipe` on a stream of batches, one of them of 40 edits, with a page between them; and then `pipe` again
-where it opens the file that a stop left. `tests/out/stop.so` is made of `tests/stop.c`, as `make stops` does.
+Stopped are `create`; `pipe` on a stream of batches, one of them of 40 edits, with a page between them; then `pipe` again
+where it opens the file that a stop left; and `pipe` where it opens a file of format 1 and carries it over, which must leave the
+rows of format 1 or of format 2, whole, of the same state. `tests/out/stop.so` is made of `tests/stop.c`, as `make stops` does.
 """
+import contextlib
 import json
 import os
 import shutil
+import sqlite3
 import subprocess
 import sys
 import tempfile
@@ -136,6 +139,51 @@ def of_batches(folder, path, first, states):
     return counted
 
 
+COLUMNS = "x0 INTEGER, y0 INTEGER, x1 INTEGER, y1 INTEGER, s0 INTEGER, s1 INTEGER, "
+KEPT = ("SELECT name, value FROM streetmap_meta", "SELECT * FROM streetmap_collections ORDER BY 1", "SELECT * FROM streetmap_batches ORDER BY 1",
+        "SELECT * FROM streetmap_features ORDER BY 1, 2")
+
+
+def rows_in(path):
+    """The rows of a file, which SQLite finds sound."""
+    with contextlib.closing(sqlite3.connect(path)) as db:
+        assert db.execute("PRAGMA integrity_check").fetchall() == [("ok",)]
+        return [db.execute(sql).fetchall() for sql in KEPT]
+
+
+def make_old(path):
+    """Makes a file of format 2 one of format 1."""
+    with contextlib.closing(sqlite3.connect(path)) as db:
+        features = db.execute("SELECT collection, id, body FROM streetmap_features").fetchall()
+        (sql,), = db.execute("SELECT sql FROM sqlite_schema WHERE name = 'streetmap_features'").fetchall()
+        assert COLUMNS in sql
+        db.execute("DROP TABLE streetmap_features")
+        db.execute(sql.replace(COLUMNS, ""))
+        db.executemany("INSERT INTO streetmap_features VALUES (?, ?, ?)", features)
+        db.execute("UPDATE streetmap_meta SET value = 1")
+        db.commit()
+
+
+def of_carrying(folder, new):
+    """Stops within the opening of a file of format 1, made of one of format 2."""
+    old, path, read = (os.path.join(folder, name) for name in ("old", "path", "read"))
+    copy(new, old)
+    rows_of_new = rows_in(old)
+    make_old(old)
+    rows_of_old, wanted = rows_in(old), seen(new)
+    counted = Counter()
+    for how in WAYS:
+        for at, _ in stops(["pipe", path], path, LOOKS, how, lambda path: copy(old, path)):
+            copy(path, read)
+            found = rows_in(read)
+            assert found in (rows_of_old, rows_of_new), (how, at, found)
+            counted["format 2" if found == rows_of_new else "format 1"] += 1
+            assert seen(path) == wanted, (how, at)
+            copy(path, read)
+            assert rows_in(read) == rows_of_new, (how, at)
+    return counted
+
+
 def main():
     with tempfile.TemporaryDirectory() as folder:
         path, first = os.path.join(folder, "town"), os.path.join(folder, "first")
@@ -147,7 +195,10 @@ def main():
             states.append(seen(path))
         assert len(set(states)) == len(BATCHES) + 1
         print("create:", dict(of_create(path, states[0])), flush=True)
-        print("batches:", dict(of_batches(folder, path, first, states)))
+        print("batches:", dict(of_batches(folder, path, first, states)), flush=True)
+        copy(first, path)
+        run(["pipe", path], b"".join(BATCHES))
+        print("a file of format 1:", dict(of_carrying(folder, path)))
 
 
 main()
