@@ -75,6 +75,8 @@ refusals: build
 	@python3 tests/file_refusals.py $(PROGRAM) create
 	@echo "The program over a file, for one of many clients:"
 	@python3 tests/file_refusals.py $(PROGRAM) clients
+	@echo "The commands import, export and check over a file:"
+	@for command in import export check; do python3 tests/file_refusals.py $(PROGRAM) $$command || exit 1; done
 	@echo "Proving and building the tests: some minutes the first time."
 	@for crate in streetmap_ledger_tests streetmap_web_tests streetmap_store_tests; do \
 	    (cd crates/$$crate && rt test > out.log 2>&1 || { cat out.log; rm -f out.log; exit 1; }; rm -f out.log) || exit 1; done

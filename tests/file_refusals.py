@@ -1,8 +1,10 @@
 """Refuses each allocation of `streetmap pipe` over a file in turn, counting upwards until a run meets none; with `clients` those of
 `streetmap serve --clients` for one client; with `create` those of `streetmap create`, which must end for want of memory or as with
-memory, and leave a file that opens with no collection where it told that it made one, and else that or one that is none of this product.
+memory, and leave a file that opens with no collection where it told that it made one, and else that or one that is none of this product;
+with `import`, `export` or `check` those of that command, which must end for want of memory or as with memory, and leave the file as it
+was, or with the whole import, so that the same command then succeeds.
 
-    python3 tests/file_refusals.py PROGRAM [clients|create]
+    python3 tests/file_refusals.py PROGRAM [clients|create|import|export|check]
 
 Each run begins with a copy of the same file, and is asked for a page, for which the index is learnt, a batch of three edits, which
 the index follows, the page again, and a feature. It must answer as with memory, or a beginning of that and then the 503 or 500 that
@@ -44,6 +46,7 @@ BATCH = post({"key": "second", "edits": [{"op": "delete", "collection": "lamps",
                                          {"op": "replace", "collection": "lamps", "feature": lamp("L1", 7, 7)},
                                          {"op": "insert", "collection": "lamps", "feature": lamp("L9", 8, 8)}]})
 PAGE = get("/collections/lamps/items?bbox=0,0,9,9&datetime=2024-05-01T12:00:00Z")
+TEXT = {"type": "FeatureCollection", "features": [lamp("L7", 7, 7), {"type": "Feature"}, lamp("L8", 8, 8)]}
 ASKED = PAGE + BATCH + PAGE + get("/collections/lamps/items/L9")
 
 
@@ -127,6 +130,56 @@ def refuse_making(program, folder):
     sys.exit(1 if failed or not number else 0)
 
 
+def copied(first, folder):
+    """A copy of a file, and of what SQLite keeps beside it."""
+    for end in ("", "-wal"):
+        if os.path.exists(first + end):
+            shutil.copy(first + end, os.path.join(folder, "town") + end)
+        elif os.path.exists(os.path.join(folder, "town") + end):
+            os.remove(os.path.join(folder, "town") + end)
+    return os.path.join(folder, "town")
+
+
+def words_of(program, mode, path, folder):
+    """The words of a command over a file."""
+    text = os.path.join(folder, "text.json")
+    Path(text).write_text(json.dumps(TEXT))
+    more = {"import": [text, "--key", "second", "--collection", "lamps"], "export": ["--collection", "lamps"], "check": []}
+    return [program, mode, path, *more[mode]]
+
+
+def refuse_command(program, mode, first, folder):
+    """Runs a command over copies of a file, with each allocation refused in turn."""
+    path = copied(first, folder)
+    words = words_of(program, mode, path, folder)
+
+    def command(number=0):
+        got = subprocess.run(words, capture_output=True, env=refusing(number), timeout=60, check=False)
+        return got, run(program, path, PAGE).stdout
+
+    before = run(program, path, PAGE).stdout
+    whole, after = command()
+    assert whole.returncode == 0 and (before != after) == (mode == "import"), whole
+    number = failed = 0
+    kinds = Counter()
+    while True:
+        number += 1
+        copied(first, folder)
+        got, found = command(number)
+        if b"refused\n" not in got.stderr:
+            break
+        again, last = command()
+        same = got.returncode == 0 and got.stdout == whole.stdout and found == after
+        wants = got.returncode == 4 and got.stderr.endswith(b"streetmap: memory\n") and whole.stdout.startswith(got.stdout)
+        if (same or wants and found in (before, after)) and (again.returncode, again.stdout, last) == (0, whole.stdout, after):
+            kinds["as with memory" if same else "ended for want of memory" + (", all imported" if found != before else "")] += 1
+        else:
+            failed += 1
+            print(f"at allocation {number}: status {got.returncode}, {got.stdout!r}, {got.stderr!r}, and then {again.returncode}, {again.stderr!r}")
+    print(f"{number - 1} allocations refused in turn in {mode}: " + ", ".join(f"{count} {kind}" for kind, count in kinds.items()) + f", {failed} failed")
+    sys.exit(1 if failed or number == 1 else 0)
+
+
 def main():
     program = sys.argv[1]
     if "create" in sys.argv[2:]:
@@ -137,15 +190,11 @@ def main():
         first = os.path.join(folder, "first")
         subprocess.run([program, "create", first], check=True)
         run(program, first, FIRST)
+        for mode in sys.argv[2:]:
+            if mode in ("import", "export", "check"):
+                refuse_command(program, mode, first, folder)
         before = run(program, first, PAGE).stdout
-
-        def copy():
-            for end in ("", "-wal"):
-                if os.path.exists(first + end):
-                    shutil.copy(first + end, os.path.join(folder, "town") + end)
-            return os.path.join(folder, "town")
-
-        path = copy()
+        path = copied(first, folder)
         whole = ask(program, path, ASKED)
         after = run(program, path, PAGE).stdout
         assert whole.returncode == 0 and before != after, whole
@@ -153,7 +202,7 @@ def main():
         kinds = Counter()
         while True:
             number += 1
-            path = copy()
+            path = copied(first, folder)
             got = ask(program, path, ASKED, number)
             if b"refused\n" not in got.stderr:
                 break

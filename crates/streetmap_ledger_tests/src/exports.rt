@@ -15,6 +15,7 @@ const EXPORTED: &[u8] =
     b"{\"features\":[{\"geometry\":{\"coordinates\":[1001,7],\"type\":\"Point\"},\"id\":\"L1001\",\"properties\":null,\"type\":\"Feature\"},{\"geometry\":{\"coordinates\":[1002,7],\"type\":\"Point\"},\"id\":\"L1002\",\"properties\":null,\"type\":\"Feature\"}],\"type\":\"FeatureCollection\"}\n";
 
 /// Is told how far an export is, and keeps nothing of it.
+#[derive(Drop)]
 struct Unheard;
 
 impl Progress for Unheard {
