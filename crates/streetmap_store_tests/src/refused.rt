@@ -113,7 +113,7 @@ fn is_memory(rt: &impl Abort, fault: Fault) -> u64 {
 
 /// Asks for what is told of each collection, and answers how many calls were refused for want of memory.
 fn asks_each(rt: &impl Abort, keeper: &mut IndexedKeeper<PlainKeeper>, told: &Told) -> u64 {
-    let works = match keeper.collection("works") {
+    let works: u64 = match keeper.collection("works") {
         Ok(Some(works)) => {
             assert!(rt; is_works(&works, told), "other works");
             0
@@ -135,7 +135,7 @@ fn asks_each(rt: &impl Abort, keeper: &mut IndexedKeeper<PlainKeeper>, told: &To
         }
         Err(fault) => is_memory(rt, fault),
     };
-    works + lamps
+    works.saturating_add(lamps)
 }
 
 /// Asks for what is told of all collections and for a page, and answers how many calls were refused.
@@ -145,7 +145,7 @@ fn asks_all(
     query: &Query,
     told: &Told,
 ) -> u64 {
-    let all = match keeper.collections() {
+    let all: u64 = match keeper.collections() {
         Ok(summaries) => {
             assert!(rt; are_told(&summaries, told), "other collections");
             0
@@ -159,7 +159,7 @@ fn asks_all(
         }
         Err(fault) => is_memory(rt, fault),
     };
-    all + page
+    all.saturating_add(page)
 }
 
 /// Asks for all, twice: first before the collections are learnt, and then from what is known.
