@@ -158,7 +158,10 @@ fn carried(alloc: Global, old: Files<Memory>) -> Result<Connection<FileStore<Mem
 }
 
 /// A connection whose tables a keeper opened.
-fn kept<S: Alter>(alloc: Global, conn: Connection<S>) -> Result<Connection<S>, Fail>
+fn kept(
+    alloc: Global,
+    conn: Connection<FileStore<Memory>>,
+) -> Result<Connection<FileStore<Memory>>, Fail>
     requires { conn.in_transaction ≡ false }
 {
     match TableKeeper::adopt(alloc, conn) {
@@ -200,7 +203,7 @@ fn extents_and_seconds_are_put_in(rt: HostRuntime) -> Result<(), Fail> {
 }
 
 /// The format and the number of features after tables were refused as damaged.
-fn refused<S: Alter>(alloc: Global, conn: Connection<S>) -> Result<(i64, i64), Fail>
+fn refused(alloc: Global, conn: Connection<FileStore<Memory>>) -> Result<(i64, i64), Fail>
     requires { conn.in_transaction ≡ false }
 {
     match TableKeeper::adopt(alloc, conn) {
