@@ -150,8 +150,10 @@ fn a_stop_at_each_call_of_the_database_leaves_the_state(rt: HostRuntime) -> Resu
 }
 
 /// A connection to the tables, opened by a keeper.
-fn carried(alloc: Global, old: Files<Memory>) -> Result<Connection<FileStore<Memory>>, Fail> {
-    match Connection::open_files(alloc, old, Options::new(2)) {
+fn carried(alloc: Global, old: &Files<Memory>) -> Result<Connection<FileStore<Memory>>, Fail> {
+    let log = file(alloc, old.log.bytes())?;
+    let db = file(alloc, old.db.bytes())?;
+    match Connection::open_files(alloc, Files { log, db }, Options::new(2)) {
         Ok(conn) => kept(alloc, conn),
         Err((error, _)) => Err(error)?,
     }
@@ -188,7 +190,7 @@ fn columns<S: Alter>(conn: &mut Connection<S>, id: &str) -> Result<[Option<i64>;
 
 #[test]
 fn extents_and_seconds_are_put_in(rt: HostRuntime) -> Result<(), Fail> {
-    let mut conn = carried(rt.alloc(), old_files(rt.alloc())?)?;
+    let mut conn = carried(rt.alloc(), &old_files(rt.alloc())?)?;
     let point = columns(&mut conn, "L1")?;
     assert!(rt; point == [Some(1000), Some(2000), Some(1000), Some(2000), None, None]);
     let nowhere = columns(&mut conn, "L2")?;
@@ -221,7 +223,10 @@ fn refused(alloc: Global, conn: Connection<FileStore<Memory>>) -> Result<(i64, i
 
 /// Old tables that a statement changed, refused as damaged.
 fn changed(alloc: Global, sql: &str) -> Result<(i64, i64), Fail> {
-    match Connection::open_files(alloc, old_files(alloc)?, Options::new(2)) {
+    let old = old_files(alloc)?;
+    let log = file(alloc, old.log.bytes())?;
+    let db = file(alloc, old.db.bytes())?;
+    match Connection::open_files(alloc, Files { log, db }, Options::new(2)) {
         Ok(mut conn) => {
             conn.execute(sql, &[])?;
             if conn.is_autocommit() {
