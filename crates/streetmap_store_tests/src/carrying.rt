@@ -17,7 +17,7 @@ use streetmap_web::serve;
 
 /// What is written: a point, a feature without a geometry, and one whose time is an interval.
 const BATCH: &str =
-    r#"{"key":"b1","edits":[{"op":"open","collection":"lamps"},{"op":"insert","collection":"lamps","feature":{"type":"Feature","id":"L1","geometry":{"type":"Point","coordinates":[1000,2000]},"properties":null}},{"op":"insert","collection":"lamps","feature":{"type":"Feature","id":"L2","geometry":null,"properties":{"height":12}}},{"op":"open","collection":"works","time":"when"},{"op":"insert","collection":"works","feature":{"type":"Feature","id":"W1","geometry":{"type":"LineString","coordinates":[[9,-9],[0,4]]},"properties":{"when":"1969-12-31T23:59:00Z/1970-01-01T00:01:00Z"}}}]}"#;
+    r#"{"key":"b1","edits":[{"op":"open","collection":"lamps"},{"op":"insert","collection":"lamps","feature":{"type":"Feature","id":"L1","geometry":{"type":"Point","coordinates":[1000,2000]},"properties":null}},{"op":"insert","collection":"lamps","feature":{"type":"Feature","id":"L2","geometry":null,"properties":{"height":12}}},{"op":"open","collection":"works","time":"when"},{"op":"insert","collection":"works","feature":{"type":"Feature","id":"K1","geometry":{"type":"LineString","coordinates":[[9,-9],[0,4]]},"properties":{"when":"1969-12-31T23:59:00Z/1970-01-01T00:01:00Z"}}}]}"#;
 
 /// Makes of the tables of format 2 those of format 1.
 const TO_FORMAT_1: &str =
@@ -195,7 +195,7 @@ fn extents_and_seconds_are_put_in(rt: HostRuntime) -> Result<(), Fail> {
     assert!(rt; point == [Some(1000), Some(2000), Some(1000), Some(2000), None, None]);
     let nowhere = columns(&mut conn, "L2")?;
     assert!(rt; nowhere == [None, None, None, None, None, None]);
-    let works = columns(&mut conn, "W1")?;
+    let works = columns(&mut conn, "K1")?;
     assert!(rt; works == [Some(0), Some(-9), Some(9), Some(4), Some(-60), Some(60)]);
     let format: i64 = conn
         .query_row("SELECT value FROM streetmap_meta", &[])?
@@ -242,9 +242,9 @@ fn changed(alloc: Global, sql: &str) -> Result<(i64, i64), Fail> {
 #[test]
 fn a_row_that_cannot_be_read_leaves_format_1(rt: HostRuntime) -> Result<(), Fail> {
     for sql in [
-        "UPDATE streetmap_features SET body = 'unreadable' WHERE id = 'W1'",
+        "UPDATE streetmap_features SET body = 'unreadable' WHERE id = 'K1'",
         "UPDATE streetmap_features SET id = 'L9' WHERE id = 'L1'",
-        "UPDATE streetmap_features SET body = replace(body, '1970', '1960') WHERE id = 'W1'",
+        "UPDATE streetmap_features SET body = replace(body, '1970', '1960') WHERE id = 'K1'",
     ] {
         let left = changed(rt.alloc(), sql)?;
         assert!(rt; left == (1, 3));
