@@ -204,6 +204,16 @@ def carried_over(path):
     check("another table", rows(path, "SELECT * FROM notes"), [("beside",)])
     check("its counts", checked(path), (0, b"ok 2 4 3\n", b""))
     read(path)
+    export = [PROGRAM, "export", path, "--collection", "works"]
+    exported = subprocess.run(export, capture_output=True, check=True).stdout
+    changed(path, FORMAT_1)
+    check("an export of format 1", subprocess.run(export, capture_output=True, check=True).stdout, exported)
+    changed(path, FORMAT_1)
+    Path(f"{path}.json").write_bytes(text({"features": [{"type": "Feature"}], "type": "FeatureCollection"}).encode())
+    import_ = [PROGRAM, "import", path, f"{path}.json", "--key", "i1", "--collection", "lamps"]
+    told = subprocess.run(import_, capture_output=True, check=True).stdout
+    check("an import into format 1", told, b'{"deleted":0,"inserted":1,"key":"i1","opened":0,"replaced":0,"serial":4}\n')
+    check("its counts behind it", checked(path), (0, b"ok 2 5 4\n", b""))
     changed(path, FORMAT_1 + "UPDATE streetmap_features SET body = 'unreadable' WHERE id = 'L4';")
     old = rows(path, "SELECT * FROM streetmap_features ORDER BY id"), rows(path, "SELECT * FROM streetmap_meta")
     check("a damaged row in format 1", checked(path), (3, b"", b"streetmap: damaged\n"))
