@@ -1,8 +1,9 @@
 """Refuses each allocation of `streetmap pipe` over a file in turn, counting upwards until a run meets none; with `clients` those of
 `streetmap serve --clients` for one client; with `create` those of `streetmap create`, which must end for want of memory or as with
 memory, and leave a file that opens with no collection where it told that it made one, and else that or one that is none of this product;
-with `import`, `export` or `check` those of that command, which must end for want of memory or as with memory, and leave the file as it
-was, or with the whole import, so that the same command then succeeds.
+with `import`, `export` or `check` those of that command, which must end for want of memory or as with memory, or before it began as after
+a failed device (where memory is refused to the look that finds out whether the file is open), and leave the file as it was, or with the
+whole import, so that the same command then succeeds.
 
     python3 tests/file_refusals.py PROGRAM [clients|create|import|export|check]
 
@@ -171,8 +172,10 @@ def refuse_command(program, mode, first, folder):
         again, last = command()
         same = got.returncode == 0 and got.stdout == whole.stdout and found == after
         wants = got.returncode == 4 and got.stderr.endswith(b"streetmap: memory\n") and whole.stdout.startswith(got.stdout)
-        if (same or wants and found in (before, after)) and (again.returncode, again.stdout, last) == (0, whole.stdout, after):
-            kinds["as with memory" if same else "ended for want of memory" + (", all imported" if found != before else "")] += 1
+        unopened = got.returncode == 3 and not got.stdout and got.stderr.endswith(b"streetmap: device\n") and found == before
+        if (same or unopened or wants and found in (before, after)) and (again.returncode, again.stdout, last) == (0, whole.stdout, after):
+            kind = "the file was not opened" if unopened else "ended for want of memory" + (", all imported" if found != before else "")
+            kinds["as with memory" if same else kind] += 1
         else:
             failed += 1
             print(f"at allocation {number}: status {got.returncode}, {got.stdout!r}, {got.stderr!r}, and then {again.returncode}, {again.stderr!r}")
