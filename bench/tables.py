@@ -192,7 +192,7 @@ def main():
         page("a page of a box of 20 m", f"bbox={x},{y},{x + 20000},{y + 20000}", 2000, boxed, "at least 60")
         page("a page of 100 of a box of 900 m, and how many there are", f"bbox={x},{y},{x + 900000},{y + 900000}&limit=100", 500, wide, "at least 12")
         page("a page of 1,000 of all", "limit=1000", 60, every, "at least 3")
-        first = best(3, lambda: run(program, path, FIRST)[0]) - idle
+        first = time_requests(program, path, "the first page", FIRST, 1)
         print(f"the first page of a collection, by which the index is learnt: {first * 1000:,.0f} ms (at most 500 of 100,000 features)")
         opened, known = memory(program, path, get("/conformance")), memory(program, path, FIRST)
         print(f"the most memory held once the file is opened: {opened / 1e6:,.0f} MB, and once its index is learnt: {known / 1e6:,.0f} MB")
