@@ -2,7 +2,7 @@
 SHELL := /bin/bash
 PROGRAM := crates/streetmap/out/streetmap
 
-.PHONY: serve try demo build test rows program load file stops refusals bench
+.PHONY: serve try demo build test rows program load file stops fails refusals bench
 
 # Proves and builds the program, makes the file where it is missing, and serves it: make serve FILE=town.streetmap PORT=8080
 FILE ?= town.streetmap
@@ -58,6 +58,12 @@ file: build
 stops: build
 	@mkdir -p tests/out && cc -shared -fPIC -O1 -o tests/out/stop.so tests/stop.c -ldl
 	python3 tests/stops.py $(PROGRAM)
+
+# The built program over a file, with each read of its requests and each write of its answers failing, after each count of bytes.
+# It needs a C compiler.
+fails: build
+	@mkdir -p tests/out && cc -shared -fPIC -O1 -o tests/out/fail.so tests/fail.c -ldl
+	python3 tests/fails.py $(PROGRAM)
 
 # Each allocation refused in turn: of the program on three lines, and of tests that make each refused call again. It needs
 # a C compiler.
