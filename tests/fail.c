@@ -8,36 +8,29 @@
 
 enum { UNREAD = -2, ALL = -1 };
 
-/* How many bytes of these may pass, of so many; or none, and then the call fails. */
-static size_t passing(const char *name, long *room, size_t count) {
+typedef ssize_t Call(int, void *, size_t);
+
+/* The call, of as many bytes as may still pass by the number of that name; where none may, it fails. */
+static ssize_t limited(Call *real, const char *name, long *room, int fd, void *bytes, size_t count) {
     if (*room == UNREAD) {
         const char *value = getenv(name);
         *room = value ? atol(value) : ALL;
     }
-    if (*room == ALL) return count;
-    return (size_t)*room < count ? (size_t)*room : count;
+    if (*room == ALL || !count) return real(fd, bytes, count);
+    if (*room == 0) { errno = EIO; return -1; }
+    ssize_t done = real(fd, bytes, (size_t)*room < count ? (size_t)*room : count);
+    if (done > 0) *room -= done;
+    return done;
 }
 
 ssize_t read(int fd, void *bytes, size_t count) {
-    static ssize_t (*real)(int, void *, size_t);
     static long room = UNREAD;
-    if (!real) real = (ssize_t (*)(int, void *, size_t))dlsym(RTLD_NEXT, "read");
-    if (fd != STDIN_FILENO) return real(fd, bytes, count);
-    size_t passes = passing("READS", &room, count);
-    if (count && !passes) { errno = EIO; return -1; }
-    ssize_t done = real(fd, bytes, passes);
-    if (room > 0 && done > 0) room -= done;
-    return done;
+    Call *real = (Call *)dlsym(RTLD_NEXT, "read");
+    return fd == STDIN_FILENO ? limited(real, "READS", &room, fd, bytes, count) : real(fd, bytes, count);
 }
 
 ssize_t write(int fd, const void *bytes, size_t count) {
-    static ssize_t (*real)(int, const void *, size_t);
     static long room = UNREAD;
-    if (!real) real = (ssize_t (*)(int, const void *, size_t))dlsym(RTLD_NEXT, "write");
-    if (fd != STDOUT_FILENO) return real(fd, bytes, count);
-    size_t passes = passing("WRITES", &room, count);
-    if (count && !passes) { errno = EIO; return -1; }
-    ssize_t done = real(fd, bytes, passes);
-    if (room > 0 && done > 0) room -= done;
-    return done;
+    Call *real = (Call *)dlsym(RTLD_NEXT, "write");
+    return fd == STDOUT_FILENO ? limited(real, "WRITES", &room, fd, (void *)bytes, count) : real(fd, (void *)bytes, count);
 }
