@@ -1,17 +1,16 @@
 -- What an edit in the chunk that an id is for does to the outlines of all chunks.
-use Rattle.std.proofs.Common.{◌≡◌, ℕ, zero, suc, ◌+◌, ◌-◌, ◌<◌, List, [], ◌∷◌, ◌++◌, Bool, true, false, T, Vec, length, take, drop, get_or, reverse, set, string_bytes, refl, sym, ap, subst, ◌∙◌, arith, append_assoc, append-nil}
+use Rattle.std.proofs.Common.{◌≡◌, ℕ, zero, suc, ◌+◌, ◌-◌, ◌<◌, List, [], ◌∷◌, ◌++◌, Bool, true, false, T, length, take, drop, get_or, reverse, set, string_bytes, refl, sym, ap, subst, ◌∙◌, arith, append_assoc, append-nil}
 use Rattle.std.specs.Prelude.{◌&&◌, ◌≤◌, not, slice_index_or}
 use Rattle.std.specs.List as list
 use Rattle.std.specs.List.Sorted.{IsPartitionedBy, IsPartitionPoint}
 use Rattle.std.specs.Ordering.{is_lt, is_ge}
 use Rattle.std.specs.declared.cmp.Ordering.{Ordering}
 use Rattle.std.specs.declared.cmp.Ordering.TheVariants.{Less, Equal, Greater}
-use Rattle.std.specs.declared.alloc.Global.{Global}
 use Rattle.std.specs.Cmp.Lexicographic.{nat_list_cmp_total}
 use Rattle.std.specs.FinMap.{entries, entries_sorted, insert, remove, put, is_sorted, from_sorted, entries-from_sorted, entries-insert}
 use Rattle.std.specs.FinMap.Entries.{below_all, where_key}
 use Rattle.std.proofs.lemmas.List.{map-append, reverse-append, take-append-drop, length-drop, drop_more}
-use Rattle.std.proofs.lemmas.List.Elements.{filter-append}
+use Rattle.std.proofs.lemmas.List.Elements.{All-nil, All-head, All-tail, filter-append}
 use Rattle.streetmap_geojson.specs.FeatureValue.{FeatureValue}
 use Rattle.streetmap_batch.specs.Text.{Text, text_cmp}
 use Rattle.streetmap_ledger.specs.State.{Features}
@@ -19,12 +18,10 @@ use Rattle.streetmap_ledger.specs.Outlines.{feature_outline_of}
 use Rattle.streetmap_ledger.specs.OutlineView.{feature_outline_value, feature_outline_values}
 use Rattle.streetmap_ledger.specs.declared.outline.FeatureOutline.{FeatureOutline}
 use Rattle.streetmap_ledger.proofs.TextMaps.{one_text, first, second}
-use Rattle.streetmap_index.specs.Index.{joined, AreOutlines, AreFilled, AreChunksOf}
+use Rattle.streetmap_index.specs.Index.{joined, AreOutlines, AreFilled, IsBounded, AreChunksOf}
 use Rattle.streetmap_index.specs.Chunks.{reaches}
+use Rattle.streetmap_index.specs.declared.chunk.Chunk.{Chunk}
 use Rattle.streetmap_index.proofs.Places.{Entries, outlines, head_is, tail_is, key_is, too_many, too_few, flip, less, others, all_below, entries_left}
-
-abbrev pub Chunk : Type 0
-Chunk = Vec FeatureOutline Global
 
 -- ---- whether entries go on to a key
 abbrev goes_to : Text → Entries → Bool
@@ -165,38 +162,41 @@ below_back : (x : Text) (es fs : Entries) → T (below_all text_cmp x (es ++ fs)
 below_back x [] fs up = up
 below_back x (e ∷ es) fs up = below_back x es fs (second _ _ up)
 
+abbrev pub HasSome : Chunk → Type 0
+HasSome chunk = 0 < length chunk.outlines.items
+
 -- each chunk reaches an id that is before all outlines
-all_reach : (k : Text) (cs : List Chunk) (es : Entries) (j : ℕ) (d : Chunk) → feature_outline_values (joined cs) ≡ outlines es → T (below_all text_cmp k es) → AreFilled cs → j < length cs → reaches k (slice_index_or cs j d).items ≡ true
+all_reach : (k : Text) (cs : List Chunk) (es : Entries) (j : ℕ) (d : Chunk) → feature_outline_values (joined cs) ≡ outlines es → T (below_all text_cmp k es) → AreFilled cs → j < length cs → reaches k (slice_index_or cs j d).outlines.items ≡ true
 all_reach k [] es j d is up filled h = absurd (omega arith)
 all_reach k (c ∷ cs) es zero d is up filled h =
-    let parts = split c.items (joined cs) es is in
+    let parts = split c.outlines.items (joined cs) es is in
     let above = subst (λ zs. T (below_all text_cmp k zs)) (sym parts.whole) up in
-    reaches_keys c.items parts.front k parts.fronts ∙ goes_above k parts.front (below_front k parts.front parts.rest above) (some_entries c.items parts.front parts.fronts filled.0)
+    reaches_keys c.outlines.items parts.front k parts.fronts ∙ goes_above k parts.front (below_front k parts.front parts.rest above) (some_entries c.outlines.items parts.front parts.fronts (All-head HasSome c cs filled))
 all_reach k (c ∷ cs) es (suc j) d is up filled h =
-    let parts = split c.items (joined cs) es is in
+    let parts = split c.outlines.items (joined cs) es is in
     let above = subst (λ zs. T (below_all text_cmp k zs)) (sym parts.whole) up in
-    all_reach k cs parts.rest j d parts.rests (below_back k parts.front parts.rest above) filled.1 (omega arith)
+    all_reach k cs parts.rest j d parts.rests (below_back k parts.front parts.rest above) (All-tail HasSome c cs filled) (omega arith)
 
 -- a chunk before one that does not reach an id does not reach it
 none_reach : (k : Text) (cs : List Chunk) (es : Entries) (i j : ℕ) (d : Chunk) → feature_outline_values (joined cs) ≡ outlines es → T (is_sorted text_cmp es) → AreFilled cs → i ≤ j → j < length cs
-    → reaches k (slice_index_or cs j d).items ≡ false → reaches k (slice_index_or cs i d).items ≡ false
+    → reaches k (slice_index_or cs j d).outlines.items ≡ false → reaches k (slice_index_or cs i d).outlines.items ≡ false
 none_reach k [] es i j d is up filled from h short = absurd (omega arith)
 none_reach k (c ∷ cs) es zero zero d is up filled from h short = short
 none_reach k (c ∷ cs) es (suc i) zero d is up filled from h short = absurd (omega arith)
 none_reach k (c ∷ cs) es (suc i) (suc j) d is up filled from h short =
-    let parts = split c.items (joined cs) es is in
-    none_reach k cs parts.rest i j d parts.rests (sorted_rest parts.front parts.rest (subst (λ zs. T (is_sorted text_cmp zs)) (sym parts.whole) up)) filled.1 (omega arith) (omega arith) short
-none_reach k (c ∷ cs) es zero (suc j) d is up filled from h short = by (reaches k c.items) refl where
-  by : (b : Bool) → reaches k c.items ≡ b → reaches k c.items ≡ false
+    let parts = split c.outlines.items (joined cs) es is in
+    none_reach k cs parts.rest i j d parts.rests (sorted_rest parts.front parts.rest (subst (λ zs. T (is_sorted text_cmp zs)) (sym parts.whole) up)) (All-tail HasSome c cs filled) (omega arith) (omega arith) short
+none_reach k (c ∷ cs) es zero (suc j) d is up filled from h short = by (reaches k c.outlines.items) refl where
+  by : (b : Bool) → reaches k c.outlines.items ≡ b → reaches k c.outlines.items ≡ false
   by false e = e
   by true e =
-      let parts = split c.items (joined cs) es is in
+      let parts = split c.outlines.items (joined cs) es is in
       let both_up = subst (λ zs. T (is_sorted text_cmp zs)) (sym parts.whole) up in
-      let yes = all_reach k cs parts.rest j d parts.rests (below_rest k parts.front parts.rest both_up (sym (reaches_keys c.items parts.front k parts.fronts) ∙ e)) filled.1 (omega arith) in
+      let yes = all_reach k cs parts.rest j d parts.rests (below_rest k parts.front parts.rest both_up (sym (reaches_keys c.outlines.items parts.front k parts.fronts) ∙ e)) (All-tail HasSome c cs filled) (omega arith) in
       absurd cc
 
 abbrev pub falls_short_of : Text → Chunk → Bool
-falls_short_of k c = not (reaches k c.items)
+falls_short_of k c = not (reaches k c.outlines.items)
 
 off : (b : Bool) → not b ≡ true → b ≡ false
 off true e = absurd cc
@@ -214,10 +214,10 @@ module _ (cs l : List Chunk) (searched : l ≡ cs) (k : Text) (place : ℕ) (poi
       subst (λ xs. IsPartitionedBy (falls_short_of k) xs → IsPartitionPoint (λ c. falls_short_of k c ≡ true) (λ c. falls_short_of k c ≡ false) xs place) searched point
       (λ i j d from h short. ap not (none_reach k cs (entries features) i j d known.outlines (entries_sorted features) known.filled from h (off _ short)))
 
-  pub short_before : (j : ℕ) (d : Chunk) → j < place → place ≤ length cs → reaches k (slice_index_or cs j d).items ≡ false
+  pub short_before : (j : ℕ) (d : Chunk) → j < place → place ≤ length cs → reaches k (slice_index_or cs j d).outlines.items ≡ false
   short_before j d h within = off _ (at_point.0 j d (omega arith) h)
 
-  pub reached_here : (d : Chunk) → place < length cs → reaches k (slice_index_or cs place d).items ≡ true
+  pub reached_here : (d : Chunk) → place < length cs → reaches k (slice_index_or cs place d).outlines.items ≡ true
   reached_here d h = on _ (at_point.1 place d (omega arith) h)
 
 -- ---- an edit under a key: of features, and of their entries
@@ -241,50 +241,50 @@ cut_edit k = record {
 }
 
 module _ (k : Text) (op : Entries → Entries) (change : Features → Features) (edit : IsEdit k op change) where
-  alone : (c new : Chunk) (es : Entries) → feature_outline_values c.items ≡ outlines es → T (is_sorted text_cmp es) → ((features : Features) → AreOutlines c.items features → AreOutlines new.items (change features)) → feature_outline_values new.items ≡ outlines (op es)
+  alone : (c new : Chunk) (es : Entries) → feature_outline_values c.outlines.items ≡ outlines es → T (is_sorted text_cmp es) → ((features : Features) → AreOutlines c.outlines.items features → AreOutlines new.outlines.items (change features)) → feature_outline_values new.outlines.items ≡ outlines (op es)
   alone c new es is up edited =
       let same = entries-from_sorted text_cmp es up in
       edited (from_sorted es) (is ∙ ap outlines (sym same)) ∙ ap outlines (edit.told (from_sorted es) ∙ ap op same)
 
   in_chunk : (cs : List Chunk) (i : ℕ) (c new : Chunk) (es : Entries) → feature_outline_values (joined cs) ≡ outlines es → T (is_sorted text_cmp es)
-      → ((j : ℕ) (d : Chunk) → j < i → reaches k (slice_index_or cs j d).items ≡ false)
-      → ((d : Chunk) → i + 1 < length cs → reaches k (slice_index_or cs i d).items ≡ true)
-      → i < length cs → c ≡ slice_index_or cs i c → ((features : Features) → AreOutlines c.items features → AreOutlines new.items (change features))
+      → ((j : ℕ) (d : Chunk) → j < i → reaches k (slice_index_or cs j d).outlines.items ≡ false)
+      → ((d : Chunk) → i + 1 < length cs → reaches k (slice_index_or cs i d).outlines.items ≡ true)
+      → i < length cs → c ≡ slice_index_or cs i c → ((features : Features) → AreOutlines c.outlines.items features → AreOutlines new.outlines.items (change features))
       → feature_outline_values (joined (set cs i new)) ≡ outlines (op es)
   in_chunk [] i c new es is up before here within at edited = absurd (omega arith)
   in_chunk (x ∷ []) (suc i) c new es is up before here within at edited = absurd (omega arith)
   in_chunk (x ∷ []) zero c new es is up before here within at edited =
-      let all : feature_outline_values c.items ≡ outlines es = ap (λ (y : Chunk). feature_outline_values y.items) at ∙ (ap feature_outline_values (sym (append-nil x.items)) ∙ is) in
-      ap feature_outline_values (append-nil new.items) ∙ alone c new es all up edited
+      let all : feature_outline_values c.outlines.items ≡ outlines es = ap (λ (y : Chunk). feature_outline_values y.outlines.items) at ∙ (ap feature_outline_values (sym (append-nil x.outlines.items)) ∙ is) in
+      ap feature_outline_values (append-nil new.outlines.items) ∙ alone c new es all up edited
   in_chunk (x ∷ (y ∷ cs)) zero c new es is up before here within at edited =
-      let parts = split x.items (joined (y ∷ cs)) es is in
+      let parts = split x.outlines.items (joined (y ∷ cs)) es is in
       let both_up = subst (λ zs. T (is_sorted text_cmp zs)) (sym parts.whole) up in
-      let far = sym (reaches_keys x.items parts.front k parts.fronts) ∙ here x (omega arith) in
-      let one = alone c new parts.front (ap (λ (z : Chunk). feature_outline_values z.items) at ∙ parts.fronts) (sorted_front parts.front parts.rest both_up) edited in
-      two new.items (joined (y ∷ cs)) (op parts.front) parts.rest one parts.rests ∙ ap outlines (sym (edit.front parts.front parts.rest both_up far) ∙ ap op parts.whole)
+      let far = sym (reaches_keys x.outlines.items parts.front k parts.fronts) ∙ here x (omega arith) in
+      let one = alone c new parts.front (ap (λ (z : Chunk). feature_outline_values z.outlines.items) at ∙ parts.fronts) (sorted_front parts.front parts.rest both_up) edited in
+      two new.outlines.items (joined (y ∷ cs)) (op parts.front) parts.rest one parts.rests ∙ ap outlines (sym (edit.front parts.front parts.rest both_up far) ∙ ap op parts.whole)
   in_chunk (x ∷ (y ∷ cs)) (suc i) c new es is up before here within at edited =
-      let parts = split x.items (joined (y ∷ cs)) es is in
+      let parts = split x.outlines.items (joined (y ∷ cs)) es is in
       let both_up = subst (λ zs. T (is_sorted text_cmp zs)) (sym parts.whole) up in
-      let near = sym (reaches_keys x.items parts.front k parts.fronts) ∙ before zero x (omega arith) in
+      let near = sym (reaches_keys x.outlines.items parts.front k parts.fronts) ∙ before zero x (omega arith) in
       let rest = in_chunk (y ∷ cs) i c new parts.rest parts.rests (sorted_rest parts.front parts.rest both_up) (λ j d h. before (suc j) d (omega arith)) (λ d h. here d (omega arith)) (omega arith) at edited in
-      two x.items (joined (set (y ∷ cs) i new)) parts.front (op parts.rest) parts.fronts rest ∙ ap outlines (sym (edit.behind parts.front parts.rest (sorted_front parts.front parts.rest both_up) near) ∙ ap op parts.whole)
+      two x.outlines.items (joined (set (y ∷ cs) i new)) parts.front (op parts.rest) parts.fronts rest ∙ ap outlines (sym (edit.behind parts.front parts.rest (sorted_front parts.front parts.rest both_up) near) ∙ ap op parts.whole)
 
 pub put_in_chunk : (cs : List Chunk) (i : ℕ) (c new : Chunk) (k : Text) (features : Features) → AreOutlines (joined cs) features
-    → ((j : ℕ) (d : Chunk) → j < i → reaches k (slice_index_or cs j d).items ≡ false)
-    → ((d : Chunk) → i + 1 < length cs → reaches k (slice_index_or cs i d).items ≡ true)
+    → ((j : ℕ) (d : Chunk) → j < i → reaches k (slice_index_or cs j d).outlines.items ≡ false)
+    → ((d : Chunk) → i + 1 < length cs → reaches k (slice_index_or cs i d).outlines.items ≡ true)
     → i < length cs → c ≡ slice_index_or cs i c
-    → (f : FeatureValue) → k ≡ f.id → ((fs : Features) → AreOutlines c.items fs → AreOutlines new.items (insert fs f.id f)) → AreOutlines (joined (set cs i new)) (insert features f.id f)
+    → (f : FeatureValue) → k ≡ f.id → ((fs : Features) → AreOutlines c.outlines.items fs → AreOutlines new.outlines.items (insert fs f.id f)) → AreOutlines (joined (set cs i new)) (insert features f.id f)
 put_in_chunk cs i c new k features known before here within at f id edited =
     in_chunk f.id (put text_cmp f.id f) (λ fs. insert fs f.id f) (put_edit f) cs i c new (entries features) known (entries_sorted features)
-    (λ j d h. subst (λ q. reaches q (slice_index_or cs j d).items ≡ false) id (before j d h))
-    (λ d h. subst (λ q. reaches q (slice_index_or cs i d).items ≡ true) id (here d h)) within at edited
+    (λ j d h. subst (λ q. reaches q (slice_index_or cs j d).outlines.items ≡ false) id (before j d h))
+    (λ d h. subst (λ q. reaches q (slice_index_or cs i d).outlines.items ≡ true) id (here d h)) within at edited
     ∙ ap outlines (sym (entries-insert nat_list_cmp_total features f.id f))
 
 pub cut_in_chunk : (cs : List Chunk) (i : ℕ) (c new : Chunk) (k : Text) (features : Features) → AreOutlines (joined cs) features
-    → ((j : ℕ) (d : Chunk) → j < i → reaches k (slice_index_or cs j d).items ≡ false)
-    → ((d : Chunk) → i + 1 < length cs → reaches k (slice_index_or cs i d).items ≡ true)
+    → ((j : ℕ) (d : Chunk) → j < i → reaches k (slice_index_or cs j d).outlines.items ≡ false)
+    → ((d : Chunk) → i + 1 < length cs → reaches k (slice_index_or cs i d).outlines.items ≡ true)
     → i < length cs → c ≡ slice_index_or cs i c
-    → ((fs : Features) → AreOutlines c.items fs → AreOutlines new.items (remove fs k)) → AreOutlines (joined (set cs i new)) (remove features k)
+    → ((fs : Features) → AreOutlines c.outlines.items fs → AreOutlines new.outlines.items (remove fs k)) → AreOutlines (joined (set cs i new)) (remove features k)
 cut_in_chunk cs i c new k features known before here within at edited =
     in_chunk k (where_key text_cmp (others k)) (λ fs. remove fs k) (cut_edit k) cs i c new (entries features) known (entries_sorted features) before here within at edited
     ∙ ap outlines (sym (entries_left features k))
@@ -303,57 +303,49 @@ none_there features known = by (entries features) known.outlines where
 pub none_in_chunks : (cs : List Chunk) (i : ℕ) (k : Text) (features : Features) → (0 < length cs → i < length cs) → (i < length cs → ⊥) → AreChunksOf cs features → AreChunksOf cs (remove features k)
 none_in_chunks [] i k features bound off known =
     let none = none_there features known in
-    record { outlines = ap outlines (sym (entries_left features k ∙ ap (where_key text_cmp (others k)) none)); filled = tt }
+    record { outlines = ap outlines (sym (entries_left features k ∙ ap (where_key text_cmp (others k)) none)); filled = All-nil HasSome; bounded = All-nil IsBounded }
 none_in_chunks (c ∷ cs) i k features bound off known = absurd (off (bound (omega arith)))
 
--- the first chunk
-pub first_chunk : (cs ds : List Chunk) (first : Chunk) (features : Features) (f : FeatureValue) → cs ≡ [] → ds ≡ cs ++ first ∷ [] → 0 < length first.items
-    → ((fs : Features) → AreOutlines [] fs → AreOutlines first.items (insert fs f.id f)) → AreChunksOf cs features → AreChunksOf ds (insert features f.id f)
-first_chunk cs ds first features f none is some put known =
-    let had = subst (λ xs. AreChunksOf xs features) none known in
-    subst (λ xs. AreChunksOf xs (insert features f.id f)) (sym (is ∙ ap (λ xs. xs ++ first ∷ []) none))
-    (record { outlines = ap feature_outline_values (append-nil first.items) ∙ put features had.outlines; filled = (some, tt) })
-
 -- ---- a chunk that is cut in two
-halved : (cs : List Chunk) (i : ℕ) (old one behind : Chunk) → i < length cs → old ≡ slice_index_or cs i old → one.items ++ behind.items ≡ old.items → joined (list.insert (set cs i one) (suc i) behind) ≡ joined cs
+halved : (cs : List Chunk) (i : ℕ) (old one behind : Chunk) → i < length cs → old ≡ slice_index_or cs i old → one.outlines.items ++ behind.outlines.items ≡ old.outlines.items → joined (list.insert (set cs i one) (suc i) behind) ≡ joined cs
 halved [] i old one behind within at parts = absurd (omega arith)
 halved (c ∷ []) zero old one behind within at parts =
-    sym (append_assoc one.items behind.items []) ∙ ap (λ xs. xs ++ []) (parts ∙ ap (λ (x : Chunk). x.items) at)
+    sym (append_assoc one.outlines.items behind.outlines.items []) ∙ ap (λ xs. xs ++ []) (parts ∙ ap (λ (x : Chunk). x.outlines.items) at)
 halved (c ∷ (d ∷ cs)) zero old one behind within at parts =
-    sym (append_assoc one.items behind.items (joined (d ∷ cs))) ∙ ap (λ xs. xs ++ joined (d ∷ cs)) (parts ∙ ap (λ (x : Chunk). x.items) at)
-halved (c ∷ cs) (suc i) old one behind within at parts = ap (λ xs. c.items ++ xs) (halved cs i old one behind (omega arith) at parts)
+    sym (append_assoc one.outlines.items behind.outlines.items (joined (d ∷ cs))) ∙ ap (λ xs. xs ++ joined (d ∷ cs)) (parts ∙ ap (λ (x : Chunk). x.outlines.items) at)
+halved (c ∷ cs) (suc i) old one behind within at parts = ap (λ xs. c.outlines.items ++ xs) (halved cs i old one behind (omega arith) at parts)
 
-pub halved_at : (cs : List Chunk) (i : ℕ) (old one behind : Chunk) → i < length cs → old ≡ slice_index_or cs i old → (n : ℕ) → one.items ≡ take n old.items → behind.items ≡ drop n old.items → joined (list.insert (set cs i one) (i + 1) behind) ≡ joined cs
+pub halved_at : (cs : List Chunk) (i : ℕ) (old one behind : Chunk) → i < length cs → old ≡ slice_index_or cs i old → (n : ℕ) → one.outlines.items ≡ take n old.outlines.items → behind.outlines.items ≡ drop n old.outlines.items → joined (list.insert (set cs i one) (i + 1) behind) ≡ joined cs
 halved_at cs i old one behind within at n p q =
     let next : suc i ≡ i + 1 = omega arith in
     subst (λ m. joined (list.insert (set cs i one) m behind) ≡ joined cs) next
-    (halved cs i old one behind within at (ap (λ xs. xs ++ behind.items) p ∙ (ap (λ xs. take n old.items ++ xs) q ∙ take-append-drop n old.items)))
+    (halved cs i old one behind within at (ap (λ xs. xs ++ behind.outlines.items) p ∙ (ap (λ xs. take n old.outlines.items ++ xs) q ∙ take-append-drop n old.outlines.items)))
 
 -- ---- an empty chunk that is dropped
 pub empty_is : (os : List FeatureOutline) → length os ≡ 0 → os ≡ []
 empty_is [] h = refl
 empty_is (o ∷ os) h = absurd (omega arith)
 
-pub shed_at : (cs : List Chunk) (i : ℕ) (c : Chunk) → i < length cs → c ≡ slice_index_or cs i c → length c.items ≡ 0 → joined (list.remove cs i) ≡ joined cs
+pub shed_at : (cs : List Chunk) (i : ℕ) (c : Chunk) → i < length cs → c ≡ slice_index_or cs i c → length c.outlines.items ≡ 0 → joined (list.remove cs i) ≡ joined cs
 shed_at [] i c within at none = absurd (omega arith)
-shed_at (x ∷ []) zero c within at none = ap (λ xs. xs ++ []) (sym (empty_is x.items (ap (λ (y : Chunk). length y.items) (sym at) ∙ none)))
-shed_at (x ∷ (y ∷ cs)) zero c within at none = ap (λ xs. xs ++ joined (y ∷ cs)) (sym (empty_is x.items (ap (λ (z : Chunk). length z.items) (sym at) ∙ none)))
-shed_at (x ∷ cs) (suc i) c within at none = ap (λ xs. x.items ++ xs) (shed_at cs i c (omega arith) at none)
+shed_at (x ∷ []) zero c within at none = ap (λ xs. xs ++ []) (sym (empty_is x.outlines.items (ap (λ (y : Chunk). length y.outlines.items) (sym at) ∙ none)))
+shed_at (x ∷ (y ∷ cs)) zero c within at none = ap (λ xs. xs ++ joined (y ∷ cs)) (sym (empty_is x.outlines.items (ap (λ (z : Chunk). length z.outlines.items) (sym at) ∙ none)))
+shed_at (x ∷ cs) (suc i) c within at none = ap (λ xs. x.outlines.items ++ xs) (shed_at cs i c (omega arith) at none)
 
 -- ---- what is left behind a place
 pub dropped_some : (os last : List FeatureOutline) (n : ℕ) → last ≡ drop n os → n < length os → 0 < length last
 dropped_some os last n is h = let left : length last ≡ length os - n = ap length is ∙ length-drop n os in omega arith
 
 -- ---- chunks that are cut off from the end of outlines, the last one first
-pub last_pushed : (cs ds : List Chunk) (last : Chunk) → ds ≡ cs ++ last ∷ [] → joined (reverse ds) ≡ last.items ++ joined (reverse cs)
+pub last_pushed : (cs ds : List Chunk) (last : Chunk) → ds ≡ cs ++ last ∷ [] → joined (reverse ds) ≡ last.outlines.items ++ joined (reverse cs)
 last_pushed cs ds last is = ap joined (ap reverse is ∙ reverse-append cs (last ∷ []))
 
-pub cut_off : (os front : List FeatureOutline) (n : ℕ) (cs ds : List Chunk) (last : Chunk) → front ≡ take n os → last.items ≡ drop n os → ds ≡ cs ++ last ∷ [] → front ++ joined (reverse ds) ≡ os ++ joined (reverse cs)
+pub cut_off : (os front : List FeatureOutline) (n : ℕ) (cs ds : List Chunk) (last : Chunk) → front ≡ take n os → last.outlines.items ≡ drop n os → ds ≡ cs ++ last ∷ [] → front ++ joined (reverse ds) ≡ os ++ joined (reverse cs)
 cut_off os front n cs ds last p q is =
     ap (λ xs. front ++ xs) (last_pushed cs ds last is)
-    ∙ (sym (append_assoc front last.items (joined (reverse cs))) ∙ ap (λ xs. xs ++ joined (reverse cs)) (ap (λ xs. xs ++ last.items) p ∙ (ap (λ xs. take n os ++ xs) q ∙ take-append-drop n os)))
+    ∙ (sym (append_assoc front last.outlines.items (joined (reverse cs))) ∙ ap (λ xs. xs ++ joined (reverse cs)) (ap (λ xs. xs ++ last.outlines.items) p ∙ (ap (λ xs. take n os ++ xs) q ∙ take-append-drop n os)))
 
 -- ---- the chunk that comes next
-pub next_chunk : (cs : List Chunk) (i : ℕ) (c : Chunk) (os : List FeatureOutline) → i < length cs → c ≡ get_or cs i c → os ≡ c.items → joined (drop i cs) ≡ os ++ joined (drop (i + 1) cs)
+pub next_chunk : (cs : List Chunk) (i : ℕ) (c : Chunk) (os : List FeatureOutline) → i < length cs → c ≡ get_or cs i c → os ≡ c.outlines.items → joined (drop i cs) ≡ os ++ joined (drop (i + 1) cs)
 next_chunk cs i c os within is items =
-    ap joined (drop_more cs i c within) ∙ (ap (λ (x : Chunk). x.items ++ joined (drop (i + 1) cs)) (sym is) ∙ ap (λ xs. xs ++ joined (drop (i + 1) cs)) (sym items))
+    ap joined (drop_more cs i c within) ∙ (ap (λ (x : Chunk). x.outlines.items ++ joined (drop (i + 1) cs)) (sym is) ∙ ap (λ xs. xs ++ joined (drop (i + 1) cs)) (sym items))

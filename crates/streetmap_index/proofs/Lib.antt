@@ -6,6 +6,7 @@ pub mod Steps
 pub mod Places
 pub mod Following
 pub mod InChunks
-pub mod Filled
+pub mod Each
+pub mod Covering
 pub mod Extents
 pub mod Listing

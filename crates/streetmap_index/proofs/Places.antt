@@ -164,31 +164,25 @@ entries_left features k =
     ∙ (ap (λ o. cond (others k q) o None) (get-entries features q)
     ∙ (sym (find-where_key text_cmp (others k) q (λ x t. ap (others k) (sym (one_text q x t))) es) ∙ sym (get-from_sorted text_cmp xs q up))))))) ∙ entries-from_sorted text_cmp xs up
 
--- ---- outlines of features, which were searched as the slice l for the key k
-module _ (os l : List FeatureOutline) (searched : l ≡ os) (k : Text) (i : ℕ) (features : Features) (known : AreOutlines os features) where
-  gap_in : (IsNonDecreasingBy (λ y. ordering_index (text_cmp (id_of y) k)) l → IsGap k l i) → IsGap k os i
-  gap_in gap = subst (λ xs. IsNonDecreasingBy (λ y. ordering_index (text_cmp (id_of y) k)) xs → IsGap k xs i) searched gap (rises os (entries features) k known (entries_sorted features))
+-- ---- outlines of features, which were searched for the key k
+module _ (os : List FeatureOutline) (k : Text) (i : ℕ) (features : Features) (known : AreOutlines os features) where
+  pub cut_in_place : IsPlace k os i → i < length os → AreOutlines (list.remove os i) (remove features k)
+  cut_in_place place h = cut_at os (entries features) k i known (entries_sorted features) place h ∙ ap outlines (sym (entries_left features k))
 
-  place_in : IsPlace k l i → IsPlace k os i
-  place_in place = subst (λ xs. IsPlace k xs i) searched place
-
-  pub cut_in_place : IsPlace k l i → i < length l → AreOutlines (list.remove os i) (remove features k)
-  cut_in_place place h =
-      cut_at os (entries features) k i known (entries_sorted features) (place_in place) (subst (λ (xs : List FeatureOutline). i < length xs) searched h) ∙ ap outlines (sym (entries_left features k))
-
-  pub none_to_cut : (IsNonDecreasingBy (λ y. ordering_index (text_cmp (id_of y) k)) l → IsGap k l i) → AreOutlines os (remove features k)
-  none_to_cut gap = known ∙ (ap outlines (sym (cut_gap os (entries features) k i known (gap_in gap))) ∙ ap outlines (sym (entries_left features k)))
+  pub none_to_cut : (IsNonDecreasingBy (λ y. ordering_index (text_cmp (id_of y) k)) os → IsGap k os i) → AreOutlines os (remove features k)
+  none_to_cut gap =
+      known ∙ (ap outlines (sym (cut_gap os (entries features) k i known (gap (rises os (entries features) k known (entries_sorted features))))) ∙ ap outlines (sym (entries_left features k)))
 
   module _ (f : FeatureValue) (o : FeatureOutline) (named : k ≡ id_of o) (one : IsOutlineOf o f) where
     id : k ≡ f.id
     id = named ∙ ap (λ (v : FeatureOutlineValue). v.id) one
 
-    pub put_in_place : IsPlace k l i → i < length l → AreOutlines (set os i o) (insert features f.id f)
+    pub put_in_place : IsPlace k os i → i < length os → AreOutlines (set os i o) (insert features f.id f)
     put_in_place place h =
-        put_at os (entries features) f.id f o i known (entries_sorted features) one (subst (λ q. IsPlace q os i) id (place_in place)) (subst (λ (xs : List FeatureOutline). i < length xs) searched h)
+        put_at os (entries features) f.id f o i known (entries_sorted features) one (subst (λ q. IsPlace q os i) id place) h
         ∙ ap outlines (sym (entries-insert nat_list_cmp_total features f.id f))
 
-    pub put_in_gap : (IsNonDecreasingBy (λ y. ordering_index (text_cmp (id_of y) k)) l → IsGap k l i) → i ≤ length l → AreOutlines (list.insert os i o) (insert features f.id f)
+    pub put_in_gap : (IsNonDecreasingBy (λ y. ordering_index (text_cmp (id_of y) k)) os → IsGap k os i) → i ≤ length os → AreOutlines (list.insert os i o) (insert features f.id f)
     put_in_gap gap h =
-        put_gap os (entries features) f.id f o i known one (subst (λ q. IsGap q os i) id (gap_in gap)) (subst (λ (xs : List FeatureOutline). i ≤ length xs) searched h)
+        put_gap os (entries features) f.id f o i known one (subst (λ q. IsGap q os i) id (gap (rises os (entries features) k known (entries_sorted features)))) h
         ∙ ap outlines (sym (entries-insert nat_list_cmp_total features f.id f))

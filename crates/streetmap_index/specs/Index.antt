@@ -1,11 +1,14 @@
 -- What an index knows of collections without reading their features.
-use Rattle.std.specs.Prelude.{◌≡◌, ◌<◌, List, [], length, map, Option, None, Some, IsSome, IsTrue, String, string_bytes, Vec}
+use Rattle.std.specs.Prelude.{◌≡◌, ◌<◌, List, [], All, length, map, Option, None, Some, IsSome, IsTrue, String, string_bytes}
 use Rattle.std.specs.Option.{option_map}
 use Rattle.std.specs.Ordering.{is_eq}
 use Rattle.std.specs.Map.{lookup}
-use Rattle.std.specs.List.{AllByRecursion, flat_map}
+use Rattle.std.specs.List.{flat_map}
 use Rattle.std.specs.FinMap.{get, entries}
 use Rattle.std.specs.declared.alloc.Global.{Global}
+use Rattle.streetmap_grid.specs.declared.grid_box.GridBox.{GridBox}
+use Rattle.streetmap_grid.specs.Views.{box_value}
+use Rattle.streetmap_grid.specs.Extent.{IsWithin}
 use Rattle.streetmap_geojson.specs.FeatureValue.{FeatureValue}
 use Rattle.streetmap_batch.specs.Text.{Text, text_cmp}
 use Rattle.streetmap_batch.specs.BatchValue as edit
@@ -16,6 +19,7 @@ use Rattle.streetmap_ledger.specs.OutlineView.{feature_outline_value, feature_ou
 use Rattle.streetmap_ledger.specs.declared.outline.FeatureOutline.{FeatureOutline}
 use Rattle.streetmap_ledger.specs.declared.reply.Fault.{Fault}
 use Rattle.streetmap_ledger.specs.declared.reply.Fault.TheVariants.{Memory, Device, Damaged, Reopen}
+use Rattle.streetmap_index.specs.declared.chunk.Chunk.{Chunk}
 use Rattle.streetmap_index.specs.declared.outlined.OutlinedCollection.{OutlinedCollection}
 use Rattle.streetmap_index.specs.declared.index.Index.{Index}
 
@@ -24,21 +28,40 @@ abbrev pub IsOutlineOf : FeatureOutline → FeatureValue → Type 0
 IsOutlineOf o f = feature_outline_value o ≡ feature_outline_of f.id f
 
 -- the outlines of all chunks, those of each one behind those of the chunk before it
-abbrev pub joined : List (Vec FeatureOutline Global) → List FeatureOutline
-joined chunks = flat_map (λ chunk. chunk.items) chunks
+abbrev pub joined : List Chunk → List FeatureOutline
+joined chunks = flat_map (λ chunk. chunk.outlines.items) chunks
 
 -- they are the outlines of these features, in byte order of ids
 abbrev pub AreOutlines : List FeatureOutline → Features → Type 0
 AreOutlines os features = feature_outline_values os ≡ map (λ e. feature_outline_of e.0 e.1) (entries features)
 
 -- no chunk is empty
-abbrev pub AreFilled : List (Vec FeatureOutline Global) → Type 0
-AreFilled chunks = AllByRecursion (λ chunk. 0 < length chunk.items) chunks
+abbrev pub AreFilled : List Chunk → Type 0
+AreFilled chunks = All (λ chunk. 0 < length chunk.outlines.items) chunks
+
+-- each point of the extent, if there is one, lies in the bounds
+abbrev pub LiesWithin : Option GridBox → Option GridBox → Type 0
+LiesWithin None bounds = Unit {0}
+LiesWithin (Some extent) None = ⊥
+LiesWithin (Some extent) (Some bounds) = IsWithin (box_value extent) (box_value bounds)
+
+-- the extent of each outline lies within the bounds
+abbrev pub AllLieWithin : List FeatureOutline → Option GridBox → Type 0
+AllLieWithin os bounds = All (λ o. LiesWithin o.extent bounds) os
+
+-- the extents of a chunk's outlines lie within its bounds
+abbrev pub IsBounded : Chunk → Type 0
+IsBounded chunk = AllLieWithin chunk.outlines.items chunk.bounds
+
+-- in each chunk they do
+abbrev pub AreBounded : List Chunk → Type 0
+AreBounded chunks = All IsBounded chunks
 
 -- chunks with the outlines of these features, in byte order of ids
-pub record AreChunksOf (chunks : List (Vec FeatureOutline Global)) (features : Features) : Type 0 where
+pub record AreChunksOf (chunks : List Chunk) (features : Features) : Type 0 where
   pub outlines : AreOutlines (joined chunks) features
   pub filled : AreFilled chunks
+  pub bounded : AreBounded chunks
 
 -- what is known of a collection is so
 pub record IsOutlined (o : OutlinedCollection) (c : Collection) : Type 0 where

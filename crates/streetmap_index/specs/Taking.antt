@@ -12,7 +12,8 @@ use Rattle.streetmap_ledger.specs.Folds.{Holds, HoldsCandidates}
 use Rattle.streetmap_ledger.specs.declared.fold.PageFold.{PageFold}
 use Rattle.streetmap_ledger.specs.declared.outline.FeatureOutline.{FeatureOutline}
 use Rattle.streetmap_ledger.specs.declared.page.Page.{Page}
-use Rattle.streetmap_index.specs.Index.{IsOutlineOf, AreOutlines}
+use Rattle.streetmap_index.specs.Index.{IsOutlineOf, AreChunksOf}
+use Rattle.streetmap_index.specs.declared.chunk.Chunk.{Chunk}
 
 -- the feature that the state has under the id is taken
 abbrev pub TakesRead : State → Text → Text → PageFold → PageFold → Bool → Type 0
@@ -37,8 +38,8 @@ abbrev pub TakesOutlined : State → Text → QueryValue → List FeatureOutline
 TakesOutlined s name q outlines old new taken =
     IsTrue taken → (c : Collection) (met fs : List FeatureValue) → get s.collections name ≡ Some c → Pairs c.features outlines fs → HoldsCandidates q old met → HoldsCandidates q new (met ++ fs)
 
--- if the outlines are those of the collection's features, this is the page, if it is there
-abbrev pub IsOutlinedPage : State → Text → QueryValue → List FeatureOutline → Option Page → Type 0
-IsOutlinedPage s name q outlines None = Unit {0}
-IsOutlinedPage s name q outlines (Some page) =
-    (c : Collection) → get s.collections name ≡ Some c → AreOutlines outlines c.features → page_value page ≡ page_over q (values c.features)
+-- if the chunks are those of the collection's features, this is the page, if it is there
+abbrev pub IsOutlinedPage : State → Text → QueryValue → List Chunk → Option Page → Type 0
+IsOutlinedPage s name q chunks None = Unit {0}
+IsOutlinedPage s name q chunks (Some page) =
+    (c : Collection) → get s.collections name ≡ Some c → AreChunksOf chunks c.features → page_value page ≡ page_over q (values c.features)

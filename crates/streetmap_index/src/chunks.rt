@@ -1,14 +1,13 @@
 //! Outlines of features in byte order of ids, in chunks, so that one that comes or goes moves few others.
-ghost use Rattle.std.specs.Prelude.{◌≡◌, ℕ, ◌+◌, ◌<◌, [], true, false, IfOk, OnOk, length, slice_index_or, string_bytes, Vec};
+ghost use Rattle.std.specs.Prelude.{◌≡◌, ℕ, ◌+◌, ◌<◌, [], true, false, IfOk, OnOk, length, slice_index_or};
 ghost use Rattle.std.specs.FinMap.{insert, remove};
-ghost use Rattle.std.specs.List.Sorted.{IsSearchInRange, IsBinarySearchResult};
-ghost use Rattle.std.specs.declared.alloc.Global.{Global};
 ghost use Rattle.streetmap_geojson.specs.FeatureValue.{FeatureValue};
-ghost use Rattle.streetmap_batch.specs.Text.{text_cmp};
 ghost use Rattle.streetmap_ledger.specs.State.{Features};
-ghost use Rattle.streetmap_index.specs.Index.{joined, IsOutlineOf, AreOutlines, AreFilled, AreChunksOf};
+ghost use Rattle.streetmap_index.specs.Index.{joined, IsOutlineOf, AreFilled, AreBounded, AreChunksOf};
 ghost use Rattle.streetmap_index.specs.Chunks.{reaches as reaches_of};
+ghost use Rattle.streetmap_index.specs.declared.chunk.Chunk.{Chunk};
 
+use crate::chunk::Chunk;
 use std::alloc::{AllocError, Global};
 use streetmap_ledger::FeatureOutline;
 
@@ -18,50 +17,11 @@ const MOST_IN_CHUNK: usize = 512;
 /// How many outlines a chunk has that is learnt, which leaves room for others.
 const LEARNT_IN_CHUNK: usize = 256;
 
-/// Where the outline under an id stands among others in byte order of ids, or where it would stand.
-fn place_of(outlines: &[FeatureOutline], id: &str) -> Result<usize, usize>
-    ensures bound { IsSearchInRange result (length outlines.now) }
-    ensures place { IsBinarySearchResult (λ o. text_cmp (string_bytes o.id) id.now) outlines.now result }
-{
-    outlines.binary_search_by(|outline| outline.id.as_str().cmp(id))
-}
-
-/// Puts an outline among others in byte order of ids, in place of the one under its id, if there is one.
-fn put(outlines: &mut Vec<FeatureOutline>, outline: FeatureOutline) -> Result<(), AllocError>
-    ensures some { OnOk result (0 < length outlines.new.items) }
-    ensures outlines { (features : Features) (f : FeatureValue) → AreOutlines outlines.old.items features → IsOutlineOf outline f → OnOk result (AreOutlines outlines.new.items (insert features f.id f)) }
-{
-    match place_of(outlines.as_slice(), outline.id.as_str()) {
-        Ok(place) => outlines[place] = outline,
-        Err(place) => outlines.insert(place, outline)?,
-    }
-    Ok(())
-}
-
-/// Takes the outline under an id out, if there is one.
-fn cut(outlines: &mut Vec<FeatureOutline>, id: &str)
-    ensures { (features : Features) → AreOutlines outlines.old.items features → AreOutlines outlines.new.items (remove features id.now) }
-{
-    if let Ok(place) = place_of(outlines.as_slice(), id) {
-        let _ = outlines.remove(place);
-    }
-}
-
-/// Whether the last of the outlines is under this id or a later one.
-fn reaches(outlines: &[FeatureOutline], id: &str) -> bool
-    ensures { result ≡ reaches_of id.now outlines.now }
-{
-    match outlines.last() {
-        Some(outline) => outline.id.as_str() >= id,
-        None => false,
-    }
-}
-
 /// Outlines of features in byte order of ids: those of each chunk behind those of the chunk before it, and
 /// no chunk is empty.
 #[derive(Drop)]
 pub struct Chunks {
-    pub chunks: Vec<Vec<FeatureOutline>>,
+    pub chunks: Vec<Chunk>,
 }
 
 impl Chunks {
@@ -69,15 +29,16 @@ impl Chunks {
     pub fn new(alloc: Global, mut outlines: Vec<FeatureOutline>) -> Result<Self, AllocError>
         ensures same { IfOk result (λ made. joined made.chunks.items ≡ outlines.items) }
         ensures filled { IfOk result (λ made. AreFilled made.chunks.items) }
+        ensures bounded { IfOk result (λ made. AreBounded made.chunks.items) }
     {
         let mut chunks = Vec::new(alloc);
         while outlines.len() > LEARNT_IN_CHUNK {
             let last = outlines.split_off(outlines.len() - LEARNT_IN_CHUNK)?;
-            chunks.push(last)?;
+            chunks.push(Chunk::new(last))?;
         }
         if !outlines.is_empty() {
             outlines.shrink_to_fit();
-            chunks.push(outlines)?;
+            chunks.push(Chunk::new(outlines))?;
         }
         chunks.reverse();
         Ok(Chunks { chunks })
@@ -87,13 +48,13 @@ impl Chunks {
     /// would stand.
     fn chunk_of(&self, id: &str) -> usize
         ensures bound { 0 < length self.now.chunks.items → result < length self.now.chunks.items }
-        ensures before { (features : Features) → AreChunksOf self.now.chunks.items features → (k : ℕ) (d : Vec FeatureOutline Global) → k < result → reaches_of id.now (slice_index_or self.now.chunks.items k d).items ≡ false }
-        ensures here { (features : Features) → AreChunksOf self.now.chunks.items features → (d : Vec FeatureOutline Global) → result + 1 < length self.now.chunks.items → reaches_of id.now (slice_index_or self.now.chunks.items result d).items ≡ true }
+        ensures before { (features : Features) → AreChunksOf self.now.chunks.items features → (k : ℕ) (d : Chunk) → k < result → reaches_of id.now (slice_index_or self.now.chunks.items k d).outlines.items ≡ false }
+        ensures here { (features : Features) → AreChunksOf self.now.chunks.items features → (d : Chunk) → result + 1 < length self.now.chunks.items → reaches_of id.now (slice_index_or self.now.chunks.items result d).outlines.items ≡ true }
     {
         let place = self
             .chunks
             .as_slice()
-            .partition_point(|chunk| !reaches(chunk.as_slice(), id));
+            .partition_point(|chunk| !chunk.reaches(id));
         place.min(self.chunks.len().saturating_sub(1))
     }
 
@@ -102,8 +63,9 @@ impl Chunks {
         requires { place < length self.old.chunks.items }
         ensures same { OnOk result (joined self.new.chunks.items ≡ joined self.old.chunks.items) }
         ensures filled { AreFilled self.old.chunks.items → OnOk result (AreFilled self.new.chunks.items) }
+        ensures bounded { AreBounded self.old.chunks.items → OnOk result (AreBounded self.new.chunks.items) }
     {
-        let len = self.chunks[place].len();
+        let len = self.chunks[place].outlines.len();
         if len < MOST_IN_CHUNK {
             return Ok(());
         }
@@ -117,8 +79,8 @@ impl Chunks {
         requires { self.old.chunks.items ≡ [] }
         ensures { (features : Features) (f : FeatureValue) → AreChunksOf self.old.chunks.items features → IsOutlineOf outline f → OnOk result (AreChunksOf self.new.chunks.items (insert features f.id f)) }
     {
-        let mut first = Vec::new(alloc);
-        put(&mut first, outline)?;
+        let mut first = Chunk::new(Vec::new(alloc));
+        first.put(outline)?;
         self.chunks.push(first)?;
         Ok(())
     }
@@ -132,7 +94,7 @@ impl Chunks {
             return self.begin(alloc, outline);
         }
         let place = self.chunk_of(outline.id.as_str());
-        put(&mut self.chunks[place], outline)?;
+        self.chunks[place].put(outline)?;
         self.halve(place)
     }
 
@@ -142,8 +104,8 @@ impl Chunks {
     {
         let place = self.chunk_of(id);
         if place < self.chunks.len() {
-            cut(&mut self.chunks[place], id);
-            if self.chunks[place].is_empty() {
+            self.chunks[place].cut(id);
+            if self.chunks[place].outlines.is_empty() {
                 drop(self.chunks.remove(place));
             }
         }

@@ -9,12 +9,15 @@
 //! memory is refused for that all is forgotten, and nothing is learnt at the next looks. A fault that shuts the
 //! other keeper leaves nothing known. Where a collection is not known the other keeper answers.
 //!
-//! In the order of reading: `chunks` (outlines in chunks, where an edit moves few of them), `outlined` (what is
-//! known of a collection, and how it follows edits), `learning` (how it is learnt from a keeper), `index` (what is
-//! known of some collections), `asking`, `selection` and `page`, `telling`, `keeper`.
+//! In the order of reading: `bounds`, `chunk` and `chunks` (outlines in chunks, of which an edit changes one, and a
+//! page passes over those whose bounds are off its box), `outlined` (what is known of a collection, and how it
+//! follows edits), `learning` (how it is learnt from a keeper), `index` (what is known of some collections),
+//! `asking`, `selection` and `page`, `telling`, `keeper`.
 #![tactic(auto)]
 
 mod asking;
+mod bounds;
+mod chunk;
 mod chunks;
 mod index;
 mod keeper;

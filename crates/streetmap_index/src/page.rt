@@ -8,12 +8,13 @@ ghost use Rattle.streetmap_ledger.specs.State.{State};
 ghost use Rattle.streetmap_ledger.specs.Pages.{is_candidate as is_candidate_of};
 ghost use Rattle.streetmap_ledger.specs.Folds.{Holds, HoldsCandidates};
 ghost use Rattle.streetmap_ledger.specs.Keep.{Looks, Shows, LeavesOnly, ShutsBy, AsBefore};
-ghost use Rattle.streetmap_index.specs.Index.{joined, IsOutlineOf, IsOutlinedIf};
+ghost use Rattle.streetmap_index.specs.Index.{IsOutlineOf, IsOutlinedIf};
 ghost use Rattle.streetmap_index.specs.Taking.{TakesRead, TakesOutlined, IsOutlinedPage};
 
 use crate::asking::ask;
+use crate::chunk::Chunk;
 use crate::outlined::OutlinedCollection;
-use crate::selection::{comes_after, is_candidate, is_selected};
+use crate::selection::{comes_after, is_candidate, is_passed_over, is_selected};
 use std::alloc::Global;
 use streetmap_ledger::{Fault, FeatureOutline, Keeper, Page, PageFold};
 use streetmap_query::Query;
@@ -110,22 +111,25 @@ fn page_by_outlines<K: Keeper>(
     alloc: Global,
     keeper: &mut K,
     collection: &str,
-    chunks: &[Vec<FeatureOutline>],
+    chunks: &[Chunk],
     query: &Query,
 ) -> Result<Option<Page>, Fault>
     requires is_open { K.cause keeper.old ≡ None }
     ensures began_clean { K.is_clean keeper.new → K.is_clean keeper.old }
     ensures faults { ShutsBy result None (K.cause keeper.new) }
-    ensures shows { K.is_clean keeper.new → (s : State) → K.stands keeper.old s → Looks s (IsOutlinedPage s collection.now (query_value query.now) (joined chunks.now)) result (K.stands keeper.new) }
+    ensures shows { K.is_clean keeper.new → (s : State) → K.stands keeper.old s → Looks s (IsOutlinedPage s collection.now (query_value query.now) chunks.now) result (K.stands keeper.new) }
     ensures leaves { K.is_clean keeper.new → (s : State) → K.stands keeper.old s → LeavesOnly (K.may_leave keeper.old) (Some s) → LeavesOnly (K.may_leave keeper.new) (Some s) }
 {
     let mut fold = PageFold::new(alloc, query);
     let mut read: usize = 0;
     for chunk in chunks {
+        if is_passed_over(query, chunk) {
+            continue;
+        }
         match take_outlined(
             keeper,
             collection,
-            chunk.as_slice(),
+            chunk.outlines.as_slice(),
             query,
             &mut fold,
             &mut read,

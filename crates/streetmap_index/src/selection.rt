@@ -5,8 +5,10 @@ ghost use Rattle.streetmap_geojson.specs.FeatureValue.{FeatureValue};
 ghost use Rattle.streetmap_geojson.specs.FeatureInvariant.{IsFeature};
 ghost use Rattle.streetmap_query.specs.Views.{query_value};
 ghost use Rattle.streetmap_ledger.specs.Pages.{passes, interval_asked, selects, comes_after as comes_after_of, is_candidate as is_candidate_of};
-ghost use Rattle.streetmap_index.specs.Index.{IsOutlineOf};
+ghost use Rattle.streetmap_ledger.specs.declared.outline.FeatureOutline.{FeatureOutline};
+ghost use Rattle.streetmap_index.specs.Index.{IsOutlineOf, LiesWithin};
 
+use crate::chunk::Chunk;
 use streetmap_ledger::{FeatureOutline, lies_within_box, overlaps_box};
 use streetmap_query::Query;
 
@@ -31,6 +33,13 @@ pub fn is_candidate(query: &Query, outline: &FeatureOutline) -> bool
     ensures { (f : FeatureValue) → IsOutlineOf outline.now f → result ≡ is_candidate_of (query_value query.now) f }
 {
     overlaps_box(query, outline.extent) && overlaps_interval(query, outline)
+}
+
+/// Whether the chunk's bounds tell that a page examines none of the features with its outlines.
+pub fn is_passed_over(query: &Query, chunk: &Chunk) -> bool
+    ensures { IsTrue result → (outline : FeatureOutline) (f : FeatureValue) → LiesWithin outline.extent chunk.now.bounds → IsOutlineOf outline f → is_candidate_of (query_value query.now) f ≡ false }
+{
+    !overlaps_box(query, chunk.bounds)
 }
 
 /// Whether the time begins in a second before the one that the interval ends in, and ends in one behind

@@ -1,54 +1,33 @@
 //! What is told of collections by what is known of them.
-ghost use Rattle.std.specs.Prelude.{◌≡◌, ◌++◌, List, Some, None, IfOk, IsErrOf, option_map, option_copied, string_bytes};
+ghost use Rattle.std.specs.Prelude.{◌≡◌, List, Some, None, IfOk, IsErrOf, option_map, option_copied, string_bytes};
 ghost use Rattle.std.specs.FinMap.{get};
 ghost use Rattle.streetmap_grid.specs.Bounds.{AreBounds};
-ghost use Rattle.streetmap_grid.specs.Values.{PositionValue};
 ghost use Rattle.streetmap_geojson.specs.FeatureValue.{FeatureValue};
 ghost use Rattle.streetmap_ledger.specs.State.{State, Collection, Features};
 ghost use Rattle.streetmap_ledger.specs.WellFormed.{IsState, HoldsFeatures};
-ghost use Rattle.streetmap_ledger.specs.Summaries.{all_vertices, feature_vertices, summary_of, summaries_in};
+ghost use Rattle.streetmap_ledger.specs.Summaries.{all_vertices, summary_of, summaries_in};
 ghost use Rattle.streetmap_ledger.specs.SummaryView.{summary_value, summary_values};
 ghost use Rattle.streetmap_ledger.specs.Keep.{Tells, Lists, LeavesOnly, ShutsBy, AsBefore};
 ghost use Rattle.streetmap_index.specs.Index.{joined, IsOutlined, IsOutlinedIf, AreKnown, KnowsAll};
-ghost use Rattle.streetmap_index.specs.Taking.{IsEntry, Pairs};
+ghost use Rattle.streetmap_index.specs.Taking.{Pairs};
 
 use crate::asking::ask;
+use crate::bounds::grown;
+use crate::chunk::Chunk;
 use crate::outlined::OutlinedCollection;
 use std::alloc::{AllocError, Global};
 use std::collections::BTreeMap;
 use streetmap_grid::GridBox;
-use streetmap_ledger::{Fault, FeatureOutline, Keeper, Summary};
-
-/// The bounds of the positions of both.
-fn bounds_of_both(one: Option<GridBox>, other: Option<GridBox>) -> Option<GridBox>
-    ensures { (ps qs : List PositionValue) → AreBounds ps one → AreBounds qs other → AreBounds (ps ++ qs) result }
-{
-    match (one, other) {
-        (one, None) => one,
-        (None, other) => other,
-        (Some(one), Some(other)) => Some(one.union(&other)),
-    }
-}
-
-/// The bounds so far, with those of the features with these outlines.
-fn grown(bounds: Option<GridBox>, outlines: &[FeatureOutline]) -> Option<GridBox>
-    ensures { (features : Features) (ps : List PositionValue) (fs : List FeatureValue) → Pairs features outlines.now fs → AreBounds ps bounds → AreBounds (ps ++ all_vertices fs) result }
-{
-    let mut bounds = bounds;
-    for outline in outlines {
-        bounds = bounds_of_both(bounds, outline.extent);
-    }
-    bounds
-}
+use streetmap_ledger::{Fault, Keeper, Summary};
 
 /// The extent of the features with the outlines in these chunks, in millimetres; none where none has a
 /// geometry.
-fn extent_of(chunks: &[Vec<FeatureOutline>]) -> Option<GridBox>
+fn extent_of(chunks: &[Chunk]) -> Option<GridBox>
     ensures { (features : Features) (fs : List FeatureValue) → Pairs features (joined chunks.now) fs → AreBounds (all_vertices fs) result }
 {
     let mut bounds = None;
     for chunk in chunks {
-        bounds = grown(bounds, chunk.as_slice());
+        bounds = grown(bounds, chunk.outlines.as_slice());
     }
     bounds
 }

@@ -1,10 +1,11 @@
-use Rattle.std.proofs.Common.{◌+◌, [], length, drop, ap, subst, refl, ◌∙◌, arith}
+use Rattle.std.proofs.Common.{◌+◌, [], length, drop, ap, sym, subst, refl, ◌∙◌, arith}
 use Rattle.std.specs.FinMap.{values}
 use Rattle.std.proofs.lemmas.List.{drop_all}
 use Rattle.streetmap_query.specs.Views.{query_value}
 use Rattle.streetmap_ledger.specs.Pages.{candidates, page_over}
 use Rattle.streetmap_ledger.proofs.Examining.{same_page}
-use Rattle.streetmap_index.specs.Index.{joined}
+use Rattle.streetmap_index.specs.Index.{joined, IsBounded}
+use Rattle.streetmap_index.proofs.Covering.{passed_over}
 use Rattle.streetmap_index.proofs.InChunks.{next_chunk}
 use Rattle.streetmap_index.proofs.Pairing.{Going, paired, goes_on_behind, all_met}
 use Rattle.streetmap_index.proofs.page.page_by_outlines.Goals as goal
@@ -21,10 +22,30 @@ loop-chunk-init g c = record {
         met = [];
         left = values d.features;
         whole = refl {a = values d.features};
-        pairs = paired (joined c.args.chunks.now) d known (sound.made _ d there).holds;
+        pairs = paired (joined c.args.chunks.now) d known.outlines (sound.made _ d there).holds;
         holds = record { holds = c.new-fold.ensures; whole = refl {a = []} };
       };
 }
+
+pub loop-chunk-preserved-then-is_passed_over : goal.loop-chunk-preserved-then-is_passed_over
+loop-chunk-preserved-then-is_passed_over g c =
+    let inv = c.loop-chunk.invariant in
+    let q = query_value c.args.query.now in
+    let cs = c.args.chunks.now in
+    let i = c.loop-chunk.chunk-index in
+    let chunk = c.chunk-item.result in
+    record {
+      is_open = inv.is_open;
+      clean = inv.clean;
+      stands = inv.stands;
+      leaves = inv.leaves;
+      going = λ h s d e there known.
+          let fold = c.loop-chunk.fold in
+          let bounded = subst IsBounded (sym c.chunk-item.is) (known.bounded i chunk (omega arith)) in
+          goes_on_behind q fold fold d.features (values d.features) chunk.outlines.items (joined (drop (i + 1) cs))
+          (subst (Going q fold d.features (values d.features)) (next_chunk cs i chunk chunk.outlines.items (omega arith) c.chunk-item.is refl) (inv.going h s d e there known))
+          (passed_over c.args.query.now fold d.features chunk.bounds (c.is_passed_over.ensures c.if-is_passed_over.true) chunk.outlines.items bounded);
+    }
 
 pub loop-chunk-preserved : goal.loop-chunk-preserved
 loop-chunk-preserved g c =

@@ -15,7 +15,7 @@ loop-chunk-preserved c = λ features fs pairs.
     let os = c.as_slice.result.now in
     grows_behind [] c.loop-chunk.bounds c.grown-bounds.result features fs os (joined (drop (i + 1) cs))
     (subst (Growing [] c.loop-chunk.bounds features fs) (next_chunk cs i c.chunk-item.result os (omega arith) c.chunk-item.is c.as_slice.ensures.value) (c.loop-chunk.invariant features fs pairs))
-    (λ vs gs there are. c.grown-bounds.ensures features vs gs there are)
+    (λ vs gs there are. c.grown-bounds.ensures.exact features vs gs there are)
 
 pub returns : goal.returns
 returns c = λ features fs pairs.

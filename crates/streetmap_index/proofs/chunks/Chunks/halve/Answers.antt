@@ -1,9 +1,30 @@
-use Rattle.std.proofs.Common.{ap, ◌∙◌}
-use Rattle.streetmap_index.specs.Index.{joined}
-use Rattle.streetmap_index.proofs.InChunks.{halved_at}
+use Rattle.std.proofs.Common.{◌<◌, length, set, ap, ◌∙◌, arith}
+use Rattle.std.proofs.lemmas.List.Elements.{All-set, All-same}
+use Rattle.std.proofs.lemmas.Grind.{common_steps}
+use Rattle.streetmap_index.specs.Index.{joined, IsBounded}
+use Rattle.streetmap_index.proofs.InChunks.{HasSome, halved_at}
+use Rattle.streetmap_index.proofs.Each.{each_inserted}
 use Rattle.streetmap_index.proofs.chunks.Chunks.halve.Goals as goal
 
 pub returns-clause-same : goal.returns-clause-same
 returns-clause-same c =
     ap joined c.in_ok-insert.ensures.items
-    ∙ halved_at c.args.self.now.chunks.items c.args.place c.index_mut.result.now c.split_off.new.self c.in_ok-behind.behind c.requires c.index_mut.ensures.value _ c.in_ok-behind.ensures.items c.in_ok-behind.ensures.tail
+    ∙ halved_at c.args.self.now.chunks.items c.args.place c.index_mut.result.now c.split_off.new.self c.in_ok-behind.behind c.requires c.index_mut.ensures.value _ c.in_ok-behind.ensures.front c.in_ok-behind.ensures.behind
+
+pub returns-clause-filled : goal.returns-clause-filled
+returns-clause-filled c = λ filled.
+    let cs = c.args.self.now.chunks.items in
+    let place = c.args.place in
+    let one = c.split_off.new.self in
+    let behind = c.in_ok-behind.behind in
+    let front_some : 0 < length one.outlines.items = grind (arith, common_steps) in
+    let some : 0 < length behind.outlines.items = grind (arith, common_steps) in
+    All-same HasSome _ _ c.in_ok-insert.ensures.items (each_inserted HasSome (set cs place one) _ behind some (All-set HasSome cs place one front_some filled))
+
+pub returns-clause-bounded : goal.returns-clause-bounded
+returns-clause-bounded c = λ bounded.
+    let cs = c.args.self.now.chunks.items in
+    let place = c.args.place in
+    let one = c.split_off.new.self in
+    let says = c.in_ok-behind.ensures.bounded in
+    All-same IsBounded _ _ c.in_ok-insert.ensures.items (each_inserted IsBounded (set cs place one) _ c.in_ok-behind.behind says.1 (All-set IsBounded cs place one says.0 bounded))
