@@ -1,5 +1,5 @@
 -- How carrying over ends, and what tables of format 1 tell.
-use Rattle.std.proofs.Common.{◌≡◌, ◌≢◌, inl, inr, ℕ, ℤ, pos, Option, Some, Result, Ok, Err, IsTrue, refl, sym, ap, subst, ◌∙◌, arith}
+use Rattle.std.proofs.Common.{◌≡◌, inl, inr, ℕ, ℤ, pos, Option, Some, Result, Ok, Err, IsTrue, refl, sym, ap, subst, ◌∙◌, arith}
 use Rattle.std.proofs.lemmas.Int.{ints}
 use Rattle.sqlite.specs.State.{State as Seen, KeepsCommit, IsRolledBack}
 use Rattle.streetmap_ledger.specs.State.{State}
@@ -11,7 +11,12 @@ use Rattle.streetmap_opening.specs.Telling.{TellsFormat, TellsNothing, AdoptsBy,
 use Rattle.streetmap_opening.specs.declared.adopting.AdoptFault.TheVariants as adopting
 use Rattle.streetmap_opening.proofs.Reading.{format_seen, format_unrefused, serials_unrefused}
 use Rattle.streetmap_carrying.specs.Old.{KeepsOld, RestsOld}
-use Rattle.streetmap_carrying.specs.Carrying.{Carries, IsNamedFault}
+use Rattle.streetmap_carrying.specs.Carrying.{IsToldOld, IsHeldBack, IsRefusedOld, Carries}
+use Rattle.streetmap_carrying.specs.Part.{IsSpared}
+use Rattle.streetmap_reading.specs.declared.fault.ReadFault.{ReadFault}
+use Rattle.streetmap_reading.specs.declared.fault.ReadFault.TheVariants as read
+use Rattle.sqlite.specs.Schema.{Schema}
+use Rattle.sqlite.specs.Effect.{Database}
 use Rattle.streetmap_carrying.specs.declared.opening.TablesFault.{TablesFault}
 use Rattle.streetmap_carrying.specs.declared.opening.TablesFault.TheVariants.{NotOurs, NewFormat, Damaged, Device, Memory}
 
@@ -31,22 +36,28 @@ same_after_rollback old begun mid new same kept back settled live =
     let undone = back.undone live in
     (undone.0 ∙ was ∙ sym settled, undone.1 ∙ was)
 
--- a refusal for no row that cannot be read
-pub refused_old : (s : State) (old new : Seen) (fault : TablesFault) → IsNamedFault fault → fault ≢ Damaged → (IsTrue new.is_open → RestsOld new s) → (fault ≡ Memory → IsTrue new.is_open × LeavesTheSame old new) → Carries s old new (Err fault)
-refused_old s old new NotOurs named other rests memory = named
-refused_old s old new NewFormat named other rests memory = named
-refused_old s old new Damaged named other rests memory = other refl
-refused_old s old new (Device e) named other rests memory = rests
-refused_old s old new Memory named other rests memory = let it = memory refl in (rests it.0, it.1)
+-- a refusal, by what it tells
+pub refused_old : (s : State) (old new : Seen) (fault : TablesFault) → IsRefusedOld old.now.schema fault → (IsTrue new.is_open → RestsOld new s) → (fault ≡ Memory → IsTrue new.is_open × LeavesTheSame old new) → Carries s old new (Err fault)
+refused_old s old new NotOurs told rests memory = told
+refused_old s old new NewFormat told rests memory = told
+refused_old s old new Damaged told rests memory = told
+refused_old s old new (Device e) told rests memory = (told, rests)
+refused_old s old new Memory told rests memory = let it = memory refl in (rests it.0, it.1)
+
+-- what part of it gave up for
+pub held_back : (schema : Schema) (fault : ReadFault) → IsSpared fault → IsHeldBack schema fault
+held_back schema read.Memory spared = tt
+held_back schema (read.Store e) spared = inl spared
+held_back schema read.Unread spared = spared
 
 -- after a look that left the same
-pub carries_on : (s : State) (old mid new : Seen) (r : Result ℕ TablesFault) → LeavesTheSame old mid → Carries s mid new r → Carries s old new r
-carries_on s old mid new (Ok count) same h = h
-carries_on s old mid new (Err NotOurs) same h = h
-carries_on s old mid new (Err NewFormat) same h = h
-carries_on s old mid new (Err Damaged) same h = h
-carries_on s old mid new (Err (Device e)) same h = h
-carries_on s old mid new (Err Memory) same h = (h.0, (λ trees may. same.0 trees (h.1.0 trees may), λ trees may. h.1.1 trees (same.1 trees may)))
+pub carries_on : (s : State) (old mid new : Seen) (r : Result ℕ TablesFault) → mid.now ≡ old.now → LeavesTheSame old mid → Carries s mid new r → Carries s old new r
+carries_on s old mid new (Ok count) now same h = h
+carries_on s old mid new (Err NotOurs) now same h = h
+carries_on s old mid new (Err NewFormat) now same h = h
+carries_on s old mid new (Err Damaged) now same h = h
+carries_on s old mid new (Err (Device e)) now same h = (subst (λ (d : Database). IsToldOld d.schema e) now h.0, h.1)
+carries_on s old mid new (Err Memory) now same h = (h.0, (λ trees may. same.0 trees (h.1.0 trees may), λ trees may. h.1.1 trees (same.1 trees may)))
 
 -- ---- what the looks tell of tables of format 1
 

@@ -95,7 +95,7 @@ none_any p [] none = refl
 none_any p (x ∷ xs) none = rw (none x (inl refl)) (none_any p xs (λ y h. none y (inr h)))
 
 -- no foreign key acts where no table refers to it
-idle : (schema : Schema) (keys : Keys) (name : List ℕ) (table : Table) → CanGo schema name table → is_acted_on schema keys table ≡ false
+pub idle : (schema : Schema) (keys : Keys) (name : List ℕ) (table : Table) → CanGo schema name table → is_acted_on schema keys table ≡ false
 idle schema keys name table it = none_any _ schema.tables (λ t h. none_any _ t.references (λ ref known. rw (it.free t ref h known)))
 
 module _ (limit : Option ℕ) (params : Row) (mode : Mode) (from : Database) (name : List ℕ) (table : Table) (it : CanGo from.schema name table) (tally : Tally) (new : Database) where

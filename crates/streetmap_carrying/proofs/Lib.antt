@@ -9,3 +9,7 @@ pub mod Taken
 pub mod Parts
 pub mod Ended
 pub mod Closing
+pub mod ViewNames
+pub mod DropRefused
+pub mod Freed
+pub mod Anew

@@ -175,7 +175,7 @@ module _ (s : State) (d0 : Database) (keeps : KeepsOld s d0) where
     features_at : Has d0.schema.tables (old_features roots.features)
     features_at = there d0.schema features_name _ ours.features_is
 
-    rest1 : IsRest roots d1.schema
+    pub rest1 : IsRest roots d1.schema
     rest1 = rest_left roots d0 d1 rest0 features_name (old_features roots.features) ours.features_is one (features_own roots.features) collections_off batches_off
 
     meta1 : IsNamed d1.schema meta_name (meta roots.meta)

@@ -1,5 +1,5 @@
 -- What dropping a table does.
-use Rattle.std.specs.Prelude.{◌≡◌, ℕ, List, [], false, Ok}
+use Rattle.std.specs.Prelude.{◌≡◌, ◌≤◌, ℕ, List, [], length, false, Ok}
 use Rattle.sqlite.specs.Table.{Table}
 use Rattle.sqlite.specs.Schema.{Schema}
 use Rattle.sqlite.specs.Effect.{Database, IsDatabase}
@@ -8,7 +8,7 @@ use Rattle.sqlite_syntax.specs.declared.statement.Parsed.{Parsed}
 use Rattle.sqlite_resolve.specs.Compile.{first}
 use Rattle.sqlite_schema.specs.declared.schema.Reference.{Reference}
 use Rattle.sqlite_schema.specs.Names.{same_name}
-use Rattle.sqlite_catalog.specs.Change.{without_table, KeepsRows}
+use Rattle.sqlite_catalog.specs.Change.{is_reserved, without_table, KeepsRows}
 use Rattle.sqlite_rules.specs.Lists.{Has}
 use Rattle.streetmap_rows.specs.Tables.{IsNamed}
 
@@ -18,6 +18,13 @@ pub record IsDropText (sql name : List ℕ) : Type 0 where
   pub is : first sql ≡ Ok parsed
   pub drops : parsed.statement ≡ statement.DropTable false name
   pub plain : parsed.formats ≡ []
+
+-- the text is that alone, and has no parameter; the name is none of SQLite's own
+pub record IsDropAlone (sql name : List ℕ) : Type 0 where
+  pub is : IsDropText sql name
+  pub whole : length sql ≤ is.parsed.tail
+  pub bare : 0 ≡ length is.parsed.names
+  pub unreserved : is_reserved name ≡ false
 
 -- the name finds the table, which does not count its rowids, and no table refers to it
 pub record CanGo (schema : Schema) (name : List ℕ) (table : Table) : Type 0 where

@@ -11,6 +11,7 @@ use Rattle.streetmap_geojson.specs.FeatureValue.{FeatureValue}
 use Rattle.streetmap_batch.specs.Text.{Text}
 use Rattle.streetmap_ledger.specs.State.{State, Collection}
 use Rattle.streetmap_ledger.specs.WellFormed.{IsState}
+use Rattle.streetmap_tables.specs.Failing.{IsOfStore}
 use Rattle.streetmap_tables.specs.Holds.{KeyPair}
 use Rattle.streetmap_rows.specs.Rows.{feature_at}
 use Rattle.streetmap_rows.specs.Stands.{StandsFor}
@@ -50,10 +51,10 @@ pub record Lacks (rows : List Row) (s t : State) : Type 0 where
   pub within : (p : KeyPair) (f : FeatureValue) → feature_at t p ≡ Some f → feature_at s p ≡ Some f
   pub all : (p : KeyPair) (f : FeatureValue) → feature_at s p ≡ Some f → (feature_at t p ≡ Some f) ⊎ Has rows (old_cells p f)
 
--- a look or a write that gave up met no row that cannot be read
+-- a look or a write gave up for want of memory or since the store failed, and met no row that cannot be read
 abbrev pub IsSpared : ReadFault → Type 0
 IsSpared Memory = Unit {0}
-IsSpared (Store e) = Unit {0}
+IsSpared (Store e) = IsOfStore e
 IsSpared Unread = ⊥
 
 -- the rows of the features, which stay

@@ -1,14 +1,14 @@
 //! Format 1 is carried over, in one transaction.
-ghost use Rattle.std.specs.Prelude.{◌≡◌, ◌≢◌, ◌≤◌, IsTrue, OnOk, IfErr, false};
+ghost use Rattle.std.specs.Prelude.{◌≡◌, ◌≤◌, IsTrue, OnOk, IfErr, false};
 ghost use Rattle.sqlite.specs.Held.{state};
 ghost use Rattle.sqlite.specs.State.{HasCleanDisk, KeepsCommit, Survives};
+ghost use Rattle.sqlite.specs.Schema.{Schema};
 ghost use Rattle.sqlite.specs.View.{doubt};
 ghost use Rattle.streetmap_ledger.specs.State.{State};
 ghost use Rattle.streetmap_opening.specs.Adopting.{IsAsItWas};
 ghost use Rattle.streetmap_opening.specs.Making.{KeepsOtherTables};
 ghost use Rattle.streetmap_carrying.specs.Old.{RestsOld};
-ghost use Rattle.streetmap_carrying.specs.Carrying.{CarriesInside, CarriesAlone, MayCarry, Carries, IsNamedFault};
-ghost use Rattle.streetmap_carrying.specs.Part.{IsSpared};
+ghost use Rattle.streetmap_carrying.specs.Carrying.{IsHeldBack, IsRefusedOld, CarriesInside, CarriesAlone, MayCarry, Carries, IsNamedFault};
 
 use crate::features::{fault_of, put_rows, take_rows};
 use crate::opening::TablesFault;
@@ -68,7 +68,7 @@ fn tell<S: Alter>(conn: &mut Connection<S>, fault: ReadFault) -> TablesFault
     ensures idle { conn.new.in_transaction ≡ false }
     ensures survives { Survives (state S.Store conn.old) (state S.Store conn.new) (λ _. ⊥) }
     ensures named { IsNamedFault result }
-    ensures spared { IsSpared fault → result ≢ TablesFault.Damaged }
+    ensures told { HasCleanDisk (state S.Store conn.new) → (schema : Schema) → IsHeldBack schema fault → IsRefusedOld schema result }
     ensures settled { IsTrue (state S.Store conn.new).is_open → (state S.Store conn.new).now ≡ (state S.Store conn.new).committed }
     ensures kept { HasCleanDisk (state S.Store conn.new) → KeepsCommit (state S.Store conn.old) (state S.Store conn.new) }
     ensures live { HasCleanDisk (state S.Store conn.new) → result ≡ TablesFault.Memory → IsTrue (state S.Store conn.new).is_open }
@@ -98,7 +98,8 @@ fn tell<S: Alter>(conn: &mut Connection<S>, fault: ReadFault) -> TablesFault
 /// connection is open; `Device` where the store fails or has no room, or a statement that makes the tables
 /// anew is refused, by its error. After memory was refused the connection is looked at by `probe`: where
 /// memory is refused to that look too, it is `Device`, by that error. On the tables of a state it is
-/// `Device` or `Memory`.
+/// `Memory`, or `Device` by an error of the store, or by `SchemaTooBig` or `NameTaken` where their schema
+/// has no place for the tables of format 2 (`make_tables`).
 pub fn carry_tables<S: Alter>(alloc: Global, conn: &mut Connection<S>) -> Result<u64, TablesFault>
     requires { conn.old.in_transaction ≡ false }
     ensures idle { conn.new.in_transaction ≡ false }

@@ -1,11 +1,15 @@
 //! The tables of the features and of the format are made anew.
-ghost use Rattle.std.specs.Prelude.{◌≡◌, ℕ, List, None, IsTrue, OnOk};
+ghost use Rattle.std.specs.Prelude.{◌≡◌, ℕ, List, None, IsTrue, IfErr, OnOk};
 ghost use Rattle.sqlite.specs.Held.{state};
 ghost use Rattle.sqlite.specs.State.{HasCleanDisk, KeepsCommit, Survives};
 ghost use Rattle.sqlite.specs.Table.{Table};
 ghost use Rattle.sqlite_trees.specs.Tree.{IsAscending};
-ghost use Rattle.streetmap_carrying.specs.Dropping.{IsDropText, CanGo, Dropped};
-ghost use Rattle.streetmap_carrying.specs.Carrying.{Remakes};
+ghost use Rattle.sqlite.specs.Effect.{IsDatabase};
+ghost use Rattle.streetmap_ledger.specs.State.{State};
+ghost use Rattle.streetmap_tables.specs.Failing.{IsOfStore};
+ghost use Rattle.streetmap_carrying.specs.Old.{KeepsOld};
+ghost use Rattle.streetmap_carrying.specs.Dropping.{IsDropText, IsDropAlone, CanGo, Dropped};
+ghost use Rattle.streetmap_carrying.specs.Carrying.{IsToldOld, Remakes};
 
 use sqlite::{Alter, Error, Transaction};
 use streetmap_opening::{create_table, insert_format};
@@ -14,6 +18,7 @@ use streetmap_opening::{create_table, insert_format};
 fn drop_table<S: Alter>(tx: &mut Transaction<'_, S>, sql: &str) -> Result<(), Error>
     ensures same_reference { tx.new.conn.ghost_name ≡ tx.old.conn.ghost_name }
     ensures dropped { HasCleanDisk (state S.Store tx.new.conn.now) → IsTrue (state S.Store tx.old.conn.now).in_transaction → (name : List ℕ) → (table : Table) → IsDropText sql.now name → CanGo (state S.Store tx.old.conn.now).now.schema name table → OnOk result (Dropped table (state S.Store tx.old.conn.now).now (state S.Store tx.new.conn.now).now) }
+    ensures told { HasCleanDisk (state S.Store tx.new.conn.now) → IsTrue (state S.Store tx.old.conn.now).in_transaction → (name : List ℕ) → (table : Table) → IsDropAlone sql.now name → CanGo (state S.Store tx.old.conn.now).now.schema name table → IsAscending (λ a b. a.tree ≡ b.tree → ⊥) (state S.Store tx.old.conn.now).now.schema.tables → IsDatabase (state S.Store tx.old.conn.now).now → IfErr result IsOfStore }
     ensures inside { HasCleanDisk (state S.Store tx.new.conn.now) → IsTrue (state S.Store tx.old.conn.now).in_transaction → OnOk result (IsTrue (state S.Store tx.new.conn.now).in_transaction) }
     ensures kept { HasCleanDisk (state S.Store tx.new.conn.now) → IsTrue (state S.Store tx.old.conn.now).in_transaction → KeepsCommit (state S.Store tx.old.conn.now) (state S.Store tx.new.conn.now) }
     ensures survives { Survives (state S.Store tx.old.conn.now) (state S.Store tx.new.conn.now) (λ _. ⊥) }
@@ -26,6 +31,7 @@ fn drop_table<S: Alter>(tx: &mut Transaction<'_, S>, sql: &str) -> Result<(), Er
 pub fn remake_tables<S: Alter>(tx: &mut Transaction<'_, S>) -> Result<(), Error>
     ensures same_reference { tx.new.conn.ghost_name ≡ tx.old.conn.ghost_name }
     ensures made { HasCleanDisk (state S.Store tx.new.conn.now) → IsTrue (state S.Store tx.old.conn.now).in_transaction → (state S.Store tx.old.conn.now).step_limit ≡ None → OnOk result (Remakes (state S.Store tx.old.conn.now) (state S.Store tx.new.conn.now)) }
+    ensures told { HasCleanDisk (state S.Store tx.new.conn.now) → IsTrue (state S.Store tx.old.conn.now).in_transaction → (state S.Store tx.old.conn.now).step_limit ≡ None → (s : State) → KeepsOld s (state S.Store tx.old.conn.now).now → IfErr result (IsToldOld (state S.Store tx.old.conn.now).now.schema) }
     ensures inside { HasCleanDisk (state S.Store tx.new.conn.now) → IsTrue (state S.Store tx.old.conn.now).in_transaction → OnOk result (IsTrue (state S.Store tx.new.conn.now).in_transaction) }
     ensures kept { HasCleanDisk (state S.Store tx.new.conn.now) → IsTrue (state S.Store tx.old.conn.now).in_transaction → KeepsCommit (state S.Store tx.old.conn.now) (state S.Store tx.new.conn.now) }
     ensures survives { Survives (state S.Store tx.old.conn.now) (state S.Store tx.new.conn.now) (λ _. ⊥) }

@@ -11,3 +11,7 @@ pub mod Reading
 pub mod Opened
 pub mod Seeing
 pub mod Telling
+pub mod Refused
+pub mod Allowed
+pub mod Full
+pub mod Refusals

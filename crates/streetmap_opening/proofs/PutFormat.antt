@@ -1,5 +1,5 @@
 -- The format row goes into tables that have every other row of a state.
-use Rattle.std.proofs.Common.{◌≡◌, ◌≢◌, ℕ, ◌≤◌, pos, List, [], ◌∷◌, length, codes, Ok, refl, None, Option, true, is_ok, sym, subst, ◌∙◌, arith}
+use Rattle.std.proofs.Common.{◌≡◌, ◌≢◌, ℕ, ◌≤◌, pos, List, [], ◌∷◌, length, codes, Ok, Err, false, eq-eqb, refl, None, Option, true, is_ok, sym, subst, ◌∙◌, arith}
 use Rattle.std.specs.List.{AllByRecursion}
 use Rattle.std.specs.FinMap.{empty, get-empty}
 use Rattle.sqlite.specs.declared.types.Value.TheVariants.{Null, Int, Text as Words}
@@ -10,7 +10,8 @@ use Rattle.sqlite.specs.Table.{Table}
 use Rattle.sqlite.specs.Effect.{Database, IsDatabase}
 use Rattle.sqlite.specs.Source.TheVariants.{Values}
 use Rattle.sqlite.specs.Command.TheVariants.{Insert}
-use Rattle.sqlite.specs.State.{State as Seen, Executes}
+use Rattle.sqlite.specs.State.{State as Seen, Executes, ExecutesInside}
+use Rattle.sqlite.specs.declared.error.Error.{Error}
 use Rattle.sqlite_ast.specs.declared.Expr.TheVariants as expr
 use Rattle.sqlite_ast.specs.declared.Rows.{Rows as Given}
 use Rattle.sqlite_ast.specs.declared.Rows.TheVariants as rows
@@ -19,9 +20,16 @@ use Rattle.sqlite_ast.specs.declared.Conflict.TheVariants as conflict
 use Rattle.sqlite_syntax.specs.declared.statement.Parsed.{Parsed}
 use Rattle.sqlite_resolve.specs.Compile.{first}
 use Rattle.sqlite_tied.specs.Compute.{everything}
-use Rattle.sqlite_trees.specs.Tree.{Trees}
+use Rattle.sqlite_trees.specs.Tree.{Trees, put_row, with_tree}
+use Rattle.sqlite_schema.specs.declared.schema.Constraint.TheVariants.{Unique}
+use Rattle.sqlite_schema.specs.declared.schema.Constraint.TheVariants as rule
+use Rattle.sqlite_schema.specs.declared.schema.Keys.TheVariants.{Enforced}
+use Rattle.sqlite_schema.specs.declared.schema.Among.TheVariants.{All}
+use Rattle.sqlite_schema.specs.Rules.{Refers}
+use Rattle.sqlite_rules.specs.declared.error.Refusal.{Refusal}
+use Rattle.sqlite_rules.specs.declared.error.Refusal.TheVariants.{Violates, Mismatch, NoRowid, BadReference, TooDeep}
 use Rattle.sqlite_rules.specs.Lists.{Has}
-use Rattle.sqlite_rules.specs.Edit.{next_rowid}
+use Rattle.sqlite_rules.specs.Edit.{next_rowid, is_taken, IsRefused, Applies}
 use Rattle.sqlite_rules.proofs.ListLemmas.{all_has}
 use Rattle.streetmap_ledger.specs.State.{State, opening_state}
 use Rattle.streetmap_tables.specs.Holds.{Holds, KeyPair, first_key, is_first, pair_key, has_pair}
@@ -32,6 +40,10 @@ use Rattle.streetmap_tables.proofs.Holding.{holds_put, holds_same}
 use Rattle.streetmap_tables.proofs.Keys.{first_is, first_self}
 use Rattle.streetmap_tables.proofs.Resolving.{Means, means, insert_planned, command_is, is_plain, is_fit}
 use Rattle.streetmap_tables.proofs.Running as run
+use Rattle.sqlite.proofs.StateLemmas.{refers_if_sound}
+use Rattle.streetmap_tables.specs.Failing.{IsOfStore}
+use Rattle.streetmap_tables.proofs.Adding.{keeps_unique, refers_after}
+use Rattle.std.proofs.lemmas.Bool.{both_ways, true≢false, ne_eqb}
 use Rattle.streetmap_rows.specs.Tables.{Roots, IsOurs, meta, collections, batches, features, meta_name}
 use Rattle.streetmap_rows.specs.Rows.{feature_at, meta_cells}
 use Rattle.streetmap_rows.specs.Stands.{CanBeRead, StandsFor}
@@ -113,6 +125,30 @@ module _ (s : State) (old new : Seen) (limit : old.step_limit ≡ None) (lacks :
   abbrev row : Row
   row = Int (next_rowid (db roots.meta)) ∷ Words (codes "format") ∷ Int (pos 2) ∷ []
 
+  listed : Has schema.tables (meta roots.meta)
+  listed = placing.meta_there roots schema lacks.ours
+
+  unused : is_taken (db roots.meta) row ≡ false
+  unused = rw lacks.meta_empty refl
+
+  -- no row that is there stands in its way
+  only_rowid : (why : Refusal) → IsRefused schema Enforced db (record { table = meta roots.meta; gone = []; news = row ∷ [] }) why → why ≡ NoRowid
+  only_rowid (Violates rule.Datatype) h = absurd (true≢false h)
+  only_rowid (Violates rule.NotNull) h = absurd (true≢false h)
+  only_rowid (Violates rule.Check) h = absurd (true≢false h)
+  only_rowid (Violates rule.PrimaryKey) h = absurd (both_ways _ (rw unused at h) refl)
+  only_rowid (Violates rule.Unique) h =
+      absurd (h (keeps_unique schema db (meta roots.meta) row lacks.ours.apart listed unused (with_tree db roots.meta (put_row row (db roots.meta))) (record { rows = rw (eq-eqb roots.meta roots.meta refl) refl; others = λ t known other. rw (ne_eqb t.tree roots.meta other) })
+      (λ i known on r there. absurd (subst (λ rows. Has rows r) lacks.meta_empty there)) (sound.obeys.rules Unique)))
+  only_rowid (Violates rule.ForeignKey) h = absurd h
+  only_rowid Mismatch h = absurd (true≢false h)
+  only_rowid NoRowid h = refl
+  only_rowid BadReference h = absurd (true≢false h)
+  only_rowid TooDeep h = absurd h
+
+  refers : (next : Trees) → Applies schema Enforced db (record { table = meta roots.meta; gone = []; news = row ∷ [] }) next → Refers All schema next
+  refers next made = refers_after schema db (meta roots.meta) row lacks.ours.apart listed unused next (record { rows = made.rows; others = λ t known other. all_has _ schema.tables t made.tables known other }) (refers_if_sound _ _ sound) refl
+
   kept : (next : Trees) → AllByRecursion (λ t. t.tree ≢ roots.meta → next t.tree ≡ db t.tree) schema.tables → (t : Table) → Has schema.tables t → t.tree ≢ roots.meta → next t.tree ≡ db t.tree
   kept next all t there other = all_has (λ (u : Table). u.tree ≢ roots.meta → next u.tree ≡ db u.tree) schema.tables t all there other
 
@@ -135,3 +171,9 @@ module _ (s : State) (old new : Seen) (limit : old.step_limit ≡ None) (lacks :
         },
         same_elsewhere old.now new.now _ _ lacks.ours.apart (placing.meta_there roots schema lacks.ours) meta_ours r.same_schema r.step,
       )
+
+  pub format_told : (e : Error) → ExecutesInside 0 format_text [] old new (Err e) → IsOfStore e
+  format_told =
+      let it = format_means schema roots.meta found in
+      run.told _ roots.meta _ _ _ _ _ found.at format_terms 3 format_text [] old new schema row refl limit (command_is schema format_text 0 _ it) (is_plain schema format_text 0 _ it) (is_fit schema format_text 0 _ it refl)
+      refl found.listed (rw (cast_null, cast_int (pos 2)) refl) only_rowid refers

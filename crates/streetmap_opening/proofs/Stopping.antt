@@ -1,5 +1,5 @@
 -- What is so before a call whose end is clean, and what a stop may leave of an open connection.
-use Rattle.std.proofs.Common.{◌≡◌, inl, inr, Some, Ok, Err, Result, OnOk, IsErrAnd, IsTrue, sym, ap, subst, ◌∙◌, arith}
+use Rattle.std.proofs.Common.{◌≡◌, inl, inr, Some, Ok, Err, Result, OnOk, IfErr, IsErrAnd, IsTrue, sym, ap, subst, ◌∙◌, arith}
 use Rattle.sqlite.specs.State.{State as Seen, HasCleanDisk, Survives, KeepsCommit}
 use Rattle.sqlite.specs.Effect.{Database}
 use Rattle.sqlite.specs.Steps.{FailsToCommit}
@@ -23,6 +23,10 @@ leaves_same old new same only left trees may = subst old.may_leave (sym (only tr
 pub ok_then : {A E : Type 0} (P Q : Type 0) (r : Result A E) → OnOk r P → (P → Q) → OnOk r Q
 ok_then P Q (Ok x) p turn = turn p
 ok_then P Q (Err e) p turn = tt
+
+pub err_then : {A E : Type 0} (P Q : E → Type 0) (r : Result A E) → IfErr r P → ((e : E) → P e → Q e) → IfErr r Q
+err_then P Q (Ok x) p turn = tt
+err_then P Q (Err e) p turn = turn e p
 
 -- a commit that failed leaves an open connection with the database that it had before its transaction
 pub same_after_commit : (old begun mid new : Seen) (e : Error) → begun.committed ≡ old.committed → KeepsCommit begun mid → IsTrue mid.in_transaction → FailsToCommit mid new e → old.now ≡ old.committed → IsTrue new.is_open → HasSame old new

@@ -2,3 +2,4 @@ pub mod Made
 pub mod Making
 pub mod Adopting
 pub mod Telling
+pub mod Refusing

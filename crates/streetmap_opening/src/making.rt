@@ -1,5 +1,5 @@
 //! Making the tables, in one transaction.
-ghost use Rattle.std.specs.Prelude.{◌≡◌, ◌≤◌, ◌↔◌, IsTrue, OnOk, IfErr, None, Err, false};
+ghost use Rattle.std.specs.Prelude.{◌≡◌, ◌≤◌, ◌↔◌, ◌∷◌, [], IsTrue, OnOk, IfErr, None, Err, false};
 ghost use Rattle.sqlite.specs.Held.{state};
 ghost use Rattle.sqlite.specs.State.{HasCleanDisk, KeepsCommit, Survives};
 ghost use Rattle.sqlite.specs.View.{doubt};
@@ -8,10 +8,12 @@ ghost use Rattle.sqlite.specs.Effect.{IsDatabase};
 ghost use Rattle.sqlite.specs.Table.{Table};
 ghost use Rattle.sqlite_catalog.specs.Change.{created, is_used};
 ghost use Rattle.streetmap_ledger.specs.State.{State, opening_state};
+ghost use Rattle.streetmap_tables.specs.Failing.{IsOfStore};
 ghost use Rattle.streetmap_rows.specs.Keeping.{Keeps};
 ghost use Rattle.streetmap_rows.specs.Stands.{StandsFor};
 ghost use Rattle.streetmap_rows.specs.Elsewhere.{IsSameElsewhere};
 ghost use Rattle.streetmap_opening.specs.Made.{IsTableText, Created};
+ghost use Rattle.streetmap_opening.specs.Refusing.{IsOurText, our_tables, IsToldFor, IsTold};
 ghost use Rattle.streetmap_opening.specs.Adopting.{IsAsItWas};
 ghost use Rattle.streetmap_opening.specs.Making.{is_taken, HasRoom, IsReady, LacksFormat, KeepsOtherTables, MayOpen, MakesAlone, Makes};
 
@@ -49,10 +51,12 @@ fn is_one_used(schema: &Schema) -> bool
         || is_name_used(schema, "streetmap_features")
 }
 
-/// Makes a table by its text, which is one CREATE TABLE.
+/// Makes a table by its text, which is one CREATE TABLE. That of one of our tables, whose name is free, is
+/// refused only where the store fails or the schema has no place for the table.
 pub fn create_table<S: Alter>(tx: &mut Transaction<'_, S>, sql: &str) -> Result<(), Error>
     ensures same_reference { tx.new.conn.ghost_name ≡ tx.old.conn.ghost_name }
     ensures created { HasCleanDisk (state S.Store tx.new.conn.now) → IsTrue (state S.Store tx.old.conn.now).in_transaction → (table : Table) → IsTableText sql.now table → lacks_sequence (created (state S.Store tx.old.conn.now).now.schema table) ≡ false → OnOk result (Created table (state S.Store tx.old.conn.now).now (state S.Store tx.new.conn.now).now) }
+    ensures told { HasCleanDisk (state S.Store tx.new.conn.now) → IsTrue (state S.Store tx.old.conn.now).in_transaction → (table : Table) → IsOurText sql.now table → is_used (state S.Store tx.old.conn.now).now.schema table.name ≡ false → lacks_sequence (created (state S.Store tx.old.conn.now).now.schema table) ≡ false → IfErr result (IsToldFor (table ∷ []) (state S.Store tx.old.conn.now).now.schema) }
     ensures inside { HasCleanDisk (state S.Store tx.new.conn.now) → IsTrue (state S.Store tx.old.conn.now).in_transaction → OnOk result (IsTrue (state S.Store tx.new.conn.now).in_transaction) }
     ensures kept { HasCleanDisk (state S.Store tx.new.conn.now) → IsTrue (state S.Store tx.old.conn.now).in_transaction → KeepsCommit (state S.Store tx.old.conn.now) (state S.Store tx.new.conn.now) }
     ensures survives { Survives (state S.Store tx.old.conn.now) (state S.Store tx.new.conn.now) (λ _. ⊥) }
@@ -65,6 +69,7 @@ pub fn create_table<S: Alter>(tx: &mut Transaction<'_, S>, sql: &str) -> Result<
 pub fn insert_format<S: Alter>(tx: &mut Transaction<'_, S>) -> Result<(), Error>
     ensures same_reference { tx.new.conn.ghost_name ≡ tx.old.conn.ghost_name }
     ensures put { HasCleanDisk (state S.Store tx.new.conn.now) → IsTrue (state S.Store tx.old.conn.now).in_transaction → (state S.Store tx.old.conn.now).step_limit ≡ None → (s : State) → LacksFormat s (state S.Store tx.old.conn.now).now → IsDatabase (state S.Store tx.old.conn.now).now → OnOk result (StandsFor s (state S.Store tx.new.conn.now).now × IsSameElsewhere (state S.Store tx.old.conn.now).now (state S.Store tx.new.conn.now).now) }
+    ensures told { HasCleanDisk (state S.Store tx.new.conn.now) → IsTrue (state S.Store tx.old.conn.now).in_transaction → (state S.Store tx.old.conn.now).step_limit ≡ None → (s : State) → LacksFormat s (state S.Store tx.old.conn.now).now → IsDatabase (state S.Store tx.old.conn.now).now → IfErr result IsOfStore }
     ensures inside { HasCleanDisk (state S.Store tx.new.conn.now) → IsTrue (state S.Store tx.old.conn.now).in_transaction → OnOk result (IsTrue (state S.Store tx.new.conn.now).in_transaction) }
     ensures kept { HasCleanDisk (state S.Store tx.new.conn.now) → IsTrue (state S.Store tx.old.conn.now).in_transaction → KeepsCommit (state S.Store tx.old.conn.now) (state S.Store tx.new.conn.now) }
     ensures survives { Survives (state S.Store tx.old.conn.now) (state S.Store tx.new.conn.now) (λ _. ⊥) }
@@ -80,6 +85,7 @@ pub fn insert_format<S: Alter>(tx: &mut Transaction<'_, S>) -> Result<(), Error>
 fn make_inside<S: Alter>(tx: &mut Transaction<'_, S>) -> Result<(), Error>
     ensures same_reference { tx.new.conn.ghost_name ≡ tx.old.conn.ghost_name }
     ensures made { HasCleanDisk (state S.Store tx.new.conn.now) → IsTrue (state S.Store tx.old.conn.now).in_transaction → (state S.Store tx.old.conn.now).step_limit ≡ None → HasRoom (state S.Store tx.old.conn.now).now.schema → OnOk result (Keeps opening_state (state S.Store tx.new.conn.now).now × KeepsOtherTables (state S.Store tx.old.conn.now).now (state S.Store tx.new.conn.now).now) }
+    ensures told { HasCleanDisk (state S.Store tx.new.conn.now) → IsTrue (state S.Store tx.old.conn.now).in_transaction → (state S.Store tx.old.conn.now).step_limit ≡ None → HasRoom (state S.Store tx.old.conn.now).now.schema → is_taken (state S.Store tx.old.conn.now).now.schema ≡ false → IfErr result (IsToldFor our_tables (state S.Store tx.old.conn.now).now.schema) }
     ensures inside { HasCleanDisk (state S.Store tx.new.conn.now) → IsTrue (state S.Store tx.old.conn.now).in_transaction → OnOk result (IsTrue (state S.Store tx.new.conn.now).in_transaction) }
     ensures kept { HasCleanDisk (state S.Store tx.new.conn.now) → IsTrue (state S.Store tx.old.conn.now).in_transaction → KeepsCommit (state S.Store tx.old.conn.now) (state S.Store tx.new.conn.now) }
     ensures survives { Survives (state S.Store tx.old.conn.now) (state S.Store tx.new.conn.now) (λ _. ⊥) }
@@ -109,6 +115,7 @@ fn make_alone<S: Alter>(conn: &mut Connection<S>) -> Result<(), Error>
     ensures idle { conn.new.in_transaction ≡ false }
     ensures clean { doubt (state S.Store conn.old).is_clean ≤ doubt (state S.Store conn.new).is_clean }
     ensures made { HasCleanDisk (state S.Store conn.new) → IsReady (state S.Store conn.old) → MakesAlone (state S.Store conn.old) (state S.Store conn.new) result }
+    ensures told { HasCleanDisk (state S.Store conn.new) → IsReady (state S.Store conn.old) → is_taken (state S.Store conn.old).now.schema ≡ false → IfErr result (IsToldFor our_tables (state S.Store conn.old).now.schema) }
     ensures same { HasCleanDisk (state S.Store conn.new) → IfErr result (λ _. IsAsItWas (state S.Store conn.old) (state S.Store conn.new)) }
     ensures crash { HasCleanDisk (state S.Store conn.new) → IsReady (state S.Store conn.old) → MayOpen (state S.Store conn.old) (state S.Store conn.new) }
 {
@@ -136,8 +143,10 @@ fn make_alone<S: Alter>(conn: &mut Connection<S>) -> Result<(), Error>
 /// # Errors
 ///
 /// `Taken`; `Memory` where memory was refused and the connection is open and as it was; `Device` where
-/// the store fails or has no room, by the error that was met. After memory was refused the connection is
-/// looked at by `probe`: where memory is refused to that look too, it is `Device`, by that error.
+/// the store fails, by its error, or where the schema has no place for the tables: by `SchemaTooBig`
+/// where too few numbers of trees are left, and by `NameTaken` where the name of an index that SQLite
+/// makes for one of their keys is used. After memory was refused the connection is looked at by `probe`:
+/// where memory is refused to that look too, it is `Device`, by that error.
 pub fn make_tables<S: Alter>(conn: &mut Connection<S>) -> Result<(), MakeFault>
     requires { conn.old.in_transaction ≡ false }
     ensures idle { conn.new.in_transaction ≡ false }
@@ -145,6 +154,7 @@ pub fn make_tables<S: Alter>(conn: &mut Connection<S>) -> Result<(), MakeFault>
     ensures taken { (result ≡ Err MakeFault.Taken) ↔ IsTrue (is_taken (state S.Store conn.old).now.schema) }
     ensures untouched { result ≡ Err MakeFault.Taken → conn.new ≡ conn.old }
     ensures made { HasCleanDisk (state S.Store conn.new) → IsReady (state S.Store conn.old) → Makes (state S.Store conn.old) (state S.Store conn.new) result }
+    ensures told { HasCleanDisk (state S.Store conn.new) → IsReady (state S.Store conn.old) → IfErr result (IsTold (state S.Store conn.old).now.schema) }
     ensures same { HasCleanDisk (state S.Store conn.new) → IfErr result (λ _. IsAsItWas (state S.Store conn.old) (state S.Store conn.new)) }
     ensures elsewhere { HasCleanDisk (state S.Store conn.new) → IsReady (state S.Store conn.old) → IsTrue (state S.Store conn.new).is_open → KeepsOtherTables (state S.Store conn.old).now (state S.Store conn.new).now }
     ensures crash { HasCleanDisk (state S.Store conn.new) → IsReady (state S.Store conn.old) → MayOpen (state S.Store conn.old) (state S.Store conn.new) }

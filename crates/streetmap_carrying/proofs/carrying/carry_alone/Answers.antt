@@ -3,6 +3,7 @@ use Rattle.sqlite.specs.Held.{state}
 use Rattle.sqlite.specs.State.{HasCleanDisk}
 use Rattle.streetmap_opening.proofs.Stopping.{clean_back}
 use Rattle.streetmap_carrying.specs.Old.{KeepsOld}
+use Rattle.streetmap_carrying.specs.Carrying.{IsHeldBack}
 use Rattle.streetmap_carrying.proofs.Closing.{same_after_rollback}
 use Rattle.streetmap_carrying.proofs.carrying.carry_alone.Goals as goal
 
@@ -13,6 +14,6 @@ returns-in-Err-clause-carries g c clean s rests =
     let mid = state g.S.Store c.carry_inside.new.tx.conn.now in
     let early : HasCleanDisk mid = clean_back mid _ _ c.rollback.ensures.survives (search rules) in
     let keeps : KeepsOld s start.now = rw begun rests.kept in
-    let spared = c.in-Err.ensures.carries early (rw begun rests.unlimited) (rw begun refl) s keeps in
+    let held : IsHeldBack (state g.S.Store c.args.conn.now).now.schema c.in-Err.fault = rw begun at (c.in-Err.ensures.carries early (rw begun rests.unlimited) (rw begun refl) s keeps) in
     let it = same_after_rollback (state g.S.Store c.args.conn.now) start mid _ (rw begun refl) (c.in-Err.ensures.kept early (rw begun refl)) (c.rollback.ensures.undone (search rules)) rests.settled in
-    (spared, search (rules, it))
+    (held, search (rules, it))

@@ -7,10 +7,13 @@ use Rattle.streetmap_opening.proofs.Stopping.{clean_back}
 use Rattle.streetmap_carrying.specs.Old.{KeepsOld}
 use Rattle.streetmap_carrying.specs.Part.{emptied, IsSpared}
 use Rattle.streetmap_carrying.proofs.Parts.{lacks_all}
+use Rattle.streetmap_carrying.proofs.Closing.{held_back}
+use Rattle.streetmap_carrying.specs.Carrying.{IsToldOld}
+use Rattle.sqlite.specs.Effect.{Database}
 use Rattle.streetmap_carrying.proofs.carrying.carry_inside.Goals as goal
 
 pub returns-in_err-rows-clause-carries : goal.returns-in_err-rows-clause-carries
-returns-in_err-rows-clause-carries g c clean limit inside s keeps = handed_on _ _ _ _ c.from_residual.ensures.1 (c.in_err-rows.ensures.takes clean s limit keeps)
+returns-in_err-rows-clause-carries g c clean limit inside s keeps = handed_on _ _ _ _ c.from_residual.ensures.1 (held_back (state g.S.Store c.args.tx.now.conn.now).now.schema _ (c.in_err-rows.ensures.takes clean s limit keeps))
 
 pub returns-in_err-put_rows-clause-carries : goal.returns-in_err-put_rows-clause-carries
 returns-in_err-put_rows-clause-carries g c clean limit inside s keeps =
@@ -26,7 +29,7 @@ returns-in_err-put_rows-clause-carries g c clean limit inside s keeps =
     let made = c.in-Ok.ensures.made k2 i1 (c.take_rows.ensures.survives.limit ∙ limit) s (subst (KeepsOld s) (sym taken.1.0.now_is) keeps) in
     let is : c.deref.result.now ≡ c.in_ok-rows.rows.items = search rules in
     let puts = rw is at (c.in_err-put_rows.ensures.puts clean) in
-    handed_on _ _ _ _ c.from_residual-in_err-put_rows.ensures.1 (puts (c.remake_tables.ensures.survives.limit ∙ c.take_rows.ensures.survives.limit ∙ limit) i2 s (emptied s) keeps.well made.0 (lacks_all s c.in_ok-rows.rows.items taken.0))
+    handed_on _ _ _ _ c.from_residual-in_err-put_rows.ensures.1 (held_back s0.now.schema _ (puts (c.remake_tables.ensures.survives.limit ∙ c.take_rows.ensures.survives.limit ∙ limit) i2 s (emptied s) keeps.well made.0 (lacks_all s c.in_ok-rows.rows.items taken.0)))
 
 pub returns-in-Ok-read_serials-clause-carries : goal.returns-in-Ok-read_serials-clause-carries
 returns-in-Ok-read_serials-clause-carries g c clean limit inside s keeps =
@@ -73,4 +76,14 @@ returns-clause-carries g c clean limit inside s keeps =
     let puts = rw is at (c.in_ok-put_rows.ensures.puts k3) in
     let put = puts unlimited i2 s (emptied s) keeps.well made.0 (lacks_all s c.in_ok-rows.rows.items taken.0) in
     let kept : Keeps s s3.now = record { well = keeps.well; rows = put.0 } in
-    subst IsSpared (sym (c.fault_of.ensures (c.in-Err-read_serials.ensures.finds clean s (c.put_rows.ensures.survives.limit ∙ unlimited) kept))) tt
+    let of = c.in-Err-read_serials.ensures.finds clean s (c.put_rows.ensures.survives.limit ∙ unlimited) kept in
+    held_back (state g.S.Store c.args.tx.now.conn.now).now.schema _ (subst IsSpared (sym (c.fault_of.ensures of)) of)
+
+pub returns-in-Err-clause-carries : goal.returns-in-Err-clause-carries
+returns-in-Err-clause-carries g c clean limit inside s keeps =
+    let s1 = state g.S.Store c.take_rows.new.tx.conn.now in
+    let s2 = state g.S.Store c.remake_tables.new.tx.conn.now in
+    let k1 = clean_back s1 s2 _ c.remake_tables.ensures.survives clean in
+    let taken = c.in_ok-rows.ensures.takes k1 s limit keeps in
+    let i1 = c.in_ok-rows.ensures.inside k1 inside in
+    subst (λ (d : Database). IsToldOld d.schema c.in-Err.error) taken.1.0.now_is (c.in-Err.ensures.told clean i1 (c.take_rows.ensures.survives.limit ∙ limit) s (subst (KeepsOld s) (sym taken.1.0.now_is) keeps))

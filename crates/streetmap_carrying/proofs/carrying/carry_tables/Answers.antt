@@ -22,7 +22,7 @@ returns-in-Err-clause-carries g c clean s rests =
     let after = c.tell.new.conn.store in
     let early = clean_back mid new _ c.tell.ensures.survives clean in
     let same = same_settled old mid new (c.in-Err.ensures.same early) (c.tell.ensures.kept clean) c.tell.ensures.settled rests.settled in
-    refused_old s old new c.tell.result c.tell.ensures.named (c.tell.ensures.spared (c.in-Err.ensures.carries early s rests).0) (λ live. old_same old new s rests (same live) (c.tell.ensures.survives.limit ∙ c.carry_alone.ensures.limit) live)
+    refused_old s old new c.tell.result (c.tell.ensures.told clean old.now.schema (c.in-Err.ensures.carries early s rests).0) (λ live. old_same old new s rests (same live) (c.tell.ensures.survives.limit ∙ c.carry_alone.ensures.limit) live)
     (λ memory.
     let live = c.tell.ensures.live clean memory in (
       live,

@@ -9,7 +9,7 @@ use Rattle.streetmap_carrying.specs.Part.{IsSpared}
 use Rattle.streetmap_carrying.proofs.features.find_time.Goals as goal
 
 pub returns-in-Err-clause-finds : goal.returns-in-Err-clause-finds
-returns-in-Err-clause-finds g c clean limit t k stands there = let r = c.in-Err.ensures.looks clean limit t stands in subst IsSpared (sym (c.fault_of.ensures r.0)) tt
+returns-in-Err-clause-finds g c clean limit t k stands there = let r = c.in-Err.ensures.looks clean limit t stands in subst IsSpared (sym (c.fault_of.ensures r.0)) r.0
 
 pub returns-in-Ok-time_in-clause-finds : goal.returns-in-Ok-time_in-clause-finds
 returns-in-Ok-time_in-clause-finds g c clean limit t k stands there =

@@ -85,4 +85,4 @@ returns-clause-puts g c clean limit inside s t more well stands lacks =
     let named = c.as_str-2.ensures.value ∙ name in
     let absent = ap (λ (x : FeatureValue). get it.c.features x.id) same ∙ ap (get it.c.features) it.placed.named ∙ it.absent in
     let put = c.in-Err.ensures.puts clean (c.find_time.ensures.survives.limit ∙ limit) (found.1.0.mode ∙ inside) t it.c (stands_still a b t found.1 stands) (ap (get t.collections) named ∙ it.there) (sym found.0 ∙ sym c.as_deref-2.ensures.value) absent in
-    subst IsSpared (sym (c.fault_of.ensures put.0)) tt
+    subst IsSpared (sym (c.fault_of.ensures put.0)) put.0

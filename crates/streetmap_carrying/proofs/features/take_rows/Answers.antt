@@ -12,7 +12,7 @@ returns-in-Ok-clause-takes g c clean s limit keeps = rows_shown (state g.S.Store
 pub returns-in-Err-clause-takes : goal.returns-in-Err-clause-takes
 returns-in-Err-clause-takes g c clean s limit keeps =
     let of = rows_told (state g.S.Store c.args.tx.now.conn.now) (state g.S.Store c.query_all.new.self.conn.now) s keeps limit c.in-Err.error (c.in-Err.ensures.err clean) in
-    subst IsSpared (sym (c.fault_of.ensures of)) tt
+    subst IsSpared (sym (c.fault_of.ensures of)) of
 
 pub returns-in-Ok-clause-kept : goal.returns-in-Ok-clause-kept
 returns-in-Ok-clause-kept g c clean inside = keeps_shown rows_text [] (state g.S.Store c.args.tx.now.conn.now) (state g.S.Store c.query_all.new.self.conn.now) inside c.in-Ok.rows.items (c.in-Ok.ensures.ok clean)

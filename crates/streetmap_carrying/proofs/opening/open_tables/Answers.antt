@@ -29,7 +29,7 @@ returns-in-Err-OldFormat-clause-carries g c clean s rests =
       leaves_same old mid same.1 (λ trees may. g.met.S.Store.settled c.adopt_tables.new.conn.store trees live may) (g.met.S.Store.stays c.args.conn.now.store rests.live),
       leaves_same mid old (sym same.1) (λ trees may. g.met.S.Store.settled c.args.conn.now.store trees rests.live may) (g.met.S.Store.stays c.adopt_tables.new.conn.store live),
     ) in
-    carries_on s old mid new c.carry_tables.result leaves (c.carry_tables.ensures.carries clean s (old_same old mid s rests same c.adopt_tables.ensures.survives.limit live))
+    carries_on s old mid new c.carry_tables.result same.0 leaves (c.carry_tables.ensures.carries clean s (old_same old mid s rests same c.adopt_tables.ensures.survives.limit live))
 
 pub returns-in-Err-OldFormat-clause-elsewhere : goal.returns-in-Err-OldFormat-clause-elsewhere
 returns-in-Err-OldFormat-clause-elsewhere g c clean s rests opened =
