@@ -10,6 +10,7 @@ ghost use Rattle.streetmap_writing.specs.Acting.{IsToldByStore};
 ghost use Rattle.streetmap_rows.specs.Keeping.{Rests, MayLeave};
 ghost use Rattle.streetmap_opening.specs.Adopting.{IsAsItWas};
 ghost use Rattle.streetmap_opening.specs.Making.{is_taken, IsReady, KeepsOtherTables, Makes, MayOpen};
+ghost use Rattle.streetmap_opening.specs.Refusing.{IsTold};
 ghost use Rattle.streetmap_carrying.specs.Old.{RestsOld};
 ghost use Rattle.streetmap_carrying.specs.Carrying.{LeavesUnlessOld, MayCarry, Carries, Opens, OpensBy};
 ghost use Rattle.streetmap_store.specs.Reopening.{IsJustOpened, OpensAs, OpensAsEither};
@@ -101,7 +102,8 @@ impl<S: Alter> TableKeeper<S> {
     /// # Errors
     ///
     /// `Taken` exactly where a table, an index or a view has one of the four names, `Device` where the
-    /// store fails, `Memory`.
+    /// store fails or the schema has no place for the tables, by the error that `make_tables` tells,
+    /// `Memory`.
     pub fn make(
         alloc: Global,
         mut conn: Connection<S>,
@@ -113,6 +115,7 @@ impl<S: Alter> TableKeeper<S> {
         ensures clean { MatchResult result (λ keeper. HasCleanDisk (state S.Store keeper.conn) → HasCleanDisk (state S.Store conn)) (λ refused. HasCleanDisk (state S.Store refused.1) → HasCleanDisk (state S.Store conn)) }
         ensures made { IfOk result (λ keeper. HasCleanDisk (state S.Store keeper.conn) → IsReady (state S.Store conn) → Serves keeper.shut (state S.Store keeper.conn) keeper.count opening_state × LeavesOnly (MayLeave (state S.Store keeper.conn)) (Some opening_state)) }
         ensures refused { IfErr result (λ refused. HasCleanDisk (state S.Store refused.1) → IsReady (state S.Store conn) → Makes (state S.Store conn) (state S.Store refused.1) (Err refused.0)) }
+        ensures told { IfErr result (λ refused. HasCleanDisk (state S.Store refused.1) → IsReady (state S.Store conn) → IsTold (state S.Store conn).now.schema refused.0) }
         ensures same { IfErr result (λ refused. HasCleanDisk (state S.Store refused.1) → IsAsItWas (state S.Store conn) (state S.Store refused.1)) }
         ensures elsewhere { IfOk result (λ keeper. HasCleanDisk (state S.Store keeper.conn) → IsReady (state S.Store conn) → KeepsOtherTables (state S.Store conn).now (state S.Store keeper.conn).now) }
         ensures crash { IfErr result (λ refused. HasCleanDisk (state S.Store refused.1) → IsReady (state S.Store conn) → MayOpen (state S.Store conn) (state S.Store refused.1)) }
@@ -136,8 +139,8 @@ impl<S: Alter> TableKeeper<S> {
     /// # Errors
     ///
     /// `NotOurs` where there is no format row of this product, `NewFormat` for a format above 2, `Damaged`
-    /// where the format is 1 and a row is none that this product writes, `Device` where the store fails,
-    /// `Memory`.
+    /// where the format is 1 and a row is none that this product writes, `Device` where the store fails, or
+    /// where tables of format 1 cannot be carried over, by the error that `open_tables` tells, `Memory`.
     pub fn adopt(
         alloc: Global,
         mut conn: Connection<S>,
