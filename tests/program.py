@@ -4,6 +4,7 @@
 """
 import json
 import os
+import random
 import signal
 import socket
 import subprocess
@@ -133,6 +134,49 @@ def imports_and_exports(folder):
     with open("/dev/full", "wb") as full:
         ended = subprocess.run([PROGRAM, "export", file, "--collection", "lamps"], stdout=full, stderr=subprocess.PIPE, timeout=60)
     check("an export to a full output", (ended.returncode, ended.stderr), (3, b"streetmap: write_failed\n"))
+
+
+def pages_of_a_town(folder):
+    """Pages of boxes of a town over one stream, as its features come, move and go: more than a chunk of the index holds,
+    half of them under ids that follow their places."""
+    chance, file, town, sent, wanted = random.Random(1), f"{folder}/town.db", {}, [], []
+
+    def edit(op, name, place=None):
+        if op == "delete":
+            del town[name]
+            return {"op": op, "collection": "lamps", "id": name}
+        town[name] = place
+        geometry = place and {"type": "Point", "coordinates": place}
+        return {"op": op, "collection": "lamps", "feature": {"type": "Feature", "id": name, "properties": None, "geometry": geometry}}
+
+    def somewhere(size):
+        return [chance.randrange(-size, size), chance.randrange(-size, size)]
+
+    def ask():
+        for size in [3, 20, 200]:
+            x, y = somewhere(1000)
+            found = sorted(it for it, place in town.items() if place and x <= place[0] <= x + size and y <= place[1] <= y + size)
+            sent.append(request("GET", f"/collections/lamps/items?bbox={x},{y},{x + size},{y + size}&limit=20"))
+            wanted.append((found[:20], len(found)))
+
+    rows = [edit("insert", f"row-{at:04}", [at % 50 * 40 - 1000, at // 50 * 40 - 1000]) for at in range(2500)]
+    others = [edit("insert", f"{chance.getrandbits(64):016x}", chance.random() < 0.99 and somewhere(1000) or None) for _ in range(2500)]
+    chance.shuffle(others)
+    town_of = batch("all", [OPEN, *rows, *others])
+    for turn in range(60):
+        ask()
+        names = chance.sample(sorted(town), 12)
+        edits = [edit("delete", name) for name in names[:4]] + [edit("replace", name, somewhere(1000)) for name in names[4:]]
+        edits += [edit("insert", f"{chance.getrandbits(64):016x}", somewhere(1100)) for _ in range(40)]
+        sent.append(batch(f"b{turn}", edits))
+    ask()
+    run("create", file)
+    told = answers(run("pipe", file, sent=town_of + b"".join(sent)))
+    check("each is answered", {status for status, _ in told}, {200})
+    pages = [json.loads(body) for _, body in told if b"FeatureCollection" in body]
+    found = [([feature["id"] for feature in page["features"]], page["numberMatched"]) for page in pages]
+    check("pages of boxes of a town", [it for it in zip(found, wanted) if it[0] != it[1]], [])
+    check("all of them", len(found), len(wanted))
 
 
 def progress(folder):
@@ -270,6 +314,7 @@ def main():
         a_pipe(folder)
         faults_of_a_pipe(folder)
         imports_and_exports(folder)
+        pages_of_a_town(folder)
         progress(folder)
         connections(folder)
         clients_at_once(folder)
