@@ -1,13 +1,12 @@
 //! The keeper of a file.
 use crate::fault::ProgramFault;
-use sqlite::Unknown;
+use sqlite::{Alter, Unknown};
+use std::alloc::Global;
 use std::fs::exists;
 use streetmap_checking::{Totals, check_tables};
 use streetmap_files::FileKeeper;
 use streetmap_index::IndexedKeeper;
-
-/// The keeper of a file, with an index in memory.
-pub(crate) type IndexedFileKeeper = IndexedKeeper<FileKeeper<Unknown>>;
+use streetmap_store::TableKeeper;
 
 /// Whether there is a file of that name.
 fn is_there(rt: &HostRuntime, path: &str) -> Result<bool, ProgramFault> {
@@ -37,12 +36,22 @@ fn open_alone(rt: &HostRuntime, path: &str) -> Result<FileKeeper<Unknown>, Progr
 }
 
 /// Opens a file, and the keeper over it, with an index in memory.
-pub(crate) fn open(rt: &HostRuntime, path: &str) -> Result<IndexedFileKeeper, ProgramFault> {
+pub(crate) fn open(
+    rt: &HostRuntime,
+    path: &str,
+) -> Result<IndexedKeeper<FileKeeper<Unknown>>, ProgramFault> {
     Ok(IndexedKeeper::new(rt.alloc(), open_alone(rt, path)?))
 }
 
-/// Opens a file and reads all its rows: how many they are, where they are those of a state.
+/// Reads all rows of tables: how many they are, where they are those of a state.
+fn check_keeper<S: Alter + Drop>(
+    alloc: Global,
+    keeper: TableKeeper<S>,
+) -> Result<Totals, ProgramFault> {
+    Ok(check_tables(alloc, &mut keeper.release())?)
+}
+
+/// Opens a file and reads all its rows.
 pub(crate) fn check(rt: &HostRuntime, path: &str) -> Result<Totals, ProgramFault> {
-    let mut conn = open_alone(rt, path)?.release();
-    Ok(check_tables(rt.alloc(), &mut conn)?)
+    check_keeper(rt.alloc(), open_alone(rt, path)?)
 }

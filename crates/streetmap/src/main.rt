@@ -11,8 +11,8 @@ mod progress;
 mod texts;
 
 use crate::fault::ProgramFault;
-use crate::files::IndexedFileKeeper;
 use crate::progress::ProgressLines;
+use sqlite::Alter;
 use std::env;
 use std::io::{BufReader, BufWriter, writer};
 use std::net::{Ipv4Addr, TcpListener};
@@ -22,8 +22,11 @@ use streetmap_command::{Command, read_command};
 use streetmap_connections::{Clients, Limits};
 use streetmap_exchange::{export, import};
 use streetmap_files::{serve_clients_over_tables, serve_count_over_tables, serve_over_tables};
+use streetmap_index::IndexedKeeper;
+use streetmap_ledger::Keeper;
 use streetmap_lines::{LinesFault, lines};
 use streetmap_routes::Base;
+use streetmap_store::TableKeeper;
 
 /// Does what the command line asks for.
 fn run(rt: &HostRuntime) -> Result<(), ProgramFault> {
@@ -93,10 +96,10 @@ fn pipe_file(rt: &HostRuntime, file: &str, base: &str) -> Result<(), ProgramFaul
     pipe_keeper(rt, &mut files::open(rt, file)?, &base)
 }
 
-/// Serves the requests of standard input over the keeper of a file.
-fn pipe_keeper(
+/// Serves the requests of standard input over a keeper.
+fn pipe_keeper<S: Alter>(
     rt: &HostRuntime,
-    keeper: &mut IndexedFileKeeper,
+    keeper: &mut IndexedKeeper<TableKeeper<S>>,
     base: &Base,
 ) -> Result<(), ProgramFault> {
     let Ok(mut reader) = BufReader::new(rt.alloc(), rt.reader()) else {
@@ -138,10 +141,10 @@ fn listen(rt: &HostRuntime, port: u16) -> Result<TcpListener, ProgramFault> {
     Ok(listener)
 }
 
-/// Serves connections over the keeper of a file.
-fn serve_keeper(
+/// Serves connections over a keeper.
+fn serve_keeper<S: Alter + Drop>(
     rt: &HostRuntime,
-    mut keeper: IndexedFileKeeper,
+    mut keeper: IndexedKeeper<TableKeeper<S>>,
     connections: Connections,
     base: Base,
 ) -> Result<(), ProgramFault> {
@@ -154,11 +157,11 @@ fn serve_keeper(
 }
 
 /// Serves the clients of a listener, many at once.
-fn serve_at_once(
+fn serve_at_once<S: Alter + Drop>(
     rt: &HostRuntime,
     listener: &TcpListener,
     connections: Connections,
-    keeper: IndexedFileKeeper,
+    keeper: IndexedKeeper<TableKeeper<S>>,
     base: Base,
 ) -> Result<(), ProgramFault> {
     let mut clients = Clients::new(rt.alloc(), Limits::of(connections.clients as usize))?;
@@ -187,9 +190,9 @@ fn import_text(
 }
 
 /// Puts the features of the text at a path into a collection of a keeper, and tells the reply.
-fn import_from(
+fn import_from<K: Keeper>(
     rt: &HostRuntime,
-    keeper: &mut IndexedFileKeeper,
+    keeper: &mut K,
     path: &str,
     key: &str,
     collection: &str,
@@ -218,12 +221,21 @@ fn export_collection(
     collection: &str,
     progress: bool,
 ) -> Result<(), ProgramFault> {
-    let mut keeper = files::open(rt, file)?;
+    export_from(rt, &mut files::open(rt, file)?, collection, progress)
+}
+
+/// Writes a collection of a keeper on standard output.
+fn export_from<K: Keeper>(
+    rt: &HostRuntime,
+    keeper: &mut K,
+    collection: &str,
+    progress: bool,
+) -> Result<(), ProgramFault> {
     let mut output = writer(rt);
     let mut lines = ProgressLines {
         output: progress.then(|| rt.stderr()),
     };
-    Ok(export(rt.alloc(), &mut keeper, collection, &mut output, &mut lines)?)
+    Ok(export(rt.alloc(), keeper, collection, &mut output, &mut lines)?)
 }
 
 /// Tells how many collections, features and batches a file has, where its rows are those of a state.

@@ -43,8 +43,8 @@ fn wanted(alloc: Global) -> Result<String, Fail> {
     seen(alloc, &mut keeper)
 }
 
-/// Files of format 1 with the batch, by a connection to new ones.
-fn old_over(alloc: Global, conn: Connection<FileStore<Memory>>) -> Result<Files<Memory>, Fail>
+/// A store of format 1 with the batch, by a connection to a new one.
+fn old_over<S: Alter + Drop>(alloc: Global, conn: Connection<S>) -> Result<S, Fail>
     requires { conn.in_transaction ≡ false }
 {
     match TableKeeper::make(alloc, conn) {
@@ -52,7 +52,7 @@ fn old_over(alloc: Global, conn: Connection<FileStore<Memory>>) -> Result<Files<
             let _ = answered(alloc, &mut keeper, BATCH);
             let mut conn = keeper.release();
             conn.execute_batch(TO_FORMAT_1)?;
-            Ok(conn.into_store().close())
+            Ok(conn.into_store())
         }
         Err((fault, _)) => Err(fault)?,
     }
@@ -62,18 +62,18 @@ fn old_over(alloc: Global, conn: Connection<FileStore<Memory>>) -> Result<Files<
 fn old_files(alloc: Global) -> Result<Files<Memory>, Fail> {
     let (log, db) = (Memory::new(alloc), Memory::new(alloc));
     match Connection::open_files(alloc, Files { log, db }, Options::new(1)) {
-        Ok(conn) => old_over(alloc, conn),
+        Ok(conn) => Ok(old_over(alloc, conn)?.close()),
         Err((error, _)) => Err(error)?,
     }
 }
 
-/// Opens the tables and closes the files. Answers whether they were opened.
-fn open_over(alloc: Global, conn: Connection<FileStore<Fused>>) -> (bool, Files<Fused>)
+/// Opens the tables of a connection. Answers whether they were opened, and what is left of the store.
+fn open_over<S: Alter + Drop>(alloc: Global, conn: Connection<S>) -> (bool, S)
     requires { conn.in_transaction ≡ false }
 {
     match TableKeeper::adopt(alloc, conn) {
-        Ok(keeper) => (true, keeper.release().into_store().close()),
-        Err((_, conn)) => (false, conn.into_store().close()),
+        Ok(keeper) => (true, keeper.release().into_store()),
+        Err((_, conn)) => (false, conn.into_store()),
     }
 }
 
@@ -87,13 +87,16 @@ fn opened(
     let log = Fuse::new(file(alloc, old.log.bytes())?, log_calls);
     let db = Fuse::new(file(alloc, old.db.bytes())?, db_calls);
     match Connection::open_files(alloc, Files { log, db }, Options::new(2)) {
-        Ok(conn) => Ok(open_over(alloc, conn)),
+        Ok(conn) => {
+            let (whole, store) = open_over(alloc, conn);
+            Ok((whole, store.close()))
+        }
         Err((_, left)) => Ok((false, left.into_files())),
     }
 }
 
 /// What is seen of the tables of a connection that was opened again.
-fn seen_over(alloc: Global, conn: Connection<FileStore<Memory>>) -> Result<String, Fail>
+fn seen_over<S: Alter + Drop>(alloc: Global, conn: Connection<S>) -> Result<String, Fail>
     requires { conn.in_transaction ≡ false }
 {
     match TableKeeper::adopt(alloc, conn) {
@@ -160,10 +163,7 @@ fn carried(alloc: Global, old: &Files<Memory>) -> Result<Connection<FileStore<Me
 }
 
 /// A connection whose tables a keeper opened.
-fn kept(
-    alloc: Global,
-    conn: Connection<FileStore<Memory>>,
-) -> Result<Connection<FileStore<Memory>>, Fail>
+fn kept<S: Alter + Drop>(alloc: Global, conn: Connection<S>) -> Result<Connection<S>, Fail>
     requires { conn.in_transaction ≡ false }
 {
     match TableKeeper::adopt(alloc, conn) {
@@ -205,7 +205,7 @@ fn extents_and_seconds_are_put_in(rt: HostRuntime) -> Result<(), Fail> {
 }
 
 /// The format and the number of features after tables were refused as damaged.
-fn refused(alloc: Global, conn: Connection<FileStore<Memory>>) -> Result<(i64, i64), Fail>
+fn refused<S: Alter + Drop>(alloc: Global, conn: Connection<S>) -> Result<(i64, i64), Fail>
     requires { conn.in_transaction ≡ false }
 {
     match TableKeeper::adopt(alloc, conn) {

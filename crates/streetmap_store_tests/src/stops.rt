@@ -3,7 +3,7 @@
 ghost use Rattle.std.specs.Prelude.{◌≡◌, false, IfOk, IsTrue};
 ghost use Rattle.sqlite_disk.specs.Memory.{memory_is_usable};
 
-use sqlite::{Connection, FileStore};
+use sqlite::{Alter, Connection};
 use sqlite_disk::{Crash, Disk, Files, Fuse, Memory};
 use sqlite_pager::Options;
 use std::alloc::Global;
@@ -34,10 +34,8 @@ const LOOKS: &str =
 /// What a stop left.
 #[derive(Drop)]
 struct Left {
-    /// Whether the tables were made.
-    made: bool,
-    /// How many batches were acknowledged.
-    acknowledged: usize,
+    /// How many batches were acknowledged; none where the tables were not made.
+    acknowledged: Option<usize>,
     files: Files<Fused>,
 }
 
@@ -77,33 +75,17 @@ fn wanted(alloc: Global, count: usize) -> Result<String, Fail> {
     seen(alloc, &mut keeper)
 }
 
-/// What is left where the tables were not made.
-fn left_unmade(files: Files<Fused>) -> Left {
-    Left {
-        made: false,
-        acknowledged: 0,
-        files,
-    }
-}
-
-/// What the batches leave over tables that were made.
-fn run_over_tables(alloc: Global, mut keeper: TableKeeper<FileStore<Fused>>) -> Left {
-    let acknowledged = act(alloc, &mut keeper, 5);
-    let files = keeper.release().into_store().close();
-    Left {
-        made: true,
-        acknowledged,
-        files,
-    }
-}
-
-/// What is left over a connection to new files.
-fn run_over(alloc: Global, conn: Connection<FileStore<Fused>>) -> Left
+/// Acts on the batches over new tables. Answers how many were answered, none where the tables were not made, and
+/// what is left of the store.
+fn run_over<S: Alter + Drop>(alloc: Global, conn: Connection<S>) -> (Option<usize>, S)
     requires { conn.in_transaction ≡ false }
 {
     match TableKeeper::make(alloc, conn) {
-        Ok(keeper) => run_over_tables(alloc, keeper),
-        Err((_, conn)) => left_unmade(conn.into_store().close()),
+        Ok(mut keeper) => {
+            let acknowledged = act(alloc, &mut keeper, 5);
+            (Some(acknowledged), keeper.release().into_store())
+        }
+        Err((_, conn)) => (None, conn.into_store()),
     }
 }
 
@@ -112,8 +94,17 @@ fn run(alloc: Global, log_calls: u64, db_calls: u64) -> Left {
     let log = Fuse::new(Memory::new(alloc), log_calls);
     let db = Fuse::new(Memory::new(alloc), db_calls);
     match Connection::open_files(alloc, Files { log, db }, Options::new(1)) {
-        Ok(conn) => run_over(alloc, conn),
-        Err((_, left)) => left_unmade(left.into_files()),
+        Ok(conn) => {
+            let (acknowledged, store) = run_over(alloc, conn);
+            Left {
+                acknowledged,
+                files: store.close(),
+            }
+        }
+        Err((_, left)) => Left {
+            acknowledged: None,
+            files: left.into_files(),
+        },
     }
 }
 
@@ -135,9 +126,9 @@ fn seen_twice<K: Keeper>(alloc: Global, keeper: &mut K) -> Result<(String, Strin
 }
 
 /// What is seen of the tables of a connection that was opened again; none where they are none of this product.
-fn adopted(
+fn adopted<S: Alter + Drop>(
     alloc: Global,
-    conn: Connection<FileStore<Memory>>,
+    conn: Connection<S>,
 ) -> Result<Option<(String, String)>, Fail>
     requires { conn.in_transaction ≡ false }
 {
@@ -161,9 +152,10 @@ fn reopened(alloc: Global, files: &Files<Fused>) -> Result<Option<(String, Strin
 /// Whether what is found is the state of a beginning of the batches that contains each acknowledged one.
 fn is_a_beginning(alloc: Global, left: &Left) -> Result<bool, Fail> {
     let Some((before, after)) = reopened(alloc, &left.files)? else {
-        return Ok(!left.made);
+        return Ok(left.acknowledged.is_none());
     };
-    let (least, next) = (left.acknowledged, left.acknowledged.saturating_add(1));
+    let least = left.acknowledged.unwrap_or(0);
+    let next = least.saturating_add(1);
     let is_one = before == wanted(alloc, least)? || before == wanted(alloc, next)?;
     Ok(is_one && after == wanted(alloc, 5)?)
 }
@@ -179,7 +171,7 @@ fn tried(alloc: Global, log_calls: u64, db_calls: u64) -> Result<bool, Fail> {
     if !is_a_beginning(alloc, &left)? {
         return Err(Fail::from("what was synchronised is no beginning"));
     }
-    Ok(left.acknowledged == 5)
+    Ok(left.acknowledged == Some(5))
 }
 
 #[test]
