@@ -41,10 +41,12 @@ def text(value):
     return json.dumps(value, separators=(",", ":"))
 
 
-def batches():
+def batches(collection="lamps", stride=1):
+    """Their features under ids that follow their places, or by a stride that do not."""
     for first in range(0, FEATURES, BATCH):
-        edits = [{"op": "insert", "collection": "lamps", "feature": feature(at)} for at in range(first, first + BATCH)]
-        yield {"key": f"b{first}", "edits": edits}
+        edits = [{"op": "insert", "collection": collection, "feature": {**feature(at), "id": f"lamp-{at * stride % FEATURES:06}"}}
+                 for at in range(first, first + BATCH)]
+        yield {"key": f"{collection}{first}", "edits": edits}
 
 
 def run(program, path, stream):
@@ -203,6 +205,11 @@ def main():
         size = len(subprocess.run([program, "export", path, "--collection", "lamps"], stdout=subprocess.PIPE, check=True).stdout)
         took = time.perf_counter() - start
         print(f"an export of the collection: {size / 1e6:,.0f} MB in {took:.2f} s, {size / took / 1e6:,.1f} MB a second (at least 5)")
+        run(program, path, post({"key": "apart", "edits": [{"op": "open", "collection": "apart"}]}))
+        run(program, path, b"".join(post(batch) for batch in batches("apart", 70_657)))
+        box = get(f"/collections/apart/items?bbox={x},{y},{x + 20000},{y + 20000}")
+        apart = time_requests(program, path, "apart", box, 500, get("/collections/apart/items?limit=1"))
+        print(f"a page of a box of 20 m where ids do not follow places: {apart * 1e6:,.0f} microseconds, {1 / apart:,.0f} a second")
         show("a feature by its id", time_requests(program, path, "feature", get("/collections/lamps/items/lamp-050000"), 20_000), one, "at most 50 microseconds")
         print(f"peak memory of all runs: {resource.getrusage(resource.RUSAGE_CHILDREN).ru_maxrss / 1024:.0f} MB; the file: {os.path.getsize(path) / 2**20:.0f} MB")
 
