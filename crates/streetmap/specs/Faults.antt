@@ -24,10 +24,8 @@ use Rattle.streetmap_checking.specs.declared.checking.CheckFault.{CheckFault}
 use Rattle.streetmap_checking.specs.declared.checking.CheckFault.TheVariants as checking
 use Rattle.streetmap_web.specs.declared.serving.End.{End}
 use Rattle.streetmap_web.specs.declared.serving.End.TheVariants as stream
-use Rattle.streetmap_serving.specs.declared.connections.ServeFault.{ServeFault}
-use Rattle.streetmap_serving.specs.declared.connections.ServeFault.TheVariants as serve
-use Rattle.streetmap_connections.specs.declared.serve.ServeFault.{ServeFault as ClientsFault}
-use Rattle.streetmap_connections.specs.declared.serve.ServeFault.TheVariants as clients
+use Rattle.streetmap_connections.specs.declared.serve.ServeFault.{ServeFault}
+use Rattle.streetmap_connections.specs.declared.serve.ServeFault.TheVariants as serve
 use Rattle.streetmap_command.specs.declared.command.CommandFault.{CommandFault}
 use Rattle.streetmap_command.specs.declared.command.CommandFault.TheVariants as command
 use Rattle.streetmap.specs.declared.fault.ProgramFault.{ProgramFault}
@@ -152,10 +150,6 @@ end_of_stream stream.WriteFailed = Err WriteFailed
 abbrev pub fault_of_serve : ServeFault → ProgramFault
 fault_of_serve serve.Net = Net
 fault_of_serve serve.Memory = Memory
-
-abbrev pub fault_of_clients : ClientsFault → ProgramFault
-fault_of_clients clients.Net = Net
-fault_of_clients clients.Memory = Memory
 
 -- where a text cannot be had
 abbrev pub fault_of_text : ErrorKind → ProgramFault

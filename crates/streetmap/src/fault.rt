@@ -1,20 +1,19 @@
 //! What the program ends with when it is not done.
 ghost use Rattle.std.specs.Prelude.{◌≡◌, ◌≢◌};
 ghost use Rattle.std.specs.IoError.{error_kind};
-ghost use Rattle.streetmap.specs.Faults.{code_of, status_of, keeper_status, import_status, export_status, place_of, cause_of, fault_of_command, fault_of_base, fault_of_create, fault_of_open, fault_of_lines, fault_of_text, end_of_stream, fault_of_serve, fault_of_clients, fault_of_check};
+ghost use Rattle.streetmap.specs.Faults.{code_of, status_of, keeper_status, import_status, export_status, place_of, cause_of, fault_of_command, fault_of_base, fault_of_create, fault_of_open, fault_of_lines, fault_of_text, end_of_stream, fault_of_serve, fault_of_check};
 
 use std::alloc::AllocError;
 use std::io::{Error, ErrorKind};
 use streetmap_checking::CheckFault;
 use streetmap_command::CommandFault;
-use streetmap_connections::ServeFault as ClientsFault;
+use streetmap_connections::ServeFault;
 use streetmap_exchange::{ExportFault, ImportFault, ImportStop};
 use streetmap_files::{CreateFault, OpenFault};
 use streetmap_geojson::Fault as FeatureFault;
 use streetmap_ledger::Fault as KeeperFault;
 use streetmap_lines::LinesFault;
 use streetmap_routes::BaseFault;
-use streetmap_serving::ServeFault;
 use streetmap_web::End;
 
 /// Why the program ends before it is done.
@@ -279,17 +278,6 @@ impl From<ServeFault> for ProgramFault {
         match fault {
             ServeFault::Net => ProgramFault::Net,
             ServeFault::Memory => ProgramFault::Memory,
-        }
-    }
-}
-
-impl From<ClientsFault> for ProgramFault {
-    ghost from_gives = { λ given fault. fault ≡ fault_of_clients given };
-
-    fn from(fault: ClientsFault) -> ProgramFault {
-        match fault {
-            ClientsFault::Net => ProgramFault::Net,
-            ClientsFault::Memory => ProgramFault::Memory,
         }
     }
 }

@@ -17,7 +17,6 @@ use std::env;
 use std::io::{BufReader, BufWriter, writer};
 use std::net::{Ipv4Addr, TcpListener};
 use std::process::ExitCode;
-use streetmap_clients::KeeperService;
 use streetmap_command::{Command, read_command};
 use streetmap_connections::{Clients, Limits};
 use streetmap_exchange::{export, import};
@@ -26,6 +25,7 @@ use streetmap_index::IndexedKeeper;
 use streetmap_ledger::Keeper;
 use streetmap_lines::{LinesFault, lines};
 use streetmap_routes::Base;
+use streetmap_serving::KeeperService;
 use streetmap_store::TableKeeper;
 
 /// Does what the command line asks for.

@@ -19,7 +19,7 @@ use Rattle.streetmap_serving.specs.Connections.{Sight}
 use Rattle.streetmap_serving.specs.Surviving.{SurvivesInTurn}
 use Rattle.mio.specs.declared.net.stream.TcpStream.{TcpStream}
 use Rattle.streetmap_connections.specs.declared.client.Client.{Client}
-use Rattle.streetmap_clients.specs.Surviving.{SurvivesClients}
+use Rattle.streetmap_serving.specs.SurvivingClients.{SurvivesClients}
 use Rattle.streetmap_files.specs.Surviving.{IsOfOne, Survives, ServesTables, ServesTablesInTurn, ServesTablesAtOnce}
 
 -- where a stop may leave these states alone, a database that is opened again is of one of them

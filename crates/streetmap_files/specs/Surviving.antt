@@ -12,7 +12,7 @@ use Rattle.streetmap_web.specs.Beginnings.{IsAfterBeginning, last_of, batches_ac
 use Rattle.streetmap_web.specs.declared.serving.End.{End}
 use Rattle.mio.specs.declared.net.stream.TcpStream.{TcpStream}
 use Rattle.streetmap_connections.specs.declared.client.Client.{Client}
-use Rattle.streetmap_clients.specs.Surviving.{SurvivesClients, acted_over, answered_over}
+use Rattle.streetmap_serving.specs.SurvivingClients.{SurvivesClients, acted_over, answered_over}
 use Rattle.streetmap_serving.specs.Connections.{Sight}
 use Rattle.streetmap_serving.specs.Surviving.{Brings}
 

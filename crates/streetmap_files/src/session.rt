@@ -21,12 +21,11 @@ use std::alloc::Global;
 use std::io::{BufRead, Write};
 use std::net::{Net, TcpListener};
 use std::time::Clock;
-use streetmap_clients::{KeeperService, serve_clients};
-use streetmap_connections::Clients;
+use streetmap_connections::{Clients, ServeFault};
 use streetmap_index::IndexedKeeper;
 use streetmap_ledger::{Batch, Run, run};
 use streetmap_routes::Base;
-use streetmap_serving::{ServeFault, serve_count};
+use streetmap_serving::{KeeperService, serve_clients, serve_count};
 use streetmap_store::TableKeeper;
 use streetmap_web::{Served, serve};
 
@@ -93,7 +92,7 @@ pub fn serve_count_over_tables<S: Alter>(
 }
 
 /// Serves clients of a listener over tables, with an index in memory, many at once, until so many of them
-/// ended (`streetmap_clients::serve_clients`).
+/// ended (`streetmap_serving::serve_clients`).
 ///
 /// After a stop, before or within any write, whatever is opened again holds the state of a beginning of
 /// the batches of all clients, in the one order in which they were answered, that contains each that was
@@ -109,7 +108,7 @@ pub fn serve_clients_over_tables<R: Net + Clock, S: Alter, W: Write>(
     count: u64,
     clients: &mut Clients<TcpStream>,
     service: &mut KeeperService<IndexedKeeper<TableKeeper<S>>, W>,
-) -> Result<(), streetmap_connections::ServeFault>
+) -> Result<(), ServeFault>
     ensures { HasCleanDisk (state S.Store service.new.keeper.keeper.conn) → (s : State) → Serves service.old.keeper.keeper.shut (state S.Store service.old.keeper.keeper.conn) service.old.keeper.keeper.count s → IsIndexOf service.old.keeper.index s → LeavesOnly (MayLeave (state S.Store service.old.keeper.keeper.conn)) (Some s) →
         ServesTablesAtOnce (root_of service.old.base) s (Stands (λ t. Serves service.new.keeper.keeper.shut (state S.Store service.new.keeper.keeper.conn) service.new.keeper.keeper.count t × IsIndexOf service.new.keeper.index t) (option_map cause_in service.new.keeper.keeper.shut)) (MayLeave (state S.Store service.new.keeper.keeper.conn)) (clients_of clients.old) (clients_of clients.new) (state S.Store service.new.keeper.keeper.conn) }
 {

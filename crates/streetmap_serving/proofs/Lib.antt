@@ -1,1 +1,4 @@
 pub mod Surviving
+pub mod SurvivingClients
+pub mod Turns
+pub mod Waiting

@@ -1,2 +1,5 @@
+pub mod Answering
 pub mod Connections
+pub mod ServingClients
 pub mod Surviving
+pub mod SurvivingClients

@@ -12,21 +12,13 @@ use std::io;
 use std::io::BufReader;
 use std::net::{TcpListener, TcpStream};
 use std::time::Duration;
+use streetmap_connections::ServeFault;
 use streetmap_ledger::Keeper;
 use streetmap_routes::Base;
 use streetmap_web::serve;
 
 /// The seconds for which a connection may keep a read or a write waiting.
 const PATIENCE: u64 = 30;
-
-/// Why connections are not served to their end.
-#[derive(Clone, Copy, Debug, PartialEq, Eq)]
-pub enum ServeFault {
-    /// No connection could be accepted.
-    Net,
-    /// Memory was refused before a connection was read.
-    Memory,
-}
 
 /// Sets how a stream waits: a read or a write that waits longer than half a minute fails, and a write
 /// is sent at once.

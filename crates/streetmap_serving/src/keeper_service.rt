@@ -4,7 +4,7 @@ ghost use Rattle.streetmap_http.specs.Arrivals.{IsAnswered};
 ghost use Rattle.streetmap_routes.specs.BaseView.{root_of};
 ghost use Rattle.streetmap_connections.specs.Answers.{answer_text as sent_text};
 ghost use Rattle.streetmap_web.specs.Responds.{answer_text};
-ghost use Rattle.streetmap_clients.specs.Answering.{AnswersOne};
+ghost use Rattle.streetmap_serving.specs.Answering.{AnswersOne};
 
 use crate::log::tell;
 use std::alloc::Global;

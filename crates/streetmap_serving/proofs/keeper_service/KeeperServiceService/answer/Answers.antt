@@ -2,8 +2,8 @@ use Rattle.std.proofs.Common.{refl, sym, subst}
 use Rattle.streetmap_batch.specs.Text.{Text}
 use Rattle.streetmap_routes.specs.BaseView.{root_of}
 use Rattle.streetmap_web.specs.Responds.{answer_text}
-use Rattle.streetmap_clients.specs.Answering.{AnswersOne, Sight}
-use Rattle.streetmap_clients.proofs.keeper_service.KeeperServiceService.answer.Goals as goal
+use Rattle.streetmap_serving.specs.Answering.{AnswersOne, Sight}
+use Rattle.streetmap_serving.proofs.keeper_service.KeeperServiceService.answer.Goals as goal
 
 pub returns : goal.returns
 returns g c =

@@ -12,11 +12,11 @@ use Rattle.streetmap_web.specs.Exchanges as web
 use Rattle.streetmap_web.specs.Standing.{Standing, Stands, of_state}
 use Rattle.streetmap_routes.specs.BaseView.{root_of}
 use Rattle.streetmap_routes.specs.declared.base.Base.{Base}
-use Rattle.streetmap_clients.specs.declared.keeper_service.KeeperService.{KeeperService}
-use Rattle.streetmap_clients.specs.Answering.{AnswersOne, Sight}
-use Rattle.streetmap_clients.specs.Serving.{AnsweredInTurn, IsAnswerTo, ServesClients}
-use Rattle.streetmap_clients.specs.Surviving.{SurvivesClients, requests_of}
-use Rattle.streetmap_clients.proofs.Surviving.{LeavesBehind, none_leaves, more_leaves, answered_first}
+use Rattle.streetmap_serving.specs.declared.keeper_service.KeeperService.{KeeperService}
+use Rattle.streetmap_serving.specs.Answering.{AnswersOne, Sight}
+use Rattle.streetmap_serving.specs.ServingClients.{AnsweredInTurn, IsAnswerTo, ServesClients}
+use Rattle.streetmap_serving.specs.SurvivingClients.{SurvivesClients, requests_of}
+use Rattle.streetmap_serving.proofs.SurvivingClients.{LeavesBehind, none_leaves, more_leaves, answered_first}
 
 -- what is true behind these exchanges: each was answered in turn, and what a stop may leave
 record IsBehind (root : Text) (x : Standing) (es : List Exchange) (stands : Standing → Type 0) (old new : Option State → Type 0) : Type 0 where

@@ -9,7 +9,7 @@ use Rattle.streetmap_connections.specs.History.{Exchange}
 use Rattle.streetmap_web.specs.Standing.{Standing, of_state, shut}
 use Rattle.streetmap_web.specs.Exchanges as web
 use Rattle.streetmap_web.specs.Beginnings.{LeavesBeginning, batches_acted}
-use Rattle.streetmap_clients.specs.Serving.{AnsweredInTurn, ServesClients}
+use Rattle.streetmap_serving.specs.ServingClients.{AnsweredInTurn, ServesClients}
 
 -- the requests of the web that the exchanges of the one list are, in its order
 abbrev pub requests_of : (root : Text) (x : Standing) (es : List Exchange) (last : Standing) → AnsweredInTurn root x es last → List web.Exchange

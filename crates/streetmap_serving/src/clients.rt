@@ -5,8 +5,8 @@ ghost use Rattle.streetmap_ledger.specs.Keep.{LeavesOnly};
 ghost use Rattle.streetmap_routes.specs.BaseView.{root_of};
 ghost use Rattle.streetmap_web.specs.Standing.{Standing, Stands};
 ghost use Rattle.streetmap_connections.specs.Served.{clients_of, ended_of};
-ghost use Rattle.streetmap_clients.specs.Serving.{ServesClients};
-ghost use Rattle.streetmap_clients.specs.Surviving.{SurvivesClients};
+ghost use Rattle.streetmap_serving.specs.ServingClients.{ServesClients};
+ghost use Rattle.streetmap_serving.specs.SurvivingClients.{SurvivesClients};
 
 use crate::keeper_service::KeeperService;
 use mio::net::TcpStream;

@@ -8,7 +8,7 @@ use Rattle.streetmap_web.specs.Response.{state_in}
 use Rattle.streetmap_web.specs.Standing.{Standing, Outcome, of_state, shut, told, starved, failed, after, Leaves, LeavesNoMore, StateLeaves, IsKnown}
 use Rattle.streetmap_web.specs.Exchanges as web
 use Rattle.streetmap_web.specs.Beginnings.{IsAfterBeginning, LeavesBeginning, with_acted}
-use Rattle.streetmap_clients.specs.Surviving.{acted_over, answered_over}
+use Rattle.streetmap_serving.specs.SurvivingClients.{acted_over, answered_over}
 
 -- ---- a batch before others
 

@@ -1,8 +1,8 @@
 use Rattle.streetmap_connections.specs.Served.{clients_of}
-use Rattle.streetmap_clients.specs.Answering.{Sight}
-use Rattle.streetmap_clients.proofs.Turns.{base_kept, clean_back, serves_clients, survives_clients}
-use Rattle.streetmap_clients.proofs.serve.serve_clients.Given.{Over}
-use Rattle.streetmap_clients.proofs.serve.serve_clients.Goals as goal
+use Rattle.streetmap_serving.specs.Answering.{Sight}
+use Rattle.streetmap_serving.proofs.Turns.{base_kept, clean_back, serves_clients, survives_clients}
+use Rattle.streetmap_serving.proofs.clients.serve_clients.Given.{Over}
+use Rattle.streetmap_serving.proofs.clients.serve_clients.Goals as goal
 
 sight_of : (g : Over) → Sight g.row.K.Denot
 sight_of g = record {

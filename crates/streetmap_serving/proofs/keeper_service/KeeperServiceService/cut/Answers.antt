@@ -1,6 +1,6 @@
 use Rattle.std.proofs.Common.{arith}
-use Rattle.streetmap_clients.proofs.Waiting.{none_in_head, none_in_body, none_before_head, none_before_body}
-use Rattle.streetmap_clients.proofs.keeper_service.KeeperServiceService.cut.Goals as goal
+use Rattle.streetmap_serving.proofs.Waiting.{none_in_head, none_in_body, none_before_head, none_before_body}
+use Rattle.streetmap_serving.proofs.keeper_service.KeeperServiceService.cut.Goals as goal
 
 pub returns-in-Head-clause-none : goal.returns-in-Head-clause-none
 returns-in-Head-clause-none g c = none_in_head c.args.input.now c.in-Head.ensures.holds

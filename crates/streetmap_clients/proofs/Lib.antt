@@ -1,3 +1,0 @@
-pub mod Surviving
-pub mod Turns
-pub mod Waiting
