@@ -17,15 +17,15 @@ use Rattle.streetmap_batch.specs.Text.{Text, text_cmp}
 use Rattle.streetmap_ledger.specs.State.{State, Collection, AcceptedBatch}
 use Rattle.streetmap_ledger.specs.Batches.{most_batches}
 use Rattle.streetmap_ledger.specs.WellFormed.{IsState}
-use Rattle.streetmap_listing.proofs.Shown.{collections_at, found_each}
+use Rattle.streetmap_reading.proofs.ShownOutlines.{collections_at, found_each}
 use Rattle.sqlite.specs.declared.error.Error.{Error}
-use Rattle.streetmap_tables.specs.Failing.{IsOfStore}
+use Rattle.streetmap_rows.specs.Failing.{IsOfStore}
 use Rattle.streetmap_reading.specs.declared.fault.ReadFault.{ReadFault}
 use Rattle.streetmap_reading.specs.declared.fault.ReadFault.TheVariants.{Store, Unread}
 use Rattle.streetmap_rows.specs.Keeping.{Rests}
 use Rattle.streetmap_rows.specs.Rows.{collection_cells, batch_cells}
 use Rattle.streetmap_rows.specs.Statements.{select_collections}
-use Rattle.streetmap_tables.proofs.Ordered.{find_has, mapped_has}
+use Rattle.streetmap_rows.proofs.Ordered.{find_has, mapped_has}
 use Rattle.streetmap_checking.specs.Statements.{select_formats, select_features, select_owners, select_batches}
 use Rattle.streetmap_checking.specs.Good.{HeadValue, head_cells, IsHead, feature_view, AreFormatRows, AreCollectionRows, AreFeatureRows, AreOwnerRows, AreBatchRows, serials_of}
 use Rattle.streetmap_checking.specs.Telling.{Known, ShowsNone, TellsWhy, SeesHeads, SeesAllFeatures}

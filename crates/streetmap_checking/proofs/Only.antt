@@ -13,10 +13,10 @@ use Rattle.sqlite.specs.Effect.{Database, ReadsFirst, Reads, RefusesQuery, Refus
 use Rattle.sqlite.specs.State.{State as Seen, IsNotRun, FailsToQuery, FailsToShow}
 use Rattle.sqlite.proofs.Callers.{command_of, reads_as, begins_as}
 use Rattle.sqlite_schema.specs.declared.program.Program.{Program}
-use Rattle.streetmap_tables.specs.Failing.{IsOfStore}
-use Rattle.streetmap_tables.specs.Queries.{program}
-use Rattle.streetmap_tables.proofs.OfStore.{failure_is}
-use Rattle.streetmap_tables.proofs.Resolving.{Means, command_is, is_plain, is_whole, unlisted}
+use Rattle.streetmap_rows.specs.Failing.{IsOfStore}
+use Rattle.streetmap_rows.specs.Queries.{program}
+use Rattle.streetmap_rows.proofs.OfStore.{failure_is}
+use Rattle.streetmap_rows.proofs.Resolving.{Means, command_is, is_plain, is_whole, unlisted}
 use Rattle.streetmap_reading.specs.Candidates.{IsWhole, ShowsOf}
 use Rattle.streetmap_checking.specs.Seeing.{Sees}
 use Rattle.streetmap_checking.specs.Telling.{ShowsNone}

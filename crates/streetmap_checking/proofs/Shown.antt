@@ -18,12 +18,12 @@ use Rattle.sqlite_rules.proofs.ListLemmas.{all_from, has_filtered, has_kept, has
 use Rattle.streetmap_geojson.specs.FeatureValue.{FeatureValue}
 use Rattle.streetmap_batch.specs.Text.{Text, text_cmp}
 use Rattle.streetmap_ledger.specs.State.{State, Collection, AcceptedBatch}
-use Rattle.streetmap_tables.specs.Holds.{first_key, is_first, same_text, pair_key}
-use Rattle.streetmap_tables.proofs.Choosing.{picked, staged}
-use Rattle.streetmap_tables.proofs.Finding.{IsFound}
-use Rattle.streetmap_tables.proofs.Holding.{cells_of, there}
-use Rattle.streetmap_tables.proofs.Keys.{first_is, first_self, column_later, text_is}
-use Rattle.streetmap_tables.proofs.Ordered.{Says, AreRowsOf, keeps, ordered_query, shows_entries, mapped_has, has_mapped, passing}
+use Rattle.streetmap_rows.specs.Holds.{first_key, is_first, same_text, pair_key}
+use Rattle.streetmap_rows.proofs.Choosing.{picked, staged}
+use Rattle.streetmap_rows.proofs.Finding.{IsFound}
+use Rattle.streetmap_rows.proofs.Holding.{cells_of, there}
+use Rattle.streetmap_rows.proofs.Keys.{first_is, first_self, column_later, text_is}
+use Rattle.streetmap_rows.proofs.Ordered.{Says, AreRowsOf, keeps, ordered_query, shows_entries, mapped_has, has_mapped, passing}
 use Rattle.streetmap_rows.specs.Keeping.{Keeps}
 use Rattle.streetmap_rows.specs.Rows.{AreOf, feature_at, feature_cells, batch_cells, meta_cells}
 use Rattle.streetmap_rows.specs.Tables.{Roots, features, batches, meta, features_name, batches_name, meta_name}

@@ -16,7 +16,7 @@ use Rattle.streetmap_ledger.specs.WellFormed.{IsState, IsCollection, IsPlaced}
 use Rattle.streetmap_ledger.specs.Batches.{most_batches}
 use Rattle.streetmap_rows.specs.Rows.{collection_cells, batch_cells}
 use Rattle.streetmap_rows.specs.Statements.{select_collections}
-use Rattle.streetmap_tables.proofs.Ordered.{has_mapped}
+use Rattle.streetmap_rows.proofs.Ordered.{has_mapped}
 use Rattle.streetmap_checking.specs.Statements.{select_formats, select_features, select_batches}
 use Rattle.streetmap_checking.specs.Seeing.{Sees}
 use Rattle.streetmap_checking.specs.Good.{HeadValue, head_cells, IsHead, feature_view, AreOwnerRows, AreSerials, IsAccepted, serials_of}

@@ -8,7 +8,7 @@ use Rattle.streetmap_geojson.specs.FeatureValue.{FeatureValue}
 use Rattle.streetmap_batch.specs.Text.{Text}
 use Rattle.streetmap_ledger.specs.State.{AcceptedBatch}
 use Rattle.streetmap_ledger.specs.WellFormed.{IsPlaced}
-use Rattle.streetmap_listing.proofs.Readings.{within}
+use Rattle.streetmap_reading.proofs.Readings.{within}
 use Rattle.streetmap_reading.specs.Candidates.{IsStored}
 use Rattle.streetmap_reading.proofs.Rests.{map_append}
 use Rattle.streetmap_reading.specs.declared.fault.ReadFault.{ReadFault}

@@ -13,7 +13,7 @@ use Rattle.std.specs.FinMap.{len, entries}
 use Rattle.sqlite.specs.State.{State as Seen}
 use Rattle.streetmap_batch.specs.Text.{Text}
 use Rattle.streetmap_ledger.specs.State.{State, Collection}
-use Rattle.streetmap_tables.specs.Failing.{IsOfStore}
+use Rattle.streetmap_rows.specs.Failing.{IsOfStore}
 use Rattle.streetmap_rows.specs.Keeping.{Rests}
 use Rattle.streetmap_checking.specs.Telling.{Known, SeesFormat, SeesHeads, SeesAllFeatures, SeesOwners, SeesBatches, NoFormat, NoHeads, NoFeaturesOfAll, NoOwners, NoBatches}
 use Rattle.streetmap_checking.specs.declared.checking.Totals.{Totals}

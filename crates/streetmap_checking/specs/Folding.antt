@@ -5,7 +5,7 @@ use Rattle.sqlite.specs.Store.{Ghosts}
 use Rattle.sqlite.specs.Given.{HasGiven}
 use Rattle.sqlite.specs.Held.{Held, state}
 use Rattle.sqlite.specs.State.{State as Seen, IsUnchanged}
-use Rattle.streetmap_tables.specs.Failing.{IsOfStore}
+use Rattle.streetmap_rows.specs.Failing.{IsOfStore}
 use Rattle.streetmap_reading.specs.declared.fault.ReadFault.{ReadFault}
 use Rattle.streetmap_reading.specs.declared.fault.ReadFault.TheVariants.{Memory, Store, Unread}
 use Rattle.streetmap_opening.specs.Adopting.{IsAsItWas}

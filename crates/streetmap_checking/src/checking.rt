@@ -14,7 +14,7 @@ use crate::looks::{
 use sqlite::{Alter, Connection, Error};
 use std::alloc::Global;
 use streetmap_reading::ReadFault;
-use streetmap_tables::{Shut, Stop, settle};
+use streetmap_rows::{Shut, Stop, settle};
 
 /// What a check counted.
 #[derive(Clone, Copy, Debug, PartialEq, Eq)]

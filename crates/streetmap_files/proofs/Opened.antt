@@ -11,7 +11,7 @@ use Rattle.sqlite.specs.Files.{file_state}
 use Rattle.streetmap_ledger.specs.State.{State}
 use Rattle.streetmap_rows.specs.Keeping.{Keeps, Rests}
 use Rattle.streetmap_opening.specs.Making.{HasRoom, IsReady, is_taken}
-use Rattle.streetmap_carrying.specs.Old.{KeepsOld, RestsOld}
+use Rattle.streetmap_opening.specs.Old.{KeepsOld, RestsOld}
 use Rattle.streetmap_store.proofs.Reopened.{keeps_too, old_too}
 use Rattle.streetmap_files.specs.Holding.{IsJustOpenedOn, HoldsState, HoldsOldState, LeavesRoom}
 use Rattle.streetmap_files.specs.Reasons.{RefusesToCreate}

@@ -16,9 +16,9 @@ use Rattle.sqlite_store.specs.declared.store.FileStore.{FileStore}
 use Rattle.sqlite.specs.Files.{IsNothing, FailsToOpenFiles, image_of}
 use Rattle.streetmap_ledger.specs.State.{State}
 use Rattle.streetmap_opening.specs.Telling.{TellsFault, TellsNothing}
-use Rattle.streetmap_carrying.specs.Carrying.{IsOld, Carries, Opens, OpensBy}
-use Rattle.streetmap_carrying.specs.declared.opening.TablesFault.{TablesFault}
-use Rattle.streetmap_carrying.specs.declared.opening.TablesFault.TheVariants as tables
+use Rattle.streetmap_opening.specs.Carrying.{IsOld, Carries, Opens, OpensBy}
+use Rattle.streetmap_opening.specs.declared.opening.TablesFault.{TablesFault}
+use Rattle.streetmap_opening.specs.declared.opening.TablesFault.TheVariants as tables
 use Rattle.streetmap_opening.specs.declared.adopting.AdoptFault.TheVariants as adopting
 use Rattle.streetmap_opening.specs.declared.making.MakeFault.{MakeFault}
 use Rattle.streetmap_opening.specs.declared.making.MakeFault.TheVariants as making

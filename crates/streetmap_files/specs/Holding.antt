@@ -13,7 +13,7 @@ use Rattle.sqlite.specs.Files.{HoldsDatabase, AreFoundIn, IsOpened, file_state}
 use Rattle.streetmap_ledger.specs.State.{State}
 use Rattle.streetmap_rows.specs.Keeping.{Tells}
 use Rattle.streetmap_opening.specs.Making.{HasRoom}
-use Rattle.streetmap_carrying.specs.Old.{KeepsOld}
+use Rattle.streetmap_opening.specs.Old.{KeepsOld}
 
 -- a connection that was just opened on files: while they return what was written, it is open and shows the database that they held
 pub record IsJustOpenedOn {D : Type 0} {g : disk.Ghosts D} (image : Image) (c : Held (FileStore D g)) : Type 0 where

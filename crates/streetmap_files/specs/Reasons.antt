@@ -15,13 +15,13 @@ use Rattle.sqlite.specs.State.{State as Seen, HasCleanDisk}
 use Rattle.sqlite.specs.Held.{Held}
 use Rattle.sqlite.specs.Opening.{is_open_error}
 use Rattle.sqlite.specs.Files.{HoldsDatabase, IsNothing, AreFoundIn, IsCleanLeft, LeavesFiles, image_of, file_state}
-use Rattle.streetmap_tables.specs.Failing.{IsOfStore}
+use Rattle.streetmap_rows.specs.Failing.{IsOfStore}
 use Rattle.streetmap_opening.specs.Adopting.{IsAsItWas}
 use Rattle.streetmap_opening.specs.Telling.{TellsFault, TellsNothing}
 use Rattle.streetmap_opening.specs.Making.{is_taken}
 use Rattle.streetmap_ledger.specs.State.{State}
-use Rattle.streetmap_carrying.specs.Old.{RestsOld}
-use Rattle.streetmap_carrying.specs.Carrying.{IsOld, LeavesUnlessOld, MayCarry}
+use Rattle.streetmap_opening.specs.Old.{RestsOld}
+use Rattle.streetmap_opening.specs.Carrying.{IsOld, LeavesUnlessOld, MayCarry}
 use Rattle.streetmap_opening.specs.declared.adopting.AdoptFault.TheVariants as adopting
 use Rattle.streetmap_files.specs.Holding.{IsJustOpenedOn, LeavesRoom}
 use Rattle.streetmap_files.specs.declared.fault.OpenFault.{OpenFault}

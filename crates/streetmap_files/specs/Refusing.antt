@@ -3,8 +3,8 @@ use Rattle.std.specs.Prelude.{ℕ, List, codes}
 use Rattle.sqlite.specs.declared.error.Error.{Error}
 use Rattle.sqlite.specs.declared.error.Error.TheVariants.{SqliteFailure}
 use Rattle.sqlite.specs.declared.error.ErrorCode.TheVariants.{NotADatabase, OutOfMemory}
-use Rattle.streetmap_carrying.specs.declared.opening.TablesFault.{TablesFault}
-use Rattle.streetmap_carrying.specs.declared.opening.TablesFault.TheVariants as tables
+use Rattle.streetmap_opening.specs.declared.opening.TablesFault.{TablesFault}
+use Rattle.streetmap_opening.specs.declared.opening.TablesFault.TheVariants as tables
 use Rattle.streetmap_opening.specs.declared.making.MakeFault.{MakeFault}
 use Rattle.streetmap_opening.specs.declared.making.MakeFault.TheVariants as making
 use Rattle.streetmap_files.specs.declared.fault.OpenFault.{OpenFault}

@@ -3,8 +3,7 @@ ghost use Rattle.std.specs.Prelude.{◌≡◌};
 ghost use Rattle.streetmap_files.specs.Refusing.{open_code, create_code, open_description, create_description, refused_to_open, refused_to_create, not_adopted, not_made};
 
 use sqlite::{Error, ErrorCode};
-use streetmap_carrying::TablesFault;
-use streetmap_opening::MakeFault;
+use streetmap_opening::{MakeFault, TablesFault};
 
 /// Why a file was not opened.
 #[derive(Debug, Drop)]

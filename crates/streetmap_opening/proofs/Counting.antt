@@ -9,8 +9,8 @@ use Rattle.sqlite_trees.specs.Tree.{IsAscending}
 use Rattle.sqlite_rules.proofs.ListLemmas.{has_found}
 use Rattle.streetmap_batch.specs.Text.{Text, text_cmp}
 use Rattle.streetmap_ledger.specs.State.{State, AcceptedBatch}
-use Rattle.streetmap_tables.specs.Holds.{Holds, first_key, is_first, same_text}
-use Rattle.streetmap_tables.proofs.Keys.{first_is, one_text}
+use Rattle.streetmap_rows.specs.Holds.{Holds, first_key, is_first, same_text}
+use Rattle.streetmap_rows.proofs.Keys.{first_is, one_text}
 use Rattle.streetmap_rows.specs.Rows.{batch_cells}
 
 module _ {V : Type 0} (f : Row → V) where

@@ -19,7 +19,7 @@ use Rattle.sqlite_catalog.proofs.StepLemmas.{table_below}
 use Rattle.sqlite_catalog.proofs.ListFacts.{ascending_push}
 use Rattle.sqlite_rules.specs.Lists.{Has}
 use Rattle.sqlite_rules.proofs.ListLemmas.{all_has, has_left, has_either, has_found}
-use Rattle.streetmap_tables.proofs.Finding.{stands_at}
+use Rattle.streetmap_rows.proofs.Finding.{stands_at}
 use Rattle.streetmap_rows.specs.Tables.{IsNamed, features_name}
 use Rattle.streetmap_opening.specs.Made.{Created}
 use Rattle.streetmap_opening.specs.Making.{HasRoom, KeepsOtherTables}

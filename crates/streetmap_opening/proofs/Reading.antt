@@ -22,19 +22,19 @@ use Rattle.sqlite_rules.specs.Lists.{Has}
 use Rattle.streetmap_batch.specs.Text.{Text}
 use Rattle.streetmap_ledger.specs.State.{State}
 use Rattle.std.specs.FinMap.{len}
-use Rattle.streetmap_tables.specs.Failing.{IsOfStore}
-use Rattle.streetmap_tables.specs.Holds.{Holds, first_key, is_first, same_text}
-use Rattle.streetmap_tables.specs.Queries.{over, program}
-use Rattle.streetmap_tables.proofs.Choosing.{chosen, staged, picked}
-use Rattle.streetmap_tables.proofs.Finding.{IsFound}
-use Rattle.streetmap_tables.proofs.Holding.{cells_of, filter_one}
-use Rattle.streetmap_tables.proofs.Keys.{first_is, first_self, column_later, equal_texts, text_is}
-use Rattle.streetmap_tables.proofs.Resolving.{Means}
+use Rattle.streetmap_rows.specs.Failing.{IsOfStore}
+use Rattle.streetmap_rows.specs.Holds.{Holds, first_key, is_first, same_text}
+use Rattle.streetmap_rows.specs.Queries.{over, program}
+use Rattle.streetmap_rows.proofs.Choosing.{chosen, staged, picked}
+use Rattle.streetmap_rows.proofs.Finding.{IsFound}
+use Rattle.streetmap_rows.proofs.Holding.{cells_of, filter_one}
+use Rattle.streetmap_rows.proofs.Keys.{first_is, first_self, column_later, equal_texts, text_is}
+use Rattle.streetmap_rows.proofs.Resolving.{Means}
 use Rattle.streetmap_rows.specs.Rows.{AreOf}
 use Rattle.streetmap_rows.specs.Statements.{select_format}
 use Rattle.streetmap_rows.specs.Tables.{Roots, meta, meta_name, batches, batches_name}
 use Rattle.streetmap_rows.specs.Keeping.{Keeps}
-use Rattle.streetmap_tables.proofs.Drafts.{equal_terms}
+use Rattle.streetmap_rows.proofs.Drafts.{equal_terms}
 use Rattle.streetmap_rows.proofs.Compiles.{select_format_means, select_format_never}
 use Rattle.streetmap_rows.proofs.Looking.{answered, fails_inside}
 use Rattle.streetmap_rows.proofs.Placing as placing

@@ -24,10 +24,10 @@ use Rattle.sqlite_rules.specs.Lists.{Has}
 use Rattle.sqlite_rules.proofs.ListLemmas.{all_has}
 use Rattle.sqlite_resolve.specs.Compile.{compiled, planned, meaning, returning, command, timed, create_table, creates, is_attached, is_reserved, table_defined_by, table_in}
 use Rattle.sqlite_resolve.specs.Define as define
-use Rattle.streetmap_tables.proofs.OfStore.{failure_is}
-use Rattle.streetmap_tables.proofs.Refusing.{refused_as}
-use Rattle.streetmap_tables.proofs.Resolving.{Means, command_is, is_plain, is_fit as runs_so, understood_is}
-use Rattle.streetmap_tables.proofs.Running.{never_misplaced, never_ends}
+use Rattle.streetmap_rows.proofs.OfStore.{failure_is}
+use Rattle.streetmap_rows.proofs.Refusing.{refused_as}
+use Rattle.streetmap_rows.proofs.Resolving.{Means, command_is, is_plain, is_fit as runs_so, understood_is}
+use Rattle.streetmap_rows.proofs.Running.{never_misplaced, never_ends}
 use Rattle.streetmap_opening.specs.Made.{creating, IsTableText}
 use Rattle.streetmap_opening.specs.Refusing.{IsToldFor}
 

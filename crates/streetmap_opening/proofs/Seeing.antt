@@ -16,8 +16,8 @@ use Rattle.sqlite_resolve.specs.Lowering.{Checked, and_then}
 use Rattle.sqlite_resolve.specs.declared.compiled.Compiled.{Compiled}
 use Rattle.sqlite_resolve.specs.declared.error.CompileError.{CompileError}
 use Rattle.sqlite_resolve.specs.declared.error.CompileError.TheVariants.{NoSuchTable}
-use Rattle.streetmap_tables.specs.Failing.{IsOfStore}
-use Rattle.streetmap_tables.proofs.OfStore.{failure_is}
+use Rattle.streetmap_rows.specs.Failing.{IsOfStore}
+use Rattle.streetmap_rows.proofs.OfStore.{failure_is}
 
 -- a text that is read as one statement without RETURNING, which does not read the time
 pub record IsBare (text : List ℕ) : Type 0 where

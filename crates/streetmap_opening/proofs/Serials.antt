@@ -18,10 +18,10 @@ use Rattle.sqlite_resolve.specs.Compile.{first}
 use Rattle.sqlite_resolve.specs.Select.{named}
 use Rattle.sqlite_tied.specs.Compute.{everything}
 use Rattle.sqlite_schema.specs.Names.{table_named}
-use Rattle.streetmap_tables.specs.Queries.{over_in, program}
-use Rattle.streetmap_tables.proofs.Drafts.{parsed_of, was_parsed, from_table, shown_column, draft}
-use Rattle.streetmap_tables.proofs.Finding.{IsFound}
-use Rattle.streetmap_tables.proofs.Resolving.{Means, means, IsOne, whole_page, select_planned, program_is}
+use Rattle.streetmap_rows.specs.Queries.{over_in, program}
+use Rattle.streetmap_rows.proofs.Drafts.{parsed_of, was_parsed, from_table, shown_column, draft}
+use Rattle.streetmap_rows.proofs.Finding.{IsFound}
+use Rattle.streetmap_rows.proofs.Resolving.{Means, means, IsOne, whole_page, select_planned, program_is}
 use Rattle.streetmap_rows.specs.Tables.{batches, batches_name}
 use Rattle.streetmap_opening.specs.Adopting.{serials_text}
 

@@ -6,8 +6,8 @@ use Rattle.sqlite.specs.State.{State as Seen, IsUnchanged, Shown, FailsToQuery, 
 use Rattle.sqlite.specs.declared.error.Error.{Error}
 use Rattle.sqlite_resolve.specs.Compile.{first, returning, timed}
 use Rattle.sqlite_tied.specs.Compute.{everything}
-use Rattle.streetmap_tables.specs.Failing.{IsOfStore}
-use Rattle.streetmap_tables.proofs.Drafts.{parsed_of, was_parsed}
+use Rattle.streetmap_rows.specs.Failing.{IsOfStore}
+use Rattle.streetmap_rows.proofs.Drafts.{parsed_of, was_parsed}
 use Rattle.streetmap_rows.specs.Statements.{select_format}
 use Rattle.streetmap_opening.specs.Adopting.{serials_text}
 use Rattle.streetmap_opening.specs.Telling.{Sees, IsUnseen, LooksAt, TellsFormat, TellsNothing, IsFoundIn, IsRefusedFor, AdoptsBy}

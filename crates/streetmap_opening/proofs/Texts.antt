@@ -7,7 +7,7 @@ use Rattle.sqlite_ast.specs.declared.Statement.TheVariants as written
 use Rattle.sqlite_resolve.specs.Compile.{first, table_defined_by}
 use Rattle.sqlite_tied.specs.Compute.{everything}
 use Rattle.sqlite.specs.Table.{Table}
-use Rattle.streetmap_tables.proofs.Drafts.{parsed_of, was_parsed}
+use Rattle.streetmap_rows.proofs.Drafts.{parsed_of, was_parsed}
 use Rattle.streetmap_rows.specs.Tables.{meta, meta_text, collections, collections_text, batches, batches_text, features, features_text}
 use Rattle.streetmap_opening.specs.Made.{creating, IsTableText}
 

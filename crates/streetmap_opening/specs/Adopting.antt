@@ -9,7 +9,7 @@ use Rattle.sqlite.specs.State.{State as Seen, IsUnchanged}
 use Rattle.sqlite_trees.specs.Tree.{Trees}
 use Rattle.streetmap_ledger.specs.State.{State}
 use Rattle.streetmap_ledger.specs.Keep.{LeavesOnly}
-use Rattle.streetmap_tables.specs.Failing.{IsOfStore}
+use Rattle.streetmap_rows.specs.Failing.{IsOfStore}
 use Rattle.streetmap_rows.specs.Keeping.{Keeps, Rests, MayLeave}
 use Rattle.streetmap_opening.specs.Making.{HasSame}
 use Rattle.streetmap_opening.specs.declared.adopting.Found.{Found}

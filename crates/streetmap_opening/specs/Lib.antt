@@ -1,5 +1,9 @@
+pub mod Adopting
+pub mod Carrying
+pub mod Dropping
 pub mod Made
 pub mod Making
-pub mod Adopting
-pub mod Telling
+pub mod Old
+pub mod Part
 pub mod Refusing
+pub mod Telling

@@ -15,7 +15,7 @@ use Rattle.std.specs.FinMap.{get}
 use Rattle.streetmap_ledger.specs.State.{State, opening_state}
 use Rattle.streetmap_ledger.specs.Keep.{LeavesOnly}
 use Rattle.streetmap_rows.specs.Tables.{Roots, IsOurs, meta_name, collections_name, batches_name, features_name}
-use Rattle.streetmap_tables.specs.Holds.{Holds, first_key, is_first, pair_key, has_pair}
+use Rattle.streetmap_rows.specs.Holds.{Holds, first_key, is_first, pair_key, has_pair}
 use Rattle.streetmap_rows.specs.Rows.{feature_at, collection_cells, batch_cells, feature_cells}
 use Rattle.streetmap_rows.specs.Stands.{CanBeRead}
 use Rattle.streetmap_rows.specs.Elsewhere.{is_our_name}

@@ -8,7 +8,7 @@ use Rattle.sqlite.specs.declared.error.ErrorCode.TheVariants.{NameTaken, SchemaT
 use Rattle.sqlite_schema.specs.declared.schema.Index.{Index}
 use Rattle.sqlite_catalog.specs.Change.{next_tree, is_used, automatics}
 use Rattle.sqlite_rules.specs.Lists.{Has}
-use Rattle.streetmap_tables.specs.Failing.{IsOfStore}
+use Rattle.streetmap_rows.specs.Failing.{IsOfStore}
 use Rattle.streetmap_opening.specs.declared.making.MakeFault.{MakeFault}
 use Rattle.streetmap_opening.specs.declared.making.MakeFault.TheVariants.{Taken, Device, Memory}
 use Rattle.streetmap_rows.specs.Tables.{meta, meta_text, collections, collections_text, batches, batches_text, features, features_text}

@@ -6,7 +6,7 @@ use Rattle.sqlite.specs.declared.error.Error.{Error}
 use Rattle.sqlite.specs.declared.types.Value.{Value}
 use Rattle.sqlite.specs.declared.types.Value.TheVariants.{Int}
 use Rattle.sqlite.specs.State.{State as Seen, IsUnchanged, Shown, FailsToQuery}
-use Rattle.streetmap_tables.specs.Failing.{IsOfStore}
+use Rattle.streetmap_rows.specs.Failing.{IsOfStore}
 use Rattle.streetmap_rows.specs.Statements.{select_format}
 use Rattle.streetmap_opening.specs.Adopting.{serials_text}
 use Rattle.streetmap_opening.specs.declared.adopting.Found.{Found}

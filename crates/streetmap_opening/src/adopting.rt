@@ -10,7 +10,7 @@ ghost use Rattle.streetmap_opening.specs.Telling.{format_in, LooksAt, IsFoundIn,
 
 use sqlite::types::ValueRef;
 use sqlite::{Alter, Connection, Error, Row, Transaction};
-use streetmap_tables::{Shut, Stop, probe, settle};
+use streetmap_rows::{Shut, Stop, probe, settle};
 
 /// Why tables were not opened.
 #[derive(Debug, Drop)]

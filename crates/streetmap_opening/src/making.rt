@@ -8,7 +8,7 @@ ghost use Rattle.sqlite.specs.Effect.{IsDatabase};
 ghost use Rattle.sqlite.specs.Table.{Table};
 ghost use Rattle.sqlite_catalog.specs.Change.{created, is_used};
 ghost use Rattle.streetmap_ledger.specs.State.{State, opening_state};
-ghost use Rattle.streetmap_tables.specs.Failing.{IsOfStore};
+ghost use Rattle.streetmap_rows.specs.Failing.{IsOfStore};
 ghost use Rattle.streetmap_rows.specs.Keeping.{Keeps};
 ghost use Rattle.streetmap_rows.specs.Stands.{StandsFor};
 ghost use Rattle.streetmap_rows.specs.Elsewhere.{IsSameElsewhere};
@@ -19,7 +19,7 @@ ghost use Rattle.streetmap_opening.specs.Making.{is_taken, HasRoom, IsReady, Lac
 
 use sqlite::{Alter, Connection, Error, Transaction};
 use sqlite_schema::schema::Schema;
-use streetmap_tables::{is_memory, probe};
+use streetmap_rows::{is_memory, probe};
 
 /// Why tables were not made.
 #[derive(Debug, Drop)]

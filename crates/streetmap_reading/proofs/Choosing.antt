@@ -21,13 +21,13 @@ use Rattle.streetmap_moment.specs.Meeting.{seconds_of, seconds_overlap, first_se
 use Rattle.streetmap_geojson.specs.FeatureValue.{FeatureValue}
 use Rattle.streetmap_batch.specs.Text.{Text}
 use Rattle.streetmap_ledger.specs.Pages.{passes, extent_overlaps}
-use Rattle.streetmap_tables.specs.Holds.{same_text}
+use Rattle.streetmap_rows.specs.Holds.{same_text}
 use Rattle.streetmap_rows.specs.Rows.{feature_cells, extent_in, seconds_in}
-use Rattle.streetmap_tables.specs.Holds.{KeyPair}
-use Rattle.streetmap_tables.proofs.Keys.{truth_is, equal_texts, column_later}
-use Rattle.streetmap_tables.proofs.Drafts.{equal_terms, at_most, at_least}
+use Rattle.streetmap_rows.specs.Holds.{KeyPair}
+use Rattle.streetmap_rows.proofs.Keys.{truth_is, equal_texts, column_later}
+use Rattle.streetmap_rows.proofs.Drafts.{equal_terms, at_most, at_least}
 use Rattle.streetmap_reading.specs.Choosing.{is_chosen}
-use Rattle.streetmap_tables.proofs.Ordered.{keeps}
+use Rattle.streetmap_rows.proofs.Ordered.{keeps}
 use Rattle.streetmap_reading.proofs.Listing.{Chooses}
 
 le_is : (a b : ℤ) → is_le (int_cmp a b) ≡ int_le a b

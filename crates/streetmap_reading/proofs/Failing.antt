@@ -2,7 +2,7 @@
 use Rattle.std.proofs.Common.{◌≡◌, Result, MatchResult, Ok, Err, if◌then◌else◌, sym, ap, subst, ◌∙◌}
 use Rattle.std.specs.Result.{IsErrAnd}
 use Rattle.sqlite.specs.declared.error.Error.{Error}
-use Rattle.streetmap_tables.specs.Failing.{is_memory, IsMemory}
+use Rattle.streetmap_rows.specs.Failing.{is_memory, IsMemory}
 use Rattle.streetmap_reading.specs.declared.fault.ReadFault.{ReadFault}
 use Rattle.streetmap_reading.specs.declared.fault.ReadFault.TheVariants.{Memory, Unread}
 

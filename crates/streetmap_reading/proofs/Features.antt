@@ -11,12 +11,12 @@ use Rattle.streetmap_geojson.specs.FeatureValue.{FeatureValue}
 use Rattle.streetmap_batch.specs.Text.{Text}
 use Rattle.streetmap_ledger.specs.State.{State, Collection}
 use Rattle.streetmap_ledger.specs.Pages.{feature_in}
-use Rattle.streetmap_tables.specs.Holds.{KeyPair, pair_key, has_pair}
-use Rattle.streetmap_tables.specs.Queries.{over}
-use Rattle.streetmap_tables.proofs.Finding.{IsFound}
-use Rattle.streetmap_tables.proofs.Choosing.{chosen, shown_as, staged}
-use Rattle.streetmap_tables.proofs.Holding.{filter_one}
-use Rattle.streetmap_tables.proofs.Keys.{pair_is, pair_self, column_later}
+use Rattle.streetmap_rows.specs.Holds.{KeyPair, pair_key, has_pair}
+use Rattle.streetmap_rows.specs.Queries.{over}
+use Rattle.streetmap_rows.proofs.Finding.{IsFound}
+use Rattle.streetmap_rows.proofs.Choosing.{chosen, shown_as, staged}
+use Rattle.streetmap_rows.proofs.Holding.{filter_one}
+use Rattle.streetmap_rows.proofs.Keys.{pair_is, pair_self, column_later}
 use Rattle.streetmap_rows.specs.Keeping.{Keeps}
 use Rattle.streetmap_rows.specs.Rows.{AreOf, feature_cells}
 use Rattle.streetmap_rows.specs.Statements.{select_body}

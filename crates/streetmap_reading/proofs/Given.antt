@@ -9,7 +9,7 @@ use Rattle.sqlite.specs.Given.{HasGiven, Advances, FailsToAdvance}
 use Rattle.sqlite.specs.Held.{Held, state}
 use Rattle.sqlite.specs.State.{State as Seen, IsUnchanged, KeepsCommit}
 use Rattle.sqlite.proofs.Callers.{reads_as, begins_as, given_begin}
-use Rattle.streetmap_tables.specs.Failing.{IsOfStore}
+use Rattle.streetmap_rows.specs.Failing.{IsOfStore}
 use Rattle.streetmap_reading.specs.Candidates.{ShowsOf}
 use Rattle.streetmap_reading.proofs.Told.{told}
 

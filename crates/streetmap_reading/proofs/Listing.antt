@@ -15,10 +15,10 @@ use Rattle.sqlite_rules.proofs.ListLemmas.{all_has, all_from, has_filtered, has_
 use Rattle.streetmap_geojson.specs.FeatureValue.{FeatureValue}
 use Rattle.streetmap_batch.specs.Text.{Text}
 use Rattle.streetmap_ledger.specs.State.{State, Features}
-use Rattle.streetmap_tables.specs.Holds.{same_text, KeyPair, pair_key, has_pair}
-use Rattle.streetmap_tables.proofs.Holding.{cells_of, there}
-use Rattle.streetmap_tables.proofs.Keys.{text_is, text_self, pair_is, pair_self, column_later}
-use Rattle.streetmap_tables.proofs.Ordered.{Says, AreRowsOf, keeps, text_in, ordered_query, shows_entries, if_passes, passed, passing, sorted_passing, find_passing}
+use Rattle.streetmap_rows.specs.Holds.{same_text, KeyPair, pair_key, has_pair}
+use Rattle.streetmap_rows.proofs.Holding.{cells_of, there}
+use Rattle.streetmap_rows.proofs.Keys.{text_is, text_self, pair_is, pair_self, column_later}
+use Rattle.streetmap_rows.proofs.Ordered.{Says, AreRowsOf, keeps, text_in, ordered_query, shows_entries, if_passes, passed, passing, sorted_passing, find_passing}
 use Rattle.streetmap_rows.specs.Rows.{AreOf, feature_at, feature_cells}
 use Rattle.streetmap_rows.specs.Tables.{Roots}
 use Rattle.streetmap_reading.specs.Candidates.{candidate_row}

@@ -20,16 +20,16 @@ use Rattle.streetmap_moment.specs.IntervalValue.{IntervalValue}
 use Rattle.streetmap_geojson.specs.FeatureValue.{FeatureValue}
 use Rattle.streetmap_batch.specs.Text.{Text}
 use Rattle.streetmap_ledger.specs.State.{State, Collection}
-use Rattle.streetmap_tables.specs.Holds.{first_key, is_first}
+use Rattle.streetmap_rows.specs.Holds.{first_key, is_first}
 use Rattle.streetmap_rows.specs.Rows.{AreOf, feature_at, collection_cells}
 use Rattle.streetmap_rows.specs.Keeping.{Keeps}
 use Rattle.streetmap_rows.specs.Statements.{select_all, select_in_box, select_in_time, select_in_both, select_collection}
-use Rattle.streetmap_tables.proofs.Holding.{cells_of, filter_one}
-use Rattle.streetmap_tables.proofs.Keys.{first_is, first_self, column_later}
-use Rattle.streetmap_tables.specs.Queries.{over, program}
-use Rattle.streetmap_tables.proofs.Finding.{IsFound}
-use Rattle.streetmap_tables.proofs.Resolving.{Means, command_is, is_plain, is_whole, unlisted}
-use Rattle.streetmap_tables.proofs.Choosing.{chosen, shown_as, staged}
+use Rattle.streetmap_rows.proofs.Holding.{cells_of, filter_one}
+use Rattle.streetmap_rows.proofs.Keys.{first_is, first_self, column_later}
+use Rattle.streetmap_rows.specs.Queries.{over, program}
+use Rattle.streetmap_rows.proofs.Finding.{IsFound}
+use Rattle.streetmap_rows.proofs.Resolving.{Means, command_is, is_plain, is_whole, unlisted}
+use Rattle.streetmap_rows.proofs.Choosing.{chosen, shown_as, staged}
 use Rattle.streetmap_rows.specs.Tables.{Roots, features, collections, features_name, collections_name}
 use Rattle.streetmap_rows.proofs.Compiles.{one, select_all_means, select_all_never, select_in_box_means, select_in_box_never, select_in_time_means, select_in_time_never, select_in_both_means, select_in_both_never, select_collection_means, select_collection_never}
 use Rattle.streetmap_rows.proofs.PutCollection.{name_cell}
@@ -39,7 +39,7 @@ use Rattle.streetmap_reading.specs.Candidates.{candidate_row, IsStored, ShowsOf}
 use Rattle.streetmap_reading.specs.Choosing.{is_chosen, chosen_of}
 use Rattle.streetmap_rows.specs.Views.{collection_view}
 use Rattle.streetmap_moment.specs.Meeting.{first_second, last_second}
-use Rattle.streetmap_tables.proofs.Ordered.{find_has, mapped_has}
+use Rattle.streetmap_rows.proofs.Ordered.{find_has, mapped_has}
 use Rattle.streetmap_reading.proofs.Listing.{Chooses, page_query, lists_chosen}
 use Rattle.streetmap_reading.proofs.Choosing.{in_collection, box_params, time_params, box_terms, time_terms, all_chooses, box_chooses, time_chooses, both_chooses}
 

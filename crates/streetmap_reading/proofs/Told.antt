@@ -8,8 +8,8 @@ use Rattle.sqlite.specs.Effect.{RefusesQuery, RefusesToRead}
 use Rattle.sqlite.specs.Clock.{timed}
 use Rattle.sqlite.specs.State.{State as Seen, IsNotRun, FailsToQuery, FailsToShow, IsTooLate, KeepsCommit}
 use Rattle.sqlite.proofs.Callers.{IsPlain, command_of}
-use Rattle.streetmap_tables.specs.Failing.{IsOfStore}
-use Rattle.streetmap_tables.proofs.OfStore.{failure_is}
+use Rattle.streetmap_rows.specs.Failing.{IsOfStore}
+use Rattle.streetmap_rows.proofs.OfStore.{failure_is}
 use Rattle.streetmap_reading.specs.Candidates.{IsWhole, ShowsOf}
 
 module _ (sql : List ℕ) (params : Row) (old new : Seen) (rows : List Row) (shows : ShowsOf sql params old.now rows) (limit : old.step_limit ≡ None) where

@@ -1,4 +1,9 @@
 pub mod Candidates
-pub mod Taking
 pub mod Choosing
+pub mod Folding
+pub mod Held
 pub mod Looking
+pub mod Statements
+pub mod Taking
+pub mod Telling
+pub mod Views

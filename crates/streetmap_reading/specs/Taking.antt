@@ -13,7 +13,7 @@ use Rattle.streetmap_ledger.specs.Folds.{Holds}
 use Rattle.streetmap_ledger.specs.declared.fold.PageFold.{PageFold}
 use Rattle.streetmap_reading.specs.declared.fault.ReadFault.{ReadFault}
 use Rattle.streetmap_reading.specs.declared.fault.ReadFault.TheVariants.{Memory, Store, Unread}
-use Rattle.streetmap_tables.specs.Failing.{IsOfStore}
+use Rattle.streetmap_rows.specs.Failing.{IsOfStore}
 use Rattle.streetmap_reading.specs.Candidates.{candidate_row, IsStored, ShowsOf}
 
 -- a look that stopped left the connection as it was, or the store failed; it met no row that cannot be read

@@ -1,4 +1,4 @@
-//! Pages and features read from the tables of a state, row by row.
+//! Pages, features, and what is told of collections, read from the tables of a state, row by row.
 //!
 //! `page_of` answers the page of a collection as the state has it: it reads the rows whose stored
 //! extent and seconds overlap what is asked, by one of four statements, one row at a time and in order
@@ -8,16 +8,27 @@
 //! because a statement failed, or at a row that is none that this product writes; the last never on
 //! the tables of a state.
 //!
+//! `summary_of` and `summaries_of` tell of one collection and of all, and `outlines_of` lists a
+//! collection's features by what is stored beside their bodies, in one pass; none of them reads a body.
+//!
 //! In the order of reading: `fault`, `candidates` (rows of a query, one after the other), `page`,
-//! `feature`.
+//! `feature`; `cells` (a value of a row), `fold` (rows taken one by one), `extents`, `summaries`,
+//! `outlines`.
 #![tactic(auto)]
 
 mod candidates;
+mod cells;
+mod extents;
 mod fault;
 mod feature;
+mod fold;
+mod outlines;
 mod page;
+mod summaries;
 
 pub use candidates::read_body;
 pub use fault::{ReadFault, unread};
 pub use feature::feature_of;
-pub use page::{collection_row, page_of};
+pub use outlines::outlines_of;
+pub use page::page_of;
+pub use summaries::{summaries_of, summary_of};

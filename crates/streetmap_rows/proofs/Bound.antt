@@ -7,10 +7,10 @@ use Rattle.sqlite.specs.Values.{or_null, bound_value}
 use Rattle.streetmap_grid.specs.Values.{BoxValue}
 use Rattle.streetmap_geojson.specs.FeatureValue.{FeatureValue}
 use Rattle.streetmap_batch.specs.Text.{Text}
-use Rattle.streetmap_tables.specs.Holds.{KeyPair}
+use Rattle.streetmap_rows.specs.Holds.{KeyPair}
 use Rattle.streetmap_rows.specs.Rows.{feature_cells, extent_in, seconds_in}
 use Rattle.streetmap_rows.specs.Calls.{IsWritten}
-use Rattle.streetmap_tables.proofs.Casts.{whole_null}
+use Rattle.streetmap_rows.proofs.Casts.{whole_null}
 
 abbrev written_cells : KeyPair → Text → Option BoxValue → Option (ℤ × ℤ) → Row
 written_cells p text extent seconds =

@@ -28,10 +28,10 @@ use Rattle.sqlite_resolve.specs.Select.{named}
 use Rattle.sqlite_resolve.specs.Write.{deleted}
 use Rattle.sqlite_tied.specs.Compute.{everything}
 use Rattle.sqlite_schema.specs.Names.{table_named}
-use Rattle.streetmap_tables.specs.Queries.{over, over_in, program}
-use Rattle.streetmap_tables.proofs.Drafts.{parsed_of, was_parsed, named_column, from_table, shown_column, equal_terms, at_most, at_least, rising, draft}
-use Rattle.streetmap_tables.proofs.Finding.{IsFound}
-use Rattle.streetmap_tables.proofs.Resolving.{Means, means, IsOne, whole_page, insert_planned, delete_planned, select_planned, program_is}
+use Rattle.streetmap_rows.specs.Queries.{over, over_in, program}
+use Rattle.streetmap_rows.proofs.Drafts.{parsed_of, was_parsed, named_column, from_table, shown_column, equal_terms, at_most, at_least, rising, draft}
+use Rattle.streetmap_rows.proofs.Finding.{IsFound}
+use Rattle.streetmap_rows.proofs.Resolving.{Means, means, IsOne, whole_page, insert_planned, delete_planned, select_planned, program_is}
 use Rattle.streetmap_rows.specs.Tables.{collections, meta, batches, features, collections_name, meta_name, batches_name, features_name}
 use Rattle.streetmap_rows.specs.Statements as text
 

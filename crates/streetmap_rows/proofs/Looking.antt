@@ -16,29 +16,29 @@ use Rattle.sqlite.specs.Listing.{understood}
 use Rattle.sqlite.proofs.Callers.{reads_as, IsPlain}
 use Rattle.sqlite_trees.specs.Tree.{Trees}
 use Rattle.streetmap_batch.specs.Text.{Text}
-use Rattle.streetmap_tables.specs.Holds.{KeyPair, pair_key, has_pair}
+use Rattle.streetmap_rows.specs.Holds.{KeyPair, pair_key, has_pair}
 use Rattle.streetmap_geojson.specs.FeatureValue.{FeatureValue}
 use Rattle.streetmap_ledger.specs.State.{State, AcceptedBatch}
 use Rattle.streetmap_rows.specs.Tables.{Roots, collections, batches, features, collections_name, batches_name, features_name}
 use Rattle.streetmap_rows.specs.Statements.{select_id, select_collection, select_batch}
-use Rattle.streetmap_tables.specs.Holds.{first_key, is_first, same_text}
+use Rattle.streetmap_rows.specs.Holds.{first_key, is_first, same_text}
 use Rattle.streetmap_rows.specs.Rows.{AreOf, feature_at, feature_cells, collection_cells, batch_cells}
 use Rattle.streetmap_rows.specs.Stands.{StandsFor}
-use Rattle.streetmap_tables.specs.Failing.{IsOfStore}
+use Rattle.streetmap_rows.specs.Failing.{IsOfStore}
 use Rattle.streetmap_rows.specs.Views.{kept_view, collection_view}
 use Rattle.sqlite_schema.specs.declared.program.Program.{Program}
 use Rattle.sqlite.specs.Effect.{RefusesQuery, Answers}
-use Rattle.streetmap_tables.specs.Queries.{over, program}
-use Rattle.streetmap_tables.proofs.Finding.{IsFound}
-use Rattle.streetmap_tables.proofs.Resolving.{Means, command_is, is_plain, is_whole, unlisted}
+use Rattle.streetmap_rows.specs.Queries.{over, program}
+use Rattle.streetmap_rows.proofs.Finding.{IsFound}
+use Rattle.streetmap_rows.proofs.Resolving.{Means, command_is, is_plain, is_whole, unlisted}
 use Rattle.streetmap_rows.proofs.Compiles.{one, both, select_id_means, select_id_never, select_collection_means, select_collection_never, select_batch_means, select_batch_never}
 use Rattle.streetmap_rows.proofs.Placing as placing
-use Rattle.streetmap_tables.proofs.Choosing.{chosen, shown_as, staged}
+use Rattle.streetmap_rows.proofs.Choosing.{chosen, shown_as, staged}
 use Rattle.streetmap_rows.proofs.Deleting.{both_is, keys_of}
-use Rattle.streetmap_tables.proofs.Holding.{cells_of, filter_one}
-use Rattle.streetmap_tables.proofs.Keys.{first_is, first_self, pair_is, pair_self, column_later, equal_texts}
+use Rattle.streetmap_rows.proofs.Holding.{cells_of, filter_one}
+use Rattle.streetmap_rows.proofs.Keys.{first_is, first_self, pair_is, pair_self, column_later, equal_texts}
 use Rattle.streetmap_rows.proofs.PutCollection.{name_cell}
-use Rattle.streetmap_tables.proofs.Told.{told, not_late}
+use Rattle.streetmap_rows.proofs.Told.{told, not_late}
 
 -- a query that is plain leaves the connection as it was
 pub shown_same : (sql : List ℕ) (params : Row) (old new : Seen) (rows : List Row) → IsPlain (understood old.now.schema sql) → Shown sql params old new rows → IsUnchanged old new

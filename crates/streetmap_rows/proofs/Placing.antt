@@ -6,7 +6,7 @@ use Rattle.sqlite.specs.Effect.{Database, IsDatabase}
 use Rattle.sqlite_schema.specs.Names.{same_name}
 use Rattle.sqlite_rules.specs.Lists.{Has}
 use Rattle.sqlite_rules.proofs.ListLemmas.{has_found}
-use Rattle.streetmap_tables.proofs.Finding.{IsFound, is_found, trees_differ}
+use Rattle.streetmap_rows.proofs.Finding.{IsFound, is_found, trees_differ}
 use Rattle.streetmap_rows.specs.Tables.{Roots, IsNamed, IsOurs, meta, collections, batches, features, meta_name, collections_name, batches_name, features_name}
 
 there : (schema : Schema) (name : List ℕ) (table : Table) → IsNamed schema name table → Has schema.tables table

@@ -24,16 +24,16 @@ use Rattle.sqlite_rules.specs.Edit.{Edit, next_rowid, is_taken, IsRefused, Appli
 use Rattle.sqlite_rules.proofs.ListLemmas.{all_has}
 use Rattle.sqlite_rules.proofs.PlaceLemmas.{next_is_free}
 use Rattle.streetmap_batch.specs.Text.{Text}
-use Rattle.streetmap_tables.specs.Holds.{KeyPair, pair_key, has_pair}
+use Rattle.streetmap_rows.specs.Holds.{KeyPair, pair_key, has_pair}
 use Rattle.streetmap_ledger.specs.State.{State, Collection, opened}
 use Rattle.streetmap_rows.specs.Tables.{Roots, collections, IsOurs}
-use Rattle.streetmap_tables.specs.Holds.{Holds, first_key, is_first, same_text}
+use Rattle.streetmap_rows.specs.Holds.{Holds, first_key, is_first, same_text}
 use Rattle.streetmap_rows.specs.Rows.{AreOf, feature_at, feature_cells, collection_cells}
-use Rattle.streetmap_tables.proofs.Casts.{word_null}
-use Rattle.streetmap_tables.proofs.Holding.{cells_of, holds_put, holds_same}
-use Rattle.streetmap_tables.proofs.Keys.{text_is, first_is, first_self, agree_one, column_later}
+use Rattle.streetmap_rows.proofs.Casts.{word_null}
+use Rattle.streetmap_rows.proofs.Holding.{cells_of, holds_put, holds_same}
+use Rattle.streetmap_rows.proofs.Keys.{text_is, first_is, first_self, agree_one, column_later}
 use Rattle.streetmap_rows.proofs.Placing.{collections_there}
-use Rattle.streetmap_tables.proofs.Adding.{keeps_unique, refers_after}
+use Rattle.streetmap_rows.proofs.Adding.{keeps_unique, refers_after}
 
 pub name_cell : (name : Text) (o : Option Collection) (r : Row) → option_map (collection_cells name) o ≡ Some (drop 1 r) → column r 1 ≡ Words (bytes (column r 1))
 name_cell name None r h = absurd (cc)

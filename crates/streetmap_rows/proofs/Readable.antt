@@ -5,7 +5,7 @@ use Rattle.std.specs.FinMap.{get, insert, remove, empty, get-empty}
 use Rattle.streetmap_geojson.specs.FeatureValue.{FeatureValue}
 use Rattle.streetmap_geojson.specs.FeatureInvariant.{IsFeature}
 use Rattle.streetmap_batch.specs.Text.{Text, text_cmp}
-use Rattle.streetmap_tables.specs.Holds.{KeyPair}
+use Rattle.streetmap_rows.specs.Holds.{KeyPair}
 use Rattle.streetmap_ledger.specs.State.{State, Collection, Features, with_features, opened}
 use Rattle.streetmap_ledger.proofs.StatesStay.{put_or_there, was_there}
 use Rattle.streetmap_rows.specs.Stands.{IsReadable, CanBeRead}

@@ -21,16 +21,16 @@ use Rattle.streetmap_feature_text.proofs.WrittenFeatures.{text_reads_again}
 use Rattle.streetmap_feature_text.proofs.Again.{feature_again}
 use Rattle.streetmap_geojson.proofs.Wholes.{reads_once}
 use Rattle.streetmap_batch.specs.Text.{Text}
-use Rattle.streetmap_tables.specs.Holds.{KeyPair}
+use Rattle.streetmap_rows.specs.Holds.{KeyPair}
 use Rattle.streetmap_ledger.specs.State.{State, Collection, AcceptedBatch}
 use Rattle.streetmap_ledger.specs.WellFormed.{IsState}
 use Rattle.streetmap_rows.specs.Rows.{AreOf, feature_at, feature_cells, feature_text, collection_cells, batch_cells}
 use Rattle.sqlite.specs.Table.{Table}
 use Rattle.sqlite_schema.specs.Names.{same_name}
-use Rattle.streetmap_tables.proofs.Schemas.{one_schema}
+use Rattle.streetmap_rows.proofs.Schemas.{one_schema}
 use Rattle.streetmap_rows.specs.Tables.{Roots, IsNamed, IsOurs, meta, collections, batches, features, meta_name, collections_name, batches_name, features_name}
 use Rattle.streetmap_rows.specs.Keeping.{Keeps, Tells}
-use Rattle.streetmap_tables.proofs.Keys.{one_text}
+use Rattle.streetmap_rows.proofs.Keys.{one_text}
 
 abbrev nat_in : Value → ℕ
 nat_in (Int (pos n)) = n

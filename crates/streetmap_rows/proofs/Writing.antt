@@ -23,28 +23,28 @@ use Rattle.streetmap_grid.specs.Values.{BoxValue}
 use Rattle.streetmap_geojson.specs.FeatureValue.{FeatureValue}
 use Rattle.streetmap_geojson.specs.FeatureInvariant.{IsFeature}
 use Rattle.streetmap_batch.specs.Text.{Text}
-use Rattle.streetmap_tables.specs.Holds.{KeyPair}
+use Rattle.streetmap_rows.specs.Holds.{KeyPair}
 use Rattle.streetmap_ledger.specs.State.{State, Collection, AcceptedBatch, with_features, opened}
 use Rattle.streetmap_rows.specs.Tables.{Roots, IsOurs, collections, meta, batches, features, collections_name, batches_name, features_name}
 use Rattle.streetmap_rows.specs.Statements.{insert_collection, insert_feature, insert_batch, delete_feature}
 use Rattle.streetmap_rows.specs.Rows.{AreOf, feature_cells, batch_cells, extent_in, seconds_in}
 use Rattle.streetmap_rows.specs.Stands.{StandsFor}
 use Rattle.streetmap_rows.specs.Elsewhere.{IsSameElsewhere}
-use Rattle.streetmap_tables.specs.Failing.{IsOfStore}
-use Rattle.streetmap_tables.proofs.Casts.{cast_null, cast_int, whole_null, word_null}
-use Rattle.streetmap_tables.specs.Queries.{program}
-use Rattle.streetmap_tables.proofs.Finding.{IsFound}
-use Rattle.streetmap_tables.proofs.OfStore.{failure_is}
-use Rattle.streetmap_tables.proofs.Resolving.{Means, command_is, is_plain, is_fit}
+use Rattle.streetmap_rows.specs.Failing.{IsOfStore}
+use Rattle.streetmap_rows.proofs.Casts.{cast_null, cast_int, whole_null, word_null}
+use Rattle.streetmap_rows.specs.Queries.{program}
+use Rattle.streetmap_rows.proofs.Finding.{IsFound}
+use Rattle.streetmap_rows.proofs.OfStore.{failure_is}
+use Rattle.streetmap_rows.proofs.Resolving.{Means, command_is, is_plain, is_fit}
 use Rattle.sqlite_rules.proofs.ListLemmas.{all_has}
 use Rattle.sqlite_rules.specs.Lists.{Has}
 use Rattle.streetmap_rows.proofs.Compiles as compile
 use Rattle.streetmap_rows.proofs.Placing as placing
-use Rattle.streetmap_tables.proofs.Parts.{went}
-use Rattle.streetmap_tables.proofs.Inserting.{concluded}
-use Rattle.streetmap_tables.proofs.Running as run
-use Rattle.streetmap_tables.proofs.Running.{never_misplaced, never_ends}
-use Rattle.streetmap_tables.proofs.Refusing.{refused_as}
+use Rattle.streetmap_rows.proofs.Parts.{went}
+use Rattle.streetmap_rows.proofs.Inserting.{concluded}
+use Rattle.streetmap_rows.proofs.Running as run
+use Rattle.streetmap_rows.proofs.Running.{never_misplaced, never_ends}
+use Rattle.streetmap_rows.proofs.Refusing.{refused_as}
 use Rattle.streetmap_rows.proofs.Elsewhere.{same_elsewhere, collections_ours, batches_ours, features_ours}
 use Rattle.streetmap_rows.proofs.PutCollection as collection
 use Rattle.streetmap_rows.proofs.PutFeature as feature

@@ -13,8 +13,8 @@ use Rattle.streetmap_ledger.specs.State.{State, Collection, AcceptedBatch, with_
 use Rattle.streetmap_rows.specs.Rows.{feature_text, extent_in, seconds_in}
 use Rattle.streetmap_rows.specs.Stands.{StandsFor}
 use Rattle.streetmap_rows.specs.Elsewhere.{IsSameElsewhere}
-use Rattle.streetmap_tables.specs.Failing.{IsOfStore}
-use Rattle.streetmap_tables.specs.Holds.{KeyPair}
+use Rattle.streetmap_rows.specs.Failing.{IsOfStore}
+use Rattle.streetmap_rows.specs.Holds.{KeyPair}
 
 -- the rows of a look, which leaves the database
 abbrev pub LooksAll : (State → List Row) → Seen → Seen → Result (Vec Row Global) Error → Type 0

@@ -13,7 +13,7 @@ use Rattle.streetmap_geojson.specs.FeatureValue.{FeatureValue}
 use Rattle.streetmap_feature_text.specs.Written.{feature_data}
 use Rattle.streetmap_batch.specs.Text.{Text}
 use Rattle.streetmap_ledger.specs.State.{State, Collection, AcceptedBatch}
-use Rattle.streetmap_tables.specs.Holds.{Holds, same_text, first_key, is_first, KeyPair, pair_key, has_pair}
+use Rattle.streetmap_rows.specs.Holds.{Holds, same_text, first_key, is_first, KeyPair, pair_key, has_pair}
 use Rattle.streetmap_rows.specs.Tables.{Roots}
 
 -- the feature of a state by its collection and its id

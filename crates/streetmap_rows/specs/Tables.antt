@@ -11,7 +11,7 @@ use Rattle.sqlite_schema.specs.Rules.{ParentKey, is_index_for}
 use Rattle.sqlite_value.specs.Keys.{plain}
 use Rattle.sqlite_trees.specs.Tree.{IsAscending}
 use Rattle.sqlite_rules.specs.Lists.{Has}
-use Rattle.streetmap_tables.specs.Shapes.{text_column, integer_column, plain_table}
+use Rattle.streetmap_rows.specs.Shapes.{text_column, integer_column, plain_table}
 
 abbrev pub meta_name : List ℕ
 meta_name = codes "streetmap_meta"

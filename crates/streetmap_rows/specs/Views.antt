@@ -9,7 +9,7 @@ use Rattle.streetmap_batch.specs.Text.{Text}
 use Rattle.streetmap_geojson.specs.FeatureValue.{FeatureValue}
 use Rattle.streetmap_ledger.specs.State.{State, Collection, AcceptedBatch}
 use Rattle.streetmap_rows.specs.Rows.{feature_at}
-use Rattle.streetmap_tables.specs.Holds.{KeyPair}
+use Rattle.streetmap_rows.specs.Holds.{KeyPair}
 
 -- what is kept for a key
 abbrev pub kept_view : AcceptedBatch → Row

@@ -5,11 +5,21 @@
 //! one statement; its clause says what it does on a database of a state, and why it may fail there:
 //! for want of memory or room, or because the store fails, and for no other cause.
 //!
-//! In the order of reading: `looks` (by a key), `writes` (of one row).
+//! What is true of any plain table of a `sqlite` connection, wherever it stands in its schema, is in
+//! proofs: what a statement over one table means (`proofs/Resolving`), what an INSERT of one row and a
+//! DELETE do and why they may fail (`proofs/Running`, `proofs/Cutting`), and what a query shows
+//! (`proofs/Choosing`).
+//!
+//! In the order of reading: `openness` (whether a connection is open), `failing` (how a call ends that
+//! met an error), `looks` (by a key), `writes` (of one row).
 #![tactic(auto)]
 
+mod failing;
 mod looks;
+mod openness;
 mod writes;
 
+pub use failing::{Shut, Stop, cause_of, is_memory, is_of_store, settle};
 pub use looks::{collection_rows, has_feature, kept_rows, time_in};
+pub use openness::probe;
 pub use writes::{delete_feature, insert_batch, insert_collection, insert_feature};

@@ -4,7 +4,7 @@ ghost use Rattle.sqlite.specs.View.{doubt};
 ghost use Rattle.sqlite.specs.Tree.{Trees};
 ghost use Rattle.streetmap_batch.specs.Text.{Text};
 ghost use Rattle.streetmap_ledger.specs.State.{State, Collection};
-ghost use Rattle.streetmap_tables.specs.Failing.{IsMemory};
+ghost use Rattle.streetmap_rows.specs.Failing.{IsMemory};
 ghost use Rattle.sqlite.specs.Held.{state};
 ghost use Rattle.sqlite.specs.State.{HasCleanDisk, Survives};
 ghost use Rattle.streetmap_rows.specs.Rows.{feature_at};

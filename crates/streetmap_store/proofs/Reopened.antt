@@ -18,11 +18,11 @@ use Rattle.sqlite_catalog.proofs.AlterLemmas.{numbers_differ}
 use Rattle.sqlite_resolve.specs.Lowering.{Checked}
 use Rattle.streetmap_ledger.specs.State.{State}
 use Rattle.streetmap_ledger.specs.Keep.{LeavesOnly, LeavesEither}
-use Rattle.streetmap_tables.proofs.Schemas.{one_schema}
+use Rattle.streetmap_rows.proofs.Schemas.{one_schema}
 use Rattle.streetmap_rows.specs.Tables.{Roots, IsOurs, IsNamed, meta_name, features_name}
 use Rattle.sqlite.specs.State.{State as Seen}
 use Rattle.streetmap_rows.specs.Keeping.{Keeps, MayLeave}
-use Rattle.streetmap_carrying.specs.Old.{KeepsOld}
+use Rattle.streetmap_opening.specs.Old.{KeepsOld}
 use Rattle.streetmap_store.specs.Reopening.{IsJustOpened, OpensWithin}
 
 -- a definition is that of one index of a name in a tree

@@ -8,7 +8,7 @@ use Rattle.streetmap_ledger.specs.declared.reply.Fault.{Fault}
 use Rattle.streetmap_ledger.specs.declared.reply.Fault.TheVariants as fault
 use Rattle.streetmap_rows.specs.Keeping.{Rests, MayLeave}
 use Rattle.streetmap_rows.proofs.Leaving.{rests_only}
-use Rattle.streetmap_tables.specs.declared.failing.Shut.{Shut}
+use Rattle.streetmap_rows.specs.declared.failing.Shut.{Shut}
 use Rattle.streetmap_writing.proofs.Resting.{rests_still, rests_if_open}
 use Rattle.streetmap_opening.proofs.Stopping.{may_leave_it}
 use Rattle.sqlite.proofs.Callers.{unchanged_then}
@@ -20,12 +20,12 @@ use Rattle.streetmap_reading.specs.Taking.{Stopped}
 use Rattle.streetmap_reading.specs.declared.fault.ReadFault.{ReadFault}
 use Rattle.streetmap_reading.specs.declared.fault.ReadFault.TheVariants as read
 use Rattle.streetmap_writing.specs.Acting.{Applied, IsToldByStore}
-use Rattle.streetmap_tables.specs.declared.failing.Stop.{Stop}
-use Rattle.streetmap_tables.specs.declared.failing.Stop.TheVariants as stop
-use Rattle.streetmap_tables.specs.declared.failing.Shut.TheVariants as shut
+use Rattle.streetmap_rows.specs.declared.failing.Stop.{Stop}
+use Rattle.streetmap_rows.specs.declared.failing.Stop.TheVariants as stop
+use Rattle.streetmap_rows.specs.declared.failing.Shut.TheVariants as shut
 use Rattle.sqlite.specs.declared.error.Error.{Error}
-use Rattle.streetmap_tables.specs.Failing.{IsOfStore}
-use Rattle.streetmap_tables.specs.Settling.{Settles}
+use Rattle.streetmap_rows.specs.Failing.{IsOfStore}
+use Rattle.streetmap_rows.specs.Settling.{Settles}
 use Rattle.streetmap_store.specs.Serving.{Serves, EndsLook, HasSettled, is_named, fault_by, shut_by}
 
 -- an open connection that rests at a state is that of a keeper which stands for it

@@ -12,11 +12,11 @@ use Rattle.streetmap_ledger.specs.declared.reply.Cause.{Cause}
 use Rattle.streetmap_ledger.specs.declared.reply.Cause.TheVariants as cause
 use Rattle.streetmap_ledger.specs.declared.reply.Fault.{Fault}
 use Rattle.streetmap_ledger.specs.declared.reply.Fault.TheVariants as fault
-use Rattle.streetmap_tables.specs.declared.failing.Stop.{Stop}
-use Rattle.streetmap_tables.specs.declared.failing.Stop.TheVariants.{Memory, Closed}
-use Rattle.streetmap_tables.specs.declared.failing.Shut.{Shut}
-use Rattle.streetmap_tables.specs.declared.failing.Shut.TheVariants.{Device, Damaged}
-use Rattle.streetmap_tables.specs.Failing.{IsOfStore, is_of_store}
+use Rattle.streetmap_rows.specs.declared.failing.Stop.{Stop}
+use Rattle.streetmap_rows.specs.declared.failing.Stop.TheVariants.{Memory, Closed}
+use Rattle.streetmap_rows.specs.declared.failing.Shut.{Shut}
+use Rattle.streetmap_rows.specs.declared.failing.Shut.TheVariants.{Device, Damaged}
+use Rattle.streetmap_rows.specs.Failing.{IsOfStore, is_of_store}
 use Rattle.streetmap_rows.specs.Keeping.{Rests, MayLeave}
 use Rattle.streetmap_writing.specs.Acting.{LeavesOtherTables}
 use Rattle.streetmap_reading.specs.declared.fault.ReadFault.{ReadFault}

@@ -5,27 +5,25 @@ ghost use Rattle.sqlite.specs.Held.{state};
 ghost use Rattle.sqlite.specs.State.{HasCleanDisk, Survives};
 ghost use Rattle.streetmap_ledger.specs.State.{State, opening_state};
 ghost use Rattle.streetmap_ledger.specs.Keep.{ShutsBy, LeavesOnly, LeavesEither};
-ghost use Rattle.streetmap_tables.specs.Failing.{IsOfStore};
+ghost use Rattle.streetmap_rows.specs.Failing.{IsOfStore};
 ghost use Rattle.streetmap_writing.specs.Acting.{IsToldByStore};
 ghost use Rattle.streetmap_rows.specs.Keeping.{Rests, MayLeave};
 ghost use Rattle.streetmap_opening.specs.Adopting.{IsAsItWas};
 ghost use Rattle.streetmap_opening.specs.Making.{is_taken, IsReady, KeepsOtherTables, Makes, MayOpen};
 ghost use Rattle.streetmap_opening.specs.Refusing.{IsTold};
-ghost use Rattle.streetmap_carrying.specs.Old.{RestsOld};
-ghost use Rattle.streetmap_carrying.specs.Carrying.{LeavesUnlessOld, MayCarry, Carries, Opens, OpensBy};
+ghost use Rattle.streetmap_opening.specs.Old.{RestsOld};
+ghost use Rattle.streetmap_opening.specs.Carrying.{LeavesUnlessOld, MayCarry, Carries, Opens, OpensBy};
 ghost use Rattle.streetmap_store.specs.Reopening.{IsJustOpened, OpensAs, OpensAsEither};
 ghost use Rattle.streetmap_store.specs.Serving.{Serves, EndsLook, is_named, cause_in, error_in, count_after, shut_by, fault_by};
 
 use sqlite::{Alter, Connection, Error};
 use std::alloc::Global;
-use streetmap_carrying::{TablesFault, open_tables};
 use streetmap_geojson::Feature;
 use streetmap_ledger::{Batch, Fault, FeatureOutline, Keeper, Page, Reply, Summary};
-use streetmap_listing::{outlines_of, summaries_of, summary_of};
-use streetmap_opening::{MakeFault, make_tables};
+use streetmap_opening::{MakeFault, TablesFault, make_tables, open_tables};
 use streetmap_query::Query;
-use streetmap_reading::{ReadFault, feature_of, page_of};
-use streetmap_tables::{Shut, Stop, settle};
+use streetmap_reading::{ReadFault, feature_of, outlines_of, page_of, summaries_of, summary_of};
+use streetmap_rows::{Shut, Stop, settle};
 use streetmap_writing::apply_batch;
 
 /// A keeper over the tables of a connection, between whose calls no transaction is open.

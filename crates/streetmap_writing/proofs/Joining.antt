@@ -2,7 +2,7 @@
 use Rattle.std.proofs.Common.{◌∙◌, Option, Result, Ok, Err, MatchResult, IsTrue}
 use Rattle.sqlite.specs.declared.error.Error.{Error}
 use Rattle.streetmap_ledger.specs.declared.reply.Refusal.{Refusal}
-use Rattle.streetmap_tables.specs.Failing.{IsOfStore}
+use Rattle.streetmap_rows.specs.Failing.{IsOfStore}
 use Rattle.sqlite.specs.State.{State as Seen, KeepsCommit, IsUnchanged}
 use Rattle.streetmap_ledger.specs.State.{State}
 use Rattle.streetmap_rows.specs.Stands.{StandsFor}

@@ -2,12 +2,12 @@
 use Rattle.std.proofs.Common.{sym, subst}
 use Rattle.sqlite.specs.State.{State as Seen}
 use Rattle.sqlite.specs.declared.error.Error.{Error}
-use Rattle.streetmap_tables.specs.Failing.{IsOfStore}
-use Rattle.streetmap_tables.specs.Settling.{IsCause, Settles}
-use Rattle.streetmap_tables.specs.declared.failing.Stop.{Stop}
-use Rattle.streetmap_tables.specs.declared.failing.Stop.TheVariants.{Memory, Closed}
-use Rattle.streetmap_tables.specs.declared.failing.Shut.{Shut}
-use Rattle.streetmap_tables.specs.declared.failing.Shut.TheVariants.{Device, Damaged}
+use Rattle.streetmap_rows.specs.Failing.{IsOfStore}
+use Rattle.streetmap_rows.specs.Settling.{IsCause, Settles}
+use Rattle.streetmap_rows.specs.declared.failing.Stop.{Stop}
+use Rattle.streetmap_rows.specs.declared.failing.Stop.TheVariants.{Memory, Closed}
+use Rattle.streetmap_rows.specs.declared.failing.Shut.{Shut}
+use Rattle.streetmap_rows.specs.declared.failing.Shut.TheVariants.{Device, Damaged}
 use Rattle.streetmap_writing.specs.Acting.{IsToldByStore}
 
 pub told_by_cause : (e : Error) (cause : Shut) → IsCause e cause → IsToldByStore (Closed cause)

@@ -12,13 +12,13 @@ use Rattle.streetmap_ledger.specs.State.{State}
 use Rattle.streetmap_ledger.specs.Batches.{act}
 use Rattle.streetmap_ledger.specs.declared.reply.Reply.{Reply}
 use Rattle.streetmap_ledger.specs.declared.reply.Reply.TheVariants.{Accepted, Repeated, Refused}
-use Rattle.streetmap_tables.specs.Failing.{IsOfStore}
+use Rattle.streetmap_rows.specs.Failing.{IsOfStore}
 use Rattle.streetmap_rows.specs.Keeping.{Keeps, Rests}
 use Rattle.streetmap_rows.specs.Elsewhere.{IsSameElsewhere}
 use Rattle.streetmap_writing.specs.Editing.{KeepsRest}
-use Rattle.streetmap_tables.specs.declared.failing.Stop.{Stop}
-use Rattle.streetmap_tables.specs.declared.failing.Stop.TheVariants.{Memory, Closed}
-use Rattle.streetmap_tables.specs.declared.failing.Shut.TheVariants.{Device, Damaged}
+use Rattle.streetmap_rows.specs.declared.failing.Stop.{Stop}
+use Rattle.streetmap_rows.specs.declared.failing.Stop.TheVariants.{Memory, Closed}
+use Rattle.streetmap_rows.specs.declared.failing.Shut.TheVariants.{Device, Damaged}
 
 -- what is asked of a state, where the key is new and there is room for a batch
 pub record Awaits (s : State) (b : BatchValue) (count : ℕ) : Type 0 where

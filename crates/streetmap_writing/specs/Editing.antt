@@ -6,7 +6,7 @@ use Rattle.streetmap_batch.specs.BatchValue.{EditValue}
 use Rattle.streetmap_ledger.specs.State.{State, step}
 use Rattle.streetmap_ledger.specs.Batches.{edited}
 use Rattle.streetmap_ledger.specs.declared.reply.Refusal.{Refusal}
-use Rattle.streetmap_tables.specs.Failing.{IsOfStore}
+use Rattle.streetmap_rows.specs.Failing.{IsOfStore}
 use Rattle.streetmap_rows.specs.Stands.{StandsFor}
 use Rattle.streetmap_rows.specs.Elsewhere.{IsSameElsewhere}
 

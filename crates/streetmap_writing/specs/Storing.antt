@@ -10,7 +10,7 @@ use Rattle.streetmap_geojson.specs.FeatureInvariant.{IsFeature}
 use Rattle.streetmap_batch.specs.Text.{Text}
 use Rattle.streetmap_ledger.specs.State.{State, Collection, timed, with_feature}
 use Rattle.streetmap_ledger.specs.declared.reply.Refusal.{Refusal}
-use Rattle.streetmap_tables.specs.Failing.{IsOfStore}
+use Rattle.streetmap_rows.specs.Failing.{IsOfStore}
 use Rattle.streetmap_rows.specs.Stands.{StandsFor}
 use Rattle.streetmap_rows.specs.Rows.{feature_text, extent_in, seconds_in}
 use Rattle.streetmap_writing.specs.Editing.{KeepsRest}

@@ -15,7 +15,7 @@ use crate::kept::kept_reply;
 use sqlite::{Alter, Connection, Error};
 use std::alloc::Global;
 use streetmap_ledger::{Batch, Refusal, Reply};
-use streetmap_tables::{Stop, cause_of, probe, settle};
+use streetmap_rows::{Stop, cause_of, probe, settle};
 
 /// How many batches may be accepted.
 const MOST_BATCHES: u64 = 9_223_372_036_854_775_807;

@@ -19,4 +19,4 @@ mod timing;
 
 pub use batch::apply_batch;
 pub use storing::put_feature;
-pub use streetmap_tables::{Shut, Stop};
+pub use streetmap_rows::{Shut, Stop};

@@ -2,7 +2,7 @@ use Rattle.std.proofs.Common.{ap}
 use Rattle.sqlite.specs.Held.{state}
 use Rattle.streetmap_opening.proofs.Stopping.{clean_back}
 use Rattle.streetmap_opening.proofs.Opened.{rests_same}
-use Rattle.streetmap_tables.specs.declared.failing.Stop.TheVariants.{Closed}
+use Rattle.streetmap_rows.specs.declared.failing.Stop.TheVariants.{Closed}
 use Rattle.streetmap_checking.proofs.Seeing.{unchanged_was}
 use Rattle.streetmap_checking.proofs.OfState.{totals_of, never_damaged, damaged_told, refused_told}
 use Rattle.streetmap_checking.proofs.Stated.{state_of}

@@ -1,7 +1,7 @@
 use Rattle.std.proofs.Common.{◌≡◌, subst, ◌∙◌, refl, ◌∷◌, [], ◌++◌, rules, true, false}
 use Rattle.sqlite.specs.Held.{state}
 use Rattle.sqlite.proofs.Callers.{unchanged_then}
-use Rattle.streetmap_tables.proofs.Answering.{handed_on}
+use Rattle.streetmap_rows.proofs.Answering.{handed_on}
 use Rattle.streetmap_reading.proofs.Rests.{given_open, survives_still, survives_on, clean_before}
 use Rattle.streetmap_checking.specs.Folding.{TookNext}
 use Rattle.streetmap_checking.proofs.Stopping.{stops_on, sees_on}

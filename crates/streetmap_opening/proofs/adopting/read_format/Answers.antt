@@ -1,7 +1,7 @@
 use Rattle.std.proofs.Common.{[]}
 use Rattle.sqlite.specs.Held.{state}
 use Rattle.streetmap_rows.specs.Statements.{select_format}
-use Rattle.streetmap_tables.proofs.Answering.{by_result, by_either, on_ok}
+use Rattle.streetmap_rows.proofs.Answering.{by_result, by_either, on_ok}
 use Rattle.streetmap_opening.proofs.Reading.{format_shown, format_told, keeps_shown, keeps_failed, inside_shown}
 use Rattle.streetmap_opening.proofs.Telling.{format_bare, looked}
 use Rattle.streetmap_opening.proofs.adopting.read_format.Goals as goal

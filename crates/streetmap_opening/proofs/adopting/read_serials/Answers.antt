@@ -1,6 +1,6 @@
 use Rattle.std.proofs.Common.{[]}
 use Rattle.sqlite.specs.Held.{state}
-use Rattle.streetmap_tables.proofs.Answering.{by_result, by_either, on_ok}
+use Rattle.streetmap_rows.proofs.Answering.{by_result, by_either, on_ok}
 use Rattle.streetmap_opening.specs.Adopting.{serials_text}
 use Rattle.streetmap_opening.proofs.Reading.{serials_shown, serials_told, keeps_shown, keeps_failed, inside_shown}
 use Rattle.streetmap_opening.proofs.Telling.{serials_bare, looked}

@@ -4,7 +4,7 @@ use Rattle.sqlite.specs.Held.{state}
 use Rattle.sqlite.specs.State.{HasCleanDisk}
 use Rattle.streetmap_reading.specs.Looking.{IsFeatureOf}
 use Rattle.streetmap_reading.specs.Taking.{Stopped}
-use Rattle.streetmap_tables.proofs.Answering.{handed_on}
+use Rattle.streetmap_rows.proofs.Answering.{handed_on}
 use Rattle.streetmap_reading.proofs.Features.{looked_on}
 use Rattle.streetmap_reading.proofs.Pages.{there_is, keeps_still, survives_both}
 use Rattle.streetmap_reading.proofs.feature.feature_of.Goals as goal

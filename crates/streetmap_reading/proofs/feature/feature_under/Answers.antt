@@ -3,7 +3,7 @@ use Rattle.sqlite.specs.Held.{state}
 use Rattle.streetmap_ledger.specs.Pages.{feature_in}
 use Rattle.streetmap_reading.specs.Candidates.{IsStored}
 use Rattle.streetmap_reading.specs.Taking.{Stopped}
-use Rattle.streetmap_tables.proofs.Answering.{handed_on}
+use Rattle.streetmap_rows.proofs.Answering.{handed_on}
 use Rattle.streetmap_reading.proofs.Features.{text_is, stored_at}
 use Rattle.streetmap_reading.proofs.feature.feature_under.Goals as goal
 

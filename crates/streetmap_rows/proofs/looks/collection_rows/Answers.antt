@@ -1,5 +1,5 @@
 use Rattle.sqlite.specs.Held.{state}
-use Rattle.streetmap_tables.proofs.Answering.{by_result}
+use Rattle.streetmap_rows.proofs.Answering.{by_result}
 use Rattle.streetmap_rows.proofs.Looking.{collection_shown, collection_told_inside}
 use Rattle.streetmap_rows.proofs.looks.collection_rows.Goals as goal
 

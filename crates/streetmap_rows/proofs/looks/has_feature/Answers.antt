@@ -3,8 +3,8 @@ use Rattle.sqlite.specs.Held.{state}
 use Rattle.sqlite.specs.declared.types.Value.TheVariants.{Text as Words}
 use Rattle.streetmap_geojson.specs.FeatureValue.{FeatureValue}
 use Rattle.streetmap_rows.specs.Rows.{feature_at}
-use Rattle.streetmap_tables.proofs.Answering.{handed_on}
-use Rattle.streetmap_tables.proofs.Choosing.{none_empty}
+use Rattle.streetmap_rows.proofs.Answering.{handed_on}
+use Rattle.streetmap_rows.proofs.Choosing.{none_empty}
 use Rattle.streetmap_rows.proofs.Looking.{id_shown, id_told}
 use Rattle.streetmap_rows.proofs.looks.has_feature.Goals as goal
 

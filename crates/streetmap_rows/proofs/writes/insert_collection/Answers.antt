@@ -2,7 +2,7 @@ use Rattle.std.proofs.Common.{sym, subst}
 use Rattle.sqlite.specs.Held.{state}
 use Rattle.streetmap_rows.specs.Stands.{StandsFor}
 use Rattle.streetmap_rows.specs.Elsewhere.{IsSameElsewhere}
-use Rattle.streetmap_tables.proofs.Answering.{handed_on}
+use Rattle.streetmap_rows.proofs.Answering.{handed_on}
 use Rattle.streetmap_rows.proofs.Writing.{open_stands, open_told}
 use Rattle.streetmap_rows.proofs.Bound.{text_bound}
 use Rattle.streetmap_rows.proofs.writes.insert_collection.Goals as goal

@@ -8,7 +8,7 @@ use Rattle.streetmap_grid.specs.Views.{box_value}
 use Rattle.streetmap_rows.specs.Stands.{StandsFor}
 use Rattle.streetmap_rows.specs.Elsewhere.{IsSameElsewhere}
 use Rattle.streetmap_rows.specs.Statements.{insert_feature}
-use Rattle.streetmap_tables.proofs.Answering.{handed_on}
+use Rattle.streetmap_rows.proofs.Answering.{handed_on}
 use Rattle.streetmap_rows.proofs.Writing.{insert_stands, insert_told}
 use Rattle.streetmap_rows.proofs.Bound.{nine, feature_bound}
 use Rattle.streetmap_rows.proofs.writes.insert_feature.Goals as goal

@@ -8,7 +8,7 @@ use Rattle.streetmap_ledger.specs.Batches.{Outcome, act, kept_for, counts_of, ed
 use Rattle.streetmap_ledger.specs.declared.reply.Reply.TheVariants.{Accepted}
 use Rattle.streetmap_writing.specs.Editing.{AnsweredAll}
 use Rattle.streetmap_rows.specs.Calls.{KeepsBatch}
-use Rattle.streetmap_tables.proofs.Answering.{handed_on}
+use Rattle.streetmap_rows.proofs.Answering.{handed_on}
 use Rattle.streetmap_writing.proofs.Accepting.{act_is, leads, keeps_act}
 use Rattle.streetmap_writing.proofs.Joining.{keeps_then, rest_then}
 use Rattle.streetmap_writing.proofs.acting.act_inside.Goals as goal

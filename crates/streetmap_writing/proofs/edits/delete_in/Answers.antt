@@ -1,7 +1,7 @@
 use Rattle.std.proofs.Common.{rules, ◌∙◌, arith, IsTrue}
 use Rattle.sqlite.specs.Held.{state}
 use Rattle.sqlite.specs.State.{HasCleanDisk}
-use Rattle.streetmap_tables.proofs.Answering.{handed_on}
+use Rattle.streetmap_rows.proofs.Answering.{handed_on}
 use Rattle.streetmap_writing.proofs.Joining.{keeps, keeps_then, keeps_rest, rest_then, stands_still}
 use Rattle.streetmap_writing.proofs.Deciding.{no_feature, may_delete}
 use Rattle.streetmap_writing.proofs.edits.delete_in.Goals as goal

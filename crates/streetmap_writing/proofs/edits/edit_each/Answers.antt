@@ -6,7 +6,7 @@ use Rattle.sqlite.proofs.StateLemmas.{survives_then}
 use Rattle.streetmap_batch.specs.BatchView.{edit_value}
 use Rattle.streetmap_ledger.specs.Batches.{edited}
 use Rattle.streetmap_writing.specs.Editing.{Answered}
-use Rattle.streetmap_tables.proofs.Answering.{handed_on}
+use Rattle.streetmap_rows.proofs.Answering.{handed_on}
 use Rattle.streetmap_writing.proofs.Editing.{edited_more, edited_stops}
 use Rattle.streetmap_writing.proofs.Joining.{same_all, keeps_then, rest_then}
 use Rattle.streetmap_writing.proofs.edits.edit_each.Goals as goal

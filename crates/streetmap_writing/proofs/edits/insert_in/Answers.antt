@@ -7,7 +7,7 @@ use Rattle.streetmap_ledger.specs.State.{Collection}
 use Rattle.streetmap_rows.specs.Rows.{feature_at}
 use Rattle.streetmap_writing.specs.Editing.{Answered}
 use Rattle.streetmap_writing.specs.Storing.{WasPut}
-use Rattle.streetmap_tables.proofs.Answering.{handed_on}
+use Rattle.streetmap_rows.proofs.Answering.{handed_on}
 use Rattle.streetmap_writing.proofs.Joining.{keeps, keeps_then, keeps_rest, rest_then, stands_still, answered_on}
 use Rattle.streetmap_writing.proofs.Deciding.{is_there, not_there, no_insert, free_id, is_taken, was_inserted}
 use Rattle.streetmap_writing.proofs.edits.insert_in.Goals as goal

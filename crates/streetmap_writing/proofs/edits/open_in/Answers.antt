@@ -2,7 +2,7 @@ use Rattle.std.proofs.Common.{rules, ◌∙◌, arith, IsTrue}
 use Rattle.std.specs.Option.{option_copied}
 use Rattle.sqlite.specs.Held.{state}
 use Rattle.sqlite.specs.State.{HasCleanDisk}
-use Rattle.streetmap_tables.proofs.Answering.{handed_on}
+use Rattle.streetmap_rows.proofs.Answering.{handed_on}
 use Rattle.streetmap_writing.proofs.Joining.{keeps, keeps_then, keeps_rest, rest_then, stands_still}
 use Rattle.streetmap_writing.proofs.Deciding.{may_open}
 use Rattle.streetmap_writing.proofs.edits.open_in.Goals as goal

@@ -3,7 +3,7 @@ use Rattle.std.specs.FinMap.{get, insert}
 use Rattle.streetmap_ledger.specs.State.{timed, with_feature, with_features}
 use Rattle.streetmap_grid.specs.Views.{box_value}
 use Rattle.streetmap_rows.specs.Calls.{IsWritten, PutsFeature}
-use Rattle.streetmap_tables.proofs.Answering.{handed_on}
+use Rattle.streetmap_rows.proofs.Answering.{handed_on}
 use Rattle.streetmap_writing.proofs.Timed.{extent_is}
 use Rattle.streetmap_writing.proofs.storing.put_feature.Goals as goal
 

@@ -1,9 +1,9 @@
 use Rattle.std.proofs.Common.{rules, Some, ap, refl}
 use Rattle.std.specs.FinMap.{get}
 use Rattle.sqlite.specs.Held.{state}
-use Rattle.streetmap_tables.specs.Failing.{is_of_store}
+use Rattle.streetmap_rows.specs.Failing.{is_of_store}
 use Rattle.streetmap_rows.specs.Views.{collection_view}
-use Rattle.streetmap_tables.proofs.Answering.{handed_on}
+use Rattle.streetmap_rows.proofs.Answering.{handed_on}
 use Rattle.streetmap_writing.proofs.Joining.{keeps}
 use Rattle.streetmap_writing.proofs.Resting.{the_row, no_row}
 use Rattle.streetmap_writing.proofs.timing.time_property.Goals as goal

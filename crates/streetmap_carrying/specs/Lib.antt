@@ -1,4 +1,0 @@
-pub mod Old
-pub mod Dropping
-pub mod Part
-pub mod Carrying

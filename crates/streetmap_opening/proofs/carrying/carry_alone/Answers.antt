@@ -1,0 +1,19 @@
+use Rattle.std.proofs.Common.{rules, refl}
+use Rattle.sqlite.specs.Held.{state}
+use Rattle.sqlite.specs.State.{HasCleanDisk}
+use Rattle.streetmap_opening.proofs.Stopping.{clean_back}
+use Rattle.streetmap_opening.specs.Old.{KeepsOld}
+use Rattle.streetmap_opening.specs.Carrying.{IsHeldBack}
+use Rattle.streetmap_opening.proofs.Closing.{same_after_rollback}
+use Rattle.streetmap_opening.proofs.carrying.carry_alone.Goals as goal
+
+pub returns-in-Err-clause-carries : goal.returns-in-Err-clause-carries
+returns-in-Err-clause-carries g c clean s rests =
+    let begun = c.transaction-tx.ensures.begun in
+    let start = state g.S.Store c.transaction-tx.result.conn.now in
+    let mid = state g.S.Store c.carry_inside.new.tx.conn.now in
+    let early : HasCleanDisk mid = clean_back mid _ _ c.rollback.ensures.survives (search rules) in
+    let keeps : KeepsOld s start.now = rw begun rests.kept in
+    let held : IsHeldBack (state g.S.Store c.args.conn.now).now.schema c.in-Err.fault = rw begun at (c.in-Err.ensures.carries early (rw begun rests.unlimited) (rw begun refl) s keeps) in
+    let it = same_after_rollback (state g.S.Store c.args.conn.now) start mid _ (rw begun refl) (c.in-Err.ensures.kept early (rw begun refl)) (c.rollback.ensures.undone (search rules)) rests.settled in
+    (held, search (rules, it))

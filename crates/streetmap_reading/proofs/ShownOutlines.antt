@@ -1,0 +1,179 @@
+-- What the statements over all features of a collection, and over all collections, show of the database of a state.
+use Rattle.std.proofs.Common.{◌≡◌, ◌≢◌, ℕ, suc, List, [], ◌∷◌, map, filter, codes, drop, Option, Some, None, option_map, refl, sym, ap, subst, ◌∙◌, IsUtf8}
+use Rattle.std.specs.Option.{option_and_then, option_map_or}
+use Rattle.std.specs.FinMap.{get, empty, entries, entries_sorted, get-entries, get-empty}
+use Rattle.std.specs.List.{AllByRecursion}
+use Rattle.std.proofs.lemmas.Str.{IsUtf8-from_is_utf8}
+use Rattle.sqlite.specs.declared.types.Value.TheVariants.{Null, Text as Words}
+use Rattle.sqlite.specs.Effect.{Database}
+use Rattle.sqlite.specs.Order.{Row, column}
+use Rattle.sqlite.specs.Term.{Term, col}
+use Rattle.sqlite.specs.Query.{IsAnswerAs}
+use Rattle.sqlite.specs.Program.{overlay}
+use Rattle.sqlite_sql.specs.Term.{eval_all}
+use Rattle.sqlite_catalog.proofs.LayoutLemmas.{ascending_filter}
+use Rattle.sqlite_rules.specs.Lists.{Has}
+use Rattle.sqlite_rules.proofs.ListLemmas.{all_has, all_from, has_filtered, has_kept}
+use Rattle.streetmap_geojson.specs.FeatureValue.{FeatureValue}
+use Rattle.streetmap_geojson.specs.FeatureInvariant.{IsFeature, IsGeometryIf}
+use Rattle.streetmap_batch.specs.Text.{Text, text_cmp}
+use Rattle.streetmap_ledger.specs.State.{State, Collection}
+use Rattle.streetmap_ledger.specs.Outlines.{feature_outline_of}
+use Rattle.streetmap_rows.specs.Holds.{first_key, is_first}
+use Rattle.streetmap_rows.proofs.Finding.{IsFound}
+use Rattle.streetmap_rows.proofs.Holding.{cells_of, there}
+use Rattle.streetmap_rows.proofs.Keys.{first_is, first_self, column_later}
+use Rattle.streetmap_rows.proofs.Ordered.{Says, AreRowsOf, keeps, ordered_query, shows_entries, passing, mapped_has, find_has}
+use Rattle.streetmap_rows.specs.Keeping.{Keeps}
+use Rattle.streetmap_rows.specs.Rows.{AreOf, feature_at, feature_cells, collection_cells, extent_in, seconds_in}
+use Rattle.streetmap_rows.specs.Stands.{IsReadable}
+use Rattle.streetmap_rows.specs.Statements.{select_collections}
+use Rattle.streetmap_rows.specs.Tables.{Roots, features, collections, features_name, collections_name}
+use Rattle.streetmap_rows.proofs.Compiles.{select_collections_means, select_collections_never}
+use Rattle.streetmap_rows.proofs.Placing as placing
+use Rattle.streetmap_reading.specs.Candidates.{ShowsOf}
+use Rattle.streetmap_reading.specs.Choosing.{is_chosen}
+use Rattle.streetmap_reading.proofs.Choosing.{in_collection, all_chooses}
+use Rattle.streetmap_reading.proofs.Listing.{Shows, shows_chosen}
+use Rattle.streetmap_reading.proofs.Shown.{shows_by}
+use Rattle.streetmap_reading.specs.Statements.{select_outlines, select_extents}
+use Rattle.streetmap_reading.specs.Telling.{features_in}
+use Rattle.streetmap_reading.specs.Views.{outline_row, extent_row, feature_extent, IsOutline, IsOutlineRow, IsExtentRow, IsHeadRow}
+use Rattle.streetmap_reading.proofs.Boxes.{extent_is_box}
+use Rattle.streetmap_reading.proofs.Compiles.{select_outlines_means, select_outlines_never, select_extents_means, select_extents_never}
+
+abbrev outline_terms : List Term
+outline_terms = col 1 2 ∷ col 1 4 ∷ col 1 5 ∷ col 1 6 ∷ col 1 7 ∷ col 1 8 ∷ col 1 9 ∷ []
+
+abbrev extent_terms : List Term
+extent_terms = col 1 4 ∷ col 1 5 ∷ col 1 6 ∷ col 1 7 ∷ []
+
+abbrev collection_terms : List Term
+collection_terms = col 1 1 ∷ col 1 2 ∷ col 1 3 ∷ []
+
+outline_cells : (params : Row) → Shows outline_terms params (λ id f. outline_row (feature_outline_of id f))
+unfolding extent_in seconds_in
+outline_cells params r p f cells =
+    let at : (n : ℕ) → column r (suc n) ≡ column (feature_cells p f) n = λ n. column_later r n ∙ ap (λ x. column x n) cells in
+    λ i. at 1 i ∷ at 3 i ∷ at 4 i ∷ at 5 i ∷ at 6 i ∷ at 7 i ∷ at 8 i ∷ []
+
+extent_cells : (params : Row) → Shows extent_terms params (λ id f. extent_row (feature_extent f))
+unfolding extent_in
+extent_cells params r p f cells =
+    let at : (n : ℕ) → column r (suc n) ≡ column (feature_cells p f) n = λ n. column_later r n ∙ ap (λ x. column x n) cells in
+    λ i. at 3 i ∷ at 4 i ∷ at 5 i ∷ at 6 i ∷ []
+
+-- each feature is chosen
+all_pass : (es : List (Text × FeatureValue)) → passing (is_chosen None None) es ≡ es
+all_pass [] = refl
+all_pass (e ∷ es) = ap (λ l. e ∷ l) (all_pass es)
+
+module _ (db : Database) (s : State) (kept : Keeps s db) where
+  abbrev roots : Roots
+  roots = kept.rows.roots
+
+  abbrev of : AreOf s roots db.trees
+  of = kept.rows.of
+
+  in_features : IsFound db.schema features_name (features roots.features)
+  in_features = placing.features_found roots db kept.rows.ours kept.rows.sound
+
+  in_collections : IsFound db.schema collections_name (collections roots.collections)
+  in_collections = placing.collections_found roots db kept.rows.ours kept.rows.sound
+
+  module _ (name : Text) where
+    abbrev tests : List Term
+    tests = in_collection ∷ []
+
+    abbrev params : Row
+    params = Words name ∷ []
+
+    abbrev all_rows : List Row
+    all_rows = db.trees roots.features
+
+    get_in : (q : Text) → get (features_in s name) q ≡ feature_at s (name, q)
+    get_in q = go (get s.collections name)
+      where
+        go : (o : Option Collection) → get (option_map_or (λ (c : Collection). c.features) o empty) q ≡ option_and_then (λ (c : Collection). get c.features q) o
+        go None = get-empty text_cmp q
+        go (Some c) = refl
+
+    shown_of : (project : List Term) (view : Text → FeatureValue → Row) → Shows project params view → (given : List Row) → IsAnswerAs Null (ordered_query roots.features tests project 2) (overlay db.trees []) params given → given ≡ map (λ e. view e.0 e.1) (entries (features_in s name))
+    shown_of project view shows given a =
+        shows_chosen s roots db.trees of name (features_in s name) get_in tests params (is_chosen None None) (all_chooses name) project view shows in_features.low given a ∙ ap (map (λ e. view e.0 e.1)) (all_pass (entries (features_in s name)))
+
+    pub outlines_at : ShowsOf select_outlines params db (map (λ e. outline_row (feature_outline_of e.0 e.1)) (entries (features_in s name)))
+    outlines_at = shows_by select_outlines params db (ordered_query roots.features tests outline_terms 2) (codes "id" ∷ codes "x0" ∷ codes "y0" ∷ codes "x1" ∷ codes "y1" ∷ codes "s0" ∷ codes "s1" ∷ []) _ (select_outlines_means db.schema roots.features in_features) (select_outlines_never db.schema roots.features in_features db.trees name)
+        (shown_of outline_terms (λ id f. outline_row (feature_outline_of id f)) (outline_cells params))
+
+    pub extents_at : ShowsOf select_extents params db (map (λ e. extent_row (feature_extent e.1)) (entries (features_in s name)))
+    extents_at = shows_by select_extents params db (ordered_query roots.features tests extent_terms 2) (codes "x0" ∷ codes "y0" ∷ codes "x1" ∷ codes "y1" ∷ []) _ (select_extents_means db.schema roots.features in_features) (select_extents_never db.schema roots.features in_features db.trees name)
+        (shown_of extent_terms (λ id f. extent_row (feature_extent f)) (extent_cells params))
+
+    -- ---- what is shown can be read
+
+    stands_at : (e : Text × FeatureValue) → Has (entries (features_in s name)) e → feature_at s (name, e.0) ≡ Some e.1
+    stands_at e h = sym (get_in e.0) ∙ get-entries (features_in s name) e.0 ∙ find_has (entries (features_in s name)) e.0 e.1 (entries_sorted (features_in s name)) h
+
+    fine_at : (e : Text × FeatureValue) → Has (entries (features_in s name)) e → IsFeature e.1
+    fine_at e h = kept.rows.readable.features (name, e.0) e.1 (stands_at e h)
+
+    id_text : (q : Text) (f : FeatureValue) → feature_at s (name, q) ≡ Some f → IsUtf8 q
+    id_text q f is = go (get s.collections name) refl is
+      where
+        go : (o : Option Collection) → get s.collections name ≡ o → option_and_then (λ (c : Collection). get c.features q) o ≡ Some f → IsUtf8 q
+        go None at found = absurd (cc)
+        go (Some c) at found = let it = (kept.well.made name c at).holds q f found in subst IsUtf8 it.named (IsUtf8-from_is_utf8 f.id it.is.text)
+
+    outline_fine : (e : Text × FeatureValue) → Has (entries (features_in s name)) e → IsOutline (feature_outline_of e.0 e.1)
+    outline_fine e h = record { id = id_text e.0 e.1 (stands_at e h); extent = extent_is_box e.1.geometry (fine_at e h).made }
+
+    pub outlines_fine : AllByRecursion IsOutline (map (λ e. feature_outline_of e.0 e.1) (entries (features_in s name)))
+    outlines_fine = all_from IsOutline _ (λ o h. let e = mapped_has (λ (e : Text × FeatureValue). feature_outline_of e.0 e.1) (entries (features_in s name)) o h in subst IsOutline (sym e.2) (outline_fine e.0 e.1))
+
+    pub outline_rows : AllByRecursion IsOutlineRow (map (λ e. outline_row (feature_outline_of e.0 e.1)) (entries (features_in s name)))
+    outline_rows = all_from IsOutlineRow _ (λ r h. let e = mapped_has (λ (e : Text × FeatureValue). outline_row (feature_outline_of e.0 e.1)) (entries (features_in s name)) r h in record { outline = feature_outline_of e.0.0 e.0.1; fine = outline_fine e.0 e.1; is = e.2 })
+
+    pub geometries_fine : AllByRecursion (λ (f : FeatureValue). IsGeometryIf f.geometry) (map (λ e. e.1) (entries (features_in s name)))
+    geometries_fine = all_from (λ (f : FeatureValue). IsGeometryIf f.geometry) _ (λ f h. let e = mapped_has (λ (e : Text × FeatureValue). e.1) (entries (features_in s name)) f h in subst (λ (x : FeatureValue). IsGeometryIf x.geometry) (sym e.2) (fine_at e.0 e.1).made)
+
+    pub extent_rows : AllByRecursion IsExtentRow (map (λ e. extent_row (feature_extent e.1)) (entries (features_in s name)))
+    extent_rows = all_from IsExtentRow _ (λ r h. let e = mapped_has (λ (e : Text × FeatureValue). extent_row (feature_extent e.1)) (entries (features_in s name)) r h in record { feature = e.0.1; fine = (fine_at e.0 e.1).made; is = e.2 })
+
+  -- ---- all collections
+
+  abbrev collection_list : List Row
+  collection_list = db.trees roots.collections
+
+  collection_says : (r : Row) → Has (filter (keeps [] []) collection_list) r → Says (get s.collections) collection_cells 1 (λ r. eval_all collection_terms ([] ∷ r ∷ [])) r
+  collection_says r h = go (get s.collections (first_key r)) refl (cells_of first_key is_first first_is first_self _ collection_list of.collections r (has_filtered (keeps [] []) collection_list r h).0)
+    where
+      go : (o : Option Collection) → get s.collections (first_key r) ≡ o → option_map (collection_cells (first_key r)) o ≡ Some (drop 1 r) → Says (get s.collections) collection_cells 1 (λ r. eval_all collection_terms ([] ∷ r ∷ [])) r
+      go None is some = absurd (cc)
+      go (Some c) is some =
+          let cells : collection_cells (first_key r) c ≡ drop 1 r = cc in
+          let at : (n : ℕ) → column r (suc n) ≡ column (collection_cells (first_key r) c) n = λ n. column_later r n ∙ ap (λ x. column x n) (sym cells) in
+          record { value = c; is = is; named = at 0; shown = λ i. at 0 i ∷ at 1 i ∷ at 2 i ∷ [] }
+
+  all_collections : AreRowsOf (get s.collections) collection_cells 1 (λ r. eval_all collection_terms ([] ∷ r ∷ [])) (filter (keeps [] []) collection_list)
+  all_collections = record {
+    apart = ascending_filter (λ a b. first_key a ≢ first_key b) (keeps [] []) collection_list of.collections.apart;
+    each = collection_says;
+    all = λ q c is.
+        let r = there first_key is_first first_is first_self (λ name. option_map (collection_cells name) (get s.collections name)) collection_list of.collections q (collection_cells q c) (ap (option_map (collection_cells q)) is) in
+        (r.0, has_kept (keeps [] []) collection_list r.0 r.1 refl, r.2);
+  }
+
+  pub collections_at : ShowsOf select_collections [] db (map (λ e. collection_cells e.0 e.1) (entries s.collections))
+  collections_at = shows_by select_collections [] db (ordered_query roots.collections [] collection_terms 1) (codes "id" ∷ codes "title" ∷ codes "time" ∷ []) _ (select_collections_means db.schema roots.collections in_collections) (select_collections_never db.schema roots.collections in_collections db.trees)
+      (λ given a. shows_entries roots.collections [] collection_terms 1 [] (get s.collections) collection_cells db.trees in_collections.low all_collections given a (entries s.collections) (entries_sorted s.collections) (get-entries s.collections))
+
+  -- each is found under its id
+  pub found_each : AllByRecursion (λ (e : Text × Collection). get s.collections e.0 ≡ Some e.1) (entries s.collections)
+  found_each = all_from _ (entries s.collections) (λ e h. get-entries s.collections e.0 ∙ find_has (entries s.collections) e.0 e.1 (entries_sorted s.collections) h)
+
+  pub readable_each : AllByRecursion (λ (e : Text × Collection). IsReadable e.0 e.1) (entries s.collections)
+  readable_each = all_from _ (entries s.collections) (λ e h. kept.rows.readable.collections e.0 e.1 (all_has _ (entries s.collections) e found_each h))
+
+  pub head_rows : AllByRecursion IsHeadRow (map (λ e. collection_cells e.0 e.1) (entries s.collections))
+  head_rows = all_from IsHeadRow _ (λ r h. let e = mapped_has (λ (e : Text × Collection). collection_cells e.0 e.1) (entries s.collections) r h in record { id = e.0.0; collection = e.0.1; fine = all_has _ (entries s.collections) e.0 readable_each e.1; is = e.2 })

@@ -1,0 +1,39 @@
+use Rattle.std.proofs.Common.{◌≡◌, [], map, ap, sym, ◌∙◌}
+use Rattle.std.specs.FinMap.{entries}
+use Rattle.streetmap_ledger.specs.Outlines.{feature_outline_of}
+use Rattle.streetmap_ledger.specs.OutlineView.{feature_outline_values}
+use Rattle.streetmap_rows.proofs.Answering.{handed_on}
+use Rattle.streetmap_reading.proofs.Pages.{stays_by, survives_any}
+use Rattle.streetmap_reading.specs.Statements.{select_outlines}
+use Rattle.streetmap_reading.specs.Telling.{features_in}
+use Rattle.streetmap_reading.specs.Views.{outline_row}
+use Rattle.streetmap_reading.proofs.Lists.{map_again, none_mapped}
+use Rattle.streetmap_reading.proofs.ShownOutlines.{outlines_at, outlines_fine, outline_rows}
+use Rattle.streetmap_reading.proofs.outlines.outlines_in.Goals as goal
+
+pub returns-clause-shows : goal.returns-clause-shows
+returns-clause-shows g c clean = λ s limit keeps.
+    let name = c.args.collection.now in
+    let all = rw c.params-to_sql.ensures at (c.in_ok-fold_rows.ensures.takes clean) in
+    let none : feature_outline_values c.new-outlines.result.items ≡ [] = ap feature_outline_values c.new-outlines.ensures.items in
+    let took = all _ limit (outlines_at _ s keeps name) (outline_rows _ s keeps name) (λ vs is fine. none ∙ sym (none_mapped outline_row vs is)) in
+    (took.0 (map (λ e. feature_outline_of e.0 e.1) (entries (features_in s name))) (sym (map_again outline_row (λ e. feature_outline_of e.0 e.1) (entries (features_in s name)))) (outlines_fine _ s keeps name), took.1)
+
+pub returns-in_err-fold_rows-clause-shows : goal.returns-in_err-fold_rows-clause-shows
+returns-in_err-fold_rows-clause-shows g c clean = λ s limit keeps.
+    let name = c.args.collection.now in
+    let all = rw c.params-to_sql.ensures at (c.in_err-fold_rows.ensures.takes clean) in
+    let none : feature_outline_values c.new-outlines.result.items ≡ [] = ap feature_outline_values c.new-outlines.ensures.items in
+    handed_on _ _ _ _ c.from_residual.ensures.1 (all _ limit (outlines_at _ s keeps name) (outline_rows _ s keeps name) (λ vs is fine. none ∙ sym (none_mapped outline_row vs is)))
+
+pub returns-clause-stays : goal.returns-clause-stays
+returns-clause-stays g c = stays_by select_outlines _ _ _ c.fold_rows.ensures.survives (λ s keeps. (outlines_at _ s keeps c.args.collection.now).plain)
+
+pub returns-in_err-fold_rows-clause-stays : goal.returns-in_err-fold_rows-clause-stays
+returns-in_err-fold_rows-clause-stays g c = stays_by select_outlines _ _ _ c.fold_rows.ensures.survives (λ s keeps. (outlines_at _ s keeps c.args.collection.now).plain)
+
+pub returns-clause-survives : goal.returns-clause-survives
+returns-clause-survives g c = survives_any _ _ _ c.fold_rows.ensures.survives
+
+pub returns-in_err-fold_rows-clause-survives : goal.returns-in_err-fold_rows-clause-survives
+returns-in_err-fold_rows-clause-survives g c = survives_any _ _ _ c.fold_rows.ensures.survives

@@ -1,0 +1,36 @@
+use Rattle.std.proofs.Common.{◌≡◌, [], map, ap, sym, ◌∙◌, refl}
+use Rattle.std.specs.FinMap.{entries}
+use Rattle.streetmap_batch.specs.Text.{Text}
+use Rattle.streetmap_ledger.specs.State.{Collection}
+use Rattle.streetmap_ledger.specs.SummaryView.{summary_values}
+use Rattle.streetmap_rows.specs.Rows.{collection_cells}
+use Rattle.streetmap_rows.specs.Statements.{select_collections}
+use Rattle.streetmap_rows.proofs.Answering.{handed_on}
+use Rattle.streetmap_reading.proofs.Pages.{stays_by, survives_any}
+use Rattle.streetmap_reading.specs.Held.{head_of}
+use Rattle.streetmap_reading.proofs.Lists.{none_mapped}
+use Rattle.streetmap_reading.proofs.ShownOutlines.{collections_at, readable_each, head_rows}
+use Rattle.streetmap_reading.proofs.summaries.heads.Goals as goal
+
+pub returns-clause-shows : goal.returns-clause-shows
+returns-clause-shows g c clean = λ s limit keeps.
+    let none : summary_values c.new-heads.result.items ≡ [] = ap summary_values c.new-heads.ensures.items in
+    let took = c.in_ok-fold_rows.ensures.takes clean _ limit (collections_at _ s keeps) (head_rows _ s keeps) (λ es is fine. none ∙ sym (ap (map (λ (e : Text × Collection). head_of e.0 e.1)) (none_mapped (λ (e : Text × Collection). collection_cells e.0 e.1) es is))) in
+    (took.0 (entries s.collections) refl (readable_each _ s keeps), took.1)
+
+pub returns-in_err-fold_rows-clause-shows : goal.returns-in_err-fold_rows-clause-shows
+returns-in_err-fold_rows-clause-shows g c clean = λ s limit keeps.
+    let none : summary_values c.new-heads.result.items ≡ [] = ap summary_values c.new-heads.ensures.items in
+    handed_on _ _ _ _ c.from_residual.ensures.1 (c.in_err-fold_rows.ensures.takes clean _ limit (collections_at _ s keeps) (head_rows _ s keeps) (λ es is fine. none ∙ sym (ap (map (λ (e : Text × Collection). head_of e.0 e.1)) (none_mapped (λ (e : Text × Collection). collection_cells e.0 e.1) es is))))
+
+pub returns-clause-stays : goal.returns-clause-stays
+returns-clause-stays g c = stays_by select_collections _ _ _ c.fold_rows.ensures.survives (λ s keeps. (collections_at _ s keeps).plain)
+
+pub returns-in_err-fold_rows-clause-stays : goal.returns-in_err-fold_rows-clause-stays
+returns-in_err-fold_rows-clause-stays g c = stays_by select_collections _ _ _ c.fold_rows.ensures.survives (λ s keeps. (collections_at _ s keeps).plain)
+
+pub returns-clause-survives : goal.returns-clause-survives
+returns-clause-survives g c = survives_any _ _ _ c.fold_rows.ensures.survives
+
+pub returns-in_err-fold_rows-clause-survives : goal.returns-in_err-fold_rows-clause-survives
+returns-in_err-fold_rows-clause-survives g c = survives_any _ _ _ c.fold_rows.ensures.survives

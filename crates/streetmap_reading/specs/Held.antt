@@ -1,0 +1,36 @@
+-- What folds hold of the rows that they took.
+use Rattle.std.specs.Prelude.{◌≡◌, List, map, Option, None, Vec}
+use Rattle.std.specs.List.{AllByRecursion}
+use Rattle.std.specs.declared.alloc.Global.{Global}
+use Rattle.sqlite.specs.Order.{Row}
+use Rattle.streetmap_grid.specs.declared.grid_box.GridBox.{GridBox}
+use Rattle.streetmap_grid.specs.Bounds.{AreBounds}
+use Rattle.streetmap_geojson.specs.FeatureValue.{FeatureValue}
+use Rattle.streetmap_geojson.specs.FeatureInvariant.{IsGeometryIf}
+use Rattle.streetmap_batch.specs.Text.{Text}
+use Rattle.streetmap_ledger.specs.State.{Collection}
+use Rattle.streetmap_ledger.specs.Outlines.{FeatureOutlineValue}
+use Rattle.streetmap_ledger.specs.OutlineView.{feature_outline_values}
+use Rattle.streetmap_ledger.specs.Summaries.{SummaryValue, all_vertices}
+use Rattle.streetmap_ledger.specs.SummaryView.{summary_values}
+use Rattle.streetmap_ledger.specs.declared.outline.FeatureOutline.{FeatureOutline}
+use Rattle.streetmap_ledger.specs.declared.summary.Summary.{Summary}
+use Rattle.streetmap_rows.specs.Rows.{collection_cells}
+use Rattle.streetmap_rows.specs.Stands.{IsReadable}
+use Rattle.streetmap_reading.specs.Views.{outline_row, extent_row, feature_extent, IsOutline}
+
+-- the outlines that the rows are of
+abbrev pub HoldsOutlines : Vec FeatureOutline Global → List Row → Type 0
+HoldsOutlines os rows = (vs : List FeatureOutlineValue) → rows ≡ map outline_row vs → AllByRecursion IsOutline vs → feature_outline_values os.items ≡ vs
+
+-- the bounds of the features whose extents the rows are
+abbrev pub HoldsBounds : Option GridBox → List Row → Type 0
+HoldsBounds bounds rows = (fs : List FeatureValue) → rows ≡ map (λ f. extent_row (feature_extent f)) fs → AllByRecursion (λ f. IsGeometryIf f.geometry) fs → AreBounds (all_vertices fs) bounds
+
+-- what is told of a collection before its extent is known
+abbrev pub head_of : Text → Collection → SummaryValue
+head_of id c = record { id = id; title = c.title; time = c.time; extent = None }
+
+-- what is told of the collections that the rows are of, before their extents are known
+abbrev pub HoldsHeads : Vec Summary Global → List Row → Type 0
+HoldsHeads ss rows = (es : List (Text × Collection)) → rows ≡ map (λ e. collection_cells e.0 e.1) es → AllByRecursion (λ e. IsReadable e.0 e.1) es → summary_values ss.items ≡ map (λ e. head_of e.0 e.1) es

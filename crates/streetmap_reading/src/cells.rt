@@ -1,0 +1,71 @@
+//! What stands in the cells of a row.
+ghost use Rattle.std.specs.Prelude.{◌≡◌, ℤ, ◌<◌, Option, Ok, length, MatchResult, IfSome, IsUtf8, option_map, string_bytes};
+ghost use Rattle.sqlite.specs.Order.{column};
+ghost use Rattle.sqlite.specs.Values.{or_null};
+ghost use Rattle.sqlite.specs.declared.types.Value.TheVariants.{Int, Text as Words};
+ghost use Rattle.streetmap_batch.specs.Text.{Text};
+ghost use Rattle.streetmap_grid.specs.Values.{BoxValue};
+ghost use Rattle.streetmap_grid.specs.Views.{box_value};
+ghost use Rattle.streetmap_grid.specs.WellFormed.{IsBox};
+ghost use Rattle.streetmap_reading.specs.Folding.{IsForMemory};
+
+use crate::fault::{ReadFault, unread};
+use sqlite::Row;
+use sqlite::types::ValueRef;
+use streetmap_grid::GridBox;
+
+/// The text in a cell.
+pub fn text_at(row: &Row, at: usize) -> Result<String, ReadFault>
+    ensures { (t : Text) → at < length row.now → column row.now at ≡ Words t → IsUtf8 t → MatchResult result (λ text. string_bytes text ≡ t) IsForMemory }
+{
+    row.get::<String>(at).map_err(|error| unread(error))
+}
+
+/// The text in a cell, or none.
+pub fn text_if_at(row: &Row, at: usize) -> Result<Option<String>, ReadFault>
+    ensures { (t : Option Text) → at < length row.now → column row.now at ≡ or_null Words t → IfSome t IsUtf8 → MatchResult result (λ text. option_map string_bytes text ≡ t) IsForMemory }
+{
+    row.get::<Option<String>>(at).map_err(|error| unread(error))
+}
+
+/// The number in a cell, or none.
+pub fn number_at(row: &Row, at: usize) -> Result<Option<i64>, ReadFault>
+    ensures { (n : Option ℤ) → at < length row.now → column row.now at ≡ or_null Int n → result ≡ Ok n }
+{
+    match row.get_ref(at) {
+        Ok(ValueRef::Int(number)) => Ok(Some(number)),
+        Ok(ValueRef::Null) => Ok(None),
+        _ => Err(ReadFault::Unread),
+    }
+}
+
+/// The box of four bounds, in millimetres; none where there are none.
+pub fn box_of(
+    west: Option<i64>,
+    south: Option<i64>,
+    east: Option<i64>,
+    north: Option<i64>,
+) -> Result<Option<GridBox>, ReadFault>
+    ensures { (b : Option BoxValue) → IfSome b IsBox → west ≡ option_map (λ (g : BoxValue). g.x0) b → south ≡ option_map (λ (g : BoxValue). g.y0) b → east ≡ option_map (λ (g : BoxValue). g.x1) b → north ≡ option_map (λ (g : BoxValue). g.y1) b
+        → MatchResult result (λ found. option_map box_value found ≡ b) (λ _. ⊥) }
+{
+    match (west, south, east, north) {
+        (Some(x0), Some(y0), Some(x1), Some(y1)) => match GridBox::new(x0, y0, x1, y1) {
+            Ok(found) => Ok(Some(found)),
+            Err(_) => Err(ReadFault::Unread),
+        },
+        (None, None, None, None) => Ok(None),
+        _ => Err(ReadFault::Unread),
+    }
+}
+
+/// The first and the last second, or none.
+pub fn seconds_of(first: Option<i64>, last: Option<i64>) -> Result<Option<(i64, i64)>, ReadFault>
+    ensures { (s : Option (ℤ × ℤ)) → first ≡ option_map (λ (p : ℤ × ℤ). p.0) s → last ≡ option_map (λ (p : ℤ × ℤ). p.1) s → result ≡ Ok s }
+{
+    match (first, last) {
+        (Some(first), Some(last)) => Ok(Some((first, last))),
+        (None, None) => Ok(None),
+        _ => Err(ReadFault::Unread),
+    }
+}

@@ -1,0 +1,75 @@
+//! Extents of collections, folded from the extents of their features.
+ghost use Rattle.std.specs.Prelude.{◌≡◌, List, Option, option_map, ◌++◌, false, MatchResult, IfSome};
+ghost use Rattle.sqlite.specs.Held.{state};
+ghost use Rattle.sqlite.specs.State.{HasCleanDisk, Survives};
+ghost use Rattle.streetmap_grid.specs.Bounds.{AreBounds};
+ghost use Rattle.streetmap_grid.specs.Values.{BoxValue, PositionValue};
+ghost use Rattle.streetmap_grid.specs.Views.{box_value};
+ghost use Rattle.streetmap_grid.specs.WellFormed.{IsBox};
+ghost use Rattle.streetmap_reading.specs.Looking.{LooksInto, Stays};
+ghost use Rattle.streetmap_reading.specs.Telling.{IsExtentIn};
+ghost use Rattle.streetmap_reading.specs.Views.{extent_row};
+
+use crate::cells::{box_of, number_at};
+use crate::fault::ReadFault;
+use crate::fold::{RowFold, fold_rows};
+use sqlite::{Alter, Connection, Row, params};
+use streetmap_grid::GridBox;
+
+/// The bounds of the positions of both.
+fn bounds_of_both(one: Option<GridBox>, other: Option<GridBox>) -> Option<GridBox>
+    ensures { (ps qs : List PositionValue) → AreBounds ps one → AreBounds qs other → AreBounds (ps ++ qs) result }
+{
+    match (one, other) {
+        (one, None) => one,
+        (None, other) => other,
+        (Some(one), Some(other)) => Some(one.union(&other)),
+    }
+}
+
+/// The extent that a row shows.
+fn extent_in(row: &Row) -> Result<Option<GridBox>, ReadFault>
+    ensures { (b : Option BoxValue) → row.now ≡ extent_row b → IfSome b IsBox → MatchResult result (λ extent. option_map box_value extent ≡ b) (λ _. ⊥) }
+{
+    let west = number_at(row, 0)?;
+    let south = number_at(row, 1)?;
+    let east = number_at(row, 2)?;
+    let north = number_at(row, 3)?;
+    box_of(west, south, east, north)
+}
+
+impl RowFold for Option<GridBox> {
+    ghost use Rattle.streetmap_reading.specs.Held.{HoldsBounds};
+    ghost use Rattle.streetmap_reading.specs.Views.{IsExtentRow};
+
+    ghost holds = { HoldsBounds };
+
+    ghost is_readable = { IsExtentRow };
+
+    fn take(&mut self, row: &Row) -> Result<(), ReadFault> {
+        let extent = extent_in(row)?;
+        *self = bounds_of_both(*self, extent);
+        Ok(())
+    }
+}
+
+/// The extent of the features of a collection, in millimetres; none where no feature has a geometry, or
+/// the collection is not there.
+pub fn extent_of<S: Alter>(
+    conn: &mut Connection<S>,
+    collection: &str,
+) -> Result<Option<GridBox>, ReadFault>
+    ensures shows { HasCleanDisk (state S.Store conn.new) → LooksInto (IsExtentIn collection.now) (state S.Store conn.old) (state S.Store conn.new) result }
+    ensures mode { conn.old.in_transaction ≡ false → conn.new.in_transaction ≡ false }
+    ensures survives { Survives (state S.Store conn.old) (state S.Store conn.new) (λ _. Unit {0}) }
+    ensures stays { Stays (state S.Store conn.old) (state S.Store conn.new) }
+{
+    let mut extent = None;
+    fold_rows(
+        conn,
+        "SELECT x0, y0, x1, y1 FROM streetmap_features WHERE collection = ?1 ORDER BY id",
+        params![collection],
+        &mut extent,
+    )?;
+    Ok(extent)
+}

@@ -1,0 +1,75 @@
+//! Rows of a query, folded one after the other.
+ghost use Rattle.std.specs.Prelude.{◌≡◌, List, false};
+ghost use Rattle.sqlite.specs.Held.{state};
+ghost use Rattle.sqlite.specs.Order.{Row as Cells};
+ghost use Rattle.sqlite.specs.State.{HasCleanDisk, Survives, CommitsShowing};
+ghost use Rattle.sqlite.specs.Values.{bound};
+ghost use Rattle.streetmap_reading.specs.Folding.{TakesRow, TakesNext, TakesRest, TakesAll};
+
+use crate::fault::ReadFault;
+use sqlite::types::ValueRef;
+use sqlite::{Alter, Connection, Error, ErrorCode, Row, Rows};
+
+/// What takes rows one after the other, and holds what they say.
+pub trait RowFold {
+    /// It holds what these rows say, and nothing else.
+    ghost holds: { Self → List Cells → Type 0 };
+
+    /// The row is one that it can take.
+    ghost is_readable: { Cells → Type 0 };
+
+    /// Takes the row that comes next.
+    fn take(&mut self, row: &Row) -> Result<(), ReadFault>
+        ensures { TakesRow holds is_readable row.now self.old self.new result };
+}
+
+/// Takes the next row, if there is one.
+fn take_next<S: Alter, F: RowFold>(rows: &mut Rows<'_, S>, fold: &mut F) -> Result<bool, ReadFault>
+    ensures same_reference { rows.new.conn.ghost_name ≡ rows.old.conn.ghost_name }
+    ensures takes { HasCleanDisk (state S.Store rows.new.conn.now) → TakesNext F.holds F.is_readable S.Store rows.old.conn.now rows.new.conn.now fold.old fold.new result }
+    ensures mode { rows.old.conn.now.in_transaction ≡ false → rows.new.conn.now.in_transaction ≡ false }
+    ensures survives { Survives (state S.Store rows.old.conn.now) (state S.Store rows.new.conn.now) (λ _. ⊥) }
+{
+    match rows.advance() {
+        Ok(()) => {}
+        Err(error) => return Err(ReadFault::Store(error)),
+    }
+    let Some(row) = rows.get() else {
+        return Ok(false);
+    };
+    fold.take(row)?;
+    Ok(true)
+}
+
+/// Takes the rows of a query that has begun, up to the last.
+fn take_rest<S: Alter, F: RowFold>(rows: &mut Rows<'_, S>, fold: &mut F) -> Result<(), ReadFault>
+    ensures same_reference { rows.new.conn.ghost_name ≡ rows.old.conn.ghost_name }
+    ensures takes { HasCleanDisk (state S.Store rows.new.conn.now) → TakesRest F.holds F.is_readable S.Store rows.old.conn.now rows.new.conn.now fold.old fold.new result }
+    ensures mode { rows.old.conn.now.in_transaction ≡ false → rows.new.conn.now.in_transaction ≡ false }
+    ensures survives { Survives (state S.Store rows.old.conn.now) (state S.Store rows.new.conn.now) (λ _. ⊥) }
+{
+    'rows: for _ in 0..u64::MAX {
+        let took = take_next(rows, fold)?;
+        if !took {
+            return Ok(());
+        }
+    }
+    Err(ReadFault::Store(Error::SqliteFailure(ErrorCode::TooBig)))
+}
+
+/// Takes all rows of a query.
+pub fn fold_rows<S: Alter, F: RowFold>(
+    conn: &mut Connection<S>,
+    sql: &str,
+    params: &[ValueRef<'_>],
+    fold: &mut F,
+) -> Result<(), ReadFault>
+    ensures takes { HasCleanDisk (state S.Store conn.new) → TakesAll F.holds F.is_readable sql.now (bound params.now) (state S.Store conn.old) (state S.Store conn.new) fold.old fold.new result }
+    ensures mode { conn.old.in_transaction ≡ false → conn.new.in_transaction ≡ false }
+    ensures survives { Survives (state S.Store conn.old) (state S.Store conn.new) (CommitsShowing sql.now (bound params.now) (state S.Store conn.old)) }
+{
+    match conn.query(sql, params) {
+        Ok(mut rows) => take_rest(&mut rows, fold),
+        Err(error) => Err(ReadFault::Store(error)),
+    }
+}

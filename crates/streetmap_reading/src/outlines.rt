@@ -1,0 +1,97 @@
+//! Outlines of the features of a collection.
+ghost use Rattle.std.specs.Prelude.{◌≡◌, false, MatchResult};
+ghost use Rattle.sqlite.specs.Held.{state};
+ghost use Rattle.sqlite.specs.State.{HasCleanDisk, Survives};
+ghost use Rattle.streetmap_ledger.specs.Outlines.{FeatureOutlineValue};
+ghost use Rattle.streetmap_ledger.specs.OutlineView.{feature_outline_value};
+ghost use Rattle.streetmap_reading.specs.Looking.{LooksInto, Stays};
+ghost use Rattle.streetmap_reading.specs.Folding.{IsForMemory};
+ghost use Rattle.streetmap_reading.specs.Telling.{AreOutlinesOf, AreOutlinesIn};
+ghost use Rattle.streetmap_reading.specs.Views.{outline_row, IsOutline};
+
+use crate::cells::{box_of, number_at, seconds_of, text_at};
+use crate::fault::ReadFault;
+use crate::fold::{RowFold, fold_rows};
+use crate::page::collection_row;
+use sqlite::{Alter, Connection, Row, params};
+use std::alloc::Global;
+use streetmap_ledger::FeatureOutline;
+
+/// The outline that a row shows.
+fn outline_in(row: &Row) -> Result<FeatureOutline, ReadFault>
+    ensures { (o : FeatureOutlineValue) → row.now ≡ outline_row o → IsOutline o → MatchResult result (λ outline. feature_outline_value outline ≡ o) IsForMemory }
+{
+    let id = text_at(row, 0)?;
+    let west = number_at(row, 1)?;
+    let south = number_at(row, 2)?;
+    let east = number_at(row, 3)?;
+    let north = number_at(row, 4)?;
+    let first = number_at(row, 5)?;
+    let last = number_at(row, 6)?;
+    let extent = box_of(west, south, east, north)?;
+    let seconds = seconds_of(first, last)?;
+    Ok(FeatureOutline {
+        id,
+        extent,
+        seconds,
+    })
+}
+
+impl RowFold for Vec<FeatureOutline> {
+    ghost use Rattle.streetmap_reading.specs.Held.{HoldsOutlines};
+    ghost use Rattle.streetmap_reading.specs.Views.{IsOutlineRow};
+
+    ghost holds = { HoldsOutlines };
+
+    ghost is_readable = { IsOutlineRow };
+
+    fn take(&mut self, row: &Row) -> Result<(), ReadFault> {
+        let outline = outline_in(row)?;
+        self.push(outline)?;
+        Ok(())
+    }
+}
+
+/// The outlines of the features of a collection, in byte order of ids; none of one that is not there.
+fn outlines_in<S: Alter>(
+    alloc: Global,
+    conn: &mut Connection<S>,
+    collection: &str,
+) -> Result<Vec<FeatureOutline>, ReadFault>
+    ensures shows { HasCleanDisk (state S.Store conn.new) → LooksInto (AreOutlinesIn collection.now) (state S.Store conn.old) (state S.Store conn.new) result }
+    ensures mode { conn.old.in_transaction ≡ false → conn.new.in_transaction ≡ false }
+    ensures survives { Survives (state S.Store conn.old) (state S.Store conn.new) (λ _. Unit {0}) }
+    ensures stays { Stays (state S.Store conn.old) (state S.Store conn.new) }
+{
+    let mut outlines = Vec::new(alloc);
+    fold_rows(
+        conn,
+        "SELECT id, x0, y0, x1, y1, s0, s1 FROM streetmap_features WHERE collection = ?1 ORDER BY id",
+        params![collection],
+        &mut outlines,
+    )?;
+    Ok(outlines)
+}
+
+/// The outlines of the features of a collection, in byte order of ids; `None` where the collection is
+/// not there.
+///
+/// # Errors
+///
+/// As `summary_of`.
+pub fn outlines_of<S: Alter>(
+    alloc: Global,
+    conn: &mut Connection<S>,
+    collection: &str,
+) -> Result<Option<Vec<FeatureOutline>>, ReadFault>
+    ensures shows { HasCleanDisk (state S.Store conn.new) → LooksInto (AreOutlinesOf collection.now) (state S.Store conn.old) (state S.Store conn.new) result }
+    ensures mode { conn.old.in_transaction ≡ false → conn.new.in_transaction ≡ false }
+    ensures survives { Survives (state S.Store conn.old) (state S.Store conn.new) (λ _. Unit {0}) }
+    ensures stays { Stays (state S.Store conn.old) (state S.Store conn.new) }
+{
+    let Some(_row) = collection_row(conn, collection)? else {
+        return Ok(None);
+    };
+    let outlines = outlines_in(alloc, conn, collection)?;
+    Ok(Some(outlines))
+}

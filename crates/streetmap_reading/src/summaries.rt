@@ -1,0 +1,158 @@
+//! What is told of collections.
+ghost use Rattle.std.specs.Prelude.{◌≡◌, false, MatchResult};
+ghost use Rattle.sqlite.specs.Held.{state};
+ghost use Rattle.sqlite.specs.State.{HasCleanDisk, Survives};
+ghost use Rattle.streetmap_batch.specs.Text.{Text};
+ghost use Rattle.streetmap_ledger.specs.State.{Collection};
+ghost use Rattle.streetmap_ledger.specs.SummaryView.{summary_value};
+ghost use Rattle.streetmap_reading.specs.Looking.{LooksInto, Stays};
+ghost use Rattle.streetmap_rows.specs.Rows.{collection_cells};
+ghost use Rattle.streetmap_rows.specs.Stands.{IsReadable};
+ghost use Rattle.streetmap_rows.specs.Views.{collection_view};
+ghost use Rattle.streetmap_reading.specs.Folding.{IsForMemory};
+ghost use Rattle.streetmap_reading.specs.Held.{head_of};
+ghost use Rattle.streetmap_reading.specs.Telling.{IsSummaryOf, AreSummaries, IsTold, AreHeads, TellsAll};
+
+use crate::cells::{text_at, text_if_at};
+use crate::extents::extent_of;
+use crate::fault::ReadFault;
+use crate::fold::{RowFold, fold_rows};
+use crate::page::collection_row;
+use sqlite::{Alter, Connection, Row, params};
+use std::alloc::Global;
+use streetmap_ledger::Summary;
+
+/// What is told of a collection before its extent is known, from its row without its id.
+fn head_under(alloc: Global, id: &str, row: &Row) -> Result<Summary, ReadFault>
+    ensures { (c : Collection) → row.now ≡ collection_view c → IsReadable id.now c → MatchResult result (λ head. summary_value head ≡ head_of id.now c) IsForMemory }
+{
+    let title = text_at(row, 0)?;
+    let time = text_if_at(row, 1)?;
+    let id = String::from_str(alloc, id)?;
+    Ok(Summary {
+        id,
+        title,
+        time,
+        extent: None,
+    })
+}
+
+/// What is told of a collection before its extent is known, from its row.
+fn head_in(row: &Row) -> Result<Summary, ReadFault>
+    ensures { (id : Text) (c : Collection) → row.now ≡ collection_cells id c → IsReadable id c → MatchResult result (λ head. summary_value head ≡ head_of id c) IsForMemory }
+{
+    let id = text_at(row, 0)?;
+    let title = text_at(row, 1)?;
+    let time = text_if_at(row, 2)?;
+    Ok(Summary {
+        id,
+        title,
+        time,
+        extent: None,
+    })
+}
+
+impl RowFold for Vec<Summary> {
+    ghost use Rattle.streetmap_reading.specs.Held.{HoldsHeads};
+    ghost use Rattle.streetmap_reading.specs.Views.{IsHeadRow};
+
+    ghost holds = { HoldsHeads };
+
+    ghost is_readable = { IsHeadRow };
+
+    fn take(&mut self, row: &Row) -> Result<(), ReadFault> {
+        let head = head_in(row)?;
+        self.push(head)?;
+        Ok(())
+    }
+}
+
+/// What is told of a collection, with its extent.
+fn with_extent<S: Alter>(conn: &mut Connection<S>, head: Summary) -> Result<Summary, ReadFault>
+    ensures shows { HasCleanDisk (state S.Store conn.new) → LooksInto (IsTold head) (state S.Store conn.old) (state S.Store conn.new) result }
+    ensures mode { conn.old.in_transaction ≡ false → conn.new.in_transaction ≡ false }
+    ensures survives { Survives (state S.Store conn.old) (state S.Store conn.new) (λ _. Unit {0}) }
+    ensures stays { Stays (state S.Store conn.old) (state S.Store conn.new) }
+{
+    let extent = extent_of(conn, head.id.as_str())?;
+    Ok(Summary { extent, ..head })
+}
+
+/// What is told of a collection; `None` where it is not there.
+///
+/// # Errors
+///
+/// `Memory` where memory was refused while a row was read or what it says was kept, `Store` where a
+/// statement failed, by its error, which may be that memory was refused to it, and `Unread` at a row that
+/// is none that this product writes.
+pub fn summary_of<S: Alter>(
+    alloc: Global,
+    conn: &mut Connection<S>,
+    id: &str,
+) -> Result<Option<Summary>, ReadFault>
+    ensures shows { HasCleanDisk (state S.Store conn.new) → LooksInto (IsSummaryOf id.now) (state S.Store conn.old) (state S.Store conn.new) result }
+    ensures mode { conn.old.in_transaction ≡ false → conn.new.in_transaction ≡ false }
+    ensures survives { Survives (state S.Store conn.old) (state S.Store conn.new) (λ _. Unit {0}) }
+    ensures stays { Stays (state S.Store conn.old) (state S.Store conn.new) }
+{
+    let Some(row) = collection_row(conn, id)? else {
+        return Ok(None);
+    };
+    let head = head_under(alloc, id, &row)?;
+    let summary = with_extent(conn, head)?;
+    Ok(Some(summary))
+}
+
+/// What is told of all collections before their extents are known, in byte order of ids.
+fn heads<S: Alter>(alloc: Global, conn: &mut Connection<S>) -> Result<Vec<Summary>, ReadFault>
+    ensures shows { HasCleanDisk (state S.Store conn.new) → LooksInto AreHeads (state S.Store conn.old) (state S.Store conn.new) result }
+    ensures mode { conn.old.in_transaction ≡ false → conn.new.in_transaction ≡ false }
+    ensures survives { Survives (state S.Store conn.old) (state S.Store conn.new) (λ _. Unit {0}) }
+    ensures stays { Stays (state S.Store conn.old) (state S.Store conn.new) }
+{
+    let mut heads = Vec::new(alloc);
+    fold_rows(
+        conn,
+        "SELECT id, title, time FROM streetmap_collections ORDER BY id",
+        params![],
+        &mut heads,
+    )?;
+    Ok(heads)
+}
+
+/// What is told of collections, with their extents.
+fn with_extents<S: Alter>(
+    alloc: Global,
+    conn: &mut Connection<S>,
+    heads: Vec<Summary>,
+) -> Result<Vec<Summary>, ReadFault>
+    ensures shows { HasCleanDisk (state S.Store conn.new) → TellsAll heads (state S.Store conn.old) (state S.Store conn.new) result }
+    ensures mode { conn.old.in_transaction ≡ false → conn.new.in_transaction ≡ false }
+    ensures survives { Survives (state S.Store conn.old) (state S.Store conn.new) (λ _. Unit {0}) }
+    ensures stays { Stays (state S.Store conn.old) (state S.Store conn.new) }
+{
+    let mut summaries = Vec::new(alloc);
+    for head in heads {
+        let summary = with_extent(conn, head)?;
+        summaries.push(summary)?;
+    }
+    Ok(summaries)
+}
+
+/// What is told of all collections, in byte order of ids.
+///
+/// # Errors
+///
+/// As `summary_of`.
+pub fn summaries_of<S: Alter>(
+    alloc: Global,
+    conn: &mut Connection<S>,
+) -> Result<Vec<Summary>, ReadFault>
+    ensures shows { HasCleanDisk (state S.Store conn.new) → LooksInto AreSummaries (state S.Store conn.old) (state S.Store conn.new) result }
+    ensures mode { conn.old.in_transaction ≡ false → conn.new.in_transaction ≡ false }
+    ensures survives { Survives (state S.Store conn.old) (state S.Store conn.new) (λ _. Unit {0}) }
+    ensures stays { Stays (state S.Store conn.old) (state S.Store conn.new) }
+{
+    let heads = heads(alloc, conn)?;
+    with_extents(alloc, conn, heads)
+}

@@ -1,5 +1,0 @@
-pub mod Holds
-pub mod Shapes
-pub mod Queries
-pub mod Failing
-pub mod Settling
