@@ -1,5 +1,6 @@
 //! Batches, where memory is refused. Their texts, and which refusal is first, stand in rows (`examples/`).
 use std::alloc::Global;
+use std::process::Abort;
 use streetmap_ledger::{Batch, BatchFault, read_batch};
 
 /// The batch of the key `b1` and edits that are written as JSON, with commas between them.
@@ -44,33 +45,46 @@ fn text_of(alloc: Global, written: &str) -> Result<String, BatchFault> {
     Ok(read_batch(alloc, written.as_bytes())?.text(alloc)?)
 }
 
+/// How many readings of the batch, written in this way, were refused for memory; the others give its text.
+fn refused_batches(rt: &impl Abort, alloc: Global, written: &str) -> u32 {
+    match text_of(alloc, written) {
+        Ok(text) => {
+            assert_eq!(rt; text.as_str(), ONE_TEXT, "at {written}");
+            0
+        }
+        Err(fault) => {
+            assert_eq!(rt; fault, BatchFault::Memory, "at {written}");
+            1
+        }
+    }
+}
+
+/// How many readings of edits that are none were refused for memory; the others tell the first place.
+fn refused_edits(rt: &impl Abort, alloc: Global, edits: &str) -> u32 {
+    match fault_of(read_edits(alloc, edits)) {
+        Some(BatchFault::Memory) => 1,
+        told => {
+            assert_eq!(rt;
+                told,
+                Some(BatchFault::BadBatch { place: Some(1) }),
+                "at {edits}"
+            );
+            0
+        }
+    }
+}
+
 /// Where memory is refused a call answers that, or what it answers otherwise; and so it does when it
 /// is made again.
 #[test]
 fn refused_memory_changes_no_answer(rt: HostRuntime) {
-    let alloc = rt.alloc();
     let mut failures = 0u32;
     for _ in 0..2 {
         for written in ONE_BATCH {
-            match text_of(alloc, written) {
-                Ok(text) => assert_eq!(rt; text.as_str(), ONE_TEXT, "at {written}"),
-                Err(fault) => {
-                    assert_eq!(rt; fault, BatchFault::Memory, "at {written}");
-                    failures = failures.saturating_add(1);
-                }
-            }
+            failures = failures.saturating_add(refused_batches(&rt, rt.alloc(), written));
         }
         for edits in NO_DELETE {
-            let got = fault_of(read_edits(alloc, edits));
-            if got == Some(BatchFault::Memory) {
-                failures = failures.saturating_add(1);
-            } else {
-                assert_eq!(rt;
-                    got,
-                    Some(BatchFault::BadBatch { place: Some(1) }),
-                    "at {edits}"
-                );
-            }
+            failures = failures.saturating_add(refused_edits(&rt, rt.alloc(), edits));
         }
     }
     // One refusal is told once, and where there is none memory is not told.

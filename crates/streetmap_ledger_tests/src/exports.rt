@@ -1,8 +1,10 @@
 //! Exports to a writer that stops.
 use crate::ledger::keeper_after;
 use crate::writers::Narrow;
+use std::alloc::Global;
 use std::test::Fail;
 use streetmap_exchange::{ExportFault, Progress, export};
+use streetmap_memory::PlainKeeper;
 
 /// Opens a collection, and inserts two features.
 const LAMPS: &str = r#"{"key":"lamps","edits":[
@@ -22,22 +24,32 @@ impl Progress for Unheard {
     fn reached(&mut self, _features: u64) {}
 }
 
+/// What is told of an export to a writer with so much room, and what is written.
+fn exported(
+    alloc: Global,
+    keeper: &mut PlainKeeper,
+    room: usize,
+) -> (Result<(), ExportFault>, Vec<u8>) {
+    let mut writer = Narrow {
+        taken: Vec::new(alloc),
+        room,
+    };
+    let told = export(alloc, keeper, "lamps", &mut writer, &mut Unheard);
+    (told, writer.taken)
+}
+
 #[test]
 fn a_failed_write_leaves_a_beginning(rt: HostRuntime) -> Result<(), Fail> {
     let mut keeper = keeper_after(rt.alloc(), &[LAMPS])?;
     for room in 0..=EXPORTED.len() {
-        let mut writer = Narrow {
-            taken: Vec::new(rt.alloc()),
-            room,
-        };
-        let told = export(rt.alloc(), &mut keeper, "lamps", &mut writer, &mut Unheard);
+        let (told, written) = exported(rt.alloc(), &mut keeper, room);
         let wanted = if room < EXPORTED.len() {
             Err(ExportFault::WriteFailed)
         } else {
             Ok(())
         };
         assert_eq!(rt; told, wanted, "at {room}");
-        assert_eq!(rt; writer.taken.as_slice(), &EXPORTED[..room], "at {room}");
+        assert_eq!(rt; written.as_slice(), &EXPORTED[..room], "at {room}");
     }
     Ok(())
 }

@@ -3,55 +3,61 @@ use streetmap_geojson::{CollectionFault, Fault as FeatureFault};
 use streetmap_ledger::{Fault, Refusal};
 use streetmap_moment::{TimeFault, read_interval, read_property};
 
+/// What is told of a time that is none.
+const BAD_TIME: &str = "The time property of the feature cannot be read.";
+
 #[test]
-fn faults_have_names_and_sentences(rt: HostRuntime) {
-    let time = "The time property of the feature cannot be read.";
-    for (told, code, description) in [
+fn faults_of_a_keeper_have_names_and_sentences(rt: HostRuntime) {
+    let full = Refusal::Full;
+    assert_eq!(rt;
+        (full.code(), full.description()),
+        ("full", "No further batch can be taken.")
+    );
+    for (fault, code, description) in [
         (
-            (Refusal::Full.code(), Refusal::Full.description()),
-            "full",
-            "No further batch can be taken.",
-        ),
-        (
-            (Fault::Memory.code(), Fault::Memory.description()),
+            Fault::Memory,
             "memory",
             "Memory was refused; the call may be made again.",
         ),
         (
-            (Fault::Device.code(), Fault::Device.description()),
+            Fault::Device,
             "device",
             "The store failed and must be opened again.",
         ),
         (
-            (Fault::Damaged.code(), Fault::Damaged.description()),
+            Fault::Damaged,
             "damaged",
             "The store holds a row that cannot be read.",
         ),
         (
-            (Fault::Reopen.code(), Fault::Reopen.description()),
+            Fault::Reopen,
             "reopen",
             "The store is shut and must be opened again.",
         ),
-        (
-            (TimeFault::BadTime.code(), TimeFault::BadTime.description()),
-            "bad_time",
-            time,
-        ),
-        (
-            (
-                TimeFault::EmptyInterval.code(),
-                TimeFault::EmptyInterval.description(),
-            ),
-            "empty_interval",
-            "",
-        ),
     ] {
-        assert_eq!(rt; told, (code, description));
+        assert_eq!(rt; (fault.code(), fault.description()), (code, description));
     }
-    let late = CollectionFault::At(3, FeatureFault::BadTime);
-    assert_eq!(rt; (late.code(), late.description()), ("bad_time", time));
-    let short = CollectionFault::At(3, FeatureFault::ShortRing);
-    assert_eq!(rt; (short.code(), short.description()), ("short_ring", ""));
+}
+
+#[test]
+fn faults_of_times_have_names_and_sentences(rt: HostRuntime) {
+    for (fault, code, description) in [
+        (TimeFault::BadTime, "bad_time", BAD_TIME),
+        (TimeFault::EmptyInterval, "empty_interval", ""),
+    ] {
+        assert_eq!(rt; (fault.code(), fault.description()), (code, description));
+    }
+}
+
+#[test]
+fn faults_of_a_collection_have_names_and_sentences(rt: HostRuntime) {
+    for (fault, code, description) in [
+        (FeatureFault::BadTime, "bad_time", BAD_TIME),
+        (FeatureFault::ShortRing, "short_ring", ""),
+    ] {
+        let fault = CollectionFault::At(3, fault);
+        assert_eq!(rt; (fault.code(), fault.description()), (code, description));
+    }
     assert_eq!(rt; CollectionFault::Memory.code(), "memory");
 }
 

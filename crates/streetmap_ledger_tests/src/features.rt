@@ -47,16 +47,29 @@ fn packed(alloc: Global, feature: &Feature) -> Result<PackedFeature, Fail> {
     Ok(PackedFeature::new(alloc, Bytes::from_string(text)?, feature, time)?)
 }
 
+/// Whether a packed feature is unpacked with this id and the time of the feature.
+fn is_unpacked_as(
+    alloc: Global,
+    packed: &PackedFeature,
+    feature: &Feature,
+    id: &str,
+) -> Result<bool, AllocError> {
+    let unpacked = packed.unpack(alloc)?;
+    Ok(unpacked.id() == id && unpacked.time() == feature.time())
+}
+
+/// Whether this is told of the id of the feature that a text reads as, unread, and the feature is unpacked as it was.
+fn is_told(alloc: Global, text: &str, unread: Option<&[u8]>, id: &str) -> Result<bool, Fail> {
+    let feature = feature(alloc, text)?;
+    let packed = packed(alloc, &feature)?;
+    Ok(packed.unescaped_id() == unread && is_unpacked_as(alloc, &packed, &feature, id)?)
+}
+
 #[test]
 fn ids_without_escapes_are_told_unread(rt: HostRuntime) -> Result<(), Fail> {
     for (text, id, told) in IDS {
-        let feature = feature(rt.alloc(), text)?;
-        let packed = packed(rt.alloc(), &feature)?;
-        let wanted = if *told { Some(id.as_bytes()) } else { None };
-        assert_eq!(rt; packed.unescaped_id(), wanted, "at {text}");
-        let unpacked = packed.unpack(rt.alloc())?;
-        assert_eq!(rt; unpacked.id(), *id, "at {text}");
-        assert!(rt; unpacked.time() == feature.time(), "at {text}");
+        let unread = if *told { Some(id.as_bytes()) } else { None };
+        assert!(rt; is_told(rt.alloc(), text, unread, id)?, "at {text}");
     }
     Ok(())
 }
@@ -65,12 +78,16 @@ fn ids_without_escapes_are_told_unread(rt: HostRuntime) -> Result<(), Fail> {
 const STREET: &str =
     r#"{"geometry":{"geometries":[{"coordinates":[1,2,3],"type":"Point"},{"coordinates":[[1,2],[3,4]],"type":"MultiPoint"},{"coordinates":[[1,2],[3,4]],"type":"LineString"},{"coordinates":[[[1,2],[3,4]],[[5,6],[7,8]]],"type":"MultiLineString"},{"coordinates":[[[0,0],[9,0],[9,9],[0,0]]],"type":"Polygon"},{"coordinates":[[[[0,0],[9,0],[9,9],[0,0]],[[5,2],[7,4],[7,2],[5,2]]]],"type":"MultiPolygon"}],"type":"GeometryCollection"},"id":"s","properties":{"a":[1,{"b":null}],"when":"1970-01-01"},"type":"Feature"}"#;
 
-/// The text of a copy of the feature that a text reads as, and whether it has the feature's time.
-fn copied(alloc: Global, text: &str) -> Result<(String, bool), Fail> {
-    let read = feature(alloc, text)?;
-    let copy = read.copy(alloc)?;
-    let is_timed = copy.time().is_some() && copy.time() == read.time();
+/// The text of a copy of a feature, and whether it has the feature's time.
+fn copy_of(alloc: Global, feature: &Feature) -> Result<(String, bool), AllocError> {
+    let copy = feature.copy(alloc)?;
+    let is_timed = copy.time().is_some() && copy.time() == feature.time();
     Ok((written(alloc, &copy)?, is_timed))
+}
+
+/// The same of the feature that a text reads as.
+fn copied(alloc: Global, text: &str) -> Result<(String, bool), Fail> {
+    Ok(copy_of(alloc, &feature(alloc, text)?)?)
 }
 
 #[test]
@@ -85,14 +102,24 @@ fn copies_are_equal(rt: HostRuntime) -> Result<(), Fail> {
 const DATED: &str =
     r#"{"geometry":null,"id":"1","properties":{"b":7,"c":"1970-01-02T00:00:00Z/1970-01-01T00:00:00Z","when":"1970-01-01"},"type":"Feature"}"#;
 
+/// Whether the time of a property is refused so, and the feature keeps its time.
+fn is_refused(dated: &mut Feature, name: &str, fault: TimeFault) -> bool {
+    let time = dated.time();
+    dated.timed(Some(name)) == Err(fault) && dated.time().is_some() && dated.time() == time
+}
+
+/// Whether the times of two properties are refused, and the text of the feature behind that.
+fn refused_twice(alloc: Global) -> Result<(bool, String), Fail> {
+    let mut dated = feature(alloc, DATED)?;
+    let stays = is_refused(&mut dated, "b", TimeFault::BadTime)
+        && is_refused(&mut dated, "c", TimeFault::EmptyInterval);
+    Ok((stays, written(alloc, &dated)?))
+}
+
 #[test]
 fn a_refused_time_changes_nothing(rt: HostRuntime) -> Result<(), Fail> {
-    let mut dated = feature(rt.alloc(), DATED)?;
-    let time = dated.time();
-    for (name, fault) in [("b", TimeFault::BadTime), ("c", TimeFault::EmptyInterval)] {
-        assert_eq!(rt; dated.timed(Some(name)), Err(fault), "at {name}");
-        assert!(rt; dated.time().is_some() && dated.time() == time, "at {name}");
-    }
-    assert_eq!(rt; written(rt.alloc(), &dated)?.as_str(), DATED);
+    let (stays, text) = refused_twice(rt.alloc())?;
+    assert!(rt; stays);
+    assert_eq!(rt; text.as_str(), DATED);
     Ok(())
 }

@@ -2,6 +2,7 @@
 use crate::writers::Narrow;
 use std::alloc::Global;
 use std::io::{self, BufReader, ErrorKind, Read};
+use std::process::Abort;
 use std::test::Fail;
 use streetmap_lines::{LinesFault, lines};
 
@@ -66,43 +67,65 @@ fn told(
     Ok((result, written))
 }
 
+/// Wants that this is told and written.
+fn check(
+    rt: &impl Abort,
+    (told, written): (Result<(), LinesFault>, Vec<u8>),
+    wanted: Result<(), LinesFault>,
+    text: &[u8],
+    at: usize,
+) {
+    assert_eq!(rt; told, wanted, "at {at}");
+    assert_eq!(rt; written.as_slice(), text, "at {at}");
+}
+
 #[test]
 fn what_was_read_before_a_failed_read_is_answered(rt: HostRuntime) -> Result<(), Fail> {
     for reads in 0..ENDED.len() {
-        let (result, written) = told(rt.alloc(), reads, ErrorKind::ConnectionReset)?;
-        assert_eq!(rt; result, Err(LinesFault::ReadFailed), "at {reads}");
-        assert_eq!(rt; written, answers(rt.alloc(), ENDED[reads])?, "at {reads}");
+        let told = told(rt.alloc(), reads, ErrorKind::ConnectionReset)?;
+        let text = answers(rt.alloc(), ENDED[reads])?;
+        check(&rt, told, Err(LinesFault::ReadFailed), &text, reads);
     }
     Ok(())
 }
 
 #[test]
 fn an_interrupted_read_is_made_again(rt: HostRuntime) -> Result<(), Fail> {
+    let text = answers(rt.alloc(), 3)?;
     for reads in 0..ENDED.len() {
-        let (result, written) = told(rt.alloc(), reads, ErrorKind::Interrupted)?;
-        assert_eq!(rt; result, Ok(()), "at {reads}");
-        assert_eq!(rt; written, answers(rt.alloc(), 3)?, "at {reads}");
+        let told = told(rt.alloc(), reads, ErrorKind::Interrupted)?;
+        check(&rt, told, Ok(()), &text, reads);
     }
     Ok(())
+}
+
+/// What is told of the input, and what a writer with so much room takes.
+fn narrowed(alloc: Global, room: usize) -> (Result<(), LinesFault>, Vec<u8>) {
+    let mut writer = Narrow {
+        taken: Vec::new(alloc),
+        room,
+    };
+    let mut input = INPUT;
+    let told = lines(alloc, &mut input, &mut writer);
+    (told, writer.taken)
 }
 
 #[test]
 fn a_failed_write_ends_the_answers(rt: HostRuntime) -> Result<(), Fail> {
     let whole = answers(rt.alloc(), 3)?;
     for room in 0..=whole.len() {
-        let mut writer = Narrow {
-            taken: Vec::new(rt.alloc()),
-            room,
-        };
-        let mut input = INPUT;
-        let result = lines(rt.alloc(), &mut input, &mut writer);
         let wanted = if room < whole.len() {
             Err(LinesFault::WriteFailed)
         } else {
             Ok(())
         };
-        assert_eq!(rt; result, wanted, "at {room}");
-        assert_eq!(rt; writer.taken.as_slice(), &whole[..room], "at {room}");
+        check(
+            &rt,
+            narrowed(rt.alloc(), room),
+            wanted,
+            &whole[..room],
+            room,
+        );
     }
     Ok(())
 }

@@ -1,5 +1,6 @@
 //! Queries, where memory is refused. What they read as, and which fault is first, stands in rows (`examples/`).
 use std::alloc::Global;
+use std::process::Abort;
 use streetmap_geojson::is_id;
 use streetmap_query::{QueryFault, next_query, read_query, self_query};
 
@@ -25,51 +26,61 @@ fn behind(alloc: Global, text: Option<&str>, last: &str) -> Result<String, Query
     Ok(next_query(alloc, &query, last)?)
 }
 
-/// Whether the answer is the text, or memory.
-fn is_written_or_memory(got: Result<String, QueryFault>, want: &str) -> bool {
+/// How many answers are memory, of one that is this text otherwise.
+fn refused_texts(rt: &impl Abort, got: Result<String, QueryFault>, want: &str) -> u32 {
     match got {
-        Ok(text) => text.as_str() == want,
-        Err(fault) => fault == QueryFault::Memory,
+        Ok(text) => {
+            assert_eq!(rt; text.as_str(), want);
+            0
+        }
+        Err(fault) => {
+            assert_eq!(rt; fault, QueryFault::Memory, "at {want}");
+            1
+        }
     }
 }
+
+/// How many answers are memory, of one that is this fault otherwise.
+fn refused_faults(rt: &impl Abort, got: Option<QueryFault>, want: QueryFault) -> u32 {
+    if got == Some(QueryFault::Memory) {
+        return 1;
+    }
+    assert_eq!(rt; got, Some(want));
+    0
+}
+
+/// A query, and the text of the link to the page behind the id `B`.
+const TEXT: &str = "after=way%2F12&bbox=0%2C6,3,9&datetime=2024-05-01T02:00:00+02:00&limit=%37";
+
+const BEHIND_B: &str =
+    "after=B&bbox=0%2C6%2C3%2C9&datetime=2024-05-01T02%3A00%3A00+02%3A00&limit=7";
+
+/// The text of the link to its own page.
+const AGAIN: &str =
+    "after=way%2F12&bbox=0%2C6%2C3%2C9&datetime=2024-05-01T02%3A00%3A00+02%3A00&limit=7";
+
+/// Queries that are refused.
+const REFUSED: &[(&str, QueryFault)] = &[
+    ("after=a%20b&limit=%30", QueryFault::BadLimit),
+    ("datetime=..%2F..", QueryFault::BadDatetime),
+    ("after=%0A", QueryFault::BadAfter),
+    ("b%62ox=1%2C2", QueryFault::BadBbox),
+    ("l%69mit=1&after=a&lim%69t=2", QueryFault::RepeatedParameter),
+    ("%66=json", QueryFault::UnknownParameter),
+];
 
 /// Where memory is refused a call answers that, or what it answers otherwise; and so it does when it
 /// is made again.
 #[test]
 fn refused_memory_changes_no_answer(rt: HostRuntime) {
     let alloc = rt.alloc();
-    let text = "after=way%2F12&bbox=0%2C6,3,9&datetime=2024-05-01T02:00:00+02:00&limit=%37";
-    let behind_b = "after=B&bbox=0%2C6%2C3%2C9&datetime=2024-05-01T02%3A00%3A00+02%3A00&limit=7";
-    let behind_way =
-        "after=way%2F12&bbox=0%2C6%2C3%2C9&datetime=2024-05-01T02%3A00%3A00+02%3A00&limit=7";
     let mut failures = 0u32;
     for _ in 0..2 {
-        let got = again(alloc, Some(text));
-        if got.is_err() && failures < 9 {
-            failures += 1;
-        }
-        assert!(rt; is_written_or_memory(got, behind_way));
-        let got = behind(alloc, Some(text), "B");
-        if got.is_err() && failures < 9 {
-            failures += 1;
-        }
-        assert!(rt; is_written_or_memory(got, behind_b));
-        for (text, want) in [
-            ("after=a%20b&limit=%30", QueryFault::BadLimit),
-            ("datetime=..%2F..", QueryFault::BadDatetime),
-            ("after=%0A", QueryFault::BadAfter),
-            ("b%62ox=1%2C2", QueryFault::BadBbox),
-            ("l%69mit=1&after=a&lim%69t=2", QueryFault::RepeatedParameter),
-            ("%66=json", QueryFault::UnknownParameter),
-        ] {
-            let got = fault(alloc, text);
-            if got == Some(QueryFault::Memory) && failures < 9 {
-                failures += 1;
-            }
-            assert!(rt;
-                got == Some(want) || got == Some(QueryFault::Memory),
-                "at {text}"
-            );
+        let again = refused_texts(&rt, again(alloc, Some(TEXT)), AGAIN);
+        let behind = refused_texts(&rt, behind(alloc, Some(TEXT), "B"), BEHIND_B);
+        failures = failures.saturating_add(again).saturating_add(behind);
+        for (text, want) in REFUSED {
+            failures = failures.saturating_add(refused_faults(&rt, fault(alloc, text), *want));
         }
     }
     // One refusal is told once, and where there is none memory is not told.

@@ -1,5 +1,5 @@
 //! Tests of HTTP by public items alone: heads, bodies and streams that are cut at every byte or whose reads and writes
-//! fail, memory that is refused, one connection of a listener, and many clients of another service. The rows of HTTP are
+//! fail, memory that is refused, one connection of a listener, and a client of another service, in pieces. The rows of HTTP are
 //! data, and run through the built program (`tests/rows.py`), as do more connections and many clients of it.
 #![tactic(auto)]
 

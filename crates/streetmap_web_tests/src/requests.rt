@@ -1,6 +1,7 @@
 //! What the tests share: a stream of requests, the answers that are wanted, and serving it over a new keeper.
+use crate::fakes::Steps;
 use std::alloc::Global;
-use std::io::{BufRead, Write};
+use std::io::{BufRead, BufReader, Write};
 use std::test::Fail;
 use streetmap_memory::PlainKeeper;
 use streetmap_routes::Base;
@@ -58,5 +59,20 @@ pub(crate) fn serve_front(
     let mut written: Vec<u8> = Vec::new(alloc);
     let mut reader = &REQUESTS[..len.min(REQUESTS.len())];
     let served = serve_over(alloc, keeper, &mut reader, &mut written)?;
+    Ok((served, written))
+}
+
+/// Serves the requests over a new keeper, as a reader gives them that fails at the read that `reads` others came
+/// before, each of one byte; and answers what is written too.
+pub(crate) fn serve_bytes(alloc: Global, reads: usize) -> Result<(Served, Vec<u8>), Fail> {
+    let steps = Steps {
+        rest: REQUESTS,
+        step: 1,
+        reads,
+    };
+    let mut reader = BufReader::new(alloc, steps)?;
+    let mut keeper = PlainKeeper::new(alloc);
+    let mut written: Vec<u8> = Vec::new(alloc);
+    let served = serve_over(alloc, &mut keeper, &mut reader, &mut written)?;
     Ok((served, written))
 }

@@ -5,6 +5,7 @@ use std::alloc::Global;
 use std::test::Fail;
 use streetmap_geojson::Feature;
 use streetmap_ledger::{Page, PageFold};
+use streetmap_memory::PlainKeeper;
 use streetmap_query::read_query;
 
 /// Seven features, of which five meet the box 0,0,5,5.
@@ -78,15 +79,35 @@ const ASKED: &[(&str, &str)] = &[
     ("marks", "bbox=0,0,3,3&limit=1&after=a%22b"),
 ];
 
+/// Whether a keeper answers this page.
+fn is_answered(
+    alloc: Global,
+    keeper: &mut PlainKeeper,
+    collection: &str,
+    asked: &str,
+    made: &Page,
+) -> Result<bool, Fail> {
+    Ok(is_same(made, &page(alloc, keeper, collection, asked)?))
+}
+
+/// Whether a page that is made of all seven features of a collection is the one that the keeper answers.
+fn is_made(
+    alloc: Global,
+    keeper: &mut PlainKeeper,
+    collection: &str,
+    asked: &str,
+) -> Result<bool, Fail> {
+    let all = page(alloc, keeper, collection, "")?;
+    let made = folded(alloc, &all.features, asked)?;
+    Ok(made.examined == 7 && is_answered(alloc, keeper, collection, asked, &made)?)
+}
+
 #[test]
 fn a_fold_makes_the_page_of_what_it_took(rt: HostRuntime) -> Result<(), Fail> {
     let mut keeper = keeper_after(rt.alloc(), &[SEVEN, MARKS])?;
     for (collection, asked) in ASKED {
-        let all = page(rt.alloc(), &mut keeper, collection, "")?;
-        let made = folded(rt.alloc(), &all.features, asked)?;
-        let wanted = page(rt.alloc(), &mut keeper, collection, asked)?;
-        assert!(rt; is_same(&made, &wanted), "at {collection} {asked}");
-        assert_eq!(rt; made.examined, 7, "at {collection} {asked}");
+        let is_made = is_made(rt.alloc(), &mut keeper, collection, asked)?;
+        assert!(rt; is_made, "at {collection} {asked}");
     }
     Ok(())
 }
