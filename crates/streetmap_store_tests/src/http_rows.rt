@@ -1,4 +1,5 @@
 //! The rows of HTTP over a keeper in memory, over tables and with an index over them: the answers are the same bytes.
+use crate::answers::answers;
 use crate::rows::ROWS;
 use crate::sessions::over_tables;
 use serde_json::Value;
@@ -7,8 +8,6 @@ use std::test::Fail;
 use streetmap_index::IndexedKeeper;
 use streetmap_ledger::Keeper;
 use streetmap_memory::PlainKeeper;
-use streetmap_routes::Base;
-use streetmap_web::serve;
 
 /// A text of a row.
 fn text<'a>(row: &'a Value, name: &str) -> Result<&'a str, Fail> {
@@ -37,15 +36,6 @@ fn before(alloc: Global, row: &Value) -> Result<String, Fail> {
         requests.push_str(post(alloc, batch)?.as_str())?;
     }
     Ok(requests)
-}
-
-/// What a keeper answers to requests.
-fn answers<K: Keeper>(alloc: Global, keeper: &mut K, requests: &str) -> Result<String, Fail> {
-    let base = Base::new(alloc, "http://localhost/")?;
-    let mut reader = requests.as_bytes();
-    let mut written: Vec<u8> = Vec::new(alloc);
-    let _served = serve(alloc, keeper, &base, &mut reader, &mut written);
-    Ok(String::from_utf8(written)?)
 }
 
 /// What a new keeper answers to the requests of a row.

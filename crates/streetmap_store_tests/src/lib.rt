@@ -5,7 +5,11 @@
 #![tactic(auto)]
 
 #[cfg(test)]
+mod answers;
+#[cfg(test)]
 mod carrying;
+#[cfg(test)]
+mod files;
 #[cfg(test)]
 mod http_rows;
 #[cfg(test)]

@@ -1,13 +1,11 @@
 //! The same sessions over tables and in memory, and with an index over each: the answers are the same bytes.
+use crate::answers::all_answers;
 use sqlite::{Connection, MemStore};
 use std::alloc::Global;
 use std::test::Fail;
 use streetmap_index::IndexedKeeper;
-use streetmap_ledger::Keeper;
 use streetmap_memory::PlainKeeper;
-use streetmap_routes::Base;
 use streetmap_store::TableKeeper;
-use streetmap_web::serve;
 
 /// How many sessions there are, and how many requests each has.
 const SESSIONS: u64 = 300;
@@ -180,23 +178,6 @@ fn told_session(alloc: Global, seed: u64) -> Result<String, Fail> {
     Ok(requests)
 }
 
-/// The answers of a keeper to so many requests.
-fn answers<K: Keeper>(
-    alloc: Global,
-    keeper: &mut K,
-    requests: &str,
-    count: u64,
-) -> Result<Vec<u8>, Fail> {
-    let base = Base::new(alloc, "http://localhost/")?;
-    let mut reader = requests.as_bytes();
-    let mut written: Vec<u8> = Vec::new(alloc);
-    let served = serve(alloc, keeper, &base, &mut reader, &mut written);
-    if served.answers != count {
-        return Err(Fail::from("not all requests were answered"));
-    }
-    Ok(written)
-}
-
 /// A keeper over new tables.
 pub(crate) fn over_tables(alloc: Global) -> Result<TableKeeper<MemStore>, Fail> {
     let conn = Connection::open_in_memory(alloc)?;
@@ -215,8 +196,8 @@ fn tables_answer_as_memory_does(rt: HostRuntime) -> Result<(), Fail> {
         let requests = session(rt.alloc(), seed)?;
         let mut plain = PlainKeeper::new(rt.alloc());
         let mut tables = over_tables(rt.alloc())?;
-        let wanted = answers(rt.alloc(), &mut plain, requests.as_str(), REQUESTS)?;
-        let found = answers(rt.alloc(), &mut tables, requests.as_str(), REQUESTS)?;
+        let wanted = all_answers(rt.alloc(), &mut plain, requests.as_str(), REQUESTS)?;
+        let found = all_answers(rt.alloc(), &mut tables, requests.as_str(), REQUESTS)?;
         assert_eq!(rt; String::from_utf8(found)?, String::from_utf8(wanted)?);
     }
     Ok(())
@@ -229,10 +210,10 @@ fn an_index_answers_as_the_keeper_below_it(rt: HostRuntime) -> Result<(), Fail> 
         let mut plain = PlainKeeper::new(rt.alloc());
         let mut over_plain = IndexedKeeper::new(rt.alloc(), PlainKeeper::new(rt.alloc()));
         let mut over_tables = IndexedKeeper::new(rt.alloc(), over_tables(rt.alloc())?);
-        let wanted = answers(rt.alloc(), &mut plain, requests.as_str(), REQUESTS)?;
-        let found = answers(rt.alloc(), &mut over_plain, requests.as_str(), REQUESTS)?;
+        let wanted = all_answers(rt.alloc(), &mut plain, requests.as_str(), REQUESTS)?;
+        let found = all_answers(rt.alloc(), &mut over_plain, requests.as_str(), REQUESTS)?;
         assert_eq!(rt; found.as_slice(), wanted.as_slice());
-        let found = answers(rt.alloc(), &mut over_tables, requests.as_str(), REQUESTS)?;
+        let found = all_answers(rt.alloc(), &mut over_tables, requests.as_str(), REQUESTS)?;
         assert_eq!(rt; found.as_slice(), wanted.as_slice());
     }
     Ok(())
@@ -246,10 +227,10 @@ fn an_index_tells_as_the_keeper_below_it(rt: HostRuntime) -> Result<(), Fail> {
         let mut plain = PlainKeeper::new(rt.alloc());
         let mut over_plain = IndexedKeeper::new(rt.alloc(), PlainKeeper::new(rt.alloc()));
         let mut over_tables = IndexedKeeper::new(rt.alloc(), over_tables(rt.alloc())?);
-        let wanted = answers(rt.alloc(), &mut plain, requests.as_str(), count)?;
-        let found = answers(rt.alloc(), &mut over_plain, requests.as_str(), count)?;
+        let wanted = all_answers(rt.alloc(), &mut plain, requests.as_str(), count)?;
+        let found = all_answers(rt.alloc(), &mut over_plain, requests.as_str(), count)?;
         assert_eq!(rt; found.as_slice(), wanted.as_slice());
-        let found = answers(rt.alloc(), &mut over_tables, requests.as_str(), count)?;
+        let found = all_answers(rt.alloc(), &mut over_tables, requests.as_str(), count)?;
         assert_eq!(rt; found.as_slice(), wanted.as_slice());
     }
     Ok(())

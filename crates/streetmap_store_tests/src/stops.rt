@@ -1,22 +1,15 @@
 //! A stop at each call of the files in turn: what opens again is the state of a beginning of the batches,
 //! with each acknowledged one.
-ghost use Rattle.std.specs.Prelude.{◌≡◌, false, IfOk, IsTrue};
-ghost use Rattle.sqlite_disk.specs.Memory.{memory_is_usable};
-
+use crate::answers::{answers, is_answered};
+use crate::files::{ALL_CALLS, Calls, Fused, Visit, visit_again, visit_new};
 use sqlite::{Alter, Connection};
-use sqlite_disk::{Crash, Disk, Files, Fuse, Memory};
-use sqlite_pager::Options;
+use sqlite_disk::{Crash, Files};
 use std::alloc::Global;
 use std::test::Fail;
-use streetmap_ledger::{Keeper, read_batch};
+use streetmap_ledger::Keeper;
 use streetmap_memory::PlainKeeper;
 use streetmap_opening::TablesFault;
-use streetmap_routes::Base;
 use streetmap_store::TableKeeper;
-use streetmap_web::serve;
-
-/// A file that stops taking calls.
-pub type Fused = Fuse<Memory>;
 
 /// What stops are tried on.
 const BATCHES: [&str; 5] = [
@@ -39,28 +32,11 @@ struct Left {
     files: Files<Fused>,
 }
 
-/// What a keeper answers to the looks.
-fn seen<K: Keeper>(alloc: Global, keeper: &mut K) -> Result<String, Fail> {
-    let base = Base::new(alloc, "http://localhost/")?;
-    let mut reader = LOOKS.as_bytes();
-    let mut written: Vec<u8> = Vec::new(alloc);
-    let _ = serve(alloc, keeper, &base, &mut reader, &mut written);
-    Ok(String::from_utf8(written)?)
-}
-
-/// Whether a batch, given as text, was answered.
-pub fn answered<K: Keeper>(alloc: Global, keeper: &mut K, text: &str) -> bool {
-    match read_batch(alloc, text.as_bytes()) {
-        Ok(batch) => keeper.apply(&batch).is_ok(),
-        Err(_) => false,
-    }
-}
-
 /// Acts on the batches up to the first that is not answered. Answers how many were.
 fn act<K: Keeper>(alloc: Global, keeper: &mut K, most: usize) -> usize {
     let mut acknowledged: usize = 0;
     for text in BATCHES.iter().take(most) {
-        if !answered(alloc, keeper, text) {
+        if !is_answered(alloc, keeper, text) {
             break;
         }
         acknowledged = acknowledged.saturating_add(1);
@@ -72,80 +48,74 @@ fn act<K: Keeper>(alloc: Global, keeper: &mut K, most: usize) -> usize {
 fn wanted(alloc: Global, count: usize) -> Result<String, Fail> {
     let mut keeper = PlainKeeper::new(alloc);
     let _ = act(alloc, &mut keeper, count);
-    seen(alloc, &mut keeper)
+    answers(alloc, &mut keeper, LOOKS)
 }
 
-/// Acts on the batches over new tables. Answers how many were answered, none where the tables were not made, and
-/// what is left of the store.
-fn run_over<S: Alter + Drop>(alloc: Global, conn: Connection<S>) -> (Option<usize>, S)
-    requires { conn.in_transaction ≡ false }
-{
-    match TableKeeper::make(alloc, conn) {
-        Ok(mut keeper) => {
-            let acknowledged = act(alloc, &mut keeper, 5);
-            (Some(acknowledged), keeper.release().into_store())
+/// New tables are made, and the batches acted on: how many were answered, none where the tables were not made.
+#[derive(Drop)]
+struct Act;
+
+impl Visit for Act {
+    type Told = Option<usize>;
+
+    fn visit<S: Alter + Drop>(self, alloc: Global, conn: Connection<S>) -> (Option<usize>, S) {
+        match TableKeeper::make(alloc, conn) {
+            Ok(mut keeper) => {
+                let acknowledged = act(alloc, &mut keeper, 5);
+                (Some(acknowledged), keeper.release().into_store())
+            }
+            Err((_, conn)) => (None, conn.into_store()),
         }
-        Err((_, conn)) => (None, conn.into_store()),
     }
 }
 
 /// New files, whose calls stop after so many.
-fn run(alloc: Global, log_calls: u64, db_calls: u64) -> Left {
-    let log = Fuse::new(Memory::new(alloc), log_calls);
-    let db = Fuse::new(Memory::new(alloc), db_calls);
-    match Connection::open_files(alloc, Files { log, db }, Options::new(1)) {
-        Ok(conn) => {
-            let (acknowledged, store) = run_over(alloc, conn);
-            Left {
-                acknowledged,
-                files: store.close(),
-            }
-        }
-        Err((_, left)) => Left {
-            acknowledged: None,
-            files: left.into_files(),
-        },
+fn run(alloc: Global, calls: Calls) -> Left {
+    let (told, files) = visit_new(alloc, calls, Act);
+    Left {
+        acknowledged: told.unwrap_or(None),
+        files,
     }
-}
-
-/// A file with these bytes.
-pub fn file(alloc: Global, bytes: &[u8]) -> Result<Memory, Fail>
-    ensures { IfOk result (λ file. IsTrue (memory_is_usable file)) }
-{
-    let mut file = Memory::new(alloc);
-    file.write_at(0, bytes)?;
-    file.sync()?;
-    Ok(file)
 }
 
 /// What a keeper answers to the looks, and after all batches once more.
 fn seen_twice<K: Keeper>(alloc: Global, keeper: &mut K) -> Result<(String, String), Fail> {
-    let before = seen(alloc, keeper)?;
+    let before = answers(alloc, keeper, LOOKS)?;
     let _ = act(alloc, keeper, 5);
-    Ok((before, seen(alloc, keeper)?))
+    Ok((before, answers(alloc, keeper, LOOKS)?))
 }
 
-/// What is seen of the tables of a connection that was opened again; none where they are none of this product.
-fn adopted<S: Alter + Drop>(
-    alloc: Global,
-    conn: Connection<S>,
-) -> Result<Option<(String, String)>, Fail>
-    requires { conn.in_transaction ≡ false }
-{
-    match TableKeeper::adopt(alloc, conn) {
-        Ok(mut keeper) => Ok(Some(seen_twice(alloc, &mut keeper)?)),
-        Err((TablesFault::NotOurs, _)) => Ok(None),
-        Err((fault, _)) => Err(fault)?,
+/// Tables are opened again and looked at; nothing is seen where they are none of this product.
+#[derive(Drop)]
+struct Look;
+
+impl Visit for Look {
+    type Told = Result<Option<(String, String)>, Fail>;
+
+    fn visit<S: Alter + Drop>(
+        self,
+        alloc: Global,
+        conn: Connection<S>,
+    ) -> (Result<Option<(String, String)>, Fail>, S) {
+        match TableKeeper::adopt(alloc, conn) {
+            Ok(mut keeper) => {
+                let seen = seen_twice(alloc, &mut keeper);
+                (seen.map(Some), keeper.release().into_store())
+            }
+            Err((TablesFault::NotOurs, conn)) => (Ok(None), conn.into_store()),
+            Err((_, conn)) => (
+                Err(Fail::from("the tables are not opened")),
+                conn.into_store(),
+            ),
+        }
     }
 }
 
 /// What is seen of files that are opened again.
 fn reopened(alloc: Global, files: &Files<Fused>) -> Result<Option<(String, String)>, Fail> {
-    let log = file(alloc, files.log.inner().bytes())?;
-    let db = file(alloc, files.db.inner().bytes())?;
-    match Connection::open_files(alloc, Files { log, db }, Options::new(2)) {
-        Ok(conn) => adopted(alloc, conn),
-        Err((error, _)) => Err(error)?,
+    match visit_again(alloc, files, ALL_CALLS, Look)? {
+        (Some(seen), _) => seen,
+        (None, _) => Err(Fail::from("the files are not opened")),
     }
 }
 
@@ -161,8 +131,8 @@ fn is_a_beginning(alloc: Global, left: &Left) -> Result<bool, Fail> {
 }
 
 /// Tries both what was written and what was synchronised alone. Answers whether the run came to its end.
-fn tried(alloc: Global, log_calls: u64, db_calls: u64) -> Result<bool, Fail> {
-    let mut left = run(alloc, log_calls, db_calls);
+fn tried(alloc: Global, calls: Calls) -> Result<bool, Fail> {
+    let mut left = run(alloc, calls);
     if !is_a_beginning(alloc, &left)? {
         return Err(Fail::from("what was written is no beginning"));
     }
@@ -176,8 +146,8 @@ fn tried(alloc: Global, log_calls: u64, db_calls: u64) -> Result<bool, Fail> {
 
 #[test]
 fn a_stop_at_each_call_of_the_log_leaves_a_beginning(rt: HostRuntime) -> Result<(), Fail> {
-    for calls in 0..10_000 {
-        if tried(rt.alloc(), calls, u64::MAX)? {
+    for log in 0..10_000 {
+        if tried(rt.alloc(), Calls { log, db: u64::MAX })? {
             return Ok(());
         }
     }
@@ -186,8 +156,8 @@ fn a_stop_at_each_call_of_the_log_leaves_a_beginning(rt: HostRuntime) -> Result<
 
 #[test]
 fn a_stop_at_each_call_of_the_database_leaves_a_beginning(rt: HostRuntime) -> Result<(), Fail> {
-    for calls in 0..10_000 {
-        if tried(rt.alloc(), u64::MAX, calls)? {
+    for db in 0..10_000 {
+        if tried(rt.alloc(), Calls { log: u64::MAX, db })? {
             return Ok(());
         }
     }

@@ -1,0 +1,186 @@
+//! What the commands do over the keeper of a file, whatever store it stands on.
+use crate::fault::ProgramFault;
+use crate::progress::ProgressLines;
+use crate::texts;
+use sqlite::Alter;
+use std::io::{BufReader, writer};
+use std::net::{Ipv4Addr, TcpListener};
+use streetmap_checking::check_tables;
+use streetmap_connections::{Clients, Limits};
+use streetmap_exchange::{export, import};
+use streetmap_files::{serve_clients_over_tables, serve_count_over_tables, serve_over_tables};
+use streetmap_index::IndexedKeeper;
+use streetmap_ledger::Keeper;
+use streetmap_routes::Base;
+use streetmap_serving::KeeperService;
+use streetmap_store::TableKeeper;
+
+/// What is done over the keeper of a file.
+#[derive(Drop)]
+pub(crate) enum Task<'a> {
+    /// The requests of standard input are served on standard output.
+    Pipe(Base),
+    /// Connections are served.
+    Serve(Connections, Base),
+    /// The features of a text are put into a collection by one batch, and its reply is printed.
+    Import(Import<'a>),
+    /// A collection is written on standard output; with `progress` lines on standard error tell how far it is.
+    Export { collection: &'a str, progress: bool },
+    /// All rows are read, and it is printed how many there are.
+    Check,
+}
+
+/// Which connections are served: those to a port of this host, so many of them, of so many clients at once, and
+/// whether a line is written for each answer.
+#[derive(Drop, Clone, Copy)]
+pub(crate) struct Connections {
+    pub(crate) port: u16,
+    pub(crate) count: u64,
+    pub(crate) clients: u32,
+    pub(crate) log: bool,
+}
+
+/// The path of a text, the key and the collection of the batch of its features, whether they replace those with their
+/// ids, and whether lines tell how far it is.
+#[derive(Drop, Clone, Copy)]
+pub(crate) struct Import<'a> {
+    pub(crate) text: &'a str,
+    pub(crate) key: &'a str,
+    pub(crate) collection: &'a str,
+    pub(crate) replace: bool,
+    pub(crate) progress: bool,
+}
+
+impl Task<'_> {
+    /// Does it over a keeper, with an index in memory where features are asked for.
+    pub(crate) fn run<S: Alter + Drop>(
+        self,
+        rt: &HostRuntime,
+        keeper: TableKeeper<S>,
+    ) -> Result<(), ProgramFault> {
+        match self {
+            Task::Pipe(base) => pipe(rt, IndexedKeeper::new(rt.alloc(), keeper), base),
+            Task::Serve(connections, base) => {
+                serve(
+                    rt,
+                    IndexedKeeper::new(rt.alloc(), keeper),
+                    connections,
+                    base,
+                )
+            }
+            Task::Import(asked) => {
+                import_text(rt, &mut IndexedKeeper::new(rt.alloc(), keeper), asked)
+            }
+            Task::Export {
+                collection,
+                progress,
+            } => {
+                let mut keeper = IndexedKeeper::new(rt.alloc(), keeper);
+                export_collection(rt, &mut keeper, collection, progress)
+            }
+            Task::Check => check(rt, keeper),
+        }
+    }
+}
+
+/// Serves the requests of standard input on standard output.
+fn pipe<S: Alter + Drop>(
+    rt: &HostRuntime,
+    mut keeper: IndexedKeeper<TableKeeper<S>>,
+    base: Base,
+) -> Result<(), ProgramFault> {
+    let Ok(mut reader) = BufReader::new(rt.alloc(), rt.reader()) else {
+        return Err(ProgramFault::Memory);
+    };
+    let mut output = writer(rt);
+    let served = serve_over_tables(rt.alloc(), &mut keeper, &base, &mut reader, &mut output);
+    ProgramFault::of_stream(served.end)
+}
+
+/// Listens at a port of this host, and says so.
+fn listen(rt: &HostRuntime, port: u16) -> Result<TcpListener, ProgramFault> {
+    let listener = TcpListener::bind(rt, (Ipv4Addr::LOCALHOST, port)).map_err(
+        |_| ProgramFault::Net,
+    )?;
+    println!(rt; "listening 127.0.0.1:{port}").map_err(|_| ProgramFault::WriteFailed)?;
+    Ok(listener)
+}
+
+/// Serves connections.
+fn serve<S: Alter + Drop>(
+    rt: &HostRuntime,
+    mut keeper: IndexedKeeper<TableKeeper<S>>,
+    connections: Connections,
+    base: Base,
+) -> Result<(), ProgramFault> {
+    let listener = listen(rt, connections.port)?;
+    if connections.clients == 1 && !connections.log {
+        Ok(serve_count_over_tables(rt.alloc(), &listener, connections.count, &mut keeper, &base)?)
+    } else {
+        serve_at_once(rt, &listener, connections, keeper, base)
+    }
+}
+
+/// Serves the clients of a listener, many at once.
+fn serve_at_once<S: Alter + Drop>(
+    rt: &HostRuntime,
+    listener: &TcpListener,
+    connections: Connections,
+    keeper: IndexedKeeper<TableKeeper<S>>,
+    base: Base,
+) -> Result<(), ProgramFault> {
+    let mut clients = Clients::new(rt.alloc(), Limits::of(connections.clients as usize))?;
+    let mut service = KeeperService {
+        alloc: rt.alloc(),
+        keeper,
+        base,
+        log: connections.log.then(|| rt.stderr()),
+    };
+    Ok(serve_clients_over_tables(rt, listener, connections.count, &mut clients, &mut service)?)
+}
+
+/// Puts the features of a text into a collection, and prints the reply.
+fn import_text<K: Keeper>(
+    rt: &HostRuntime,
+    keeper: &mut K,
+    asked: Import<'_>,
+) -> Result<(), ProgramFault> {
+    let text = texts::read(rt, asked.text)?;
+    let mut lines = ProgressLines {
+        output: asked.progress.then(|| rt.stderr()),
+    };
+    let reply = import(
+        rt.alloc(),
+        keeper,
+        text.as_slice(),
+        asked.key,
+        asked.collection,
+        asked.replace,
+        &mut lines,
+    )?;
+    println!(rt; "{reply}").map_err(|_| ProgramFault::WriteFailed)
+}
+
+/// Writes a collection on standard output.
+fn export_collection<K: Keeper>(
+    rt: &HostRuntime,
+    keeper: &mut K,
+    collection: &str,
+    progress: bool,
+) -> Result<(), ProgramFault> {
+    let mut output = writer(rt);
+    let mut lines = ProgressLines {
+        output: progress.then(|| rt.stderr()),
+    };
+    Ok(export(rt.alloc(), keeper, collection, &mut output, &mut lines)?)
+}
+
+/// Tells how many collections, features and batches there are, where the rows are those of a state.
+fn check<S: Alter + Drop>(rt: &HostRuntime, keeper: TableKeeper<S>) -> Result<(), ProgramFault> {
+    let totals = check_tables(rt.alloc(), &mut keeper.release())?;
+    println!(rt;
+        "ok {} {} {}",
+        totals.collections, totals.features, totals.batches
+    )
+    .map_err(|_| ProgramFault::WriteFailed)
+}
