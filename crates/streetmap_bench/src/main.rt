@@ -100,31 +100,48 @@ fn first_word(rt: &HostRuntime) -> io::Result<Option<String>> {
     Ok(words.next())
 }
 
+/// Serves requests, and prints how many answers they had and the time.
+fn serve(rt: &HostRuntime, requests: &[u8]) -> anyhow::Result<()> {
+    let timed = time_serving(rt, rt.alloc(), requests)?;
+    println!(rt;
+        "{} answers, {} bytes, {} microseconds",
+        timed.answers, timed.written, timed.microseconds
+    )?;
+    Ok(())
+}
+
+/// Prints how many meet, and how many features a collection has.
+fn count(rt: &HostRuntime, text: &[u8]) -> anyhow::Result<()> {
+    meet(rt, false)?;
+    let features = read_features(rt.alloc(), text)?;
+    println!(rt; "features: {}", features.len())?;
+    Ok(())
+}
+
+/// Times a task on a collection.
+fn time(rt: &HostRuntime, task: Task, text: &[u8]) -> anyhow::Result<()> {
+    let best = time_task(rt, rt.alloc(), task, text)?;
+    println!(rt; "{best} microseconds")?;
+    Ok(())
+}
+
+/// Does what is named, over standard input.
+fn run(rt: &HostRuntime, name: &str) -> anyhow::Result<()> {
+    let text = read_input(rt, rt.alloc())?;
+    if name == "serve" {
+        return serve(rt, text.as_slice());
+    }
+    match Task::of(name) {
+        Some(task) => time(rt, task, text.as_slice()),
+        None => count(rt, text.as_slice()),
+    }
+}
+
 fn main(rt: HostRuntime) -> anyhow::Result<()> {
     let word = first_word(&rt)?;
     let name = word.as_ref().map(String::as_str).unwrap_or("");
     if name == "time" {
         return meet(&rt, true);
     }
-    let text = read_input(&rt, rt.alloc())?;
-    if name == "serve" {
-        let timed = time_serving(&rt, rt.alloc(), text.as_slice())?;
-        println!(rt;
-            "{} answers, {} bytes, {} microseconds",
-            timed.answers, timed.written, timed.microseconds
-        )?;
-        return Ok(());
-    }
-    match Task::of(name) {
-        Some(task) => {
-            let best = time_task(&rt, rt.alloc(), task, text.as_slice())?;
-            println!(rt; "{best} microseconds")?;
-        }
-        None => {
-            meet(&rt, false)?;
-            let features = read_features(rt.alloc(), text.as_slice())?;
-            println!(rt; "features: {}", features.len())?;
-        }
-    }
-    Ok(())
+    run(&rt, name)
 }

@@ -172,7 +172,7 @@ struct Stored {
     format: i64,
 }
 
-fn stored<S: Alter>(conn: &mut Connection<S>) -> Result<Stored, Fail> {
+fn columns_of<S: Alter>(conn: &mut Connection<S>) -> Result<Stored, Fail> {
     Ok(Stored {
         point: columns(conn, "L1")?,
         nowhere: columns(conn, "L2")?,
@@ -198,7 +198,7 @@ impl Visit for ReadColumns {
         match TableKeeper::adopt(alloc, conn) {
             Ok(keeper) => {
                 let mut conn = keeper.release();
-                (stored(&mut conn), conn.into_store())
+                (columns_of(&mut conn), conn.into_store())
             }
             Err((_, conn)) => (
                 Err(Fail::from("the tables are not opened")),

@@ -53,9 +53,9 @@ fn wanted(alloc: Global, count: usize) -> Result<String, Fail> {
 
 /// New tables are made, and the batches acted on: how many were answered, none where the tables were not made.
 #[derive(Drop)]
-struct Act;
+struct ActOnAll;
 
-impl Visit for Act {
+impl Visit for ActOnAll {
     type Told = Option<usize>;
 
     fn visit<S: Alter + Drop>(self, alloc: Global, conn: Connection<S>) -> (Option<usize>, S) {
@@ -71,7 +71,7 @@ impl Visit for Act {
 
 /// New files, whose calls stop after so many.
 fn run(alloc: Global, calls: Calls) -> Left {
-    let (told, files) = visit_new(alloc, calls, Act);
+    let (told, files) = visit_new(alloc, calls, ActOnAll);
     Left {
         acknowledged: told.unwrap_or(None),
         files,
