@@ -1,5 +1,6 @@
 //! Features and collections as JSON values (RFC 7946, section 3).
 ghost use Rattle.std.specs.Prelude.{◌≡◌, All, IfOk, None, Ok, option_map, map, codes};
+ghost use Rattle.serde_json.specs.Data.{string, object, no_members, member};
 ghost use Rattle.serde_json.specs.View.{view};
 ghost use Rattle.serde_json.specs.Written.{compact_text};
 ghost use Rattle.streetmap_grid.specs.Views.{position_value, positions_value, line_value, lines_value, ring_value, rings_value, polygon_value, polygons_value, simple_value, simples_value, geometry_value};
@@ -154,12 +155,24 @@ fn write_geometry_member(alloc: Global, geometry: Option<&Geometry>) -> Result<V
     }
 }
 
+// The object of a feature's members.
+fn feature_object(
+    alloc: Global,
+    geometry: Value,
+    id: &str,
+    properties: Value,
+) -> Result<Value, AllocError>
+    ensures { IfOk result (λ v. view v ≡ object (member (codes "geometry") (view geometry) (member (codes "id") (string id.now) (member (codes "properties") (view properties) (member (codes "type") (string (codes "Feature")) no_members))))) }
+{
+    json!(in alloc; {"geometry": geometry, "id": id, "properties": properties, "type": "Feature"})
+}
+
 fn write_members(alloc: Global, feature: &Feature) -> Result<Value, AllocError>
     ensures { IfOk result (λ v. view v ≡ feature_data (feature_value feature.now)) }
 {
     let geometry = write_geometry_member(alloc, feature.geometry())?;
     let properties = feature.properties().clone()?;
-    json!(in alloc; {"geometry": geometry, "id": feature.id(), "properties": properties, "type": "Feature"})
+    feature_object(alloc, geometry, feature.id(), properties)
 }
 
 /// The JSON value of a feature (RFC 7946, section 3.2), without its time: the members `geometry`,
