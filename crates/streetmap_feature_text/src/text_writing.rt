@@ -8,6 +8,7 @@ ghost use Rattle.streetmap_grid.specs.Views.{position_value, positions_value, li
 ghost use Rattle.streetmap_geojson.specs.FeatureView.{feature_value};
 ghost use Rattle.streetmap_feature_text.specs.Written.{number_data, height_text, name_of, coordinates_data, position_data, line_data, polygon_data, array_of, simple_data, geometry_data, geometry_member, feature_data, collection_data};
 
+use crate::value_writing::kind_name;
 use serde_json::Value;
 use std::alloc::{AllocError, Global};
 use streetmap_geojson::Feature;
@@ -137,14 +138,7 @@ fn push_coordinates(out: &mut String, geometry: &SimpleGeometry) -> Result<(), A
 fn push_name(out: &mut String, geometry: &SimpleGeometry) -> Result<(), AllocError>
     ensures { OnOk result (string_bytes out.new ≡ string_bytes out.old ++ name_of (simple_value geometry.now)) }
 {
-    out.push_str(match geometry {
-        SimpleGeometry::Point(_) => "Point",
-        SimpleGeometry::MultiPoint(_) => "MultiPoint",
-        SimpleGeometry::LineString(_) => "LineString",
-        SimpleGeometry::MultiLineString(_) => "MultiLineString",
-        SimpleGeometry::Polygon(_) => "Polygon",
-        SimpleGeometry::MultiPolygon(_) => "MultiPolygon",
-    })
+    out.push_str(kind_name(geometry))
 }
 
 fn push_simple(out: &mut String, geometry: &SimpleGeometry) -> Result<(), AllocError>

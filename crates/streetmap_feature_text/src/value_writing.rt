@@ -1,5 +1,6 @@
 //! Features and collections as JSON values (RFC 7946, section 3).
 ghost use Rattle.std.specs.Prelude.{◌≡◌, All, IfOk, None, Ok, option_map, map, codes};
+ghost use Rattle.serde_json.specs.Data.{string, object, no_members, member};
 ghost use Rattle.serde_json.specs.View.{view};
 ghost use Rattle.serde_json.specs.Written.{compact_text};
 ghost use Rattle.streetmap_grid.specs.Views.{position_value, positions_value, line_value, lines_value, ring_value, rings_value, polygon_value, polygons_value, simple_value, simples_value, geometry_value};
@@ -9,7 +10,7 @@ ghost use Rattle.streetmap_geojson.specs.FeatureMeaning.{ReadsAs};
 ghost use Rattle.streetmap_geojson.specs.FeatureInvariant.{IsFeature};
 ghost use Rattle.streetmap_geojson.specs.Collection.{AreFeatures};
 ghost use Rattle.streetmap_geojson.specs.JsonText.{json_of};
-ghost use Rattle.streetmap_feature_text.specs.Written.{position_data, line_data, polygon_data, array_of, simple_data, geometry_data, geometry_member, feature_data, collection_data};
+ghost use Rattle.streetmap_feature_text.specs.Written.{name_of, coordinates_data, position_data, line_data, polygon_data, array_of, simple_data, geometry_data, geometry_member, feature_data, collection_data};
 
 use serde_json::{Value, json};
 use std::alloc::{AllocError, Global};
@@ -87,36 +88,40 @@ fn write_polygons(alloc: Global, polygons: &[Polygon]) -> Result<Value, AllocErr
     Ok(Value::Array(written))
 }
 
+// The array of a geometry's `coordinates`.
 #[tactic(auto, unfolding(crate::specs::Written::position_data))]
+fn write_coordinates(alloc: Global, geometry: &SimpleGeometry) -> Result<Value, AllocError>
+    ensures { IfOk result (λ v. view v ≡ coordinates_data (simple_value geometry.now)) }
+{
+    match geometry {
+        SimpleGeometry::Point(position) => write_position(alloc, position),
+        SimpleGeometry::MultiPoint(positions) => write_positions(alloc, positions.items()),
+        SimpleGeometry::LineString(line) => write_line(alloc, line),
+        SimpleGeometry::MultiLineString(lines) => write_lines(alloc, lines.items()),
+        SimpleGeometry::Polygon(polygon) => write_polygon(alloc, polygon),
+        SimpleGeometry::MultiPolygon(polygons) => write_polygons(alloc, polygons.items()),
+    }
+}
+
+/// The name of a geometry's kind.
+pub(crate) fn kind_name(geometry: &SimpleGeometry) -> &'static str
+    ensures { result.now ≡ name_of (simple_value geometry.now) }
+{
+    match geometry {
+        SimpleGeometry::Point(_) => "Point",
+        SimpleGeometry::MultiPoint(_) => "MultiPoint",
+        SimpleGeometry::LineString(_) => "LineString",
+        SimpleGeometry::MultiLineString(_) => "MultiLineString",
+        SimpleGeometry::Polygon(_) => "Polygon",
+        SimpleGeometry::MultiPolygon(_) => "MultiPolygon",
+    }
+}
+
 fn write_simple(alloc: Global, geometry: &SimpleGeometry) -> Result<Value, AllocError>
     ensures { IfOk result (λ v. view v ≡ simple_data (simple_value geometry.now)) }
 {
-    match geometry {
-        SimpleGeometry::Point(position) => {
-            let coordinates = write_position(alloc, position)?;
-            json!(in alloc; {"coordinates": coordinates, "type": "Point"})
-        }
-        SimpleGeometry::MultiPoint(positions) => {
-            let coordinates = write_positions(alloc, positions.items())?;
-            json!(in alloc; {"coordinates": coordinates, "type": "MultiPoint"})
-        }
-        SimpleGeometry::LineString(line) => {
-            let coordinates = write_line(alloc, line)?;
-            json!(in alloc; {"coordinates": coordinates, "type": "LineString"})
-        }
-        SimpleGeometry::MultiLineString(lines) => {
-            let coordinates = write_lines(alloc, lines.items())?;
-            json!(in alloc; {"coordinates": coordinates, "type": "MultiLineString"})
-        }
-        SimpleGeometry::Polygon(polygon) => {
-            let coordinates = write_polygon(alloc, polygon)?;
-            json!(in alloc; {"coordinates": coordinates, "type": "Polygon"})
-        }
-        SimpleGeometry::MultiPolygon(polygons) => {
-            let coordinates = write_polygons(alloc, polygons.items())?;
-            json!(in alloc; {"coordinates": coordinates, "type": "MultiPolygon"})
-        }
-    }
+    let coordinates = write_coordinates(alloc, geometry)?;
+    json!(in alloc; {"coordinates": coordinates, "type": kind_name(geometry)})
 }
 
 fn write_simples(alloc: Global, geometries: &[SimpleGeometry]) -> Result<Value, AllocError>
@@ -150,12 +155,24 @@ fn write_geometry_member(alloc: Global, geometry: Option<&Geometry>) -> Result<V
     }
 }
 
+// The object of a feature's members.
+fn feature_object(
+    alloc: Global,
+    geometry: Value,
+    id: &str,
+    properties: Value,
+) -> Result<Value, AllocError>
+    ensures { IfOk result (λ v. view v ≡ object (member (codes "geometry") (view geometry) (member (codes "id") (string id.now) (member (codes "properties") (view properties) (member (codes "type") (string (codes "Feature")) no_members))))) }
+{
+    json!(in alloc; {"geometry": geometry, "id": id, "properties": properties, "type": "Feature"})
+}
+
 fn write_members(alloc: Global, feature: &Feature) -> Result<Value, AllocError>
     ensures { IfOk result (λ v. view v ≡ feature_data (feature_value feature.now)) }
 {
     let geometry = write_geometry_member(alloc, feature.geometry())?;
     let properties = feature.properties().clone()?;
-    json!(in alloc; {"geometry": geometry, "id": feature.id(), "properties": properties, "type": "Feature"})
+    feature_object(alloc, geometry, feature.id(), properties)
 }
 
 /// The JSON value of a feature (RFC 7946, section 3.2), without its time: the members `geometry`,
