@@ -1,5 +1,5 @@
 //! The text of a batch, edit by edit.
-ghost use Rattle.std.specs.Prelude.{◌≡◌, ◌++◌, IfOk, OnOk, false, option_map, string_bytes};
+ghost use Rattle.std.specs.Prelude.{◌≡◌, ◌++◌, IfOk, OnOk, Some, false, option_map, string_bytes};
 ghost use Rattle.serde_json.specs.View.{view};
 ghost use Rattle.serde_json.specs.Written.{compact_text, has_float, items_text};
 ghost use Rattle.streetmap_batch.specs.BatchText.{edit_data, edits_data, feature_edit_data, batch_text};
@@ -11,6 +11,22 @@ use serde_json::{Value, json};
 use std::alloc::{AllocError, Global};
 use streetmap_feature_text::{push_comma, push_feature, push_quoted};
 use streetmap_geojson::{Feature, Id};
+
+/// The value of an open edit with a time property.
+#[tactic(auto, unfolding(crate::specs::BatchText::edit_data))]
+fn write_timed_open(
+    alloc: Global,
+    collection: &CollectionId,
+    title: &Title,
+    time: &TimeProperty,
+) -> Result<Value, AllocError>
+    ensures value { IfOk result (λ v. view v ≡ edit_data (value.«open» collection.now title.now (Some time.now))) }
+    ensures whole { IfOk result (λ v. has_float (view v) ≡ false) }
+{
+    json!(in alloc; {
+        "collection": collection.as_str(), "op": "open", "time": time.as_str(), "title": title.as_str()
+    })
+}
 
 /// The value of an open edit.
 #[tactic(auto, unfolding(crate::specs::BatchText::edit_data))]
@@ -24,9 +40,7 @@ fn write_open(
     ensures whole { IfOk result (λ v. has_float (view v) ≡ false) }
 {
     match time {
-        Some(time) => json!(in alloc; {
-            "collection": collection.as_str(), "op": "open", "time": time.as_str(), "title": title.as_str()
-        }),
+        Some(time) => write_timed_open(alloc, collection, title, time),
         None => json!(in alloc; {
             "collection": collection.as_str(), "op": "open", "title": title.as_str()
         }),

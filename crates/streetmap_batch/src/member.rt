@@ -13,12 +13,10 @@ pub(crate) fn may_have(format: Format, name: &str) -> bool
     ensures { result ≡ may_have format name.now }
 {
     match format {
-        Format::Batch => name == "edits" || name == "key",
-        Format::Open => {
-            name == "collection" || name == "op" || name == "time" || name == "title"
-        },
-        Format::Feature => name == "collection" || name == "feature" || name == "op",
-        Format::Delete => name == "collection" || name == "id" || name == "op",
+        Format::Batch => matches!(name, "edits" | "key"),
+        Format::Open => matches!(name, "collection" | "op" | "time" | "title"),
+        Format::Feature => matches!(name, "collection" | "feature" | "op"),
+        Format::Delete => matches!(name, "collection" | "id" | "op"),
     }
 }
 

@@ -1,6 +1,6 @@
 //! The command line, as it is described to `clap`.
 ghost use Rattle.std.specs.Prelude.{◌≡◌, IfOk, false};
-ghost use Rattle.clap.specs.Words.{app_of, rule_of};
+ghost use Rattle.clap.specs.Words.{App, Rule, app_of, rule_of, with_rule, with_subcommand};
 ghost use Rattle.clap.specs.declared.builder.command.Command.TheViews.{out-Command as fields_of};
 ghost use Rattle.streetmap_command.specs.Program.{program, positional, option, required_option, flag, create, pipe, serve, import, export, check};
 
@@ -39,6 +39,28 @@ fn flag_arg<'a>(alloc: Global, name: &'a str) -> Arg<'a>
     Arg::new(alloc, name).long(name).action(ArgAction::SetTrue)
 }
 
+/// The command with one more argument, which is not global, unless memory ran out.
+fn with_argument<'a>(
+    command: Result<Command<'a>, AllocError>,
+    argument: Arg<'a>,
+) -> Result<Command<'a>, AllocError>
+    ensures app { (a : App) (r : Rule) → IfOk command.entry (λ c. app_of c ≡ a) → rule_of argument.entry ≡ r → argument.entry.global ≡ false → IfOk result (λ c. app_of c ≡ with_rule a r) }
+    ensures local { IfOk command.entry (λ c. (fields_of c).has_globals ≡ false) → argument.entry.global ≡ false → IfOk result (λ c. (fields_of c).has_globals ≡ false) }
+{
+    command?.arg(argument)
+}
+
+/// The command with one more subcommand, unless memory ran out for either.
+fn with_subcommand<'a>(
+    command: Result<Command<'a>, AllocError>,
+    subcommand: Result<Command<'a>, AllocError>,
+) -> Result<Command<'a>, AllocError>
+    ensures { (a b : App) → IfOk command.entry (λ c. app_of c ≡ a) → IfOk subcommand.entry (λ c. app_of c ≡ b) → IfOk subcommand.entry (λ c. (fields_of c).has_globals ≡ false)
+        → IfOk result (λ c. app_of c ≡ with_subcommand a b.top) }
+{
+    command?.subcommand(subcommand?)
+}
+
 fn make_create<'a>(alloc: Global) -> Result<Command<'a>, AllocError>
     ensures app { IfOk result (λ c. app_of c ≡ create) }
     ensures local { IfOk result (λ c. (fields_of c).has_globals ≡ false) }
@@ -50,45 +72,41 @@ fn make_pipe<'a>(alloc: Global) -> Result<Command<'a>, AllocError>
     ensures app { IfOk result (λ c. app_of c ≡ pipe) }
     ensures local { IfOk result (λ c. (fields_of c).has_globals ≡ false) }
 {
-    Command::new(alloc, "pipe")
-        .arg(positional_arg(alloc, "file"))?
-        .arg(option_arg(alloc, "base"))
+    let command = Command::new(alloc, "pipe").arg(positional_arg(alloc, "file"));
+    with_argument(command, option_arg(alloc, "base"))
 }
 
 fn make_serve<'a>(alloc: Global) -> Result<Command<'a>, AllocError>
     ensures app { IfOk result (λ c. app_of c ≡ serve) }
     ensures local { IfOk result (λ c. (fields_of c).has_globals ≡ false) }
 {
-    Command::new(alloc, "serve")
-        .arg(positional_arg(alloc, "file"))?
-        .arg(required_arg(alloc, "port"))?
-        .arg(option_arg(alloc, "count"))?
-        .arg(option_arg(alloc, "clients"))?
-        .arg(flag_arg(alloc, "log"))?
-        .arg(option_arg(alloc, "base"))
+    let command = Command::new(alloc, "serve").arg(positional_arg(alloc, "file"));
+    let command = with_argument(command, required_arg(alloc, "port"));
+    let command = with_argument(command, option_arg(alloc, "count"));
+    let command = with_argument(command, option_arg(alloc, "clients"));
+    let command = with_argument(command, flag_arg(alloc, "log"));
+    with_argument(command, option_arg(alloc, "base"))
 }
 
 fn make_import<'a>(alloc: Global) -> Result<Command<'a>, AllocError>
     ensures app { IfOk result (λ c. app_of c ≡ import) }
     ensures local { IfOk result (λ c. (fields_of c).has_globals ≡ false) }
 {
-    Command::new(alloc, "import")
-        .arg(positional_arg(alloc, "file"))?
-        .arg(positional_arg(alloc, "text"))?
-        .arg(required_arg(alloc, "key"))?
-        .arg(required_arg(alloc, "collection"))?
-        .arg(flag_arg(alloc, "replace"))?
-        .arg(flag_arg(alloc, "progress"))
+    let command = Command::new(alloc, "import").arg(positional_arg(alloc, "file"));
+    let command = with_argument(command, positional_arg(alloc, "text"));
+    let command = with_argument(command, required_arg(alloc, "key"));
+    let command = with_argument(command, required_arg(alloc, "collection"));
+    let command = with_argument(command, flag_arg(alloc, "replace"));
+    with_argument(command, flag_arg(alloc, "progress"))
 }
 
 fn make_export<'a>(alloc: Global) -> Result<Command<'a>, AllocError>
     ensures app { IfOk result (λ c. app_of c ≡ export) }
     ensures local { IfOk result (λ c. (fields_of c).has_globals ≡ false) }
 {
-    Command::new(alloc, "export")
-        .arg(positional_arg(alloc, "file"))?
-        .arg(required_arg(alloc, "collection"))?
-        .arg(flag_arg(alloc, "progress"))
+    let command = Command::new(alloc, "export").arg(positional_arg(alloc, "file"));
+    let command = with_argument(command, required_arg(alloc, "collection"));
+    with_argument(command, flag_arg(alloc, "progress"))
 }
 
 fn make_check<'a>(alloc: Global) -> Result<Command<'a>, AllocError>
@@ -102,12 +120,11 @@ fn make_check<'a>(alloc: Global) -> Result<Command<'a>, AllocError>
 pub(crate) fn make_parser<'a>(alloc: Global) -> Result<Command<'a>, AllocError>
     ensures { IfOk result (λ c. app_of c ≡ program) }
 {
-    Command::new(alloc, "streetmap")
-        .subcommand(Command::new(alloc, "lines"))?
-        .subcommand(make_create(alloc)?)?
-        .subcommand(make_pipe(alloc)?)?
-        .subcommand(make_serve(alloc)?)?
-        .subcommand(make_import(alloc)?)?
-        .subcommand(make_export(alloc)?)?
-        .subcommand(make_check(alloc)?)
+    let command = Command::new(alloc, "streetmap").subcommand(Command::new(alloc, "lines"));
+    let command = with_subcommand(command, make_create(alloc));
+    let command = with_subcommand(command, make_pipe(alloc));
+    let command = with_subcommand(command, make_serve(alloc));
+    let command = with_subcommand(command, make_import(alloc));
+    let command = with_subcommand(command, make_export(alloc));
+    with_subcommand(command, make_check(alloc))
 }
