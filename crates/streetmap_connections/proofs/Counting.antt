@@ -1,5 +1,5 @@
 -- Counts of lists that grow.
-use Rattle.std.proofs.Common.{◌≡◌, ℕ, ◌+◌, ◌-◌, ◌^◌, ◌<◌, List, ◌++◌, Option, Some, None, IsSome, length, map, min, take, drop, subst, get_or, set, refl, ap, ◌∙◌, arith, rules, true, false, length-append}
+use Rattle.std.proofs.Common.{◌≡◌, ℕ, ◌+◌, ◌-◌, ◌^◌, ◌<◌, List, ◌++◌, Option, Some, None, IsSome, length, map, min, take, drop, subst, get_or, set, refl, sym, ap, ◌∙◌, arith, rules, true, false, length-append}
 use Rattle.std.specs.List.{flat_map}
 use Rattle.std.proofs.lemmas.List.{length-map}
 use Rattle.std.proofs.Math.Seq.{take-append_seam}
@@ -63,3 +63,8 @@ counts_in_slots f xs i x y lt is n m on = (on.0, longer_in_slots f xs i x y lt i
 -- what a slice that was lent gives back is all of the list
 pub all_given_back : {A : Type 0} (n : ℕ) (xs ys : List A) → length xs ≡ n → take n (xs ++ drop (length xs) ys) ≡ xs
 all_given_back n xs ys long = subst (λ k. take k (xs ++ drop (length xs) ys) ≡ xs) long (take-append_seam xs (drop (length xs) ys))
+
+-- what holds of a slice that was lent and of what it gives back holds of the list before and after
+pub lent_and_back : {A : Type 0} (R : List A → List A → Type 0) (n : ℕ) (lent old new : List A) → lent ≡ old → length new ≡ n → R lent new → R old (take n (new ++ drop (length new) old))
+lent_and_back {A} R n lent old new same long holds =
+    subst (λ (xs : List A). R old xs) (sym (all_given_back n new old long)) (subst (λ (xs : List A). R xs new) same holds)

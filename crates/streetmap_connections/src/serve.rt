@@ -205,6 +205,30 @@ impl Acceptor {
         self.let_in(clients, now)?;
         Ok(clients.work(service, now))
     }
+
+    /// Serves clients until so many ended that were let in.
+    fn serve<R: Clock, V: Service>(
+        &mut self,
+        rt: &R,
+        count: u64,
+        events: &mut Events<Global>,
+        clients: &mut Clients<TcpStream>,
+        service: &mut V,
+    ) -> Result<(), ServeFault>
+        ensures serves { Serves V.answers service.old service.new (clients_of clients.old) (clients_of clients.new) }
+        ensures counted { IsOk result → count ≤ length (ended_of clients.new) }
+    {
+        let start = Instant::now(rt)?;
+        let mut goes = true;
+        for _round in 0..u64::MAX {
+            if clients.ended() >= count {
+                return Ok(());
+            }
+            self.wait(events, clients, if goes { 0 } else { LONGEST_WAIT })?;
+            goes = self.round(clients, service, millis(start.elapsed(rt)?))?;
+        }
+        Err(ServeFault::Net)
+    }
 }
 
 /// Serves clients of a listener, many at once, until so many ended that were let in. A client that fails, is late, or
@@ -230,16 +254,7 @@ pub fn serve_connections<R: Net + Clock, V: Service>(
 {
     let mut events = Events::with_capacity(clients.alloc, MOST_EVENTS)?;
     let mut acceptor = Acceptor::new(rt, listener, clients.capacity(), count)?;
-    let start = Instant::now(rt)?;
-    let mut goes = true;
-    for _round in 0..u64::MAX {
-        if clients.ended() >= count {
-            return Ok(());
-        }
-        acceptor.wait(&mut events, clients, if goes { 0 } else { LONGEST_WAIT })?;
-        goes = acceptor.round(clients, service, millis(start.elapsed(rt)?))?;
-    }
-    Err(ServeFault::Net)
+    acceptor.serve(rt, count, &mut events, clients, service)
 }
 
 fn millis(time: Duration) -> u64 {

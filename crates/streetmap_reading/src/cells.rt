@@ -1,5 +1,5 @@
 //! What stands in the cells of a row.
-ghost use Rattle.std.specs.Prelude.{◌≡◌, ℤ, ◌<◌, Option, Ok, length, MatchResult, IfSome, IsUtf8, option_map, string_bytes};
+ghost use Rattle.std.specs.Prelude.{◌≡◌, ℤ, ◌+◌, ◌^◌, ◌<◌, Option, Ok, length, MatchResult, IfSome, IsUtf8, option_map, string_bytes};
 ghost use Rattle.sqlite.specs.Order.{column};
 ghost use Rattle.sqlite.specs.Values.{or_null};
 ghost use Rattle.sqlite.specs.declared.types.Value.TheVariants.{Int, Text as Words};
@@ -29,7 +29,7 @@ pub fn text_if_at(row: &Row, at: usize) -> Result<Option<String>, ReadFault>
 }
 
 /// The number in a cell, or none.
-pub fn number_at(row: &Row, at: usize) -> Result<Option<i64>, ReadFault>
+fn number_at(row: &Row, at: usize) -> Result<Option<i64>, ReadFault>
     ensures { (n : Option ℤ) → at < length row.now → column row.now at ≡ or_null Int n → result ≡ Ok n }
 {
     match row.get_ref(at) {
@@ -40,7 +40,7 @@ pub fn number_at(row: &Row, at: usize) -> Result<Option<i64>, ReadFault>
 }
 
 /// The box of four bounds, in millimetres; none where there are none.
-pub fn box_of(
+fn box_of(
     west: Option<i64>,
     south: Option<i64>,
     east: Option<i64>,
@@ -60,7 +60,7 @@ pub fn box_of(
 }
 
 /// The first and the last second, or none.
-pub fn seconds_of(first: Option<i64>, last: Option<i64>) -> Result<Option<(i64, i64)>, ReadFault>
+fn seconds_of(first: Option<i64>, last: Option<i64>) -> Result<Option<(i64, i64)>, ReadFault>
     ensures { (s : Option (ℤ × ℤ)) → first ≡ option_map (λ (p : ℤ × ℤ). p.0) s → last ≡ option_map (λ (p : ℤ × ℤ). p.1) s → result ≡ Ok s }
 {
     match (first, last) {
@@ -68,4 +68,31 @@ pub fn seconds_of(first: Option<i64>, last: Option<i64>) -> Result<Option<(i64, 
         (None, None) => Ok(None),
         _ => Err(ReadFault::Unread),
     }
+}
+
+/// The box whose four bounds stand in the cells from this one on, in millimetres; none where there are none.
+pub fn box_at(row: &Row, from: usize) -> Result<Option<GridBox>, ReadFault>
+    requires { from + 3 < 2 ^ 64 }
+    ensures { (b : Option BoxValue) → IfSome b IsBox → from + 3 < length row.now
+        → column row.now from ≡ or_null Int (option_map (λ (g : BoxValue). g.x0) b) → column row.now (from + 1) ≡ or_null Int (option_map (λ (g : BoxValue). g.y0) b)
+        → column row.now (from + 2) ≡ or_null Int (option_map (λ (g : BoxValue). g.x1) b) → column row.now (from + 3) ≡ or_null Int (option_map (λ (g : BoxValue). g.y1) b)
+        → MatchResult result (λ found. option_map box_value found ≡ b) (λ _. ⊥) }
+{
+    let west = number_at(row, from)?;
+    let south = number_at(row, from + 1)?;
+    let east = number_at(row, from + 2)?;
+    let north = number_at(row, from + 3)?;
+    box_of(west, south, east, north)
+}
+
+/// The first and the last second, which stand in this cell and the next one, or none.
+pub fn seconds_at(row: &Row, from: usize) -> Result<Option<(i64, i64)>, ReadFault>
+    requires { from + 1 < 2 ^ 64 }
+    ensures { (s : Option (ℤ × ℤ)) → from + 1 < length row.now
+        → column row.now from ≡ or_null Int (option_map (λ (p : ℤ × ℤ). p.0) s) → column row.now (from + 1) ≡ or_null Int (option_map (λ (p : ℤ × ℤ). p.1) s)
+        → result ≡ Ok s }
+{
+    let first = number_at(row, from)?;
+    let last = number_at(row, from + 1)?;
+    seconds_of(first, last)
 }

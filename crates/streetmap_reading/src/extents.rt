@@ -10,7 +10,7 @@ ghost use Rattle.streetmap_reading.specs.Looking.{LooksInto, Stays};
 ghost use Rattle.streetmap_reading.specs.Telling.{IsExtentIn};
 ghost use Rattle.streetmap_reading.specs.Views.{extent_row};
 
-use crate::cells::{box_of, number_at};
+use crate::cells::box_at;
 use crate::fault::ReadFault;
 use crate::fold::{RowFold, fold_rows};
 use sqlite::{Alter, Connection, Row, params};
@@ -31,11 +31,7 @@ fn bounds_of_both(one: Option<GridBox>, other: Option<GridBox>) -> Option<GridBo
 fn extent_in(row: &Row) -> Result<Option<GridBox>, ReadFault>
     ensures { (b : Option BoxValue) → row.now ≡ extent_row b → IfSome b IsBox → MatchResult result (λ extent. option_map box_value extent ≡ b) (λ _. ⊥) }
 {
-    let west = number_at(row, 0)?;
-    let south = number_at(row, 1)?;
-    let east = number_at(row, 2)?;
-    let north = number_at(row, 3)?;
-    box_of(west, south, east, north)
+    box_at(row, 0)
 }
 
 impl RowFold for Option<GridBox> {

@@ -9,7 +9,7 @@ ghost use Rattle.streetmap_reading.specs.Folding.{IsForMemory};
 ghost use Rattle.streetmap_reading.specs.Telling.{AreOutlinesOf, AreOutlinesIn};
 ghost use Rattle.streetmap_reading.specs.Views.{outline_row, IsOutline};
 
-use crate::cells::{box_of, number_at, seconds_of, text_at};
+use crate::cells::{box_at, seconds_at, text_at};
 use crate::fault::ReadFault;
 use crate::fold::{RowFold, fold_rows};
 use crate::page::collection_row;
@@ -22,14 +22,8 @@ fn outline_in(row: &Row) -> Result<FeatureOutline, ReadFault>
     ensures { (o : FeatureOutlineValue) → row.now ≡ outline_row o → IsOutline o → MatchResult result (λ outline. feature_outline_value outline ≡ o) IsForMemory }
 {
     let id = text_at(row, 0)?;
-    let west = number_at(row, 1)?;
-    let south = number_at(row, 2)?;
-    let east = number_at(row, 3)?;
-    let north = number_at(row, 4)?;
-    let first = number_at(row, 5)?;
-    let last = number_at(row, 6)?;
-    let extent = box_of(west, south, east, north)?;
-    let seconds = seconds_of(first, last)?;
+    let extent = box_at(row, 1)?;
+    let seconds = seconds_at(row, 5)?;
     Ok(FeatureOutline {
         id,
         extent,
