@@ -3,7 +3,7 @@ use crate::fault::ProgramFault;
 use crate::progress::ProgressLines;
 use crate::texts;
 use sqlite::Alter;
-use std::io::{BufReader, writer};
+use std::io::{BufReader, Write, writer};
 use std::net::{Ipv4Addr, TcpListener};
 use streetmap_checking::check_tables;
 use streetmap_connections::{Clients, Limits};
@@ -115,7 +115,13 @@ fn serve<S: Alter + Drop>(
 ) -> Result<(), ProgramFault> {
     let listener = listen(rt, connections.port)?;
     if connections.clients == 1 && !connections.log {
-        Ok(serve_count_over_tables(rt.alloc(), &listener, connections.count, &mut keeper, &base)?)
+        serve_count_over_tables(
+            rt.alloc(),
+            &listener,
+            connections.count,
+            &mut keeper,
+            &base,
+        ).map_err(ProgramFault::from)
     } else {
         serve_at_once(rt, &listener, connections, keeper, base)
     }
@@ -129,14 +135,26 @@ fn serve_at_once<S: Alter + Drop>(
     keeper: IndexedKeeper<TableKeeper<S>>,
     base: Base,
 ) -> Result<(), ProgramFault> {
-    let mut clients = Clients::new(rt.alloc(), Limits::of(connections.clients as usize))?;
-    let mut service = KeeperService {
+    let service = KeeperService {
         alloc: rt.alloc(),
         keeper,
         base,
         log: connections.log.then(|| rt.stderr()),
     };
-    Ok(serve_clients_over_tables(rt, listener, connections.count, &mut clients, &mut service)?)
+    serve_service(rt, listener, connections, service)
+}
+
+/// Serves so many clients by a service.
+fn serve_service<S: Alter + Drop, W: Write + Drop>(
+    rt: &HostRuntime,
+    listener: &TcpListener,
+    connections: Connections,
+    mut service: KeeperService<IndexedKeeper<TableKeeper<S>>, W>,
+) -> Result<(), ProgramFault> {
+    let mut clients = Clients::new(rt.alloc(), Limits::of(connections.clients as usize))?;
+    serve_clients_over_tables(rt, listener, connections.count, &mut clients, &mut service).map_err(
+        ProgramFault::from,
+    )
 }
 
 /// Puts the features of a text into a collection, and prints the reply.
@@ -172,7 +190,7 @@ fn export_collection<K: Keeper>(
     let mut lines = ProgressLines {
         output: progress.then(|| rt.stderr()),
     };
-    Ok(export(rt.alloc(), keeper, collection, &mut output, &mut lines)?)
+    export(rt.alloc(), keeper, collection, &mut output, &mut lines).map_err(ProgramFault::from)
 }
 
 /// Tells how many collections, features and batches there are, where the rows are those of a state.

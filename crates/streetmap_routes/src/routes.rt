@@ -1,5 +1,5 @@
 //! The eight paths (OGC 17-069, section 7).
-ghost use Rattle.std.specs.Prelude.{◌≡◌, ◌==◌, IfOk, OnOk, IsUtf8, MatchOption, option_map, slice_get, string_bytes};
+ghost use Rattle.std.specs.Prelude.{◌≡◌, ◌==◌, [], IfOk, OnOk, IsUtf8, MatchOption, option_map, slice_get, string_bytes};
 ghost use Rattle.percent_encoding.specs.Percent.{percent_decode as percent_decode_of};
 ghost use Rattle.std.specs.List.{slice_split};
 ghost use Rattle.streetmap_routes.specs.Routes.{the_rows, put};
@@ -43,31 +43,32 @@ fn add(router: &mut Router<Route>, text: &str, route: Route) -> Result<(), Inser
     router.insert(text, route)
 }
 
+/// Adds the routes of the eight paths to a router with none.
+fn add_routes(router: &mut Router<Route>) -> Result<(), InsertError>
+    requires { router.old ≡ [] }
+    ensures { OnOk result (router.new ≡ the_rows) }
+{
+    add(router, "/", Route::Landing)?;
+    add(router, "/api", Route::Api)?;
+    add(router, "/conformance", Route::Conformance)?;
+    add(router, "/collections", Route::Collections)?;
+    add(router, "/collections/{collectionId}", Route::Collection)?;
+    add(router, "/collections/{collectionId}/items", Route::Items)?;
+    add(
+        router,
+        "/collections/{collectionId}/items/{featureId}",
+        Route::Item,
+    )?;
+    add(router, "/batches", Route::Batches)?;
+    Ok(())
+}
+
 /// The router of the eight paths.
 pub(crate) fn make_router(alloc: Global) -> Result<Router<Route>, InsertError>
     ensures { IfOk result (λ r. r ≡ the_rows) }
 {
     let mut router = Router::new(alloc);
-    add(&mut router, "/", Route::Landing)?;
-    add(&mut router, "/api", Route::Api)?;
-    add(&mut router, "/conformance", Route::Conformance)?;
-    add(&mut router, "/collections", Route::Collections)?;
-    add(
-        &mut router,
-        "/collections/{collectionId}",
-        Route::Collection,
-    )?;
-    add(
-        &mut router,
-        "/collections/{collectionId}/items",
-        Route::Items,
-    )?;
-    add(
-        &mut router,
-        "/collections/{collectionId}/items/{featureId}",
-        Route::Item,
-    )?;
-    add(&mut router, "/batches", Route::Batches)?;
+    add_routes(&mut router)?;
     Ok(router)
 }
 
