@@ -27,7 +27,7 @@ const LONGEST_WAIT: u64 = 1_000;
 pub enum ServeFault {
     /// No client could be accepted, or the sockets could not be waited for.
     Net,
-    /// Memory was refused before a client was accepted.
+    /// Memory was refused before a client was accepted or read.
     Memory,
 }
 
