@@ -1,7 +1,7 @@
 //! Tables of format 1 are carried over on opening: what their columns then hold, and what a stop at each call
 //! of the files in turn leaves.
 use crate::answers::{answers, is_answered};
-use crate::files::{ALL_CALLS, Calls, Fused, Visit, visit_again, visit_new};
+use crate::files::{ALL_CALLS, Calls, Fused, Visit, came, visit_again, visit_new};
 use sqlite::{Alter, Connection, params};
 use sqlite_disk::{Crash, Files};
 use std::alloc::Global;
@@ -94,14 +94,6 @@ impl Visit for Look {
                 conn.into_store(),
             ),
         }
-    }
-}
-
-/// What came of a visit, where the files were opened for it.
-fn came<T>((told, _): (Option<Result<T, Fail>>, Files<Fused>)) -> Result<T, Fail> {
-    match told {
-        Some(told) => told,
-        None => Err(Fail::from("the files are not opened")),
     }
 }
 

@@ -1,7 +1,7 @@
 //! A stop at each call of the files in turn: what opens again is the state of a beginning of the batches,
 //! with each acknowledged one.
 use crate::answers::{answers, is_answered};
-use crate::files::{ALL_CALLS, Calls, Fused, Visit, visit_again, visit_new};
+use crate::files::{ALL_CALLS, Calls, Fused, Visit, came, visit_again, visit_new};
 use sqlite::{Alter, Connection};
 use sqlite_disk::{Crash, Files};
 use std::alloc::Global;
@@ -113,10 +113,7 @@ impl Visit for Look {
 
 /// What is seen of files that are opened again.
 fn reopened(alloc: Global, files: &Files<Fused>) -> Result<Option<(String, String)>, Fail> {
-    match visit_again(alloc, files, ALL_CALLS, Look)? {
-        (Some(seen), _) => seen,
-        (None, _) => Err(Fail::from("the files are not opened")),
-    }
+    came(visit_again(alloc, files, ALL_CALLS, Look)?)
 }
 
 /// Whether what is found is the state of a beginning of the batches that contains each acknowledged one.
