@@ -70,7 +70,6 @@ fails: build
 REFUSED := python3 tests/refusals.py
 LEDGER_TESTS := crates/streetmap_ledger_tests/out/streetmap_ledger_tests_tests
 WEB_TESTS := crates/streetmap_web_tests/out/streetmap_web_tests_tests
-STORE_TESTS := crates/streetmap_store_tests/out/streetmap_store_tests_tests
 refusals: build
 	@mkdir -p tests/out && cc -shared -fPIC -O1 -o tests/out/refuse.so tests/refuse.c
 	@echo "The program on examples/three.lines:"
@@ -84,21 +83,10 @@ refusals: build
 	@echo "The commands import, export and check over a file:"
 	@for command in import export check; do python3 tests/file_refusals.py $(PROGRAM) $$command || exit 1; done
 	@echo "Proving and building the tests: some minutes the first time."
-	@for crate in streetmap_ledger_tests streetmap_web_tests streetmap_store_tests; do \
+	@for crate in streetmap_ledger_tests streetmap_web_tests; do \
 	    (cd crates/$$crate && rt test > out.log 2>&1 || { cat out.log; rm -f out.log; exit 1; }; rm -f out.log) || exit 1; done
-	@echo "A collection of ten features:"
-	@$(REFUSED) WHOLE /dev/null $(LEDGER_TESTS) features::refused_memory::memory_or_the_same_is_told
-	@echo "A batch read and written:"
-	@$(REFUSED) WHOLE /dev/null $(LEDGER_TESTS) batches::refused_memory_changes_no_answer
-	@echo "Queries read and written:"
-	@$(REFUSED) WHOLE /dev/null $(LEDGER_TESTS) queries::refused_memory_changes_no_answer
-	@echo "Batches, pages and look-ups of a ledger:"
-	@for test in changes_nothing ends_a_run changes_no_look_up; do \
-	    $(REFUSED) WHOLE /dev/null $(LEDGER_TESTS) ledger::memory::refused_memory_$$test || exit 1; done
 	@echo "Lines, each answered again:"
 	@$(REFUSED) WHOLE /dev/null $(LEDGER_TESTS) answers::a_line_refused_for_memory_is_answered_again
-	@echo "An index that is learnt, told from, and follows a batch:"
-	@$(REFUSED) WHOLE /dev/null $(STORE_TESTS) refused::refused_memory_changes_no_summary
 	@echo "A stream of requests:"
 	@$(REFUSED) WHOLE /dev/null $(WEB_TESTS) refused_memory::refused_memory_is_answered_or_not_seen
 
@@ -107,9 +95,9 @@ bench: build
 	python3 bench/lines.py $(PROGRAM)
 	python3 bench/tables.py $(PROGRAM)
 	python3 bench/clients.py $(PROGRAM)
+	python3 bench/serving.py $(PROGRAM)
 	@cd crates/streetmap_bench && rt run < stdin > /dev/null 2>&1
 	python3 bench/collections.py crates/streetmap_bench/out/streetmap_bench
-	python3 bench/serving.py crates/streetmap_bench/out/streetmap_bench
 	@echo "Geometry::meets, the proved program and then plain Rust with the same signs, in nanoseconds an edge or point:"
 	@crates/streetmap_bench/out/streetmap_bench time | grep -E "^(jagged|long|points).*ns"
 	@mkdir -p bench/out && rustc -O -o bench/out/meets bench/meets.rs && bench/out/meets

@@ -1,9 +1,13 @@
-"""Times HTTP answers over a keeper in memory, from bytes to bytes with no socket: the fixed answer of `/conformance`, a page of
-ten points, and the body of a page of 1,000 features. Beside them: what plain Python takes to write the same JSON.
+"""Times HTTP answers of `streetmap pipe`, a file below it and no socket between: the fixed answer of `/conformance`, a page of ten
+points, and the body of a page of 1,000 features. Beside them: what plain Python takes to write the same JSON.
+
+    python3 bench/serving.py PROGRAM
 """
 import json
+import re
 import subprocess
 import sys
+import tempfile
 import time
 
 FEATURES = 1000
@@ -23,33 +27,37 @@ def feature(at):
             "properties": {"owner": "town", "height": at % 9000, "kind": "street lamp", "no": at}}
 
 
-def serve(program, stream):
-    """The best of three runs: answers, bytes and microseconds."""
+def pipe(program, file, stream):
+    """The best of three runs: seconds, the answers, and the bytes of them all."""
     runs = []
     for _ in range(3):
-        told = subprocess.run([program, "serve"], input=stream, capture_output=True, check=True).stdout.decode().replace(",", "").split()
-        runs.append((int(told[0]), int(told[2]), int(told[4])))
-    return min(runs, key=lambda run: run[2])
+        start = time.perf_counter()
+        told = subprocess.run([program, "pipe", file], input=stream, capture_output=True, check=True).stdout
+        runs.append((time.perf_counter() - start, len(re.findall(rb"HTTP/1\.1 200 ", told)), len(told)))
+    return min(runs)
 
 
-def compare(program, name, setup, request, count):
-    before = serve(program, setup)
-    after = serve(program, setup + request * count)
-    if after[0] - before[0] != count:
-        sys.exit(f"{name}: {after[0] - before[0]} answers in place of {count}")
-    each = (after[2] - before[2]) / count
-    size = (after[1] - before[1]) / count
-    print(f"{name}: {each:.1f} microseconds, {size:.0f} bytes, {size / each:.0f} MB a second")
+def compare(program, file, name, asked, count):
+    """What one more answer takes, behind a first one by which the index is learnt."""
+    once, again = (pipe(program, file, asked * times) for times in (1, 1 + count))
+    seconds, answers, size = (more - less for more, less in zip(again, once))
+    if answers != count:
+        sys.exit(f"{name}: {answers} answers in place of {count}")
+    print(f"{name}: {seconds / count * 1e6:.1f} microseconds, {size / count:.0f} bytes, {size / seconds / 1e6:.0f} MB a second")
 
 
 def main():
     program = sys.argv[1]
     setup = post({"key": "first", "edits": [{"op": "open", "collection": "lamps"}]
                   + [{"op": "insert", "collection": "lamps", "feature": feature(at)} for at in range(FEATURES)]})
-    compare(program, "GET /conformance", b"", get("/conformance"), 100_000)
-    compare(program, "a page of ten points", setup, get("/collections/lamps/items?limit=10"), 2_000)
-    compare(program, "a page of ten points in a box", setup, get("/collections/lamps/items?limit=10&bbox=0,0,2000,5000"), 2_000)
-    compare(program, "a page of 1,000 features", setup, get("/collections/lamps/items?limit=1000"), 50)
+    with tempfile.TemporaryDirectory() as folder:
+        file = f"{folder}/bench.streetmap"
+        subprocess.run([program, "create", file], check=True)
+        subprocess.run([program, "pipe", file], input=setup, stdout=subprocess.DEVNULL, check=True)
+        compare(program, file, "GET /conformance", get("/conformance"), 100_000)
+        compare(program, file, "a page of ten points", get("/collections/lamps/items?limit=10"), 2_000)
+        compare(program, file, "a page of ten points in a box", get("/collections/lamps/items?limit=10&bbox=0,0,2000,5000"), 2_000)
+        compare(program, file, "a page of 1,000 features", get("/collections/lamps/items?limit=1000"), 50)
     page = {"features": [feature(at) for at in range(FEATURES)], "type": "FeatureCollection"}
     start = time.perf_counter()
     for _ in range(20):

@@ -7,8 +7,8 @@ whole import, so that the same command then succeeds.
 
     python3 tests/file_refusals.py PROGRAM [clients|create|import|export|check]
 
-Each run begins with a copy of the same file, and is asked for a page, for which the index is learnt, a batch of three edits, which
-the index follows, the page again, and a feature. It must answer as with memory, or a beginning of that and then the 503 or 500 that
+Each run begins with a copy of the same file, and is asked for what is told of collections, a page, for which the index is learnt, the
+former again, a batch of three edits, which the index follows, both once more, and a feature. It must answer as with memory, or a beginning of that and then the 503 or 500 that
 closes the connection, or end for want of memory before; one of many clients may be let go behind any answer. Opened again with
 memory, the file must hold the state before the batch or the one behind it, and the latter where its 200 was begun.
 `tests/out/refuse.so` is made of `tests/refuse.c`, as `make refusals` does.
@@ -48,7 +48,9 @@ BATCH = post({"key": "second", "edits": [{"op": "delete", "collection": "lamps",
                                          {"op": "insert", "collection": "lamps", "feature": lamp("L9", 8, 8)}]})
 PAGE = get("/collections/lamps/items?bbox=0,0,9,9&datetime=2024-05-01T12:00:00Z")
 TEXT = {"type": "FeatureCollection", "features": [lamp("L7", 7, 7), {"type": "Feature"}, lamp("L8", 8, 8)]}
-ASKED = PAGE + BATCH + PAGE + get("/collections/lamps/items/L9")
+TOLD = get("/collections") + get("/collections/lamps")
+ASKED = TOLD + PAGE + TOLD + BATCH + TOLD + PAGE + get("/collections/lamps/items/L9")
+BEFORE_BATCH = 5
 
 
 def refusing(number):
@@ -76,9 +78,9 @@ def serve_one(program, path, stream, number=0):
 
 
 def begins_batch(got, whole):
-    """Whether the answer to the batch, the second one, was begun."""
-    first = whole.stdout.index(b"HTTP/1.1 ", 1)
-    return got.stdout.startswith(whole.stdout[:first] + b"HTTP/1.1 200")
+    """Whether the answer to the batch was begun."""
+    before = b"HTTP/1.1 ".join(whole.stdout.split(b"HTTP/1.1 ")[:BEFORE_BATCH + 1])
+    return got.stdout.startswith(before + b"HTTP/1.1 200")
 
 
 def ends_as_it_may(got, whole, lets_go):

@@ -3,14 +3,12 @@
 //! time of five rounds, in nanoseconds an edge or a point. `bench/meets.rs` does the same in Rust.
 //!
 //! With the name of a task (`collections`) it times that on the collection of standard input, and
-//! without arguments it prints how many features that has. With `serve` it serves the HTTP requests of
-//! standard input over a keeper in memory (`serving`).
+//! without arguments it prints how many features that has.
 #![tactic(auto)]
 
 ghost use Rattle.std.specs.Prelude.{◌≤◌};
 
 use collections::{Task, read_features, read_input, time_task};
-use serving::time_serving;
 use shapes::{beside, boxes, diagonals, jagged, middle, points};
 use std::rt::Clock;
 use std::time::Instant;
@@ -18,7 +16,6 @@ use std::{env, io};
 use streetmap_grid::{Geometry, GridBox};
 
 mod collections;
-mod serving;
 mod shapes;
 
 /// How many boxes the geometry meets.
@@ -100,16 +97,6 @@ fn first_word(rt: &HostRuntime) -> io::Result<Option<String>> {
     Ok(words.next())
 }
 
-/// Serves requests, and prints how many answers they had and the time.
-fn serve(rt: &HostRuntime, requests: &[u8]) -> anyhow::Result<()> {
-    let timed = time_serving(rt, rt.alloc(), requests)?;
-    println!(rt;
-        "{} answers, {} bytes, {} microseconds",
-        timed.answers, timed.written, timed.microseconds
-    )?;
-    Ok(())
-}
-
 /// Prints how many meet, and how many features a collection has.
 fn count(rt: &HostRuntime, text: &[u8]) -> anyhow::Result<()> {
     meet(rt, false)?;
@@ -128,9 +115,6 @@ fn time(rt: &HostRuntime, task: Task, text: &[u8]) -> anyhow::Result<()> {
 /// Does what is named, over standard input.
 fn run(rt: &HostRuntime, name: &str) -> anyhow::Result<()> {
     let text = read_input(rt, rt.alloc())?;
-    if name == "serve" {
-        return serve(rt, text.as_slice());
-    }
     match Task::of(name) {
         Some(task) => time(rt, task, text.as_slice()),
         None => count(rt, text.as_slice()),

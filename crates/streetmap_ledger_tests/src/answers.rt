@@ -5,36 +5,107 @@ use std::test::Fail;
 use streetmap_lines::answer_line;
 use streetmap_memory::PlainKeeper;
 
-/// A line that shows what the ledger holds.
-const SHOW: &str = "page lamps";
+/// A line over the ledger that the lines before it left, and what it is answered; and a line that looks at the
+/// ledger, with what that is answered before.
+struct Row {
+    line: &'static str,
+    answer: &'static str,
+    look: &'static str,
+    seen: &'static str,
+}
 
-/// Lines over one ledger: what they are answered, and what `SHOW` is answered before.
-const LINES: &[(&str, &str, &str)] = &[
-    (
-        r#"batch {"key":"b1","edits":[{"op":"open","collection":"lamps","time":"set"},{"op":"insert","collection":"lamps","feature":{"type":"Feature","id":"L1","geometry":{"type":"Point","coordinates":[1000,2000]},"properties":{"set":"2024-05-01"}}}]}"#,
-        r#"{"deleted":0,"inserted":1,"key":"b1","opened":1,"replaced":0,"serial":1}"#,
-        r#"{"code":"not_found","description":"There is nothing at this path."}"#,
-    ),
-    (
-        "page lamps bbox=0,0,3000,3000&datetime=2024-05-01T12:00:00Z&limit=1",
-        r#"{"features":[{"geometry":{"coordinates":[1000,2000],"type":"Point"},"id":"L1","properties":{"set":"2024-05-01"},"type":"Feature"}],"numberMatched":1,"numberReturned":1}"#,
-        r#"{"features":[{"geometry":{"coordinates":[1000,2000],"type":"Point"},"id":"L1","properties":{"set":"2024-05-01"},"type":"Feature"}],"numberMatched":1,"numberReturned":1}"#,
-    ),
-    (
-        "feature lamps L1",
-        r#"{"geometry":{"coordinates":[1000,2000],"type":"Point"},"id":"L1","properties":{"set":"2024-05-01"},"type":"Feature"}"#,
-        r#"{"features":[{"geometry":{"coordinates":[1000,2000],"type":"Point"},"id":"L1","properties":{"set":"2024-05-01"},"type":"Feature"}],"numberMatched":1,"numberReturned":1}"#,
-    ),
-    (
-        r#"batch {"key":"b2","edits":[{"op":"replace","collection":"lamps","feature":{"type":"Feature","id":"L1","properties":null}},{"op":"delete","collection":"lamps","id":"L1"},{"op":"insert","collection":"lamps","feature":{"type":"Feature","id":"L2"}}]}"#,
-        r#"{"deleted":1,"inserted":1,"key":"b2","opened":0,"replaced":1,"serial":2}"#,
-        r#"{"features":[{"geometry":{"coordinates":[1000,2000],"type":"Point"},"id":"L1","properties":{"set":"2024-05-01"},"type":"Feature"}],"numberMatched":1,"numberReturned":1}"#,
-    ),
-    (
-        "feature lamps L1",
-        r#"{"code":"not_found","description":"There is nothing at this path."}"#,
-        r#"{"features":[{"geometry":null,"id":"L2","properties":null,"type":"Feature"}],"numberMatched":1,"numberReturned":1}"#,
-    ),
+/// Batches that are accepted, repeated and refused, features with a geometry of each kind, pages and look-ups.
+const ROWS: &[Row] = &[
+    Row {
+        line: r#"batch {"key":"b1","edits":[{"op":"open","collection":"lamps","time":"set"},{"op":"insert","collection":"lamps","feature":{"type":"Feature","id":"L1","geometry":{"type":"Point","coordinates":[1000,2000]},"properties":{"set":"2024-05-01"}}}]}"#,
+        answer: r#"{"deleted":0,"inserted":1,"key":"b1","opened":1,"replaced":0,"serial":1}"#,
+        look: "page lamps",
+        seen: r#"{"code":"not_found","description":"There is nothing at this path."}"#,
+    },
+    Row {
+        line: "page lamps bbox=0,0,3000,3000&datetime=2024-05-01T12:00:00Z&limit=1",
+        answer: r#"{"features":[{"geometry":{"coordinates":[1000,2000],"type":"Point"},"id":"L1","properties":{"set":"2024-05-01"},"type":"Feature"}],"numberMatched":1,"numberReturned":1}"#,
+        look: "page lamps",
+        seen: r#"{"features":[{"geometry":{"coordinates":[1000,2000],"type":"Point"},"id":"L1","properties":{"set":"2024-05-01"},"type":"Feature"}],"numberMatched":1,"numberReturned":1}"#,
+    },
+    Row {
+        line: "feature lamps L1",
+        answer: r#"{"geometry":{"coordinates":[1000,2000],"type":"Point"},"id":"L1","properties":{"set":"2024-05-01"},"type":"Feature"}"#,
+        look: "page lamps",
+        seen: r#"{"features":[{"geometry":{"coordinates":[1000,2000],"type":"Point"},"id":"L1","properties":{"set":"2024-05-01"},"type":"Feature"}],"numberMatched":1,"numberReturned":1}"#,
+    },
+    Row {
+        line: r#"batch {"key":"b2","edits":[{"op":"replace","collection":"lamps","feature":{"type":"Feature","id":"L1","properties":null}},{"op":"delete","collection":"lamps","id":"L1"},{"op":"insert","collection":"lamps","feature":{"type":"Feature","id":"L2"}}]}"#,
+        answer: r#"{"deleted":1,"inserted":1,"key":"b2","opened":0,"replaced":1,"serial":2}"#,
+        look: "page lamps",
+        seen: r#"{"features":[{"geometry":{"coordinates":[1000,2000],"type":"Point"},"id":"L1","properties":{"set":"2024-05-01"},"type":"Feature"}],"numberMatched":1,"numberReturned":1}"#,
+    },
+    Row {
+        line: "feature lamps L1",
+        answer: r#"{"code":"not_found","description":"There is nothing at this path."}"#,
+        look: "page lamps",
+        seen: r#"{"features":[{"geometry":null,"id":"L2","properties":null,"type":"Feature"}],"numberMatched":1,"numberReturned":1}"#,
+    },
+    Row {
+        line: r#"batch {"key":"b3","edits":[{"op":"open","collection":"street","title":"Street","time":"when"},{"op":"insert","collection":"street","feature":{"type":"Feature","id":"a","geometry":{"type":"Point","coordinates":[1,2,3]},"properties":{"name":"lamp","when":"2024-05-01"}}},{"op":"insert","collection":"street","feature":{"type":"Feature","id":"b","geometry":{"type":"MultiPoint","coordinates":[[1,2],[3,4]]},"properties":{"when":"2024-05-01T00:00:00Z/.."}}},{"op":"insert","collection":"street","feature":{"type":"Feature","id":"c","geometry":{"type":"LineString","coordinates":[[1,2],[3,4]]},"properties":null}},{"op":"insert","collection":"street","feature":{"type":"Feature","id":"d","geometry":{"type":"MultiLineString","coordinates":[[[1,2],[3,4]],[[5,6],[7,8]]]},"properties":{}}},{"op":"insert","collection":"street","feature":{"type":"Feature","id":"e","geometry":{"type":"Polygon","coordinates":[[[0,0],[9,0],[9,9],[0,0]],[[5,2],[7,4],[7,2],[5,2]]]},"properties":{"a":[1.0,2,[3]]}}},{"op":"insert","collection":"street","feature":{"type":"Feature","id":"f","geometry":{"type":"MultiPolygon","coordinates":[[[[0,0],[9,9],[9,0],[0,0]]],[[[20,0],[29,0],[29,9],[20,0]]]]},"properties":{"a":{"b":{"c":null}}}}},{"op":"insert","collection":"street","feature":{"type":"Feature","id":"g\"","geometry":{"type":"GeometryCollection","geometries":[{"type":"Point","coordinates":[5,6]},{"type":"LineString","coordinates":[[1,2],[3,4]]}]},"properties":{"when":null}}},{"op":"insert","collection":"street","feature":{"type":"Feature","id":9,"geometry":null}}]}"#,
+        answer: r#"{"deleted":0,"inserted":8,"key":"b3","opened":1,"replaced":0,"serial":3}"#,
+        look: "page street",
+        seen: r#"{"code":"not_found","description":"There is nothing at this path."}"#,
+    },
+    Row {
+        line: r#"batch {"edits" : [ {"collection":"lamps","op":"\u006fpen","time":"set"}, {"op":"insert","feature":{"id":"L1","properties":{"set":"2024-05-01"},"type":"Feature","geometry":{"type":"Point","coordinates":[1000.0, 2000.0]}},"collection":"lam\u0070s"} ] , "key" : "b1" }"#,
+        answer: r#"{"deleted":0,"inserted":1,"key":"b1","opened":1,"replaced":0,"serial":1}"#,
+        look: "page lamps",
+        seen: r#"{"features":[{"geometry":null,"id":"L2","properties":null,"type":"Feature"}],"numberMatched":1,"numberReturned":1}"#,
+    },
+    Row {
+        line: r#"batch {"key":"b1","edits":[]}"#,
+        answer: r#"{"code":"key_used","description":"The key was used for another batch."}"#,
+        look: "page lamps",
+        seen: r#"{"features":[{"geometry":null,"id":"L2","properties":null,"type":"Feature"}],"numberMatched":1,"numberReturned":1}"#,
+    },
+    Row {
+        line: "page street after=a&bbox=0%2C0%2C3%2C9&datetime=..%2F2024-06-01T02:00:00+02:00&limit=%37",
+        answer: r#"{"features":[{"geometry":{"coordinates":[[1,2],[3,4]],"type":"MultiPoint"},"id":"b","properties":{"when":"2024-05-01T00:00:00Z/.."},"type":"Feature"}],"numberMatched":2,"numberReturned":1}"#,
+        look: "feature street c",
+        seen: r#"{"geometry":{"coordinates":[[1,2],[3,4]],"type":"LineString"},"id":"c","properties":null,"type":"Feature"}"#,
+    },
+    Row {
+        line: "page street limit=2&after=f",
+        answer: r#"{"features":[{"geometry":{"geometries":[{"coordinates":[5,6],"type":"Point"},{"coordinates":[[1,2],[3,4]],"type":"LineString"}],"type":"GeometryCollection"},"id":"g\"","properties":{"when":null},"type":"Feature"}],"numberMatched":8,"numberReturned":1}"#,
+        look: "feature street c",
+        seen: r#"{"geometry":{"coordinates":[[1,2],[3,4]],"type":"LineString"},"id":"c","properties":null,"type":"Feature"}"#,
+    },
+    Row {
+        line: r#"feature street g""#,
+        answer: r#"{"geometry":{"geometries":[{"coordinates":[5,6],"type":"Point"},{"coordinates":[[1,2],[3,4]],"type":"LineString"}],"type":"GeometryCollection"},"id":"g\"","properties":{"when":null},"type":"Feature"}"#,
+        look: "feature street c",
+        seen: r#"{"geometry":{"coordinates":[[1,2],[3,4]],"type":"LineString"},"id":"c","properties":null,"type":"Feature"}"#,
+    },
+    Row {
+        line: r#"batch {"key":"b4","edits":[{"op":"delete","collection":"street","id":"c"},{"op":"replace","collection":"street","feature":{"type":"Feature","id":"b","geometry":{"type":"Point","coordinates":[1,7]},"properties":{"when":"2024-05-02"}}},{"op":"insert","collection":"street","feature":{"type":"Feature","id":"h"}},{"op":"open","collection":"lamps"}]}"#,
+        answer: r#"{"code":"collection_exists","description":"The collection is there already.","place":4}"#,
+        look: "feature street c",
+        seen: r#"{"geometry":{"coordinates":[[1,2],[3,4]],"type":"LineString"},"id":"c","properties":null,"type":"Feature"}"#,
+    },
+    Row {
+        line: r#"batch {"key":"b4","edits":[{"op":"insert","collection":"street","feature":{"type":"Feature","id":"h","geometry":{"type":"Polygon","coordinates":[[[0,0],[9,0],[0,0]]]}}}]}"#,
+        answer: r#"{"cause":"short_ring","code":"bad_feature","description":"A feature of the batch cannot be read.","place":1}"#,
+        look: "feature street h",
+        seen: r#"{"code":"not_found","description":"There is nothing at this path."}"#,
+    },
+    Row {
+        line: r#"batch {"key":"b4","edits":[{"op":"delete","collection":"lamps","id":1.5}]}"#,
+        answer: r#"{"code":"bad_batch","description":"The batch cannot be read.","place":1}"#,
+        look: "feature lamps L2",
+        seen: r#"{"geometry":null,"id":"L2","properties":null,"type":"Feature"}"#,
+    },
+    Row {
+        line: "page street l%69mit=1&after=a&lim%69t=2",
+        answer: r#"{"code":"repeated_parameter","description":"A parameter stands twice."}"#,
+        look: "feature street c",
+        seen: r#"{"geometry":{"coordinates":[[1,2],[3,4]],"type":"LineString"},"id":"c","properties":null,"type":"Feature"}"#,
+    },
 ];
 
 /// Wants that a line is answered so.
@@ -43,26 +114,27 @@ fn check_text(rt: &impl Abort, line: &str, answer: &Option<String>, wanted: &str
     assert_eq!(rt; text, wanted, "at {line}");
 }
 
+/// Wants that a line is answered so, with memory for it.
+fn check_again(
+    rt: &HostRuntime,
+    keeper: &mut PlainKeeper,
+    line: &str,
+    wanted: &str,
+) -> Result<(), Fail> {
+    let answer = answer_line(rt.alloc(), keeper, line.as_bytes())?;
+    check_text(rt, line, &answer, wanted);
+    Ok(())
+}
+
 #[test]
 fn a_line_refused_for_memory_is_answered_again(rt: HostRuntime) -> Result<(), Fail> {
-    let alloc = rt.alloc();
-    let mut keeper = PlainKeeper::new(alloc);
-    for (line, wanted, shown) in LINES {
-        match answer_line(alloc, &mut keeper, line.as_bytes()) {
-            Ok(answer) => check_text(&rt, line, &answer, wanted),
+    let mut keeper = PlainKeeper::new(rt.alloc());
+    for row in ROWS {
+        match answer_line(rt.alloc(), &mut keeper, row.line.as_bytes()) {
+            Ok(answer) => check_text(&rt, row.line, &answer, row.answer),
             Err(_) => {
-                check_text(
-                    &rt,
-                    SHOW,
-                    &answer_line(alloc, &mut keeper, SHOW.as_bytes())?,
-                    shown,
-                );
-                check_text(
-                    &rt,
-                    line,
-                    &answer_line(alloc, &mut keeper, line.as_bytes())?,
-                    wanted,
-                );
+                check_again(&rt, &mut keeper, row.look, row.seen)?;
+                check_again(&rt, &mut keeper, row.line, row.answer)?;
             }
         }
     }

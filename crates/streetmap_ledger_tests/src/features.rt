@@ -6,8 +6,6 @@ use streetmap_feature_text::{PackedFeature, push_feature};
 use streetmap_geojson::{Feature, JsonFault, read_feature, read_json};
 use streetmap_moment::TimeFault;
 
-mod refused_memory;
-
 /// The feature that a JSON text reads as, with the time of its property `when`.
 fn feature(alloc: Global, text: &str) -> Result<Feature, JsonFault> {
     let value = read_json(alloc, text.as_bytes())?;

@@ -6,8 +6,6 @@
 #[cfg(test)]
 mod answers;
 #[cfg(test)]
-mod batches;
-#[cfg(test)]
 mod exports;
 #[cfg(test)]
 mod faults;
@@ -17,8 +15,6 @@ mod features;
 mod ledger;
 #[cfg(test)]
 mod lines;
-#[cfg(test)]
-mod queries;
 #[cfg(test)]
 mod values;
 #[cfg(test)]

@@ -17,8 +17,6 @@ mod opening;
 #[cfg(test)]
 mod pages;
 #[cfg(test)]
-mod refused;
-#[cfg(test)]
 mod rows;
 #[cfg(test)]
 mod sessions;

@@ -1,9 +1,10 @@
 //! The same sessions over tables and in memory, and with an index over each: the answers are the same bytes.
 use crate::answers::all_answers;
 use sqlite::{Connection, MemStore};
-use std::alloc::Global;
+use std::alloc::{AllocError, Global};
 use std::test::Fail;
 use streetmap_index::IndexedKeeper;
+use streetmap_ledger::Keeper;
 use streetmap_memory::PlainKeeper;
 use streetmap_store::TableKeeper;
 
@@ -35,144 +36,149 @@ impl Dice {
             .wrapping_add(1_442_695_040_888_963_407);
         (self.seed >> 33).checked_rem(sides).unwrap_or(0)
     }
-}
-
-/// A position within a square of 40 mm.
-fn position(alloc: Global, dice: &mut Dice) -> Result<String, Fail> {
-    let (x, y) = (dice.roll(40), dice.roll(40));
-    Ok(format!(in alloc; "[{x},{y}]")?)
-}
-
-/// A geometry, or none.
-fn geometry(alloc: Global, dice: &mut Dice) -> Result<String, Fail> {
-    let (a, b) = (position(alloc, dice)?, position(alloc, dice)?);
-    Ok(match dice.roll(4) {
-        0 => String::from_str(alloc, "null")?,
-        1 => format!(in alloc; r#"{{"type":"Point","coordinates":{a}}}"#)?,
-        2 => format!(in alloc; r#"{{"type":"LineString","coordinates":[{a},{b}]}}"#)?,
-        _ => format!(in alloc; r#"{{"type":"MultiPoint","coordinates":[{a},{b}]}}"#)?,
-    })
-}
-
-/// The properties of a feature, with a day, an open interval, or none, and at times one that cannot be read.
-fn properties(dice: &mut Dice) -> &'static str {
-    match dice.roll(6) {
-        0 => "null",
-        1 => r#"{"when":"2024-05-01"}"#,
-        2 => r#"{"when":"2024-05-02T10:00:00Z"}"#,
-        3 => r#"{"when":"2024-04-01/.."}"#,
-        4 => r#"{"when":"../2024-05-01T12:00:00Z","height":12}"#,
-        _ => r#"{"when":"soon"}"#,
+    /// One of these texts.
+    fn pick<'a>(&mut self, texts: &[&'a str]) -> &'a str {
+        let at = self.roll(texts.len() as u64) as usize;
+        texts.get(at).copied().unwrap_or("")
     }
 }
 
-/// A feature.
-fn feature(alloc: Global, dice: &mut Dice) -> Result<String, Fail> {
-    let geometry = geometry(alloc, dice)?;
-    let (id, properties) = (dice.roll(6), properties(dice));
-    Ok(format!(in alloc;
-        r#"{{"type":"Feature","id":"f{id}","geometry":{geometry},"properties":{properties}}}"#
-    )?)
-}
+const NAMES: [&str; 3] = ["c0", "c1", "c2"];
 
-/// An edit.
-fn edit(alloc: Global, dice: &mut Dice) -> Result<String, Fail> {
-    let name = dice.roll(3);
-    Ok(match dice.roll(8) {
-        0 => format!(in alloc; r#"{{"op":"open","collection":"c{name}","time":"when"}}"#)?,
-        1 => format!(in alloc; r#"{{"op":"open","collection":"c{name}","title":"Lamps"}}"#)?,
-        2 => {
-            let id = dice.roll(6);
-            format!(in alloc; r#"{{"op":"delete","collection":"c{name}","id":"f{id}"}}"#)?
-        }
-        3 | 4 => {
-            let feature = feature(alloc, dice)?;
-            format!(in alloc; r#"{{"op":"replace","collection":"c{name}","feature":{feature}}}"#)?
-        }
-        _ => {
-            let feature = feature(alloc, dice)?;
-            format!(in alloc; r#"{{"op":"insert","collection":"c{name}","feature":{feature}}}"#)?
-        }
-    })
-}
+const IDS: [&str; 6] = ["f0", "f1", "f2", "f3", "f4", "f5"];
 
-/// A batch of one or two edits, under one of a few keys.
-fn batch(alloc: Global, dice: &mut Dice) -> Result<String, Fail> {
-    let (key, first) = (dice.roll(20), edit(alloc, dice)?);
-    Ok(match dice.roll(2) {
-        0 => format!(in alloc; r#"{{"key":"k{key}","edits":[{first}]}}"#)?,
-        _ => {
-            let second = edit(alloc, dice)?;
-            format!(in alloc; r#"{{"key":"k{key}","edits":[{first},{second}]}}"#)?
-        }
-    })
-}
+const KEYS: [&str; 4] = ["k", "l", "m", "n"];
+
+/// Within a square of 40 mm.
+const GEOMETRIES: [&str; 8] = [
+    "null",
+    r#"{"type":"Point","coordinates":[7,31]}"#,
+    r#"{"type":"Point","coordinates":[22,15]}"#,
+    r#"{"type":"Point","coordinates":[39,0]}"#,
+    r#"{"type":"LineString","coordinates":[[0,12],[33,29]]}"#,
+    r#"{"type":"LineString","coordinates":[[18,38],[26,3]]}"#,
+    r#"{"type":"MultiPoint","coordinates":[[4,4],[35,36]]}"#,
+    r#"{"type":"MultiPoint","coordinates":[[12,27],[13,8]]}"#,
+];
+
+/// A day, a moment, an interval that is open, or none, and one that cannot be read.
+const PROPERTIES: [&str; 6] = [
+    "null",
+    r#"{"when":"2024-05-01"}"#,
+    r#"{"when":"2024-05-02T10:00:00Z"}"#,
+    r#"{"when":"2024-04-01/.."}"#,
+    r#"{"when":"../2024-05-01T12:00:00Z","height":12}"#,
+    r#"{"when":"soon"}"#,
+];
 
 /// What is asked of a collection.
-fn question(alloc: Global, dice: &mut Dice) -> Result<String, Fail> {
-    let (x, y) = (dice.roll(30), dice.roll(30));
-    Ok(match dice.roll(6) {
-        0 => String::from_str(alloc, "")?,
-        1 => String::from_str(alloc, "/items?limit=2")?,
-        2 => format!(in alloc; "/items?bbox={x},{y},39,39&limit=2")?,
-        3 => String::from_str(alloc, "/items?datetime=2024-05-01T11:00:00Z/..")?,
-        4 => format!(in alloc; "/items?bbox=0,0,{x},{y}&datetime=../2024-05-01&limit=1")?,
+const QUESTIONS: [&str; 12] = [
+    "",
+    "/items?limit=2",
+    "/items?bbox=0,0,39,39&limit=2",
+    "/items?bbox=23,2,39,39&limit=2",
+    "/items?bbox=8,28,39,39&limit=2",
+    "/items?bbox=19,16,39,39&limit=2",
+    "/items?datetime=2024-05-01T11:00:00Z/..",
+    "/items?bbox=0,0,14,28&datetime=../2024-05-01&limit=1",
+    "/items?bbox=0,0,29,13&datetime=../2024-05-01&limit=1",
+    "/items/f0",
+    "/items/f2",
+    "/items/f5",
+];
+
+/// How a request of one line begins and ends.
+const GET: &str = "GET /collections";
+
+const LINE_END: &str = " HTTP/1.1\r\nHost: localhost\r\n\r\n";
+
+/// Appends texts, one behind the other.
+fn push_all(text: &mut String, parts: &[&str]) -> Result<(), AllocError> {
+    for part in parts {
+        text.push_str(part)?;
+    }
+    Ok(())
+}
+
+/// Appends an edit.
+fn push_edit(text: &mut String, dice: &mut Dice) -> Result<(), AllocError> {
+    let (name, id, kind) = (dice.pick(&NAMES), dice.pick(&IDS), dice.roll(8));
+    let op = ["open", "open", "delete", "replace", "replace"];
+    let op = op.get(kind as usize).copied().unwrap_or("insert");
+    push_all(text, &["{\"op\":\"", op, "\",\"collection\":\"", name])?;
+    match kind {
+        0 => text.push_str("\",\"time\":\"when\"}"),
+        1 => text.push_str("\",\"title\":\"Lamps\"}"),
+        2 => push_all(text, &["\",\"id\":\"", id, "\"}"]),
         _ => {
-            let id = dice.roll(6);
-            format!(in alloc; "/items/f{id}")?
+            let (geometry, properties) = (dice.pick(&GEOMETRIES), dice.pick(&PROPERTIES));
+            let begins = "\",\"feature\":{\"type\":\"Feature\",\"id\":\"";
+            push_all(text, &[begins, id, "\",\"geometry\":", geometry])?;
+            push_all(text, &[",\"properties\":", properties, "}}"])
         }
-    })
+    }
 }
 
-/// A request that sends a batch.
-fn sent(alloc: Global, dice: &mut Dice) -> Result<String, Fail> {
-    let batch = batch(alloc, dice)?;
-    let len = batch.len();
-    Ok(format!(in alloc;
-        "POST /batches HTTP/1.1\r\nHost: localhost\r\nContent-Length: {len}\r\n\r\n{batch}"
-    )?)
+/// Appends a batch of one or two edits, under one of a few keys.
+fn push_batch(text: &mut String, dice: &mut Dice) -> Result<(), AllocError> {
+    push_all(
+        text,
+        &[
+            "{\"key\":\"",
+            dice.pick(&KEYS),
+            dice.pick(&IDS),
+            "\",\"edits\":[",
+        ],
+    )?;
+    push_edit(text, dice)?;
+    if dice.roll(2) == 1 {
+        text.push_str(",")?;
+        push_edit(text, dice)?;
+    }
+    text.push_str("]}")
 }
 
-/// A request.
-fn request(alloc: Global, dice: &mut Dice) -> Result<String, Fail> {
+/// Appends a request that sends a batch.
+fn push_sent(alloc: Global, requests: &mut String, dice: &mut Dice) -> Result<(), AllocError> {
+    let mut batch = String::new(alloc);
+    push_batch(&mut batch, dice)?;
+    let head = format!(in alloc;
+        "POST /batches HTTP/1.1\r\nHost: localhost\r\nContent-Length: {}\r\n\r\n",
+        batch.len()
+    )?;
+    push_all(requests, &[head.as_str(), batch.as_str()])
+}
+
+/// Appends a request.
+fn push_request(alloc: Global, requests: &mut String, dice: &mut Dice) -> Result<(), AllocError> {
     match dice.roll(5) {
-        0 => Ok(String::from_str(
-            alloc,
-            "GET /collections HTTP/1.1\r\nHost: localhost\r\n\r\n",
-        )?),
+        0 => push_all(requests, &[GET, LINE_END]),
         1 | 2 => {
-            let (name, question) = (dice.roll(3), question(alloc, dice)?);
-            Ok(format!(in alloc;
-                "GET /collections/c{name}{question} HTTP/1.1\r\nHost: localhost\r\n\r\n"
-            )?)
+            let (name, question) = (dice.pick(&NAMES), dice.pick(&QUESTIONS));
+            push_all(requests, &[GET, "/", name, question, LINE_END])
         }
-        _ => sent(alloc, dice),
+        _ => push_sent(alloc, requests, dice),
     }
 }
 
 /// The requests of a session, one behind the other.
-fn session(alloc: Global, seed: u64) -> Result<String, Fail> {
+fn session(alloc: Global, seed: u64) -> Result<String, AllocError> {
     let mut dice = Dice { seed };
     let mut requests = String::new(alloc);
     for _ in 0..REQUESTS {
-        let next = request(alloc, &mut dice)?;
-        requests.push_str(next.as_str())?;
+        push_request(alloc, &mut requests, &mut dice)?;
     }
     Ok(requests)
 }
 
 /// The requests of a session that asks for all that is told of collections behind each batch.
-fn told_session(alloc: Global, seed: u64) -> Result<String, Fail> {
+fn told_session(alloc: Global, seed: u64) -> Result<String, AllocError> {
     let mut dice = Dice { seed };
     let mut requests = String::new(alloc);
     for _ in 0..TOLD_BATCHES {
-        let next = sent(alloc, &mut dice)?;
-        requests.push_str(next.as_str())?;
+        push_sent(alloc, &mut requests, &mut dice)?;
         for path in TOLD {
-            let next = format!(in alloc;
-                "GET /collections{path} HTTP/1.1\r\nHost: localhost\r\n\r\n"
-            )?;
-            requests.push_str(next.as_str())?;
+            push_all(&mut requests, &[GET, path, LINE_END])?;
         }
     }
     Ok(requests)
@@ -190,48 +196,48 @@ pub(crate) fn over_tables(alloc: Global) -> Result<TableKeeper<MemStore>, Fail> 
     }
 }
 
+/// Whether a new keeper answers so many requests so.
+fn is_answered_so<K: Keeper + Drop>(
+    alloc: Global,
+    mut keeper: K,
+    requests: &str,
+    count: u64,
+    wanted: &[u8],
+) -> Result<bool, Fail> {
+    let found = all_answers(alloc, &mut keeper, requests, count)?;
+    Ok(found.as_slice() == wanted)
+}
+
+/// Wants that a keeper over tables, and one with an index over each, answer so many requests as the one in memory does.
+fn check_each(rt: &HostRuntime, requests: &str, count: u64) -> Result<(), Fail> {
+    let alloc = rt.alloc();
+    let wanted = all_answers(alloc, &mut PlainKeeper::new(alloc), requests, count)?;
+    let wanted = wanted.as_slice();
+    let tables = is_answered_so(alloc, over_tables(alloc)?, requests, count, wanted)?;
+    assert!(rt; tables, "over tables: {requests}");
+    let keeper = IndexedKeeper::new(alloc, PlainKeeper::new(alloc));
+    let over_plain = is_answered_so(alloc, keeper, requests, count, wanted)?;
+    assert!(rt; over_plain, "an index over memory: {requests}");
+    let keeper = IndexedKeeper::new(alloc, over_tables(alloc)?);
+    let over_both = is_answered_so(alloc, keeper, requests, count, wanted)?;
+    assert!(rt; over_both, "an index over tables: {requests}");
+    Ok(())
+}
+
 #[test]
-fn tables_answer_as_memory_does(rt: HostRuntime) -> Result<(), Fail> {
+fn each_keeper_answers_alike(rt: HostRuntime) -> Result<(), Fail> {
     for seed in 0..SESSIONS {
         let requests = session(rt.alloc(), seed)?;
-        let mut plain = PlainKeeper::new(rt.alloc());
-        let mut tables = over_tables(rt.alloc())?;
-        let wanted = all_answers(rt.alloc(), &mut plain, requests.as_str(), REQUESTS)?;
-        let found = all_answers(rt.alloc(), &mut tables, requests.as_str(), REQUESTS)?;
-        assert_eq!(rt; String::from_utf8(found)?, String::from_utf8(wanted)?);
+        check_each(&rt, requests.as_str(), REQUESTS)?;
     }
     Ok(())
 }
 
 #[test]
-fn an_index_answers_as_the_keeper_below_it(rt: HostRuntime) -> Result<(), Fail> {
-    for seed in 0..SESSIONS {
-        let requests = session(rt.alloc(), seed)?;
-        let mut plain = PlainKeeper::new(rt.alloc());
-        let mut over_plain = IndexedKeeper::new(rt.alloc(), PlainKeeper::new(rt.alloc()));
-        let mut over_tables = IndexedKeeper::new(rt.alloc(), over_tables(rt.alloc())?);
-        let wanted = all_answers(rt.alloc(), &mut plain, requests.as_str(), REQUESTS)?;
-        let found = all_answers(rt.alloc(), &mut over_plain, requests.as_str(), REQUESTS)?;
-        assert_eq!(rt; found.as_slice(), wanted.as_slice());
-        let found = all_answers(rt.alloc(), &mut over_tables, requests.as_str(), REQUESTS)?;
-        assert_eq!(rt; found.as_slice(), wanted.as_slice());
-    }
-    Ok(())
-}
-
-#[test]
-fn an_index_tells_as_the_keeper_below_it(rt: HostRuntime) -> Result<(), Fail> {
-    let count = TOLD_BATCHES * 6;
+fn each_keeper_tells_alike(rt: HostRuntime) -> Result<(), Fail> {
     for seed in 0..TOLD_SESSIONS {
         let requests = told_session(rt.alloc(), seed)?;
-        let mut plain = PlainKeeper::new(rt.alloc());
-        let mut over_plain = IndexedKeeper::new(rt.alloc(), PlainKeeper::new(rt.alloc()));
-        let mut over_tables = IndexedKeeper::new(rt.alloc(), over_tables(rt.alloc())?);
-        let wanted = all_answers(rt.alloc(), &mut plain, requests.as_str(), count)?;
-        let found = all_answers(rt.alloc(), &mut over_plain, requests.as_str(), count)?;
-        assert_eq!(rt; found.as_slice(), wanted.as_slice());
-        let found = all_answers(rt.alloc(), &mut over_tables, requests.as_str(), count)?;
-        assert_eq!(rt; found.as_slice(), wanted.as_slice());
+        check_each(&rt, requests.as_str(), TOLD_BATCHES * 6)?;
     }
     Ok(())
 }
