@@ -1,5 +1,6 @@
 //! Want of memory, that no clause rules out: the ledger is as it was, and the line is answered when it comes again.
 //! Each allocation is refused in turn by `make refusals`.
+use std::alloc::Global;
 use std::process::Abort;
 use std::test::Fail;
 use streetmap_lines::answer_line;
@@ -116,12 +117,13 @@ fn check_text(rt: &impl Abort, line: &str, answer: &Option<String>, wanted: &str
 
 /// Wants that a line is answered so, with memory for it.
 fn check_again(
-    rt: &HostRuntime,
+    rt: &impl Abort,
+    alloc: Global,
     keeper: &mut PlainKeeper,
     line: &str,
     wanted: &str,
 ) -> Result<(), Fail> {
-    let answer = answer_line(rt.alloc(), keeper, line.as_bytes())?;
+    let answer = answer_line(alloc, keeper, line.as_bytes())?;
     check_text(rt, line, &answer, wanted);
     Ok(())
 }
@@ -133,8 +135,8 @@ fn a_line_refused_for_memory_is_answered_again(rt: HostRuntime) -> Result<(), Fa
         match answer_line(rt.alloc(), &mut keeper, row.line.as_bytes()) {
             Ok(answer) => check_text(&rt, row.line, &answer, row.answer),
             Err(_) => {
-                check_again(&rt, &mut keeper, row.look, row.seen)?;
-                check_again(&rt, &mut keeper, row.line, row.answer)?;
+                check_again(&rt, rt.alloc(), &mut keeper, row.look, row.seen)?;
+                check_again(&rt, rt.alloc(), &mut keeper, row.line, row.answer)?;
             }
         }
     }

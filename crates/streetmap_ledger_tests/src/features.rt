@@ -56,18 +56,29 @@ fn is_unpacked_as(
     Ok(unpacked.id() == id && unpacked.time() == feature.time())
 }
 
-/// Whether this is told of the id of the feature that a text reads as, unread, and the feature is unpacked as it was.
-fn is_told(alloc: Global, text: &str, unread: Option<&[u8]>, id: &str) -> Result<bool, Fail> {
+/// Whether this is told of a feature's id, unread, and the feature is unpacked as it was.
+fn is_told(
+    alloc: Global,
+    feature: &Feature,
+    unread: Option<&[u8]>,
+    id: &str,
+) -> Result<bool, Fail> {
+    let packed = packed(alloc, feature)?;
+    let is_unpacked = is_unpacked_as(alloc, &packed, feature, id)?;
+    Ok(is_unpacked && packed.unescaped_id() == unread)
+}
+
+/// The same of the feature that a text reads as.
+fn is_told_of(alloc: Global, text: &str, unread: Option<&[u8]>, id: &str) -> Result<bool, Fail> {
     let feature = feature(alloc, text)?;
-    let packed = packed(alloc, &feature)?;
-    Ok(packed.unescaped_id() == unread && is_unpacked_as(alloc, &packed, &feature, id)?)
+    is_told(alloc, &feature, unread, id)
 }
 
 #[test]
 fn ids_without_escapes_are_told_unread(rt: HostRuntime) -> Result<(), Fail> {
     for (text, id, told) in IDS {
         let unread = if *told { Some(id.as_bytes()) } else { None };
-        assert!(rt; is_told(rt.alloc(), text, unread, id)?, "at {text}");
+        assert!(rt; is_told_of(rt.alloc(), text, unread, id)?, "at {text}");
     }
     Ok(())
 }

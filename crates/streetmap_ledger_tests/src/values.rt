@@ -1,7 +1,6 @@
 //! JSON values read one at a time from the tokens of a text.
 use json::{Reader, Scratch};
 use std::alloc::Global;
-use std::test::Fail;
 use streetmap_json::{ParseFault, read_value};
 
 /// The values that begin the text, nested no deeper than that, written one behind the other.
@@ -27,16 +26,17 @@ const ROWS: &[(&str, usize, u8, &str)] = &[
     ("-0", 127, 1, "-0.0"),
 ];
 
-#[test]
-fn values_follow_one_another(rt: HostRuntime) -> Result<(), Fail> {
-    for (text, depth, count, wanted) in ROWS {
-        match values(rt.alloc(), text, *depth, *count) {
-            Ok(written) => assert_eq!(rt; written.as_str(), *wanted, "at {text}"),
-            Err(fault) => {
-                assert_eq!(rt; fault, ParseFault::NotJson, "at {text}");
-                assert!(rt; wanted.is_empty(), "at {text}");
-            }
-        }
+/// Whether the values that begin a text are written so, or refused where nothing is to be written.
+fn are_written(alloc: Global, (text, depth, count, wanted): (&str, usize, u8, &str)) -> bool {
+    match values(alloc, text, depth, count) {
+        Ok(written) => written.as_str() == wanted,
+        Err(fault) => fault == ParseFault::NotJson && wanted.is_empty(),
     }
-    Ok(())
+}
+
+#[test]
+fn values_follow_one_another(rt: HostRuntime) {
+    for row in ROWS {
+        assert!(rt; are_written(rt.alloc(), *row), "at {}", row.0);
+    }
 }

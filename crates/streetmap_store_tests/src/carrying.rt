@@ -145,14 +145,11 @@ fn columns<S: Alter>(conn: &mut Connection<S>, id: &str) -> Result<[Option<i64>;
         "SELECT x0, y0, x1, y1, s0, s1 FROM streetmap_features WHERE id = ?1",
         params![id],
     )?;
-    Ok([
-        row.get(0)?,
-        row.get(1)?,
-        row.get(2)?,
-        row.get(3)?,
-        row.get(4)?,
-        row.get(5)?,
-    ])
+    let mut cells = [None; 6];
+    for (place, cell) in cells.iter_mut().enumerate() {
+        *cell = row.get(place)?;
+    }
+    Ok(cells)
 }
 
 /// What the columns of the three features hold, and the number of the format.

@@ -18,6 +18,12 @@ fn opens<S: Alter>(conn: &mut Connection<S>) -> bool {
     conn.is_autocommit() && matches!(adopt_tables(conn), Ok(0))
 }
 
+/// How many notes the other table has.
+fn notes<S: Alter>(conn: &mut Connection<S>) -> Result<i64, Fail> {
+    let row = conn.query_row("SELECT count(*) FROM notes", &[])?;
+    Ok(row.get(0)?)
+}
+
 #[test]
 fn tables_are_made_once_and_opened(rt: HostRuntime) -> Result<(), Fail> {
     let mut conn = Connection::open_in_memory(rt.alloc())?;
@@ -27,8 +33,7 @@ fn tables_are_made_once_and_opened(rt: HostRuntime) -> Result<(), Fail> {
     assert!(rt; made(&mut conn));
     assert!(rt; taken(&mut conn));
     assert!(rt; opens(&mut conn));
-    let left: i64 = conn.query_row("SELECT count(*) FROM notes", &[])?.get(0)?;
-    assert_eq!(rt; left, 1);
+    assert_eq!(rt; notes(&mut conn)?, 1);
     Ok(())
 }
 

@@ -31,35 +31,52 @@ fn page<S: Alter>(
     Ok(page_of(alloc, conn, "mixed", &query)?)
 }
 
-/// The ids on a page, with a comma after each; and how many are selected and examined.
-fn told(rt: &HostRuntime, page: Option<Page>) -> Result<(String, u64, u64), Fail> {
-    let mut ids = String::new(rt.alloc());
-    let Some(page) = page else {
-        return Ok((ids, 0, 0));
-    };
+/// The ids on a page, with a comma after each.
+fn ids_of(alloc: Global, page: &Page) -> Result<String, Fail> {
+    let mut ids = String::new(alloc);
     for feature in &page.features {
         ids.push_str(feature.id())?;
         ids.push_str(",")?;
     }
-    Ok((ids, page.matched, page.examined))
+    Ok(ids)
 }
+
+/// Whether the page that a query asks for shows these ids, and how many are selected and examined.
+fn is_told<S: Alter>(
+    alloc: Global,
+    conn: &mut Connection<S>,
+    (query, ids, matched, examined): (&str, &str, u64, u64),
+) -> Result<bool, Fail> {
+    let Some(page) = page(alloc, conn, query)? else {
+        return Ok(false);
+    };
+    let is_shown = ids_of(alloc, &page)?.as_str() == ids;
+    Ok(is_shown && page.matched == matched && page.examined == examined)
+}
+
+/// Whether the page that a query asks for has a row that cannot be read.
+fn is_unread<S: Alter>(alloc: Global, conn: &mut Connection<S>, query: &str) -> Result<bool, Fail> {
+    let query = read_query(alloc, Some(query))?;
+    let told = page_of(alloc, conn, "mixed", &query);
+    Ok(matches!(told, Err(ReadFault::Unread)))
+}
+
+/// Queries, the ids on their pages, and how many features are selected and examined.
+const PAGES: &[(&str, &str, u64, u64)] = &[
+    ("limit=10", "A,B,C,", 3, 3),
+    ("bbox=0,6,3,9", "B,C,", 2, 3),
+    ("bbox=0,6,3,9&limit=1", "B,", 2, 3),
+    ("after=B&bbox=0,6,3,9", "C,", 2, 3),
+    ("datetime=2024-05-01T00:00:00Z", "B,", 1, 2),
+    ("datetime=2024-05-01T00:00:00Z/..&bbox=2,8,3,9", "C,", 1, 1),
+];
 
 #[test]
 fn pages_are_in_order_of_ids_and_of_what_is_asked(rt: HostRuntime) -> Result<(), Fail> {
     let mut conn = Connection::open_in_memory(rt.alloc())?;
     assert!(rt; filled(rt.alloc(), &mut conn)?);
-    for (query, ids, matched, examined) in [
-        ("limit=10", "A,B,C,", 3, 3),
-        ("bbox=0,6,3,9", "B,C,", 2, 3),
-        ("bbox=0,6,3,9&limit=1", "B,", 2, 3),
-        ("after=B&bbox=0,6,3,9", "C,", 2, 3),
-        ("datetime=2024-05-01T00:00:00Z", "B,", 1, 2),
-        ("datetime=2024-05-01T00:00:00Z/..&bbox=2,8,3,9", "C,", 1, 1),
-    ] {
-        let page = page(rt.alloc(), &mut conn, query)?;
-        let (shown, selected, read) = told(&rt, page)?;
-        assert_eq!(rt; shown.as_str(), ids, "{query}");
-        assert_eq!(rt; (selected, read), (matched, examined), "{query}");
+    for row in PAGES {
+        assert!(rt; is_told(rt.alloc(), &mut conn, *row)?, "{}", row.0);
     }
     Ok(())
 }
@@ -69,12 +86,7 @@ fn a_row_that_does_not_overlap_is_not_read(rt: HostRuntime) -> Result<(), Fail> 
     let mut conn = Connection::open_in_memory(rt.alloc())?;
     assert!(rt; filled(rt.alloc(), &mut conn)?);
     conn.execute_batch("UPDATE streetmap_features SET body = 'unreadable' WHERE id = 'C'")?;
-    let page_beside = page(rt.alloc(), &mut conn, "bbox=1,7,1,7")?;
-    let (shown, matched, examined) = told(&rt, page_beside)?;
-    assert_eq!(rt; shown.as_str(), "B,");
-    assert_eq!(rt; (matched, examined), (1, 2));
-    let query = read_query(rt.alloc(), Some("bbox=2,8,2,8"))?;
-    let unread = page_of(rt.alloc(), &mut conn, "mixed", &query);
-    assert!(rt; matches!(unread, Err(ReadFault::Unread)));
+    assert!(rt; is_told(rt.alloc(), &mut conn, ("bbox=1,7,1,7", "B,", 1, 2))?);
+    assert!(rt; is_unread(rt.alloc(), &mut conn, "bbox=2,8,2,8")?);
     Ok(())
 }

@@ -208,27 +208,33 @@ fn is_answered_so<K: Keeper + Drop>(
     Ok(found.as_slice() == wanted)
 }
 
-/// Wants that a keeper over tables, and one with an index over each, answer so many requests as the one in memory does.
-fn check_each(rt: &HostRuntime, requests: &str, count: u64) -> Result<(), Fail> {
-    let alloc = rt.alloc();
+/// Which keeper answers so many requests otherwise than the one in memory does: one over tables, or one with an index over
+/// either; none where all answer alike.
+fn differing(alloc: Global, requests: &str, count: u64) -> Result<Option<&'static str>, Fail> {
     let wanted = all_answers(alloc, &mut PlainKeeper::new(alloc), requests, count)?;
     let wanted = wanted.as_slice();
-    let tables = is_answered_so(alloc, over_tables(alloc)?, requests, count, wanted)?;
-    assert!(rt; tables, "over tables: {requests}");
+    if !is_answered_so(alloc, over_tables(alloc)?, requests, count, wanted)? {
+        return Ok(Some("over tables"));
+    }
     let keeper = IndexedKeeper::new(alloc, PlainKeeper::new(alloc));
-    let over_plain = is_answered_so(alloc, keeper, requests, count, wanted)?;
-    assert!(rt; over_plain, "an index over memory: {requests}");
+    if !is_answered_so(alloc, keeper, requests, count, wanted)? {
+        return Ok(Some("with an index over memory"));
+    }
     let keeper = IndexedKeeper::new(alloc, over_tables(alloc)?);
-    let over_both = is_answered_so(alloc, keeper, requests, count, wanted)?;
-    assert!(rt; over_both, "an index over tables: {requests}");
-    Ok(())
+    let is_answered = is_answered_so(alloc, keeper, requests, count, wanted)?;
+    Ok(if is_answered {
+        None
+    } else {
+        Some("with an index over tables")
+    })
 }
 
 #[test]
 fn each_keeper_answers_alike(rt: HostRuntime) -> Result<(), Fail> {
     for seed in 0..SESSIONS {
         let requests = session(rt.alloc(), seed)?;
-        check_each(&rt, requests.as_str(), REQUESTS)?;
+        let differing = differing(rt.alloc(), requests.as_str(), REQUESTS)?;
+        assert_eq!(rt; differing, None, "{requests}");
     }
     Ok(())
 }
@@ -237,7 +243,8 @@ fn each_keeper_answers_alike(rt: HostRuntime) -> Result<(), Fail> {
 fn each_keeper_tells_alike(rt: HostRuntime) -> Result<(), Fail> {
     for seed in 0..TOLD_SESSIONS {
         let requests = told_session(rt.alloc(), seed)?;
-        check_each(&rt, requests.as_str(), TOLD_BATCHES * 6)?;
+        let differing = differing(rt.alloc(), requests.as_str(), TOLD_BATCHES * 6)?;
+        assert_eq!(rt; differing, None, "{requests}");
     }
     Ok(())
 }
