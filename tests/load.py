@@ -1,15 +1,18 @@
-"""Many clients at once: idle and slow ones, ones that vanish, ones that never read, and more than there may be.
+"""Many clients at once: idle and slow ones, ones with collections of their own, ones that vanish, ones that never read, and more
+than there may be.
 
     python3 tests/load.py PROGRAM
 """
 import json
+import random
+import re
 import socket
 import tempfile
 import threading
 import time
 from pathlib import Path
 
-from served import OPEN, Server, answers, batch, check, insert, read_all, read_answer, request, run, told
+from served import OPEN, Server, answers, batch, check, delete, insert, read_all, read_answer, replace, request, run, told
 
 ASKED = request("GET", "/conformance")
 RESET = b"\1\0\0\0\0\0\0\0"
@@ -127,6 +130,61 @@ def more_than_there_may_be(server, most):
         stream.close()
 
 
+SERIAL = re.compile(rb'"serial":(\d+)')
+
+
+class OwnCollection(threading.Thread):
+    """A client with a collection of its own: it changes it and asks for pages of it, in pieces of any length, and keeps what came."""
+
+    def __init__(self, server, number):
+        super().__init__(daemon=True)
+        self.server, self.dice, self.came = server, random.Random(number), b""
+        name = f"c{number}"
+        asked = [batch(f"{name}-open", [OPEN | {"collection": name}])]
+        for at in range(30):
+            asked.append(batch(f"{name}-{at}", [self.dice.choice((insert, replace, delete))(self.dice.randrange(9)) | {"collection": name}]))
+            asked.append(request("GET", f"/collections/{name}/items?limit={self.dice.randint(1, 5)}&after=L{self.dice.randrange(3)}"))
+            asked.append(request("GET", f"/collections/{self.dice.choice((name, name + 'x'))}"))
+        self.asked = b"".join(asked)
+
+    def run(self):
+        with self.server.connect() as stream:
+            reads = threading.Thread(target=self.read, args=(stream,))
+            reads.start()
+            left = self.asked
+            while left:
+                piece = self.dice.choice((1, 7, 100, 700))
+                stream.sendall(left[:piece])
+                left = left[piece:]
+            stream.shutdown(socket.SHUT_WR)
+            reads.join()
+
+    def read(self, stream):
+        self.came = read_all(stream)
+
+
+def but_for_serials(stream):
+    return [(status, SERIAL.sub(b"", body)) for status, body in answers(stream)]
+
+
+def each_client_gets_its_own_answers(server, folder):
+    """24 clients at once: each is answered what it would be alone, to the byte, but for the serials, which number the batches of all."""
+    clients = [OwnCollection(server, number) for number in range(24)]
+    for each in clients:
+        each.start()
+    serials = []
+    for number, each in enumerate(clients):
+        each.join()
+        alone = f"{folder}/alone-{number}.streetmap"
+        run("create", alone)
+        wanted = run("pipe", alone, "--base", f"http://localhost:{server.port}/", sent=each.asked)
+        check(f"the answers of client {number}, in their order", but_for_serials(each.came), but_for_serials(wanted))
+        own = [int(found) for found in SERIAL.findall(each.came)]
+        check(f"the serials of client {number} grow", own, sorted(own))
+        serials += own
+    check("the serials are those of one list", sorted(serials), list(range(min(serials), min(serials) + len(serials))))
+
+
 class SilentClient(threading.Thread):
     """A client that sends a part of a request and no more. It notes when it is let go."""
 
@@ -160,6 +218,7 @@ def main():
         server, small = Server(file, "--clients", "256"), Server(other, "--clients", "16")
         silent = SilentClient(server)
         idle_and_slow_clients(server)
+        each_client_gets_its_own_answers(server, folder)
         requests_cut_at_every_byte(server)
         clients_that_vanish(server)
         a_client_that_never_reads(server)

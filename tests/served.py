@@ -46,6 +46,15 @@ def insert(number):
         "geometry": {"type": "Point", "coordinates": [number, number]}}}
 
 
+def replace(number):
+    feature = insert(number)["feature"] | {"geometry": {"type": "Point", "coordinates": [-number, number]}}
+    return {"op": "replace", "collection": "lamps", "feature": feature}
+
+
+def delete(number):
+    return {"op": "delete", "collection": "lamps", "id": f"L{number}"}
+
+
 OPEN = {"op": "open", "collection": "lamps"}
 
 
