@@ -1,14 +1,19 @@
 -- What the reply to a batch tells of the state after it.
-use Rattle.std.proofs.Common.{◌≡◌, ℕ, ◌+◌, List, [], ◌∷◌, Option, None, Some, Result, Ok, Err, refl, nat_eq, nat_lt}
+use Rattle.std.proofs.Common.{◌≡◌, ℕ, ◌+◌, List, [], ◌∷◌, Option, None, Some, Result, Ok, Err, refl, sym, subst, nat_eq, nat_lt}
 use Rattle.std.specs.Cmp.Lexicographic.{pointwise}
 use Rattle.std.specs.FinMap.{get, len}
 use Rattle.streetmap_batch.specs.BatchValue.{EditValue, BatchValue}
 use Rattle.streetmap_batch.specs.BatchText.{batch_text}
 use Rattle.streetmap_ledger.specs.State.{State, AcceptedBatch, step, ◌>>=◌}
 use Rattle.streetmap_ledger.specs.Batches.{Outcome, placed, edited, fresh, by_key, act, most_batches}
+use Rattle.streetmap_ledger.specs.Keep.{Acts}
+use Rattle.streetmap_ledger.specs.declared.reply.Fault.{Fault}
+use Rattle.streetmap_ledger.specs.declared.reply.Fault.TheVariants.{Memory, Device, Damaged, Reopen}
 use Rattle.streetmap_ledger.specs.declared.reply.Counts.{Counts}
 use Rattle.streetmap_ledger.specs.declared.reply.Refusal.{Refusal}
 use Rattle.streetmap_ledger.specs.declared.reply.Reply.TheVariants.{Accepted, Repeated, Refused}
+use Rattle.streetmap_index.specs.Index.{IsOutlinedIf, IsIndexOf, IsHeeded}
+use Rattle.streetmap_index.specs.declared.index.Index.{Index}
 use Rattle.streetmap_ledger.proofs.Repeat.{either}
 
 -- the edits were done in order, and the outcome has their collections
@@ -45,6 +50,26 @@ by_key_tells s b None = either (Tells s b) (nat_lt (len s.keys) most_batches) _ 
 
 pub act_tells : (s : State) (b : BatchValue) → Tells s b (act s b)
 act_tells s b = by_key_tells s b (get s.keys b.key)
+
+-- an index of a state is one of each state with the same collections
+same_collections : (index : Index) (s t : State) → t.collections ≡ s.collections → IsIndexOf index s → IsIndexOf index t
+same_collections index s t same known = (
+  λ name o there. subst (λ found. IsOutlinedIf o (get found name)) (sym same) (known.0 name o there),
+  λ whole name d there. known.1 whole name d (subst (λ found. get found name ≡ Some d) same there),
+)
+
+-- an index that followed the edits is one of the state after the batch
+pub followed_batch : (s : State) (b : BatchValue) (counts : Counts) (serial : ℕ) (index : Index) → (act s b).reply ≡ Accepted counts serial → ((t : State) → edited 1 s b.edits ≡ Ok t → IsIndexOf index t) → IsIndexOf index (act s b).state
+followed_batch s b counts serial index is followed =
+    let done = (act_tells s b).accepted counts serial is in
+    same_collections index done.done (act s b).state done.collections (followed done.done done.is)
+
+-- a fault of a batch, on a keeper whose index heeds it
+pub heeded_acts : (s : State) (b : BatchValue) (fault : Fault) (old new : Index) (P : State → Type 0) → IsHeeded fault old new → IsIndexOf old s → Acts s b (Err fault) P → Acts s b (Err fault) (λ t. P t × IsIndexOf new t)
+heeded_acts s b Memory old new P heeded index h = (h, subst (λ (m : Index). IsIndexOf m s) (sym heeded) index)
+heeded_acts s b Device old new P heeded index h = tt
+heeded_acts s b Damaged old new P heeded index h = absurd h
+heeded_acts s b Reopen old new P heeded index h = absurd h
 
 -- ---- edits one by one
 first_by : (at : ℕ) (s t : State) (e : EditValue) (es : List EditValue) (r : Result State Refusal) → step s e ≡ r → (placed at r >>= λ u. edited (at + 1) u es) ≡ Ok t → (u : State) × (step s e ≡ Ok u) × (edited (at + 1) u es ≡ Ok t)

@@ -1,5 +1,8 @@
 use Rattle.streetmap_index.proofs.keeper.IndexedKeeperKeeper.outlines.Goals as goal
 
+pub returns-in-Ok-clause-outlines : goal.returns-in-Ok-clause-outlines
+returns-in-Ok-clause-outlines g c = λ h s e. (let seen = c.in-Ok.ensures.outlines h s e.0 in (seen.0, (seen.1, e.1)))
+
 pub returns-in-Ok-clause-leaves : goal.returns-in-Ok-clause-leaves
 returns-in-Ok-clause-leaves g c = λ h s e only. c.outlines.ensures.leaves h s e.0 only
 

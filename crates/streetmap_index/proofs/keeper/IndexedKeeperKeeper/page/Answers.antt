@@ -1,5 +1,8 @@
 use Rattle.streetmap_index.proofs.keeper.IndexedKeeperKeeper.page.Goals as goal
 
+pub returns-in-Ok-clause-shows : goal.returns-in-Ok-clause-shows
+returns-in-Ok-clause-shows g c = λ h s e. c.in-Ok.ensures.shows h s e.0 e.1
+
 pub returns-in-Ok-clause-leaves : goal.returns-in-Ok-clause-leaves
 returns-in-Ok-clause-leaves g c = λ h s e only. c.page_learnt.ensures.leaves h s e.0 e.1 only
 
