@@ -65,8 +65,8 @@ fails: build
 	@mkdir -p tests/out && cc -shared -fPIC -O1 -o tests/out/fail.so tests/fail.c -ldl
 	python3 tests/fails.py $(PROGRAM)
 
-# Each allocation refused in turn: of the program on three lines, and of tests that make each refused call again. It needs
-# a C compiler.
+# Each allocation refused in turn: of the program on three lines, over a file, making one, and in its other commands; and of a test
+# that makes each refused call again and one that serves a stream, both over the keeper in memory. It needs a C compiler.
 REFUSED := python3 tests/refusals.py
 LEDGER_TESTS := crates/streetmap_ledger_tests/out/streetmap_ledger_tests_tests
 WEB_TESTS := crates/streetmap_web_tests/out/streetmap_web_tests_tests

@@ -50,6 +50,7 @@ PAGE = get("/collections/lamps/items?bbox=0,0,9,9&datetime=2024-05-01T12:00:00Z"
 TEXT = {"type": "FeatureCollection", "features": [lamp("L7", 7, 7), {"type": "Feature"}, lamp("L8", 8, 8)]}
 TOLD = get("/collections") + get("/collections/lamps")
 ASKED = TOLD + PAGE + TOLD + BATCH + TOLD + PAGE + get("/collections/lamps/items/L9")
+# (how many answers come before that to the batch)
 BEFORE_BATCH = 5
 
 
