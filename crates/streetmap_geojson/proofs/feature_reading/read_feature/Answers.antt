@@ -8,3 +8,6 @@ returns-clause-found c = is_found feature_value c.read_at.result _ (view c.args.
 
 pub returns-clause-only : goal.returns-clause-only
 returns-clause-only c = is_read feature_value c.read_at.result _ (view c.args.value.now) c.read_at.ensures.exact
+
+pub returns-clause-exact : goal.returns-clause-exact
+returns-clause-exact c = c.read_at.ensures.exact
