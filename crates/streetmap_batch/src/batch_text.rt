@@ -113,6 +113,17 @@ fn push_edit(alloc: Global, out: &mut String, edit: &Edit) -> Result<(), AllocEr
     }
 }
 
+impl Edit {
+    /// The text of the edit within the text of a batch.
+    pub fn text(&self, alloc: Global) -> Result<String, AllocError>
+        ensures { IfOk result (λ text. string_bytes text ≡ compact_text (edit_data (edit_value self.now))) }
+    {
+        let mut text = String::new(alloc);
+        push_edit(alloc, &mut text, self)?;
+        Ok(text)
+    }
+}
+
 /// Appends the edits and the bracket behind them.
 fn push_edits(alloc: Global, out: &mut String, edits: &[Edit]) -> Result<(), AllocError>
     ensures { OnOk result (string_bytes out.new ≡ string_bytes out.old ++ items_text false (edits_data (edit_values edits.now))) }

@@ -106,7 +106,7 @@ known true = inl refl
 known false = inr refl
 
 -- leaving out what is no candidate leaves out nothing that is selected
-candidates_selected : (q : Query) (fs : List FeatureValue) → All IsFeature fs → selected (query_value q) (candidates (query_value q) fs) ≡ selected (query_value q) fs
+pub candidates_selected : (q : Query) (fs : List FeatureValue) → All IsFeature fs → selected (query_value q) (candidates (query_value q) fs) ≡ selected (query_value q) fs
 candidates_selected q [] made = refl
 candidates_selected q (f ∷ fs) made =
     let v = query_value q in

@@ -5,3 +5,4 @@ pub mod StatesStay
 pub mod Acceptance
 pub mod Walking
 pub mod Runs
+pub mod Hiding

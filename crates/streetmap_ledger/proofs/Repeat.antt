@@ -1,5 +1,5 @@
 -- A batch that comes again finds its key, and changes nothing.
-use Rattle.std.proofs.Common.{◌≡◌, ℕ, ◌+◌, List, [], ◌∷◌, ◌++◌, Bool, true, false, cond, Option, None, Some, Result, Ok, Err, IfOk, ok_or, refl, sym, ap, ◌∙◌, nat_eq, nat_lt}
+use Rattle.std.proofs.Common.{◌≡◌, ℕ, ◌+◌, List, [], ◌∷◌, ◌++◌, Bool, true, false, cond, Option, None, Some, Result, Ok, Err, IfOk, ok_or, refl, sym, ap, subst, ◌∙◌, nat_eq, nat_lt}
 use Rattle.std.specs.Ordering.{is_eq}
 use Rattle.std.specs.declared.cmp.Ordering.{Ordering}
 use Rattle.std.specs.declared.cmp.Ordering.TheVariants.{Less, Equal, Greater}
@@ -108,3 +108,15 @@ repeat_once s before between later b ack =
     after_append s before (b ∷ (between ++ b ∷ later)) ∙ after_append u between (b ∷ later)
     ∙ ap (λ v. after_all v later) (again (after_all u between) b later_there)
     ∙ sym (after_append s before (b ∷ (between ++ later)) ∙ after_append u between later)
+
+-- an acknowledged batch is there
+pub acknowledged_there : (s : State) (b : BatchValue) → IsAcknowledged (act s b).reply → IsThere (act s b).state b
+acknowledged_there s b ack = by_key_there s b (get s.keys b.key) refl ack
+
+chosen_ack : (t : Bool) (x y : Outcome) → t ≡ true → IsAcknowledged x.reply → IsAcknowledged (cond t x y).reply
+chosen_ack true x y e h = h
+chosen_ack false x y e h = cc
+
+-- and is acknowledged wherever it is there
+pub there_again : (s : State) (b : BatchValue) → IsThere s b → IsAcknowledged (act s b).reply
+there_again s b there = subst (λ (o : Option AcceptedBatch). IsAcknowledged (by_key s b o).reply) (sym there.1) (chosen_ack (pointwise nat_eq there.0.text (batch_text b)) _ _ there.2 tt)

@@ -1,9 +1,10 @@
 -- What a fold of features holds.
-use Rattle.std.specs.Prelude.{◌≡◌, ◌≤◌, List, length, take, nat_lt}
+use Rattle.std.specs.Prelude.{◌≡◌, ◌≤◌, Bool, true, List, All, length, take, nat_lt}
 use Rattle.streetmap_geojson.specs.FeatureValue.{FeatureValue}
 use Rattle.streetmap_query.specs.QueryValue.{QueryValue}
 use Rattle.streetmap_query.specs.Views.{query_value}
-use Rattle.streetmap_ledger.specs.Pages.{selected, candidates, rest_of, saturated}
+use Rattle.streetmap_ledger.specs.Pages.{selects, selected, candidates, comes_after, rest_of}
+use Rattle.streetmap_ledger.specs.Pages.{saturated}
 use Rattle.streetmap_ledger.specs.declared.fold.PageFold.{PageFold}
 
 -- the page of these features, as far as it is known
@@ -22,3 +23,7 @@ pub record HoldsCandidates (q : QueryValue) (fold : PageFold) (fs : List Feature
 -- the page shows as many features as the query asks for at most
 abbrev pub IsFull : PageFold → Type 0
 IsFull fold = fold.query.now.limit ≤ length fold.features.items
+
+-- features that are selected, and of which all are `behind` the id asked, or none is
+abbrev pub AreHidden : QueryValue → Bool → List FeatureValue → Type 0
+AreHidden q behind fs = All (λ f. (selects q f ≡ true) × (comes_after q.after f ≡ behind)) fs

@@ -1,5 +1,6 @@
 //! A page, made feature by feature.
-ghost use Rattle.std.specs.Prelude.{◌≡◌, ◌≤◌, ◌<◌, IfOk, IsTrue, length, string_bytes};
+ghost use Rattle.std.specs.Prelude.{◌≡◌, ◌≤◌, ◌<◌, ◌||◌, ◌&&◌, nat_lt, IfOk, IsTrue, length};
+ghost use Rattle.std.specs.Prelude.{string_bytes};
 ghost use Rattle.std.specs.Option.{option_map, ForSome};
 ghost use Rattle.streetmap_geojson.specs.Id.{is_id};
 ghost use Rattle.streetmap_ledger.specs.Pages.{last_id};
@@ -31,7 +32,7 @@ impl<'a> PageFold<'a> {
     ghost use Rattle.streetmap_query.specs.Views.{query_value};
     ghost use Rattle.streetmap_ledger.specs.Pages.{page_of, saturated, selects as selects_of, comes_after as comes_after_of, is_candidate as is_candidate_of};
     ghost use Rattle.streetmap_ledger.specs.PageView.{page_value};
-    ghost use Rattle.streetmap_ledger.specs.Folds.{Holds, HoldsCandidates, IsFull};
+    ghost use Rattle.streetmap_ledger.specs.Folds.{Holds, HoldsCandidates, IsFull, AreHidden};
 
     /// Holds the page of no feature.
     pub fn new(alloc: Global, query: &'a Query) -> Self
@@ -119,6 +120,29 @@ impl<'a> PageFold<'a> {
         self.count(true);
     }
 
+    /// Counts so many selected features more.
+    fn add(&mut self, count: u64)
+        ensures matched { self.new.matched ≡ saturated (self.old.matched + count) }
+        ensures examined { self.new.examined ≡ saturated (self.old.examined + count) }
+        ensures query { self.new.query ≡ self.old.query }
+        ensures features { self.new.features ≡ self.old.features }
+        ensures more { self.new.more ≡ self.old.more }
+    {
+        self.matched = self.matched.saturating_add(count);
+        self.examined = self.examined.saturating_add(count);
+    }
+
+    /// Counts the features that come next, `count` of them, which are selected and not shown:
+    /// either all are `behind` the id asked, and the page is full, or none comes after that id.
+    pub fn count_all_hidden(&mut self, count: u64, behind: bool)
+        ensures { (q : QueryValue) (fs gs : List FeatureValue) → Holds q self.old fs →
+            AreHidden q behind gs → length gs ≡ count → (IsTrue behind → IsFull self.old) →
+            Holds q self.new (fs ++ gs) }
+    {
+        self.more = more_after(self.more, behind, count);
+        self.add(count);
+    }
+
     /// Counts the feature that comes next, which is not selected.
     pub fn skip_unselected(&mut self)
         ensures { (q : QueryValue) (fs : List FeatureValue) (f : FeatureValue) → Holds q self.old fs → selects_of q f ≡ false → Holds q self.new (fs ++ f ∷ []) }
@@ -181,6 +205,13 @@ impl<'a> PageFold<'a> {
             examined,
         })
     }
+}
+
+/// Whether more features follow what a page shows, where `count` hidden ones were met more.
+fn more_after(more: bool, behind: bool, count: u64) -> bool
+    ensures { result ≡ (more || (behind && nat_lt 0 count)) }
+{
+    more || (behind && count > 0)
 }
 
 /// The id of the last feature.

@@ -203,6 +203,14 @@ impl Keeper for PlainKeeper {
 
     ghost well_formed = { λ k s stands. stands.sound };
 
+    ghost spares_itself = { λ _. tt };
+
+    ghost spares_then = { λ _ _ _ _ _. tt };
+
+    ghost fails_later = { λ _ _ _ _ _ _. tt };
+
+    ghost fails_still = { λ _ _ _ _ _ _. tt };
+
     fn apply(&mut self, batch: &Batch) -> Result<Reply, Fault> {
         batch.facts();
         match self.apply_batch(batch) {

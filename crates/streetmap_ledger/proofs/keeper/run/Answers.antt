@@ -19,6 +19,7 @@ loop-batch-preserved g c =
       count = search rules;
       room = search rules;
       running = inv.running;
+      spared = g.met.K.Keeper.spares_then _ _ _ inv.spared says.spared;
       clean = λ h. inv.clean (says.began_clean h);
       cause = says.faults.1 ∙ (sym says.faults.0 ∙ inv.cause);
       stands = λ h s e. subst (g.K.Keeper.stands c.apply.new.self) (next s) (says.acts h _ (inv.stands (says.began_clean h) s e)).1;

@@ -13,6 +13,7 @@ invariant-loop-batch g l =
       count : length l.replies.items ≡ l.batch-index;
       room : vec_capacity l.replies ≡ length l.batches;
       running : l.fault ≡ None;
+      spared : k.spares l.fn.keeper l.keeper;
       clean : k.is_clean l.keeper → k.is_clean l.fn.keeper;
       cause : k.cause l.keeper ≡ k.cause l.fn.keeper;
       stands : k.is_clean l.keeper → (s : State) → k.stands l.fn.keeper s → k.stands l.keeper (after_all s (take l.batch-index (map batch_value l.batches)));
