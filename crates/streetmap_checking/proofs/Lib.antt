@@ -1,4 +1,5 @@
 pub mod Compiles
+pub mod Same
 pub mod Seeing
 pub mod Stopping
 pub mod Rising

@@ -1,5 +1,6 @@
 -- Looks, one after the other.
-use Rattle.std.proofs.Common.{◌≡◌, inl, inr, ℕ, List, [], ◌∷◌, ◌++◌, Ok, Err, Result, MatchResult, sym, subst}
+use Rattle.std.proofs.Common.{◌≡◌, ◌≤◌, inl, inr, ℕ, List, [], ◌∷◌, ◌++◌, Ok, Err, Result}
+use Rattle.std.proofs.Common.{MatchResult, sym, subst}
 use Rattle.sqlite.specs.Order.{Row}
 use Rattle.sqlite.specs.State.{State as Seen, IsUnchanged}
 use Rattle.sqlite.proofs.Callers.{unchanged_then}
@@ -11,6 +12,7 @@ use Rattle.streetmap_checking.specs.Telling.{ShowsNone, TellsWhy, Looks, Known, 
 use Rattle.streetmap_checking.specs.Good.{AreFeatureRows}
 use Rattle.streetmap_checking.specs.Statements.{select_features, select_owners, select_batches}
 use Rattle.streetmap_rows.specs.Statements.{select_collections}
+use Rattle.streetmap_rows.proofs.Reasons.{other, reason_on}
 use Rattle.streetmap_checking.proofs.Simple.{features_simple, collections_simple, owners_simple, batches_simple}
 use Rattle.sqlite.specs.declared.types.Value.TheVariants.{Text as Words}
 use Rattle.streetmap_checking.proofs.Seeing.{unchanged_was, was_then, begins_there}
@@ -21,7 +23,7 @@ pub stopped : {F : Type 0} (Holds : F → F → List Row → Type 0) (IsGood : F
     → (old new : Seen) (fault : ReadFault) → Stops Holds IsGood sql params start old new fault → TellsWhy (ShowsNone sql params Good old) old new fault
 stopped Holds IsGood sql params start Good good old new Memory h = h
 stopped Holds IsGood sql params start Good good old new Unread h = (inr (inl (h.0.0, h.0.1, λ later g. h.0.2 later (good (h.0.0 ++ later) g))), h.1)
-stopped Holds IsGood sql params start Good good old new (Store e) h = ((λ other. inl (h.0 other)), h.1)
+stopped Holds IsGood sql params start Good good old new (Store e) h = ((λ other. inl (h.0 other)), h.1, h.2)
 
 module _ (sql : List ℕ) (params : Row) (simple : IsSimple sql) (Good : List Row → Type 0) (a b : Seen) (same : IsUnchanged a b) (limit : b.step_limit ≡ a.step_limit) where
   -- of a connection that was left as it was
@@ -31,16 +33,22 @@ module _ (sql : List ℕ) (params : Row) (simple : IsSimple sql) (Good : List Ro
   none_on (inr (inr h)) = inr (inr (h.0, sees_on sql params simple a b h.0 same h.1, h.2))
 
 -- a fault of a look behind another
-pub fault_on : (why first : Type 0) (a b c : Seen) (fault : ReadFault) → IsUnchanged a b → (first → why) → TellsWhy first b c fault → TellsWhy why a c fault
-fault_on why first a b c Memory same turn h = unchanged_then a b c same h
-fault_on why first a b c Unread same turn h = (turn h.0, unchanged_then a b c same h.1)
-fault_on why first a b c (Store e) same turn h = ((λ other. turn (h.0 other)), was_then a b c same h.1)
+pub fault_on : (why first : Type 0) (a b c : Seen) (fault : ReadFault) → IsUnchanged a b
+    → a.faults ≤ b.faults → b.faults ≤ c.faults → (first → why) → TellsWhy first b c fault
+    → TellsWhy why a c fault
+fault_on why first a b c Memory same before behind turn h = unchanged_then a b c same h
+fault_on why first a b c Unread same before behind turn h = (turn h.0, unchanged_then a b c same h.1)
+fault_on why first a b c (Store e) same before behind turn h = (
+  λ of. turn (h.0 of),
+  was_then a b c same h.1,
+  reason_on a b c e before (λ live. inl same.0.is_open) behind h.2,
+)
 
 -- a fault for another reason
 pub why_for : (why first : Type 0) (a b : Seen) (fault : ReadFault) → (first → why) → TellsWhy first a b fault → TellsWhy why a b fault
 why_for why first a b Memory turn h = h
 why_for why first a b Unread turn h = (turn h.0, h.1)
-why_for why first a b (Store e) turn h = ((λ other. turn (h.0 other)), h.1)
+why_for why first a b (Store e) turn h = ((λ other. turn (h.0 other)), h.1, h.2)
 
 -- a fault that was told by another
 pub handed : {A : Type 0} (Is : A → Type 0) (why : Type 0) (a c : Seen) (r : Result A ReadFault) (fault : ReadFault) → r ≡ Err fault → TellsWhy why a c fault → Looks Is why a c r
@@ -69,7 +77,8 @@ all_features_on (head ∷ heads) count a b same h = (h.0, h.1, features_on head 
 pub stopped_then : (why : Type 0) (old new : Seen) (fault : ReadFault) → IsUnchanged old new → Refuses ⊥ fault → TellsWhy why old new fault
 stopped_then why old new Memory same h = same
 stopped_then why old new Unread same h = absurd h
-stopped_then why old new (Store e) same h = ((λ other. absurd (other h)), unchanged_was old new same)
+stopped_then why old new (Store e) same h =
+    ((λ of. absurd (of h.0)), unchanged_was old new same, other old new e h.1)
 
 pub no_features_all_on : (heads : List Known) (a b : Seen) → IsUnchanged a b → b.step_limit ≡ a.step_limit → NoFeaturesOfAll heads b → NoFeaturesOfAll heads a
 no_features_all_on heads a b same limit h = (h.0, h.1, no_features_on h.0 a b same limit h.2)

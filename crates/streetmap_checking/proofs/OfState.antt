@@ -19,7 +19,7 @@ use Rattle.streetmap_ledger.specs.Batches.{most_batches}
 use Rattle.streetmap_ledger.specs.WellFormed.{IsState}
 use Rattle.streetmap_reading.proofs.ShownOutlines.{collections_at, found_each}
 use Rattle.sqlite.specs.declared.error.Error.{Error}
-use Rattle.streetmap_rows.specs.Failing.{IsOfStore}
+use Rattle.streetmap_rows.specs.Failing.{IsOfStore, HasReason}
 use Rattle.streetmap_reading.specs.declared.fault.ReadFault.{ReadFault}
 use Rattle.streetmap_reading.specs.declared.fault.ReadFault.TheVariants.{Store, Unread}
 use Rattle.streetmap_rows.specs.Keeping.{Rests}
@@ -210,3 +210,8 @@ damaged_told old new fault is h = (subst (TellsWhy (IsDamaged old) old new) is h
 
 pub refused_told : (old new : Seen) (fault : ReadFault) (e : Error) → fault ≡ Store e → TellsWhy (IsDamaged old) old new fault → (IsOfStore e → ⊥) → IsDamaged old
 refused_told old new fault e is h other = (subst (TellsWhy (IsDamaged old) old new) is h).0 other
+
+-- the reason of an error that a look told
+pub refused_for : (old new : Seen) (fault : ReadFault) (e : Error) → fault ≡ Store e
+    → TellsWhy (IsDamaged old) old new fault → HasReason old new e
+refused_for old new fault e is h = (subst (TellsWhy (IsDamaged old) old new) is h).2

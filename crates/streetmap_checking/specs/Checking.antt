@@ -13,7 +13,7 @@ use Rattle.std.specs.FinMap.{len, entries}
 use Rattle.sqlite.specs.State.{State as Seen}
 use Rattle.streetmap_batch.specs.Text.{Text}
 use Rattle.streetmap_ledger.specs.State.{State, Collection}
-use Rattle.streetmap_rows.specs.Failing.{IsOfStore}
+use Rattle.streetmap_rows.specs.Failing.{IsOfStore, HasReason}
 use Rattle.streetmap_rows.specs.Keeping.{Rests}
 use Rattle.streetmap_checking.specs.Telling.{Known, SeesFormat, SeesHeads, SeesAllFeatures, SeesOwners, SeesBatches, NoFormat, NoHeads, NoFeaturesOfAll, NoOwners, NoBatches}
 use Rattle.streetmap_checking.specs.declared.checking.Totals.{Totals}
@@ -66,6 +66,12 @@ ChecksBy seen (Ok totals) = IsOfState totals seen
 ChecksBy seen (Err Damaged) = IsDamaged seen
 ChecksBy seen (Err (Device e)) = IsOfStore e
 ChecksBy seen (Err Memory) = Unit {0}
+
+-- an error of the store that is told came about between these two for a reason
+abbrev pub ChecksFor : Seen → Seen → CheckFault → Type 0
+ChecksFor old new Damaged = Unit {0}
+ChecksFor old new (Device e) = HasReason old new e
+ChecksFor old new Memory = Unit {0}
 
 -- The tables of a state are never damaged: the numbers are its own, and the connection rests at it. But the store may fail, or memory be refused, which changes nothing.
 abbrev pub Checks : State → Seen → Seen → Result Totals CheckFault → Type 0

@@ -5,17 +5,17 @@ use Rattle.sqlite.specs.Store.{Ghosts}
 use Rattle.sqlite.specs.Given.{HasGiven}
 use Rattle.sqlite.specs.Held.{Held, state}
 use Rattle.sqlite.specs.State.{State as Seen, IsUnchanged}
-use Rattle.streetmap_rows.specs.Failing.{IsOfStore}
+use Rattle.streetmap_rows.specs.Failing.{IsOfStore, SparesDisk, HasReason}
 use Rattle.streetmap_reading.specs.declared.fault.ReadFault.{ReadFault}
 use Rattle.streetmap_reading.specs.declared.fault.ReadFault.TheVariants.{Memory, Store, Unread}
 use Rattle.streetmap_opening.specs.Adopting.{IsAsItWas}
 use Rattle.streetmap_checking.specs.Seeing.{IsSimple, Sees, SeesFirst, IsUnseen}
 
--- it gave up for memory or the store, or for this reason
+-- it gave up for memory, or for the store with no word of the disk, or for this reason
 abbrev pub Refuses : Type 0 → ReadFault → Type 0
 Refuses why Memory = Unit {0}
 Refuses why Unread = why
-Refuses why (Store e) = IsOfStore e
+Refuses why (Store e) = IsOfStore e × SparesDisk e
 
 module _ {F : Type 0} (Holds : F → F → List Row → Type 0) (IsGood : F → List Row → Type 0) where
   -- no good rows begin with these
@@ -31,7 +31,8 @@ module _ {F : Type 0} (Holds : F → F → List Row → Type 0) (IsGood : F → 
   abbrev pub Stops : List ℕ → Row → F → Seen → Seen → ReadFault → Type 0
   Stops sql params start old new Memory = IsUnchanged old new
   Stops sql params start old new Unread = ((rows : List Row) × SeesFirst sql params old rows × AreWrong start rows) × IsUnchanged old new
-  Stops sql params start old new (Store e) = ((¬ (IsOfStore e)) → IsUnseen sql params old) × IsAsItWas old new
+  Stops sql params start old new (Store e) =
+      ((¬ (IsOfStore e)) → IsUnseen sql params old) × IsAsItWas old new × HasReason old new e
 
   -- all rows that the query shows were taken
   abbrev pub TakesAll : List ℕ → Row → Seen → Seen → F → F → Result (Unit {0}) ReadFault → Type 0

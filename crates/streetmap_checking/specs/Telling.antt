@@ -5,7 +5,7 @@ use Rattle.sqlite.specs.Order.{Row}
 use Rattle.sqlite.specs.State.{State as Seen, IsUnchanged}
 use Rattle.sqlite_rules.specs.Lists.{Has}
 use Rattle.streetmap_batch.specs.Text.{Text}
-use Rattle.streetmap_rows.specs.Failing.{IsOfStore}
+use Rattle.streetmap_rows.specs.Failing.{IsOfStore, HasReason}
 use Rattle.streetmap_rows.specs.Statements.{select_collections}
 use Rattle.streetmap_reading.specs.declared.fault.ReadFault.{ReadFault}
 use Rattle.streetmap_reading.specs.declared.fault.ReadFault.TheVariants.{Memory, Store, Unread}
@@ -23,7 +23,8 @@ ShowsNone sql params Good seen =
 abbrev pub TellsWhy : Type 0 → Seen → Seen → ReadFault → Type 0
 TellsWhy why old new Memory = IsUnchanged old new
 TellsWhy why old new Unread = why × IsUnchanged old new
-TellsWhy why old new (Store e) = ((¬ (IsOfStore e)) → why) × IsAsItWas old new
+TellsWhy why old new (Store e) =
+    ((¬ (IsOfStore e)) → why) × IsAsItWas old new × HasReason old new e
 
 -- a look that leaves a connection tells this, or why not
 abbrev pub Looks : {A : Type 0} → (A → Type 0) → Type 0 → Seen → Seen → Result A ReadFault → Type 0

@@ -1,12 +1,14 @@
 //! A check of tables.
-ghost use Rattle.std.specs.Prelude.{◌≡◌, false};
+ghost use Rattle.std.specs.Prelude.{◌≡◌, IfErr, false};
 ghost use Rattle.sqlite.specs.Held.{state};
 ghost use Rattle.sqlite.specs.State.{HasCleanDisk, Survives};
 ghost use Rattle.streetmap_ledger.specs.State.{State};
+ghost use Rattle.streetmap_ledger.specs.WellFormed.{IsState};
 ghost use Rattle.streetmap_rows.specs.Keeping.{Rests};
 ghost use Rattle.streetmap_opening.specs.Adopting.{IsAsItWas};
 ghost use Rattle.streetmap_checking.specs.Telling.{Looks};
-ghost use Rattle.streetmap_checking.specs.Checking.{ShowsTotals, IsDamaged, ChecksBy, Checks};
+ghost use Rattle.streetmap_checking.specs.Checking.{ShowsState, ShowsTotals, IsDamaged, ChecksBy, ChecksFor};
+ghost use Rattle.streetmap_checking.specs.Checking.{Checks};
 
 use crate::looks::{
     check_all_features, check_batches, check_collections, check_format, check_owners,
@@ -71,6 +73,8 @@ pub fn check_tables<S: Alter>(alloc: Global, conn: &mut Connection<S>) -> Result
     ensures idle { conn.new.in_transaction ≡ false }
     ensures survives { Survives (state S.Store conn.old) (state S.Store conn.new) (λ _. ⊥) }
     ensures same { HasCleanDisk (state S.Store conn.new) → IsAsItWas (state S.Store conn.old) (state S.Store conn.new) }
+    ensures reason { HasCleanDisk (state S.Store conn.new) →
+        IfErr result (ChecksFor (state S.Store conn.old) (state S.Store conn.new)) }
     ensures tells { HasCleanDisk (state S.Store conn.new) → ChecksBy (state S.Store conn.old) result }
     ensures checks { HasCleanDisk (state S.Store conn.new) → (s : State) → Rests (state S.Store conn.old) s → Checks s (state S.Store conn.old) (state S.Store conn.new) result }
 {
@@ -85,3 +89,10 @@ pub fn check_tables<S: Alter>(alloc: Global, conn: &mut Connection<S>) -> Result
         },
     }
 }
+
+/// A well-formed state whose rows are shown, as those of the state whose numbers a check reports, is the
+/// state that the tables hold, where they hold one.
+pub fn shown_state_is_kept<S: Alter>(conn: &Connection<S>)
+    ensures { (s t : State) → IsState s → ShowsState s (state S.Store conn.now) →
+        Rests (state S.Store conn.now) t → s ≡ t }
+{}

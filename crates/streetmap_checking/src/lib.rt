@@ -20,4 +20,4 @@ mod formats;
 mod looks;
 mod owners;
 
-pub use checking::{CheckFault, Totals, check_tables};
+pub use checking::{CheckFault, Totals, check_tables, shown_state_is_kept};

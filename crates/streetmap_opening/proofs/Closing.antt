@@ -1,17 +1,20 @@
 -- How carrying over ends, and what tables of format 1 tell.
-use Rattle.std.proofs.Common.{◌≡◌, inl, inr, ℕ, ℤ, pos, Option, Some, Result, Ok, Err, IsTrue, refl, sym, ap, subst, ◌∙◌, arith}
+use Rattle.std.proofs.Common.{◌≡◌, inl, inr, ℕ, ℤ, pos, Option, Some, Result, Ok, Err, IfErr}
+use Rattle.std.proofs.Common.{IsTrue}
+use Rattle.std.proofs.Common.{refl, sym, ap, subst, ◌∙◌, arith}
 use Rattle.std.proofs.lemmas.Int.{ints}
 use Rattle.sqlite.specs.State.{State as Seen, KeepsCommit, IsRolledBack}
 use Rattle.streetmap_ledger.specs.State.{State}
 use Rattle.streetmap_rows.proofs.Finding.{IsFound, is_found}
-use Rattle.streetmap_rows.specs.Tables.{meta, meta_name, batches, batches_name}
+use Rattle.streetmap_rows.specs.Tables.{meta, meta_name}
 use Rattle.streetmap_opening.specs.Making.{HasSame}
-use Rattle.streetmap_opening.specs.Adopting.{LeavesTheSame}
+use Rattle.streetmap_opening.specs.Adopting.{LeavesNoMore, LeavesTheSame}
 use Rattle.streetmap_opening.specs.Telling.{TellsFormat, TellsNothing, AdoptsBy, format_in}
 use Rattle.streetmap_opening.specs.declared.adopting.AdoptFault.TheVariants as adopting
-use Rattle.streetmap_opening.proofs.Reading.{format_seen, format_unrefused, serials_unrefused}
+use Rattle.streetmap_opening.proofs.Reading.{format_seen, format_unrefused}
 use Rattle.streetmap_opening.specs.Old.{KeepsOld, RestsOld}
 use Rattle.streetmap_opening.specs.Carrying.{IsToldOld, IsHeldBack, IsRefusedOld, Carries}
+use Rattle.streetmap_opening.specs.Carrying.{IsNamedFault, KeepsNoMore}
 use Rattle.streetmap_opening.specs.Part.{IsSpared}
 use Rattle.streetmap_reading.specs.declared.fault.ReadFault.{ReadFault}
 use Rattle.streetmap_reading.specs.declared.fault.ReadFault.TheVariants as read
@@ -59,27 +62,37 @@ carries_on s old mid new (Err Damaged) now same h = h
 carries_on s old mid new (Err (Device e)) now same h = (subst (λ (d : Database). IsToldOld d.schema e) now h.0, h.1)
 carries_on s old mid new (Err Memory) now same h = (h.0, (λ trees may. same.0 trees (h.1.0 trees may), λ trees may. h.1.1 trees (same.1 trees may)))
 
+-- a refusal after a look that leaves no more to a stop
+pub fewer_on : (old mid new : Seen) (r : Result ℕ TablesFault) → IfErr r IsNamedFault
+    → IfErr r (λ fault. fault ≡ Damaged → LeavesNoMore mid new) → LeavesNoMore old mid
+    → IfErr r (λ fault. KeepsNoMore fault old new)
+fewer_on old mid new (Ok count) named fewer before = tt
+fewer_on old mid new (Err NotOurs) named fewer before = absurd named
+fewer_on old mid new (Err NewFormat) named fewer before = absurd named
+fewer_on old mid new (Err Damaged) named fewer before = λ trees may. before trees (fewer refl trees may)
+fewer_on old mid new (Err (Device e)) named fewer before = tt
+fewer_on old mid new (Err Memory) named fewer before = tt
+
 -- ---- what the looks tell of tables of format 1
 
 module _ (seen : Seen) (s : State) (rests : RestsOld seen s) where
   in_meta : IsFound seen.now.schema meta_name (meta rests.kept.roots.meta)
   in_meta = is_found seen.now meta_name (meta rests.kept.roots.meta) rests.kept.sound rests.kept.ours.room.apart rests.kept.ours.meta_is
 
-  in_batches : IsFound seen.now.schema batches_name (batches rests.kept.roots.batches)
-  in_batches = is_found seen.now batches_name (batches rests.kept.roots.batches) rests.kept.sound rests.kept.ours.room.apart rests.kept.ours.batches_is
-
   pub old_format : (format : Option ℤ) → TellsFormat seen format → format ≡ Some (pos 1)
   old_format format told = sym told.2 ∙ ap format_in (format_seen seen seen rests.kept.roots.meta in_meta (pos 1) rests.kept.of.format told.0 told.1).0
 
   never_refused : TellsNothing seen → ⊥
-  never_refused (inl it) = it.1 (format_unrefused seen seen rests.kept.roots.meta in_meta rests.unlimited it.0 (inl it.2))
-  never_refused (inr it) = it.1 (serials_unrefused seen seen rests.kept.roots.batches in_batches rests.unlimited it.0 (inl it.2))
+  never_refused it = it.1 (format_unrefused seen seen rests.kept.roots.meta in_meta rests.unlimited it.0 (inl it.2))
 
   pub never_counted : (count : ℕ) → AdoptsBy seen (Ok count) → ⊥
   never_counted count told = let wrong : Some (pos 2) ≡ Some (pos 1) = old_format (Some (pos 2)) told.0 in absurd (cc)
 
+  pub never_lost : AdoptsBy seen (Err adopting.Damaged) → ⊥
+  never_lost told = let wrong : Some (pos 2) ≡ Some (pos 1) = old_format (Some (pos 2)) told.0 in absurd (cc)
+
   pub never_foreign : AdoptsBy seen (Err adopting.NotOurs) → ⊥
-  never_foreign (inl it) = it.1.0 (old_format it.0 it.2)
+  never_foreign (inl it) = let below = it.1 (pos 1) (old_format it.0 it.2) in omega (arith, ints, below)
   never_foreign (inr it) = never_refused it
 
   pub never_new : AdoptsBy seen (Err adopting.NewFormat) → ⊥

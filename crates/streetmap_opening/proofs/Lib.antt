@@ -18,6 +18,7 @@ pub mod Others
 pub mod Parts
 pub mod PutFormat
 pub mod Reading
+pub mod Reasons
 pub mod Refusals
 pub mod Refused
 pub mod Remade

@@ -6,7 +6,7 @@ use Rattle.streetmap_rows.specs.Keeping.{Keeps, Rests}
 use Rattle.streetmap_opening.specs.Making.{HasSame}
 use Rattle.streetmap_opening.specs.Adopting.{IsAsItWas}
 use Rattle.streetmap_opening.specs.declared.adopting.Found.{Found}
-use Rattle.streetmap_opening.specs.declared.adopting.Found.TheVariants.{Keys, Other}
+use Rattle.streetmap_opening.specs.declared.adopting.Found.TheVariants.{Keys, Unread, Other}
 
 -- it rests where it has the database that it had
 pub rests_same : (old new : Seen) (s : State) → Rests old s → HasSame old new → new.step_limit ≡ old.step_limit → IsTrue new.is_open → Rests new s
@@ -31,6 +31,7 @@ same_settled old mid new was kept after settled live =
 
 counted : Found → ℕ
 counted (Keys n) = n
+counted Unread = 0
 counted (Other format) = 0
 
 pub one_count : (found : Found) (a b : ℕ) → found ≡ Keys a → found ≡ Keys b → a ≡ b

@@ -15,7 +15,9 @@ use Rattle.streetmap_rows.specs.Holds.{KeyPair, same_text}
 use Rattle.streetmap_rows.proofs.Keys.{one_text, text_is}
 use Rattle.streetmap_rows.specs.Rows.{feature_at}
 use Rattle.streetmap_opening.specs.Old.{old_cells}
-use Rattle.streetmap_opening.specs.Part.{bare, emptied, pair_in, AreRowsOf, Lacks}
+use Rattle.sqlite.specs.Store.{Ghosts}
+use Rattle.sqlite.specs.Held.{Held}
+use Rattle.streetmap_opening.specs.Part.{PutsEach, bare, emptied, pair_in, AreRowsOf, Lacks}
 use Rattle.streetmap_opening.proofs.OldRows.{is_pair, pair_same, pair_own}
 use Rattle.streetmap_opening.proofs.Remade.{get_emptied, no_feature}
 
@@ -183,3 +185,7 @@ put_is property id f g it h = same_feature f g (sym (timed_is property id f it) 
 
 pub never_untimed : (property : Option Text) (id : Text) (f : FeatureValue) (why : Refusal) → IsPlaced property id f → timed property f ≡ Err why → ⊥
 never_untimed property id f why it h = absurd (let e = sym (timed_is property id f it) ∙ h in cc)
+
+-- what is put in for the rows that are left completes what was put in for all of them
+abbrev pub Continues : {S : Type 0} → Ghosts S → List Row → List Row → Held S → Held S → Type 0
+Continues {S} g rows left start now = (last : Held S) → PutsEach g left now last → PutsEach g rows start last

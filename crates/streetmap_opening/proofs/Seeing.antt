@@ -69,6 +69,12 @@ module _ (text : List ℕ) (it : IsBare text) where
       lists (Ok k) at e = subst Plain (picked (is_select k.command) k e) (compiled_plain listing_schema k at)
       lists (Err why) at e = absurd (cc)
 
+  -- a query leaves a connection as it was
+  pub leaves_unchanged : (params : Row) (old new : Seen) (rows : List Row)
+      → Shown text params old new rows → IsUnchanged old new
+  unfolding Shown
+  leaves_unchanged params old new rows h = (subst (ShowsRows old new text h.0 _ rows) (query_plain old.now.schema h.0 h.1.is).0 h.2).3
+
   -- ---- of one connection as of another with the same database
 
   module _ (mid end old : Seen) (same : mid.now ≡ old.now) where

@@ -15,7 +15,9 @@ use Rattle.streetmap_opening.specs.Making.{HasSame}
 use Rattle.streetmap_opening.specs.declared.adopting.Found.{Found}
 use Rattle.streetmap_opening.specs.declared.adopting.Found.TheVariants.{Keys}
 use Rattle.streetmap_opening.specs.declared.adopting.AdoptFault.{AdoptFault}
-use Rattle.streetmap_opening.specs.declared.adopting.AdoptFault.TheVariants.{NotOurs, OldFormat, NewFormat, Device, Memory}
+use Rattle.streetmap_opening.specs.declared.adopting.AdoptFault.TheVariants.{NotOurs, OldFormat}
+use Rattle.streetmap_opening.specs.declared.adopting.AdoptFault.TheVariants.{NewFormat, Damaged}
+use Rattle.streetmap_opening.specs.declared.adopting.AdoptFault.TheVariants.{Device, Memory}
 
 -- the serials of all batches
 abbrev pub serials_text : List ℕ
@@ -44,7 +46,12 @@ StaysOpen new (Err OldFormat) = IsTrue new.is_open
 StaysOpen new (Err Memory) = IsTrue new.is_open
 StaysOpen new (Err NotOurs) = Unit {0}
 StaysOpen new (Err NewFormat) = Unit {0}
+StaysOpen new (Err Damaged) = Unit {0}
 StaysOpen new (Err (Device e)) = Unit {0}
+
+-- a stop may leave no more than before
+abbrev pub LeavesNoMore : Seen → Seen → Type 0
+LeavesNoMore old new = (trees : Trees) → new.may_leave trees → old.may_leave trees
 
 -- a stop may leave the same
 abbrev pub LeavesTheSame : Seen → Seen → Type 0
@@ -58,3 +65,4 @@ Adopts s old new (Err (Device e)) = IsTrue new.is_open → Rests new s
 Adopts s old new (Err NotOurs) = ⊥
 Adopts s old new (Err OldFormat) = ⊥
 Adopts s old new (Err NewFormat) = ⊥
+Adopts s old new (Err Damaged) = ⊥

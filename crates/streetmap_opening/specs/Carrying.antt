@@ -17,8 +17,9 @@ use Rattle.streetmap_reading.specs.declared.fault.ReadFault.{ReadFault}
 use Rattle.streetmap_reading.specs.declared.fault.ReadFault.TheVariants as read
 use Rattle.streetmap_opening.specs.Making.{KeepsOtherTables, HasSame}
 use Rattle.streetmap_opening.specs.Refusing.{IsFullFor}
-use Rattle.streetmap_opening.specs.Adopting.{LeavesTheSame, IsAsItWas}
-use Rattle.streetmap_opening.specs.Telling.{TellsFormat, TellsKeys, TellsFault, TellsNothing}
+use Rattle.streetmap_opening.specs.Adopting.{LeavesNoMore, LeavesTheSame, IsAsItWas}
+use Rattle.streetmap_opening.specs.Telling.{TellsFormat, TellsKeys, LosesKeys, TellsFault}
+use Rattle.streetmap_opening.specs.Telling.{TellsNothing}
 use Rattle.streetmap_opening.specs.declared.adopting.AdoptFault.TheVariants as adopting
 use Rattle.streetmap_opening.specs.Old.{WereOurs, KeepsOld, RestsOld}
 use Rattle.streetmap_opening.specs.Part.{emptied}
@@ -77,6 +78,15 @@ IsNamedFault Memory = Unit {0}
 IsNamedFault NotOurs = ⊥
 IsNamedFault NewFormat = ⊥
 
+-- A refusal that blames the tables leaves no more to a stop than before. After a failure of the
+-- store that may be so only while the connection is open: a commit may have failed.
+abbrev pub KeepsNoMore : TablesFault → Seen → Seen → Type 0
+KeepsNoMore NotOurs old new = LeavesNoMore old new
+KeepsNoMore NewFormat old new = LeavesNoMore old new
+KeepsNoMore Damaged old new = LeavesNoMore old new
+KeepsNoMore (Device e) old new = Unit {0}
+KeepsNoMore Memory old new = Unit {0}
+
 -- it tells why tables of this schema, which are those of a state in format 1, are not carried over
 abbrev pub IsRefusedOld : Schema → TablesFault → Type 0
 IsRefusedOld schema (Device e) = IsToldOld schema e
@@ -109,6 +119,6 @@ abbrev pub OpensBy : Seen → Result ℕ TablesFault → Type 0
 OpensBy seen (Ok count) = TellsKeys seen count ⊎ IsOld seen
 OpensBy seen (Err NotOurs) = TellsFault seen adopting.NotOurs ⊎ TellsNothing seen
 OpensBy seen (Err NewFormat) = TellsFault seen adopting.NewFormat
-OpensBy seen (Err Damaged) = IsOld seen
+OpensBy seen (Err Damaged) = IsOld seen ⊎ LosesKeys seen
 OpensBy seen (Err (Device e)) = IsOfStore e ⊎ IsOld seen
 OpensBy seen (Err Memory) = Unit {0}

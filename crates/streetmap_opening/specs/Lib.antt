@@ -5,5 +5,6 @@ pub mod Made
 pub mod Making
 pub mod Old
 pub mod Part
+pub mod Reasons
 pub mod Refusing
 pub mod Telling

@@ -1,5 +1,6 @@
 -- A state whose features are put in one after the other.
-use Rattle.std.specs.Prelude.{◌≡◌, ◌≢◌, ◌⊎◌, List, ◌∷◌, map, Option, None, Some, option_map, Result, Vec, String, string_bytes, MatchResult, IsTrue}
+use Rattle.std.specs.Prelude.{◌≡◌, ◌≢◌, ◌⊎◌, ℕ, codes, List, [], ◌∷◌, map, Option, None, Some}
+use Rattle.std.specs.Prelude.{option_map, Result, Vec, String, string_bytes, MatchResult, IsTrue}
 use Rattle.std.specs.List.{AllByRecursion}
 use Rattle.std.specs.FinMap.{get, empty, entries, from_entries}
 use Rattle.std.specs.declared.alloc.Global.{Global}
@@ -12,13 +13,18 @@ use Rattle.streetmap_batch.specs.Text.{Text}
 use Rattle.streetmap_ledger.specs.State.{State, Collection}
 use Rattle.streetmap_ledger.specs.WellFormed.{IsState}
 use Rattle.streetmap_rows.specs.Failing.{IsOfStore}
+use Rattle.sqlite.specs.Store.{Ghosts}
+use Rattle.sqlite.specs.Held.{Held, state}
+use Rattle.streetmap_rows.specs.Calls.{RanInsert}
 use Rattle.streetmap_rows.specs.Holds.{KeyPair}
-use Rattle.streetmap_rows.specs.Rows.{feature_at}
+use Rattle.streetmap_reading.specs.Candidates.{TextReadsAs}
+use Rattle.streetmap_rows.specs.Rows.{feature_at, feature_text}
 use Rattle.streetmap_rows.specs.Stands.{StandsFor}
 use Rattle.streetmap_rows.specs.Elsewhere.{IsSameElsewhere}
 use Rattle.streetmap_reading.specs.declared.fault.ReadFault.{ReadFault}
 use Rattle.streetmap_reading.specs.declared.fault.ReadFault.TheVariants.{Memory, Store, Unread}
 use Rattle.streetmap_opening.specs.Old.{KeepsOld, old_cells}
+use Rattle.streetmap_opening.specs.Telling.{Sees}
 
 -- a collection, or a state, without its features
 abbrev pub bare : Collection → Collection
@@ -30,6 +36,10 @@ emptied s = record s { collections = from_entries (map (λ e. (e.0, bare e.1)) (
 -- the collection and the id in a row of format 1
 abbrev pub pair_in : Row → KeyPair
 pair_in r = (bytes (column r 0), bytes (column r 1))
+
+-- and the text of the feature
+abbrev pub body_in : Row → Text
+body_in r = bytes (column r 2)
 
 -- it is the row of a feature of the state
 abbrev pub IsRowOf : State → Row → Type 0
@@ -77,3 +87,30 @@ abbrev pub PutsRows : List Row → Seen → Seen → Result (Unit {0}) ReadFault
 PutsRows rows old new result =
     old.step_limit ≡ None → IsTrue old.in_transaction → (s t : State) → IsState s → StandsFor t old.now → Lacks rows s t
     → MatchResult result (λ _. StandsFor s new.now × IsSameElsewhere old.now new.now) IsSpared
+
+-- the rows of the features in format 1
+abbrev pub old_rows_text : List ℕ
+old_rows_text = codes "SELECT collection, id, body FROM streetmap_features"
+
+module _ {S : Type 0} (g : Ghosts S) where
+  -- For this row of format 1 a row was inserted into the features, under the same collection and
+  -- the same id, with the text that is written of the feature that its text reads as; and nothing
+  -- else was written.
+  abbrev pub PutsOne : Row → Held S → Held S → Type 0
+  PutsOne r old new =
+      (property : Option Text) × (f : FeatureValue) × TextReadsAs property (body_in r) f
+      × ((mid : Held S) × ((state g mid).now ≡ (state g old).now)
+      × RanInsert (pair_in r) (feature_text f) (state g mid) (state g new))
+
+  -- so it was for each of these rows of format 1, one after the other
+  abbrev pub PutsEach : List Row → Held S → Held S → Type 0
+  PutsEach [] old new = (state g new).now ≡ (state g old).now
+  PutsEach (r ∷ rows) old new = (mid : Held S) × PutsOne r old mid × PutsEach rows mid new
+
+  -- of each row that the query of the old features shows a row was inserted into the new ones,
+  -- with its text
+  abbrev pub HasCarried : Held S → Held S → Type 0
+  HasCarried old new =
+      (rows : List Row) × Sees old_rows_text (state g old) rows
+      × (begun : Held S) × (last : Held S) × PutsEach rows begun last
+      × ((state g new).now ≡ (state g last).now)

@@ -8,7 +8,8 @@ use Rattle.sqlite.specs.declared.error.ErrorCode.TheVariants.{NameTaken, SchemaT
 use Rattle.sqlite_schema.specs.declared.schema.Index.{Index}
 use Rattle.sqlite_catalog.specs.Change.{next_tree, is_used, automatics}
 use Rattle.sqlite_rules.specs.Lists.{Has}
-use Rattle.streetmap_rows.specs.Failing.{IsOfStore}
+use Rattle.sqlite.specs.State.{State as Seen}
+use Rattle.streetmap_rows.specs.Failing.{IsOfStore, HasReason}
 use Rattle.streetmap_opening.specs.declared.making.MakeFault.{MakeFault}
 use Rattle.streetmap_opening.specs.declared.making.MakeFault.TheVariants.{Taken, Device, Memory}
 use Rattle.streetmap_rows.specs.Tables.{meta, meta_text, collections, collections_text, batches, batches_text, features, features_text}
@@ -45,3 +46,9 @@ abbrev pub IsTold : Schema → MakeFault → Type 0
 IsTold schema Taken = Unit {0}
 IsTold schema (Device e) = IsToldFor our_tables schema e
 IsTold schema Memory = Unit {0}
+
+-- an error of the store that is told came about between these two for a reason
+abbrev pub IsReasoned : Seen → Seen → MakeFault → Type 0
+IsReasoned old new Taken = Unit {0}
+IsReasoned old new (Device e) = HasReason old new e
+IsReasoned old new Memory = Unit {0}

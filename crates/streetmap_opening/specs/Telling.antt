@@ -1,5 +1,6 @@
 -- What the looks at the format row and at the batches tell of any tables.
-use Rattle.std.specs.Prelude.{◌≡◌, ◌≢◌, ◌⊎◌, ℕ, ℤ, pos, ◌<ℤ◌, ◌≤ℤ◌, List, [], length, Option, Some, None, Result, Ok, Err, Vec, slice_get, option_and_then}
+use Rattle.std.specs.Prelude.{◌≡◌, ◌≢◌, ◌⊎◌, ℕ, ℤ, pos, ◌<ℤ◌, List, [], length, Option, Some, None}
+use Rattle.std.specs.Prelude.{Result, Ok, Err, Vec, slice_get, option_and_then}
 use Rattle.std.specs.declared.alloc.Global.{Global}
 use Rattle.sqlite.specs.Order.{Row, column}
 use Rattle.sqlite.specs.declared.error.Error.{Error}
@@ -10,9 +11,11 @@ use Rattle.streetmap_rows.specs.Failing.{IsOfStore}
 use Rattle.streetmap_rows.specs.Statements.{select_format}
 use Rattle.streetmap_opening.specs.Adopting.{serials_text}
 use Rattle.streetmap_opening.specs.declared.adopting.Found.{Found}
-use Rattle.streetmap_opening.specs.declared.adopting.Found.TheVariants.{Keys, Other}
+use Rattle.streetmap_opening.specs.declared.adopting.Found.TheVariants.{Keys, Unread, Other}
 use Rattle.streetmap_opening.specs.declared.adopting.AdoptFault.{AdoptFault}
-use Rattle.streetmap_opening.specs.declared.adopting.AdoptFault.TheVariants.{NotOurs, OldFormat, NewFormat, Device, Memory}
+use Rattle.streetmap_opening.specs.declared.adopting.AdoptFault.TheVariants.{NotOurs, OldFormat}
+use Rattle.streetmap_opening.specs.declared.adopting.AdoptFault.TheVariants.{NewFormat, Damaged}
+use Rattle.streetmap_opening.specs.declared.adopting.AdoptFault.TheVariants.{Device, Memory}
 
 -- the number in a cell, where it is one
 abbrev pub number : Value → Option ℤ
@@ -44,21 +47,28 @@ TellsFormat seen format = (rows : List Row) × Sees select_format seen rows × (
 abbrev pub TellsKeys : Seen → ℕ → Type 0
 TellsKeys seen count = TellsFormat seen (Some (pos 2)) × ((rows : List Row) × Sees serials_text seen rows × (count ≡ length rows))
 
--- one of the two looks is refused
+-- the look at the format row is refused
 abbrev pub TellsNothing : Seen → Type 0
-TellsNothing seen = IsUnseen select_format seen ⊎ IsUnseen serials_text seen
+TellsNothing seen = IsUnseen select_format seen
+
+-- the tables are of format 2, and the look at the batches is refused
+abbrev pub LosesKeys : Seen → Type 0
+LosesKeys seen = TellsFormat seen (Some (pos 2)) × IsUnseen serials_text seen
 
 -- what was found is what the looks tell
 abbrev pub IsFoundIn : Seen → Result Found Error → Type 0
 IsFoundIn seen (Ok (Keys count)) = TellsKeys seen count
-IsFoundIn seen (Ok (Other format)) = TellsFormat seen format
+IsFoundIn seen (Ok Unread) = LosesKeys seen
+IsFoundIn seen (Ok (Other format)) = TellsFormat seen format × (format ≢ Some (pos 2))
 IsFoundIn seen (Err e) = (¬ (IsOfStore e)) → TellsNothing seen
 
--- why tables of a format are not opened: format 1 is old, one above 2 is new, and any other or none is not ours
+-- why tables of a format are not opened: format 1 is old, one above 2 is new, and none or one below
+-- 1 is not ours
 abbrev pub IsRefusedFor : Option ℤ → AdoptFault → Type 0
 IsRefusedFor format OldFormat = format ≡ Some (pos 1)
 IsRefusedFor format NewFormat = (n : ℤ) × (format ≡ Some n) × (pos 2 <ℤ n)
-IsRefusedFor format NotOurs = (format ≢ Some (pos 1)) × ((n : ℤ) → format ≡ Some n → n ≤ℤ pos 2)
+IsRefusedFor format NotOurs = (n : ℤ) → format ≡ Some n → n <ℤ pos 1
+IsRefusedFor format Damaged = ⊥
 IsRefusedFor format (Device e) = ⊥
 IsRefusedFor format Memory = ⊥
 
@@ -72,5 +82,6 @@ AdoptsBy seen (Ok count) = TellsKeys seen count
 AdoptsBy seen (Err NotOurs) = TellsFault seen NotOurs ⊎ TellsNothing seen
 AdoptsBy seen (Err OldFormat) = TellsFault seen OldFormat
 AdoptsBy seen (Err NewFormat) = TellsFault seen NewFormat
+AdoptsBy seen (Err Damaged) = LosesKeys seen
 AdoptsBy seen (Err (Device e)) = IsOfStore e
 AdoptsBy seen (Err Memory) = Unit {0}

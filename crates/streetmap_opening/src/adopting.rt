@@ -1,8 +1,10 @@
 //! Opening tables that are there: the format row is read, and a row for each accepted batch.
-ghost use Rattle.std.specs.Prelude.{◌≡◌, false, IsTrue, OnOk};
+ghost use Rattle.std.specs.Prelude.{◌≡◌, ◌≢◌, IfErr, MatchResult, Some, pos, false, IsTrue, OnOk};
 ghost use Rattle.sqlite.specs.Held.{state};
 ghost use Rattle.sqlite.specs.State.{HasCleanDisk, KeepsCommit, Survives};
 ghost use Rattle.streetmap_ledger.specs.State.{State};
+ghost use Rattle.streetmap_rows.specs.Failing.{HasReason, IsOfStore};
+ghost use Rattle.streetmap_opening.specs.Reasons.{AdoptsFor};
 ghost use Rattle.streetmap_rows.specs.Keeping.{Rests};
 ghost use Rattle.streetmap_rows.specs.Statements.{select_format};
 ghost use Rattle.streetmap_opening.specs.Adopting.{serials_text, FindsFormat, FindsSerials, FindsKeys, IsAsItWas, StaysOpen, Adopts};
@@ -10,7 +12,7 @@ ghost use Rattle.streetmap_opening.specs.Telling.{format_in, LooksAt, IsFoundIn,
 
 use sqlite::types::ValueRef;
 use sqlite::{Alter, Connection, Error, Row, Transaction};
-use streetmap_rows::{Shut, Stop, probe, settle};
+use streetmap_rows::{Shut, Stop, is_of_store, probe, settle};
 
 /// Why tables were not opened.
 #[derive(Debug, Drop)]
@@ -21,6 +23,8 @@ pub enum AdoptFault {
     OldFormat,
     /// The format is above 2.
     NewFormat,
+    /// The format is 2, and the look at the batches is refused.
+    Damaged,
     /// The store failed, or has no room: the error that told it.
     Device(Error),
     /// Memory was refused.
@@ -32,12 +36,17 @@ pub enum AdoptFault {
 enum Found {
     /// Format 2, with so many keys.
     Keys(u64),
+    /// Format 2, but the look at the batches is refused.
+    Unread,
     /// Another format, or no format row.
     Other(Option<i64>),
 }
 
 /// The values of the format row.
+#[tactic(auto, using(streetmap_rows::proofs::Reasons::queried_inside))]
 fn read_format<S: Alter>(tx: &mut Transaction<'_, S>) -> Result<Vec<Row>, Error>
+    ensures reason { HasCleanDisk (state S.Store tx.new.conn.now) →
+        IfErr result (HasReason (state S.Store tx.old.conn.now) (state S.Store tx.new.conn.now)) }
     ensures same_reference { tx.new.conn.ghost_name ≡ tx.old.conn.ghost_name }
     ensures finds { HasCleanDisk (state S.Store tx.new.conn.now) → FindsFormat (state S.Store tx.old.conn.now) (state S.Store tx.new.conn.now) result }
     ensures tells { HasCleanDisk (state S.Store tx.new.conn.now) → LooksAt select_format (state S.Store tx.old.conn.now) (state S.Store tx.new.conn.now) result }
@@ -52,7 +61,10 @@ fn read_format<S: Alter>(tx: &mut Transaction<'_, S>) -> Result<Vec<Row>, Error>
 }
 
 /// The serials of all batches, a row for each.
+#[tactic(auto, using(streetmap_rows::proofs::Reasons::queried_inside))]
 pub fn read_serials<S: Alter>(tx: &mut Transaction<'_, S>) -> Result<Vec<Row>, Error>
+    ensures reason { HasCleanDisk (state S.Store tx.new.conn.now) →
+        IfErr result (HasReason (state S.Store tx.old.conn.now) (state S.Store tx.new.conn.now)) }
     ensures same_reference { tx.new.conn.ghost_name ≡ tx.old.conn.ghost_name }
     ensures finds { HasCleanDisk (state S.Store tx.new.conn.now) → FindsSerials (state S.Store tx.old.conn.now) result }
     ensures tells { HasCleanDisk (state S.Store tx.new.conn.now) → LooksAt serials_text (state S.Store tx.old.conn.now) (state S.Store tx.new.conn.now) result }
@@ -76,8 +88,24 @@ fn format_of(rows: &[Row]) -> Option<i64>
     }
 }
 
+/// What is found where the look at the batches met an error: nothing, where the store failed, and
+/// else that it is refused.
+fn unread_by(error: Error) -> Result<Found, Error>
+    ensures { MatchResult result
+        (λ found. (found ≡ Found.Unread) × ¬ (IsOfStore error))
+        (λ e. (e ≡ error) × IsOfStore error) }
+{
+    if is_of_store(error) {
+        Err(error)
+    } else {
+        Ok(Found::Unread)
+    }
+}
+
 /// The format and, where it is 2, the number of keys.
 fn look_inside<S: Alter>(tx: &mut Transaction<'_, S>) -> Result<Found, Error>
+    ensures reason { HasCleanDisk (state S.Store tx.new.conn.now) →
+        IfErr result (HasReason (state S.Store tx.old.conn.now) (state S.Store tx.new.conn.now)) }
     ensures same_reference { tx.new.conn.ghost_name ≡ tx.old.conn.ghost_name }
     ensures finds { HasCleanDisk (state S.Store tx.new.conn.now) → FindsKeys (state S.Store tx.old.conn.now) result }
     ensures tells { HasCleanDisk (state S.Store tx.new.conn.now) → IsFoundIn (state S.Store tx.old.conn.now) result }
@@ -89,13 +117,17 @@ fn look_inside<S: Alter>(tx: &mut Transaction<'_, S>) -> Result<Found, Error>
         Some(2) => {}
         other => return Ok(Found::Other(other)),
     }
-    let serials = read_serials(tx)?;
-    Ok(Found::Keys(serials.len() as u64))
+    match read_serials(tx) {
+        Ok(serials) => Ok(Found::Keys(serials.len() as u64)),
+        Err(error) => unread_by(error),
+    }
 }
 
 /// The same, in a transaction that is undone: whatever the connection holds, it is as it was.
 fn look_alone<S: Alter>(conn: &mut Connection<S>) -> Result<Found, Error>
     requires { conn.old.in_transaction ≡ false }
+    ensures reason { HasCleanDisk (state S.Store conn.new) →
+        IfErr result (HasReason (state S.Store conn.old) (state S.Store conn.new)) }
     ensures idle { conn.new.in_transaction ≡ false }
     ensures survives { Survives (state S.Store conn.old) (state S.Store conn.new) (λ _. ⊥) }
     ensures same { HasCleanDisk (state S.Store conn.new) → IsAsItWas (state S.Store conn.old) (state S.Store conn.new) }
@@ -110,7 +142,7 @@ fn look_alone<S: Alter>(conn: &mut Connection<S>) -> Result<Found, Error>
 
 /// Why tables of another format are not opened.
 fn refusal_of(format: Option<i64>) -> AdoptFault
-    ensures { IsRefusedFor format result }
+    ensures { format ≢ Some (pos 2) → IsRefusedFor format result }
 {
     match format {
         Some(1) => AdoptFault::OldFormat,
@@ -126,13 +158,16 @@ fn refusal_of(format: Option<i64>) -> AdoptFault
 ///
 /// # Errors
 ///
-/// `OldFormat` for format 1 and `NewFormat` for a format above 2; `NotOurs` for any other, where there
-/// is no format row, and where a look at it or at the batches is refused; `Memory` where memory was
-/// refused and the connection is open; `Device` where the store fails, by its error. That the connection
-/// is open is found out by `probe`, before the batches or format 1 are told and after memory was refused:
-/// where memory is refused to that look too, it is `Device`, by that error.
+/// `OldFormat` for format 1 and `NewFormat` for a format above 2; `NotOurs` for any other, where
+/// there is no format row, and where the look at it is refused; `Damaged` where the format is 2 and
+/// the look at the batches is refused; `Memory` where memory was refused and the connection is
+/// open; `Device` where the store fails, by its error. That the connection is open is found out by
+/// `probe`, before the batches or format 1 are told and after memory was refused: where memory is
+/// refused to that look too, it is `Device`, by that error.
 pub fn adopt_tables<S: Alter>(conn: &mut Connection<S>) -> Result<u64, AdoptFault>
     requires { conn.old.in_transaction ≡ false }
+    ensures reason { HasCleanDisk (state S.Store conn.new) →
+        IfErr result (AdoptsFor (state S.Store conn.old) (state S.Store conn.new)) }
     ensures idle { conn.new.in_transaction ≡ false }
     ensures survives { Survives (state S.Store conn.old) (state S.Store conn.new) (λ _. ⊥) }
     ensures same { HasCleanDisk (state S.Store conn.new) → IsAsItWas (state S.Store conn.old) (state S.Store conn.new) }
@@ -145,6 +180,7 @@ pub fn adopt_tables<S: Alter>(conn: &mut Connection<S>) -> Result<u64, AdoptFaul
             Ok(()) => Ok(count),
             Err(error) => Err(AdoptFault::Device(error)),
         },
+        Ok(Found::Unread) => Err(AdoptFault::Damaged),
         Ok(Found::Other(Some(1))) => match probe(conn) {
             Ok(()) => Err(AdoptFault::OldFormat),
             Err(error) => Err(AdoptFault::Device(error)),

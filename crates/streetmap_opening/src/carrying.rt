@@ -5,9 +5,11 @@ ghost use Rattle.sqlite.specs.State.{HasCleanDisk, KeepsCommit, Survives};
 ghost use Rattle.sqlite.specs.Schema.{Schema};
 ghost use Rattle.sqlite.specs.View.{doubt};
 ghost use Rattle.streetmap_ledger.specs.State.{State};
-ghost use Rattle.streetmap_opening.specs.Adopting.{IsAsItWas};
+ghost use Rattle.streetmap_opening.specs.Adopting.{IsAsItWas, LeavesNoMore};
 ghost use Rattle.streetmap_opening.specs.Making.{KeepsOtherTables};
 ghost use Rattle.streetmap_opening.specs.Old.{RestsOld};
+ghost use Rattle.streetmap_opening.specs.Reasons.{IsOwn, HasReasonIn, TellsFor, OpensFor};
+ghost use Rattle.streetmap_opening.specs.Part.{HasCarried};
 ghost use Rattle.streetmap_opening.specs.Carrying.{IsHeldBack, IsRefusedOld, CarriesInside, CarriesAlone, MayCarry, Carries, IsNamedFault};
 
 use crate::adopting::read_serials;
@@ -21,8 +23,13 @@ use streetmap_rows::{is_memory, probe};
 
 /// Carries the tables over, inside a transaction, and tells how many batches they have accepted.
 fn carry_inside<S: Alter>(tx: &mut Transaction<'_, S>, alloc: Global) -> Result<u64, ReadFault>
+    ensures reason { HasCleanDisk (state S.Store tx.new.conn.now) →
+        IfErr result (HasReasonIn (state S.Store tx.old.conn.now) (state S.Store tx.new.conn.now)) }
     ensures same_reference { tx.new.conn.ghost_name ≡ tx.old.conn.ghost_name }
     ensures carries { HasCleanDisk (state S.Store tx.new.conn.now) → CarriesInside (state S.Store tx.old.conn.now) (state S.Store tx.new.conn.now) result }
+    ensures carried { HasCleanDisk (state S.Store tx.new.conn.now) →
+        IsTrue (state S.Store tx.old.conn.now).in_transaction →
+        OnOk result (HasCarried S.Store tx.old.conn.now tx.new.conn.now) }
     ensures inside { HasCleanDisk (state S.Store tx.new.conn.now) → IsTrue (state S.Store tx.old.conn.now).in_transaction → OnOk result (IsTrue (state S.Store tx.new.conn.now).in_transaction) }
     ensures kept { HasCleanDisk (state S.Store tx.new.conn.now) → IsTrue (state S.Store tx.old.conn.now).in_transaction → KeepsCommit (state S.Store tx.old.conn.now) (state S.Store tx.new.conn.now) }
     ensures survives { Survives (state S.Store tx.old.conn.now) (state S.Store tx.new.conn.now) (λ _. ⊥) }
@@ -42,9 +49,17 @@ fn carry_inside<S: Alter>(tx: &mut Transaction<'_, S>, alloc: Global) -> Result<
 /// Carries the tables over in a transaction of its own, which is undone where it fails.
 fn carry_alone<S: Alter>(alloc: Global, conn: &mut Connection<S>) -> Result<u64, ReadFault>
     requires idle { conn.old.in_transaction ≡ false }
+    ensures reason { HasCleanDisk (state S.Store conn.new) →
+        IfErr result (HasReasonIn (state S.Store conn.old) (state S.Store conn.new)) }
+    ensures survives { Survives (state S.Store conn.old) (state S.Store conn.new) (λ _. Unit {0}) }
+    ensures carried { HasCleanDisk (state S.Store conn.new) →
+        OnOk result (HasCarried S.Store conn.old conn.new) }
     ensures idle { conn.new.in_transaction ≡ false }
     ensures clean { doubt (state S.Store conn.old).is_clean ≤ doubt (state S.Store conn.new).is_clean }
     ensures limit { (state S.Store conn.new).step_limit ≡ (state S.Store conn.old).step_limit }
+    ensures fewer { HasCleanDisk (state S.Store conn.new) →
+        IfErr result (λ fault. IsOwn fault →
+        LeavesNoMore (state S.Store conn.old) (state S.Store conn.new)) }
     ensures carries { HasCleanDisk (state S.Store conn.new) → (s : State) → RestsOld (state S.Store conn.old) s → CarriesAlone s (state S.Store conn.old) (state S.Store conn.new) result }
     ensures same { HasCleanDisk (state S.Store conn.new) → IfErr result (λ _. IsAsItWas (state S.Store conn.old) (state S.Store conn.new)) }
     ensures crash { HasCleanDisk (state S.Store conn.new) → (s : State) → RestsOld (state S.Store conn.old) s → MayCarry s (state S.Store conn.old) (state S.Store conn.new) }
@@ -65,9 +80,12 @@ fn carry_alone<S: Alter>(alloc: Global, conn: &mut Connection<S>) -> Result<u64,
 /// Tells why tables were not carried over, after their transaction was undone.
 fn tell<S: Alter>(conn: &mut Connection<S>, fault: ReadFault) -> TablesFault
     requires { conn.old.in_transaction ≡ false }
+    ensures reason { HasCleanDisk (state S.Store conn.new) →
+        TellsFor (state S.Store conn.old) (state S.Store conn.new) fault result }
     ensures idle { conn.new.in_transaction ≡ false }
     ensures survives { Survives (state S.Store conn.old) (state S.Store conn.new) (λ _. ⊥) }
     ensures named { IsNamedFault result }
+    ensures damaged { result ≡ TablesFault.Damaged → fault ≡ ReadFault.Unread }
     ensures told { HasCleanDisk (state S.Store conn.new) → (schema : Schema) → IsHeldBack schema fault → IsRefusedOld schema result }
     ensures settled { IsTrue (state S.Store conn.new).is_open → (state S.Store conn.new).now ≡ (state S.Store conn.new).committed }
     ensures kept { HasCleanDisk (state S.Store conn.new) → KeepsCommit (state S.Store conn.old) (state S.Store conn.new) }
@@ -100,12 +118,21 @@ fn tell<S: Alter>(conn: &mut Connection<S>, fault: ReadFault) -> TablesFault
 /// memory is refused to that look too, it is `Device`, by that error. On the tables of a state it is
 /// `Memory`, or `Device` by an error of the store, or by `SchemaTooBig` or `NameTaken` where their schema
 /// has no place for the tables of format 2 (`make_tables`).
+#[tactic(auto, using(crate::proofs::Reasons::opens_for))]
 pub fn carry_tables<S: Alter>(alloc: Global, conn: &mut Connection<S>) -> Result<u64, TablesFault>
     requires { conn.old.in_transaction ≡ false }
+    ensures reason { HasCleanDisk (state S.Store conn.new) →
+        IfErr result (OpensFor (state S.Store conn.old) (state S.Store conn.new)) }
+    ensures survives { Survives (state S.Store conn.old) (state S.Store conn.new) (λ _. Unit {0}) }
+    ensures carried { HasCleanDisk (state S.Store conn.new) →
+        OnOk result (HasCarried S.Store conn.old conn.new) }
     ensures idle { conn.new.in_transaction ≡ false }
     ensures clean { doubt (state S.Store conn.old).is_clean ≤ doubt (state S.Store conn.new).is_clean }
     ensures limit { (state S.Store conn.new).step_limit ≡ (state S.Store conn.old).step_limit }
     ensures told { IfErr result IsNamedFault }
+    ensures fewer { HasCleanDisk (state S.Store conn.new) →
+        IfErr result (λ fault. fault ≡ TablesFault.Damaged →
+        LeavesNoMore (state S.Store conn.old) (state S.Store conn.new)) }
     ensures same { HasCleanDisk (state S.Store conn.new) → IfErr result (λ _. IsAsItWas (state S.Store conn.old) (state S.Store conn.new)) }
     ensures carries { HasCleanDisk (state S.Store conn.new) → (s : State) → RestsOld (state S.Store conn.old) s → Carries s (state S.Store conn.old) (state S.Store conn.new) result }
     ensures elsewhere { HasCleanDisk (state S.Store conn.new) → (s : State) → RestsOld (state S.Store conn.old) s → IsTrue (state S.Store conn.new).is_open → KeepsOtherTables (state S.Store conn.old).now (state S.Store conn.new).now }

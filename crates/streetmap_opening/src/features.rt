@@ -1,16 +1,21 @@
 //! The features of format 1: their rows are taken, and put in as format 2 has them.
-ghost use Rattle.std.specs.Prelude.{◌≡◌, IsTrue, IsUtf8, OnOk, MatchResult, string_bytes};
+ghost use Rattle.std.specs.Prelude.{◌≡◌, IfErr, IsTrue, IsUtf8, OnOk, MatchResult, string_bytes};
+ghost use Rattle.std.specs.Prelude.{IfOk};
 ghost use Rattle.std.specs.Option.{option_copied};
 ghost use Rattle.sqlite.specs.Held.{state};
 ghost use Rattle.sqlite.specs.State.{HasCleanDisk, KeepsCommit, Survives};
 ghost use Rattle.streetmap_geojson.specs.FeatureValue.{FeatureValue};
-ghost use Rattle.streetmap_rows.specs.Failing.{IsOfStore};
+ghost use Rattle.streetmap_rows.specs.Failing.{IsOfStore, HasReason};
 ghost use Rattle.streetmap_rows.specs.Holds.{KeyPair};
 ghost use Rattle.streetmap_rows.specs.Calls.{LooksAll};
 ghost use Rattle.streetmap_rows.specs.Views as views;
-ghost use Rattle.streetmap_reading.specs.Candidates.{IsStored};
+ghost use Rattle.streetmap_reading.specs.Candidates.{IsStored, TextReadsAs};
 ghost use Rattle.streetmap_opening.specs.Old.{old_cells};
+ghost use Rattle.sqlite.specs.declared.error.Error.{Error};
+ghost use Rattle.streetmap_opening.specs.Reasons.{IsOwn, HasReasonIn};
 ghost use Rattle.streetmap_opening.specs.Part.{TakesRows, FindsTime, PutsRow, PutsRows};
+ghost use Rattle.streetmap_opening.specs.Part.{PutsOne, PutsEach, pair_in, body_in, old_rows_text};
+ghost use Rattle.streetmap_opening.specs.Telling.{Sees};
 
 use sqlite::types::ValueRef;
 use sqlite::{Alter, Error, Row, Transaction, params};
@@ -23,7 +28,8 @@ use streetmap_writing::put_feature;
 /// Why a look or a write of a feature gave up: the store failed, or the statement was refused, as one
 /// over a row that is none that this product writes.
 pub fn fault_of(error: Error) -> ReadFault
-    ensures { IsOfStore error → result ≡ ReadFault.Store error }
+    ensures only { (e : Error) → result ≡ ReadFault.Store e → e ≡ error }
+    ensures store { IsOfStore error → result ≡ ReadFault.Store error }
 {
     if is_of_store(error) {
         ReadFault::Store(error)
@@ -34,8 +40,12 @@ pub fn fault_of(error: Error) -> ReadFault
 
 /// The rows of all features.
 pub fn take_rows<S: Alter>(tx: &mut Transaction<'_, S>) -> Result<Vec<Row>, ReadFault>
+    ensures reason { HasCleanDisk (state S.Store tx.new.conn.now) →
+        IfErr result (HasReasonIn (state S.Store tx.old.conn.now) (state S.Store tx.new.conn.now)) }
     ensures same_reference { tx.new.conn.ghost_name ≡ tx.old.conn.ghost_name }
     ensures takes { HasCleanDisk (state S.Store tx.new.conn.now) → TakesRows (state S.Store tx.old.conn.now) (state S.Store tx.new.conn.now) result }
+    ensures shown { HasCleanDisk (state S.Store tx.new.conn.now) →
+        IfOk result (λ rows. Sees old_rows_text (state S.Store tx.old.conn.now) rows.items) }
     ensures inside { HasCleanDisk (state S.Store tx.new.conn.now) → IsTrue (state S.Store tx.old.conn.now).in_transaction → OnOk result (IsTrue (state S.Store tx.new.conn.now).in_transaction) }
     ensures kept { HasCleanDisk (state S.Store tx.new.conn.now) → IsTrue (state S.Store tx.old.conn.now).in_transaction → KeepsCommit (state S.Store tx.old.conn.now) (state S.Store tx.new.conn.now) }
     ensures survives { Survives (state S.Store tx.old.conn.now) (state S.Store tx.new.conn.now) (λ _. ⊥) }
@@ -47,9 +57,14 @@ pub fn take_rows<S: Alter>(tx: &mut Transaction<'_, S>) -> Result<Vec<Row>, Read
 }
 
 /// What is kept of a collection: a row of its title and its time property, or none.
+#[tactic(auto, using(streetmap_rows::proofs::Reasons::queried_inside))]
 fn head_rows<S: Alter>(tx: &mut Transaction<'_, S>, collection: &str) -> Result<Vec<Row>, Error>
+    ensures reason { HasCleanDisk (state S.Store tx.new.conn.now) →
+        IfErr result (HasReason (state S.Store tx.old.conn.now) (state S.Store tx.new.conn.now)) }
     ensures same_reference { tx.new.conn.ghost_name ≡ tx.old.conn.ghost_name }
     ensures looks { HasCleanDisk (state S.Store tx.new.conn.now) → LooksAll (views.collection_rows collection.now) (state S.Store tx.old.conn.now) (state S.Store tx.new.conn.now) result }
+    ensures same { HasCleanDisk (state S.Store tx.new.conn.now) →
+        OnOk result ((state S.Store tx.new.conn.now).now ≡ (state S.Store tx.old.conn.now).now) }
     ensures inside { HasCleanDisk (state S.Store tx.new.conn.now) → IsTrue (state S.Store tx.old.conn.now).in_transaction → OnOk result (IsTrue (state S.Store tx.new.conn.now).in_transaction) }
     ensures kept { HasCleanDisk (state S.Store tx.new.conn.now) → IsTrue (state S.Store tx.old.conn.now).in_transaction → KeepsCommit (state S.Store tx.old.conn.now) (state S.Store tx.new.conn.now) }
     ensures survives { Survives (state S.Store tx.old.conn.now) (state S.Store tx.new.conn.now) (λ _. ⊥) }
@@ -65,8 +80,12 @@ fn find_time<S: Alter>(
     tx: &mut Transaction<'_, S>,
     collection: &str,
 ) -> Result<Option<String>, ReadFault>
+    ensures reason { HasCleanDisk (state S.Store tx.new.conn.now) →
+        IfErr result (HasReasonIn (state S.Store tx.old.conn.now) (state S.Store tx.new.conn.now)) }
     ensures same_reference { tx.new.conn.ghost_name ≡ tx.old.conn.ghost_name }
     ensures finds { HasCleanDisk (state S.Store tx.new.conn.now) → FindsTime collection.now (state S.Store tx.old.conn.now) (state S.Store tx.new.conn.now) result }
+    ensures same { HasCleanDisk (state S.Store tx.new.conn.now) →
+        OnOk result ((state S.Store tx.new.conn.now).now ≡ (state S.Store tx.old.conn.now).now) }
     ensures inside { HasCleanDisk (state S.Store tx.new.conn.now) → IsTrue (state S.Store tx.old.conn.now).in_transaction → OnOk result (IsTrue (state S.Store tx.new.conn.now).in_transaction) }
     ensures kept { HasCleanDisk (state S.Store tx.new.conn.now) → IsTrue (state S.Store tx.old.conn.now).in_transaction → KeepsCommit (state S.Store tx.old.conn.now) (state S.Store tx.new.conn.now) }
     ensures survives { Survives (state S.Store tx.old.conn.now) (state S.Store tx.new.conn.now) (λ _. ⊥) }
@@ -85,8 +104,12 @@ fn find_time<S: Alter>(
 }
 
 /// The collection in the row of a feature.
+#[tactic(auto, using(crate::proofs::Reasons::unread_own))]
 fn collection_in(row: &Row) -> Result<String, ReadFault>
-    ensures { (p : KeyPair) (f : FeatureValue) → row.now ≡ old_cells p f → IsUtf8 p.0 → MatchResult result (λ name. string_bytes name ≡ p.0) (λ fault. fault ≡ ReadFault.Memory) }
+    ensures own { IfErr result IsOwn }
+    ensures named { IfOk result (λ name. string_bytes name ≡ (pair_in row.now).0) }
+    ensures reads { (p : KeyPair) (f : FeatureValue) → row.now ≡ old_cells p f → IsUtf8 p.0 →
+        MatchResult result (λ name. string_bytes name ≡ p.0) (λ fault. fault ≡ ReadFault.Memory) }
 {
     match row.get::<String>(0) {
         Ok(name) => Ok(name),
@@ -96,7 +119,12 @@ fn collection_in(row: &Row) -> Result<String, ReadFault>
 
 /// The feature in its row, under its collection's time property.
 fn feature_in(alloc: Global, row: &Row, property: Option<&str>) -> Result<Feature, ReadFault>
-    ensures { (p : KeyPair) (f : FeatureValue) → row.now ≡ old_cells p f → f.id ≡ p.1 → IsStored (option_copied property.entry) f → MatchResult result (λ g. g ≡ f) (λ fault. fault ≡ ReadFault.Memory) }
+    ensures own { IfErr result IsOwn }
+    ensures named { IfOk result (λ f. f.id ≡ (pair_in row.now).1) }
+    ensures worded { IfOk result (TextReadsAs (option_copied property.entry) (body_in row.now)) }
+    ensures reads { (p : KeyPair) (f : FeatureValue) → row.now ≡ old_cells p f → f.id ≡ p.1 →
+        IsStored (option_copied property.entry) f →
+        MatchResult result (λ g. g ≡ f) (λ fault. fault ≡ ReadFault.Memory) }
 {
     let (Ok(ValueRef::Text(id)), Ok(ValueRef::Text(body))) = (row.get_ref(1), row.get_ref(2)) else {
         return Err(ReadFault::Unread);
@@ -115,8 +143,13 @@ fn feature_in(alloc: Global, row: &Row, property: Option<&str>) -> Result<Featur
 
 /// Puts the feature of a row in, with its extent and its seconds.
 fn put_row<S: Alter>(tx: &mut Transaction<'_, S>, alloc: Global, row: &Row) -> Result<(), ReadFault>
+    ensures reason { HasCleanDisk (state S.Store tx.new.conn.now) →
+        IfErr result (HasReasonIn (state S.Store tx.old.conn.now) (state S.Store tx.new.conn.now)) }
     ensures same_reference { tx.new.conn.ghost_name ≡ tx.old.conn.ghost_name }
     ensures puts { HasCleanDisk (state S.Store tx.new.conn.now) → PutsRow row.now (state S.Store tx.old.conn.now) (state S.Store tx.new.conn.now) result }
+    ensures ran { HasCleanDisk (state S.Store tx.new.conn.now) →
+        IsTrue (state S.Store tx.old.conn.now).in_transaction →
+        OnOk result (PutsOne S.Store row.now tx.old.conn.now tx.new.conn.now) }
     ensures inside { HasCleanDisk (state S.Store tx.new.conn.now) → IsTrue (state S.Store tx.old.conn.now).in_transaction → OnOk result (IsTrue (state S.Store tx.new.conn.now).in_transaction) }
     ensures kept { HasCleanDisk (state S.Store tx.new.conn.now) → IsTrue (state S.Store tx.old.conn.now).in_transaction → KeepsCommit (state S.Store tx.old.conn.now) (state S.Store tx.new.conn.now) }
     ensures survives { Survives (state S.Store tx.old.conn.now) (state S.Store tx.new.conn.now) (λ _. ⊥) }
@@ -137,8 +170,13 @@ pub fn put_rows<S: Alter>(
     alloc: Global,
     rows: &[Row],
 ) -> Result<(), ReadFault>
+    ensures reason { HasCleanDisk (state S.Store tx.new.conn.now) →
+        IfErr result (HasReasonIn (state S.Store tx.old.conn.now) (state S.Store tx.new.conn.now)) }
     ensures same_reference { tx.new.conn.ghost_name ≡ tx.old.conn.ghost_name }
     ensures puts { HasCleanDisk (state S.Store tx.new.conn.now) → PutsRows rows.now (state S.Store tx.old.conn.now) (state S.Store tx.new.conn.now) result }
+    ensures ran { HasCleanDisk (state S.Store tx.new.conn.now) →
+        IsTrue (state S.Store tx.old.conn.now).in_transaction →
+        OnOk result (PutsEach S.Store rows.now tx.old.conn.now tx.new.conn.now) }
     ensures inside { HasCleanDisk (state S.Store tx.new.conn.now) → IsTrue (state S.Store tx.old.conn.now).in_transaction → OnOk result (IsTrue (state S.Store tx.new.conn.now).in_transaction) }
     ensures kept { HasCleanDisk (state S.Store tx.new.conn.now) → IsTrue (state S.Store tx.old.conn.now).in_transaction → KeepsCommit (state S.Store tx.old.conn.now) (state S.Store tx.new.conn.now) }
     ensures survives { Survives (state S.Store tx.old.conn.now) (state S.Store tx.new.conn.now) (λ _. ⊥) }

@@ -8,12 +8,13 @@ ghost use Rattle.sqlite.specs.Effect.{IsDatabase};
 ghost use Rattle.sqlite.specs.Table.{Table};
 ghost use Rattle.sqlite_catalog.specs.Change.{created, is_used};
 ghost use Rattle.streetmap_ledger.specs.State.{State, opening_state};
-ghost use Rattle.streetmap_rows.specs.Failing.{IsOfStore};
+ghost use Rattle.streetmap_rows.specs.Failing.{IsOfStore, HasReason};
 ghost use Rattle.streetmap_rows.specs.Keeping.{Keeps};
 ghost use Rattle.streetmap_rows.specs.Stands.{StandsFor};
 ghost use Rattle.streetmap_rows.specs.Elsewhere.{IsSameElsewhere};
 ghost use Rattle.streetmap_opening.specs.Made.{IsTableText, Created};
 ghost use Rattle.streetmap_opening.specs.Refusing.{IsOurText, our_tables, IsToldFor, IsTold};
+ghost use Rattle.streetmap_opening.specs.Refusing.{IsReasoned};
 ghost use Rattle.streetmap_opening.specs.Adopting.{IsAsItWas};
 ghost use Rattle.streetmap_opening.specs.Making.{is_taken, HasRoom, IsReady, LacksFormat, KeepsOtherTables, MayOpen, MakesAlone, Makes};
 
@@ -59,6 +60,8 @@ pub fn create_table<S: Alter>(tx: &mut Transaction<'_, S>, sql: &str) -> Result<
     ensures told { HasCleanDisk (state S.Store tx.new.conn.now) → IsTrue (state S.Store tx.old.conn.now).in_transaction → (table : Table) → IsOurText sql.now table → is_used (state S.Store tx.old.conn.now).now.schema table.name ≡ false → lacks_sequence (created (state S.Store tx.old.conn.now).now.schema table) ≡ false → IfErr result (IsToldFor (table ∷ []) (state S.Store tx.old.conn.now).now.schema) }
     ensures inside { HasCleanDisk (state S.Store tx.new.conn.now) → IsTrue (state S.Store tx.old.conn.now).in_transaction → OnOk result (IsTrue (state S.Store tx.new.conn.now).in_transaction) }
     ensures kept { HasCleanDisk (state S.Store tx.new.conn.now) → IsTrue (state S.Store tx.old.conn.now).in_transaction → KeepsCommit (state S.Store tx.old.conn.now) (state S.Store tx.new.conn.now) }
+    ensures reason { HasCleanDisk (state S.Store tx.new.conn.now) →
+        IfErr result (HasReason (state S.Store tx.old.conn.now) (state S.Store tx.new.conn.now)) }
     ensures survives { Survives (state S.Store tx.old.conn.now) (state S.Store tx.new.conn.now) (λ _. ⊥) }
 {
     tx.execute(sql, &[])?;
@@ -72,6 +75,8 @@ pub fn insert_format<S: Alter>(tx: &mut Transaction<'_, S>) -> Result<(), Error>
     ensures told { HasCleanDisk (state S.Store tx.new.conn.now) → IsTrue (state S.Store tx.old.conn.now).in_transaction → (state S.Store tx.old.conn.now).step_limit ≡ None → (s : State) → LacksFormat s (state S.Store tx.old.conn.now).now → IsDatabase (state S.Store tx.old.conn.now).now → IfErr result IsOfStore }
     ensures inside { HasCleanDisk (state S.Store tx.new.conn.now) → IsTrue (state S.Store tx.old.conn.now).in_transaction → OnOk result (IsTrue (state S.Store tx.new.conn.now).in_transaction) }
     ensures kept { HasCleanDisk (state S.Store tx.new.conn.now) → IsTrue (state S.Store tx.old.conn.now).in_transaction → KeepsCommit (state S.Store tx.old.conn.now) (state S.Store tx.new.conn.now) }
+    ensures reason { HasCleanDisk (state S.Store tx.new.conn.now) →
+        IfErr result (HasReason (state S.Store tx.old.conn.now) (state S.Store tx.new.conn.now)) }
     ensures survives { Survives (state S.Store tx.old.conn.now) (state S.Store tx.new.conn.now) (λ _. ⊥) }
 {
     tx.execute(
@@ -88,6 +93,8 @@ fn make_inside<S: Alter>(tx: &mut Transaction<'_, S>) -> Result<(), Error>
     ensures told { HasCleanDisk (state S.Store tx.new.conn.now) → IsTrue (state S.Store tx.old.conn.now).in_transaction → (state S.Store tx.old.conn.now).step_limit ≡ None → HasRoom (state S.Store tx.old.conn.now).now.schema → is_taken (state S.Store tx.old.conn.now).now.schema ≡ false → IfErr result (IsToldFor our_tables (state S.Store tx.old.conn.now).now.schema) }
     ensures inside { HasCleanDisk (state S.Store tx.new.conn.now) → IsTrue (state S.Store tx.old.conn.now).in_transaction → OnOk result (IsTrue (state S.Store tx.new.conn.now).in_transaction) }
     ensures kept { HasCleanDisk (state S.Store tx.new.conn.now) → IsTrue (state S.Store tx.old.conn.now).in_transaction → KeepsCommit (state S.Store tx.old.conn.now) (state S.Store tx.new.conn.now) }
+    ensures reason { HasCleanDisk (state S.Store tx.new.conn.now) →
+        IfErr result (HasReason (state S.Store tx.old.conn.now) (state S.Store tx.new.conn.now)) }
     ensures survives { Survives (state S.Store tx.old.conn.now) (state S.Store tx.new.conn.now) (λ _. ⊥) }
 {
     create_table(
@@ -114,6 +121,9 @@ fn make_alone<S: Alter>(conn: &mut Connection<S>) -> Result<(), Error>
     requires idle { conn.old.in_transaction ≡ false }
     ensures idle { conn.new.in_transaction ≡ false }
     ensures clean { doubt (state S.Store conn.old).is_clean ≤ doubt (state S.Store conn.new).is_clean }
+    ensures reason { HasCleanDisk (state S.Store conn.new) →
+        IfErr result (HasReason (state S.Store conn.old) (state S.Store conn.new)) }
+    ensures survives { Survives (state S.Store conn.old) (state S.Store conn.new) (λ _. Unit {0}) }
     ensures made { HasCleanDisk (state S.Store conn.new) → IsReady (state S.Store conn.old) → MakesAlone (state S.Store conn.old) (state S.Store conn.new) result }
     ensures told { HasCleanDisk (state S.Store conn.new) → IsReady (state S.Store conn.old) → is_taken (state S.Store conn.old).now.schema ≡ false → IfErr result (IsToldFor our_tables (state S.Store conn.old).now.schema) }
     ensures same { HasCleanDisk (state S.Store conn.new) → IfErr result (λ _. IsAsItWas (state S.Store conn.old) (state S.Store conn.new)) }
@@ -153,6 +163,8 @@ pub fn make_tables<S: Alter>(conn: &mut Connection<S>) -> Result<(), MakeFault>
     ensures clean { doubt (state S.Store conn.old).is_clean ≤ doubt (state S.Store conn.new).is_clean }
     ensures taken { (result ≡ Err MakeFault.Taken) ↔ IsTrue (is_taken (state S.Store conn.old).now.schema) }
     ensures untouched { result ≡ Err MakeFault.Taken → conn.new ≡ conn.old }
+    ensures reason { HasCleanDisk (state S.Store conn.new) →
+        IfErr result (IsReasoned (state S.Store conn.old) (state S.Store conn.new)) }
     ensures made { HasCleanDisk (state S.Store conn.new) → IsReady (state S.Store conn.old) → Makes (state S.Store conn.old) (state S.Store conn.new) result }
     ensures told { HasCleanDisk (state S.Store conn.new) → IsReady (state S.Store conn.old) → IfErr result (IsTold (state S.Store conn.old).now.schema) }
     ensures same { HasCleanDisk (state S.Store conn.new) → IfErr result (λ _. IsAsItWas (state S.Store conn.old) (state S.Store conn.new)) }

@@ -6,7 +6,7 @@ ghost use Rattle.sqlite.specs.Table.{Table};
 ghost use Rattle.sqlite_trees.specs.Tree.{IsAscending};
 ghost use Rattle.sqlite.specs.Effect.{IsDatabase};
 ghost use Rattle.streetmap_ledger.specs.State.{State};
-ghost use Rattle.streetmap_rows.specs.Failing.{IsOfStore};
+ghost use Rattle.streetmap_rows.specs.Failing.{IsOfStore, HasReason};
 ghost use Rattle.streetmap_opening.specs.Old.{KeepsOld};
 ghost use Rattle.streetmap_opening.specs.Dropping.{IsDropText, IsDropAlone, CanGo, Dropped};
 ghost use Rattle.streetmap_opening.specs.Carrying.{IsToldOld, Remakes};
@@ -16,6 +16,8 @@ use sqlite::{Alter, Error, Transaction};
 
 /// Drops a table by its text, which is one DROP TABLE.
 fn drop_table<S: Alter>(tx: &mut Transaction<'_, S>, sql: &str) -> Result<(), Error>
+    ensures reason { HasCleanDisk (state S.Store tx.new.conn.now) →
+        IfErr result (HasReason (state S.Store tx.old.conn.now) (state S.Store tx.new.conn.now)) }
     ensures same_reference { tx.new.conn.ghost_name ≡ tx.old.conn.ghost_name }
     ensures dropped { HasCleanDisk (state S.Store tx.new.conn.now) → IsTrue (state S.Store tx.old.conn.now).in_transaction → (name : List ℕ) → (table : Table) → IsDropText sql.now name → CanGo (state S.Store tx.old.conn.now).now.schema name table → OnOk result (Dropped table (state S.Store tx.old.conn.now).now (state S.Store tx.new.conn.now).now) }
     ensures told { HasCleanDisk (state S.Store tx.new.conn.now) → IsTrue (state S.Store tx.old.conn.now).in_transaction → (name : List ℕ) → (table : Table) → IsDropAlone sql.now name → CanGo (state S.Store tx.old.conn.now).now.schema name table → IsAscending (λ a b. a.tree ≡ b.tree → ⊥) (state S.Store tx.old.conn.now).now.schema.tables → IsDatabase (state S.Store tx.old.conn.now).now → IfErr result IsOfStore }
@@ -29,6 +31,8 @@ fn drop_table<S: Alter>(tx: &mut Transaction<'_, S>, sql: &str) -> Result<(), Er
 
 /// Drops the tables of the features and of the format, and makes those of format 2 with the format row.
 pub fn remake_tables<S: Alter>(tx: &mut Transaction<'_, S>) -> Result<(), Error>
+    ensures reason { HasCleanDisk (state S.Store tx.new.conn.now) →
+        IfErr result (HasReason (state S.Store tx.old.conn.now) (state S.Store tx.new.conn.now)) }
     ensures same_reference { tx.new.conn.ghost_name ≡ tx.old.conn.ghost_name }
     ensures made { HasCleanDisk (state S.Store tx.new.conn.now) → IsTrue (state S.Store tx.old.conn.now).in_transaction → (state S.Store tx.old.conn.now).step_limit ≡ None → OnOk result (Remakes (state S.Store tx.old.conn.now) (state S.Store tx.new.conn.now)) }
     ensures told { HasCleanDisk (state S.Store tx.new.conn.now) → IsTrue (state S.Store tx.old.conn.now).in_transaction → (state S.Store tx.old.conn.now).step_limit ≡ None → (s : State) → KeepsOld s (state S.Store tx.old.conn.now).now → IfErr result (IsToldOld (state S.Store tx.old.conn.now).now.schema) }

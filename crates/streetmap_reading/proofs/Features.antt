@@ -1,5 +1,6 @@
 -- What the statement of one feature shows of the database of a state.
-use Rattle.std.proofs.Common.{◌≡◌, Result, MatchResult, Ok, Err, [], ◌∷◌, codes, find, Option, Some, None, option_map, refl, sym, ap, ◌∙◌}
+use Rattle.std.proofs.Common.{◌≤◌, ◌≡◌, Result, MatchResult, Ok, Err, [], ◌∷◌, codes, find, Option}
+use Rattle.std.proofs.Common.{Some, None, option_map, refl, sym, ap, ◌∙◌}
 use Rattle.std.specs.FinMap.{get}
 use Rattle.std.specs.Option.{option_and_then, option_to_list}
 use Rattle.sqlite.specs.Order.{Row, column}
@@ -69,6 +70,9 @@ no_text None e = refl
 no_text (Some f) e = absurd (cc)
 
 -- a look after a look that changed nothing
-pub looked_on : {A : Type 0} (a b c : Seen) (P : A → Type 0) (r : Result A ReadFault) → IsUnchanged a b → MatchResult r (λ x. P x × IsUnchanged b c) (Stopped b c) → MatchResult r (λ x. P x × IsUnchanged a c) (Stopped a c)
-looked_on a b c P (Ok x) same h = (h.0, unchanged_then a b c same h.1)
-looked_on a b c P (Err fault) same h = stopped_on a b c fault same h
+pub looked_on : {A : Type 0} (a b c : Seen) (P : A → Type 0) (r : Result A ReadFault)
+    → IsUnchanged a b → a.faults ≤ b.faults
+    → MatchResult r (λ x. P x × IsUnchanged b c) (Stopped b c)
+    → MatchResult r (λ x. P x × IsUnchanged a c) (Stopped a c)
+looked_on a b c P (Ok x) same counts h = (h.0, unchanged_then a b c same h.1)
+looked_on a b c P (Err fault) same counts h = stopped_on a b c fault same counts h

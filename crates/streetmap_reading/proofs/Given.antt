@@ -9,7 +9,7 @@ use Rattle.sqlite.specs.Given.{HasGiven, Advances, FailsToAdvance}
 use Rattle.sqlite.specs.Held.{Held, state}
 use Rattle.sqlite.specs.State.{State as Seen, IsUnchanged, KeepsCommit}
 use Rattle.sqlite.proofs.Callers.{reads_as, begins_as, given_begin}
-use Rattle.streetmap_rows.specs.Failing.{IsOfStore}
+use Rattle.streetmap_rows.specs.Failing.{IsOfStore, HasReason}
 use Rattle.streetmap_reading.specs.Candidates.{ShowsOf}
 use Rattle.streetmap_reading.proofs.Told.{told}
 
@@ -34,7 +34,8 @@ module _ {S : Type 0} (g : Ghosts S) (old new : Held S) (sql : List ℕ) (params
       let tail = shows.starts (done ++ r ∷ []) (subst (λ d. ReadsFirst (Select shows.program shows.names) d params (done ++ r ∷ [])) at first) in
       (tail.0, sym (cancel done (r ∷ tail.0) rest (sym (append_assoc done (r ∷ []) tail.0) ∙ tail.1)), more)
 
-  pub at_fault : (e : Error) → (state g old).step_limit ≡ None → FailsToAdvance g old new e → IsOfStore e × KeepsCommit (state g old) (state g new)
+  pub at_fault : (e : Error) → (state g old).step_limit ≡ None → FailsToAdvance g old new e
+      → IsOfStore e × HasReason (state g old) (state g new) e × KeepsCommit (state g old) (state g new)
   at_fault e limit fails = told sql params (state g old) (state g new) (done ++ rest) shows limit e (fails sql params done given)
 
 -- the rows that a query shows of a database that is unchanged

@@ -1,5 +1,6 @@
 -- What the next feature of a query is, and its end.
-use Rattle.std.proofs.Common.{Result, MatchResult, ◌≡◌, inl, ℕ, List, [], ◌∷◌, ◌++◌, map, Option, None, Some, Ok, Err, refl, sym, ap, subst, ◌∙◌, arith}
+use Rattle.std.proofs.Common.{Result, MatchResult, ◌≡◌, ◌≤◌, inl, ℕ, List, [], ◌∷◌, ◌++◌, map}
+use Rattle.std.proofs.Common.{Option, None, Some, Ok, Err, refl, sym, ap, subst, ◌∙◌, arith}
 use Rattle.sqlite.specs.declared.error.Error.{Error}
 use Rattle.sqlite.specs.Order.{Row}
 use Rattle.sqlite.specs.Store.{Ghosts}
@@ -11,7 +12,7 @@ use Rattle.sqlite.proofs.StateLemmas.{unchanged, survives_then}
 use Rattle.sqlite.proofs.InsideLemmas.{keeps_then}
 use Rattle.sqlite.proofs.Callers.{unchanged_then}
 use Rattle.streetmap_geojson.specs.FeatureValue.{FeatureValue}
-use Rattle.streetmap_rows.specs.Failing.{IsOfStore}
+use Rattle.streetmap_rows.specs.Failing.{IsOfStore, HasReason}
 use Rattle.streetmap_reading.specs.Candidates.{candidate_row, ShowsOf}
 use Rattle.streetmap_reading.specs.Taking.{Stopped}
 use Rattle.streetmap_reading.specs.declared.fault.ReadFault.{ReadFault}
@@ -45,7 +46,8 @@ module _ {S : Type 0} (g : Ghosts S) (old new : Held S) (sql : List ℕ) (params
       let f = first_of r met.0 rest (sym met.1) in
       (f.0, f.1, f.2, f.3, subst (HasGiven g sql params new) (ap (λ x. map candidate_row done ++ x ∷ []) f.3 ∙ sym (map_append candidate_row done (f.0 ∷ []))) met.2)
 
-  pub at_fault : (e : Error) → (state g old).step_limit ≡ None → FailsToAdvance g old new e → IsOfStore e × KeepsCommit (state g old) (state g new)
+  pub at_fault : (e : Error) → (state g old).step_limit ≡ None → FailsToAdvance g old new e
+      → IsOfStore e × HasReason (state g old) (state g new) e × KeepsCommit (state g old) (state g new)
   at_fault = next.at_fault g old new sql params (map candidate_row done) (map candidate_row rest) shows_both given
 
 pub given_open : {S : Type 0} (g : Ghosts S) (sql : List ℕ) (params : Row) (h : Held S) (given : List Row) → HasGiven g sql params h given → IsUnchanged (state g h) (state g h)
@@ -68,12 +70,15 @@ shows_still a b sql params fs gs same is shows = next.shows_still a b sql params
 pub keeps_on : (a b c : Seen) → IsUnchanged a b → KeepsCommit b c → KeepsCommit a c
 keeps_on a b c same kept = keeps_then a b c (record { was_open = λ _. same.0.was_open; committed = λ _. same.0.committed_is }) kept
 
-pub stopped_on : (a b c : Seen) (fault : ReadFault) → IsUnchanged a b → Stopped b c fault → Stopped a c fault
-stopped_on a b c Memory same h = unchanged_then a b c same h
-stopped_on a b c (Store e) same h = (h.0, keeps_on a b c same h.1)
-stopped_on a b c Unread same h = h
+pub stopped_on : (a b c : Seen) (fault : ReadFault) → IsUnchanged a b → a.faults ≤ b.faults
+    → Stopped b c fault → Stopped a c fault
+stopped_on a b c Memory same counts h = unchanged_then a b c same h
+stopped_on a b c (Store e) same counts h = (h.0, (λ live tells. omega (arith, counts, h.1 same.0.is_open tells)), keeps_on a b c same h.2)
+stopped_on a b c Unread same counts h = h
 
 -- a query whose rows were taken, after it had begun
-pub taken_on : (a b c : Seen) (P : Type 0) (r : Result (Unit {0}) ReadFault) → IsUnchanged a b → MatchResult r (λ _. P × IsUnchanged b c) (Stopped b c) → MatchResult r (λ _. P × IsUnchanged a c) (Stopped a c)
-taken_on a b c P (Ok u) same h = (h.0, unchanged_then a b c same h.1)
-taken_on a b c P (Err fault) same h = stopped_on a b c fault same h
+pub taken_on : (a b c : Seen) (P : Type 0) (r : Result (Unit {0}) ReadFault) → IsUnchanged a b
+    → a.faults ≤ b.faults → MatchResult r (λ _. P × IsUnchanged b c) (Stopped b c)
+    → MatchResult r (λ _. P × IsUnchanged a c) (Stopped a c)
+taken_on a b c P (Ok u) same counts h = (h.0, unchanged_then a b c same h.1)
+taken_on a b c P (Err fault) same counts h = stopped_on a b c fault same counts h

@@ -1,5 +1,7 @@
 -- Collections told one after the other.
-use Rattle.std.proofs.Common.{◌≡◌, List, [], ◌∷◌, ◌++◌, map, Some, Ok, Err, Result, MatchResult, None, IsTrue, refl, sym, ap, subst, ◌∙◌, append-nil, append_assoc, length, arith}
+use Rattle.std.proofs.Common.{◌≤◌, ◌≡◌, List, [], ◌∷◌, ◌++◌, map, Some, Ok, Err, Result}
+use Rattle.std.proofs.Common.{MatchResult, None, IsTrue, refl, sym, ap, subst, ◌∙◌, append-nil}
+use Rattle.std.proofs.Common.{append_assoc, length, arith}
 use Rattle.std.specs.List.{AllByRecursion}
 use Rattle.std.specs.FinMap.{get, entries}
 use Rattle.sqlite.specs.State.{State as Seen, HasCleanDisk, IsUnchanged, Survives}
@@ -97,6 +99,9 @@ none_left [] h = refl
 none_left (x ∷ xs) h = absurd (omega arith)
 
 -- a look behind another
-pub look_on : {A : Type 0} (a b c : Seen) (P Q : A → Type 0) (r : Result A ReadFault) → IsUnchanged a b → ((x : A) → P x → Q x) → MatchResult r (λ x. P x × IsUnchanged b c) (Stopped b c) → MatchResult r (λ x. Q x × IsUnchanged a c) (Stopped a c)
-look_on a b c P Q (Ok x) same f h = (f x h.0, unchanged_then a b c same h.1)
-look_on a b c P Q (Err fault) same f h = stopped_on a b c fault same h
+pub look_on : {A : Type 0} (a b c : Seen) (P Q : A → Type 0) (r : Result A ReadFault)
+    → IsUnchanged a b → a.faults ≤ b.faults → ((x : A) → P x → Q x)
+    → MatchResult r (λ x. P x × IsUnchanged b c) (Stopped b c)
+    → MatchResult r (λ x. Q x × IsUnchanged a c) (Stopped a c)
+look_on a b c P Q (Ok x) same counts f h = (f x h.0, unchanged_then a b c same h.1)
+look_on a b c P Q (Err fault) same counts f h = stopped_on a b c fault same counts h

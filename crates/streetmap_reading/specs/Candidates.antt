@@ -12,6 +12,9 @@ use Rattle.sqlite_schema.specs.declared.program.Program.{Program}
 use Rattle.sqlite_resolve.specs.declared.compiled.Compiled.{Compiled}
 use Rattle.sqlite_resolve.specs.declared.error.CompileError.{CompileError}
 use Rattle.streetmap_geojson.specs.FeatureValue.{FeatureValue}
+use Rattle.serde_json.specs.Data.{Data}
+use Rattle.streetmap_geojson.specs.JsonText.{json_of}
+use Rattle.streetmap_geojson.specs.FeatureMeaning.{ReadsAs}
 use Rattle.streetmap_geojson.specs.FeatureInvariant.{IsFeature}
 use Rattle.streetmap_geojson.specs.Times.{time_of}
 use Rattle.streetmap_batch.specs.Text.{Text}
@@ -25,6 +28,10 @@ candidate_row f = Words (feature_text f) ∷ []
 pub record IsStored (property : Option Text) (f : FeatureValue) : Type 0 where
   pub kept : IsFeature f
   pub timed : time_of property f.properties ≡ Ok f.time
+
+-- the text is JSON of a value that reads as this feature, under a collection's time property
+abbrev pub TextReadsAs : Option Text → Text → FeatureValue → Type 0
+TextReadsAs property text f = (d : Data) × (json_of text ≡ Ok d) × ReadsAs property d f
 
 -- the text is one statement, and has so many parameters
 abbrev pub IsWhole : List ℕ → Row → Result Compiled CompileError → Type 0

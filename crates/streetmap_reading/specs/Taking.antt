@@ -13,13 +13,14 @@ use Rattle.streetmap_ledger.specs.Folds.{Holds}
 use Rattle.streetmap_ledger.specs.declared.fold.PageFold.{PageFold}
 use Rattle.streetmap_reading.specs.declared.fault.ReadFault.{ReadFault}
 use Rattle.streetmap_reading.specs.declared.fault.ReadFault.TheVariants.{Memory, Store, Unread}
-use Rattle.streetmap_rows.specs.Failing.{IsOfStore}
+use Rattle.streetmap_rows.specs.Failing.{IsOfStore, HasReason}
 use Rattle.streetmap_reading.specs.Candidates.{candidate_row, IsStored, ShowsOf}
 
--- a look that stopped left the connection as it was, or the store failed; it met no row that cannot be read
+-- a look that stopped left the connection as it was, or the store failed for a reason; it met no
+-- row that cannot be read
 abbrev pub Stopped : Seen → Seen → ReadFault → Type 0
 Stopped old new Memory = IsUnchanged old new
-Stopped old new (Store e) = IsOfStore e × KeepsCommit old new
+Stopped old new (Store e) = IsOfStore e × HasReason old new e × KeepsCommit old new
 Stopped old new Unread = ⊥
 
 module _ {S : Type 0} (g : Ghosts S) where

@@ -1,5 +1,5 @@
 //! Candidates of a page, taken row by row.
-ghost use Rattle.std.specs.Prelude.{◌≡◌, Ok, Option, false, OnOk, MatchResult};
+ghost use Rattle.std.specs.Prelude.{◌≡◌, Ok, Option, false, IfOk, OnOk, MatchResult};
 ghost use Rattle.std.specs.Option.{option_copied};
 ghost use Rattle.sqlite.specs.Held.{state};
 ghost use Rattle.sqlite.specs.Given.{IsPlain, HasGiven};
@@ -10,7 +10,7 @@ ghost use Rattle.streetmap_geojson.specs.FeatureValue.{FeatureValue};
 ghost use Rattle.streetmap_geojson.specs.Fault.{Gives};
 ghost use Rattle.streetmap_geojson.specs.FeatureView.{feature_value};
 ghost use Rattle.streetmap_rows.specs.Rows.{feature_text};
-ghost use Rattle.streetmap_reading.specs.Candidates.{candidate_row, IsStored};
+ghost use Rattle.streetmap_reading.specs.Candidates.{candidate_row, IsStored, TextReadsAs};
 ghost use Rattle.streetmap_reading.specs.Taking.{TakesNext, TakesRest, TakesAll};
 
 use crate::fault::ReadFault;
@@ -29,7 +29,9 @@ use streetmap_ledger::PageFold;
 /// `Memory` where memory was refused; `Fault` where the text reads as no feature, which never comes of
 /// a text that is kept.
 pub fn read_body(alloc: Global, body: &[u8], property: Option<&str>) -> Result<Feature, JsonFault>
-    ensures { (f : FeatureValue) → body.now ≡ feature_text f → IsStored (option_copied property.entry) f → Gives feature_value result (Ok f) }
+    ensures reads { IfOk result (TextReadsAs (option_copied property.entry) body.now) }
+    ensures again { (f : FeatureValue) → body.now ≡ feature_text f →
+        IsStored (option_copied property.entry) f → Gives feature_value result (Ok f) }
 {
     let value = read_json(alloc, body)?;
     read_feature(alloc, &value, property)

@@ -24,3 +24,8 @@ if_err (Err e) (Err f) P Q Q' mapped err told = let same : f ≡ e = cc in subst
 pub handed_on : {A E : Type 0} (r : Result A E) (e : E) (P : A → Type 0) (Q : E → Type 0) → IsErrAnd r (λ x. x ≡ e) → Q e → MatchResult r P Q
 handed_on (Ok a) e P Q same told = absurd same
 handed_on (Err x) e P Q same told = subst Q (sym same) told
+
+pub err_handed_on : {A E : Type 0} (r : Result A E) (e : E) (Q : E → Type 0)
+    → IsErrAnd r (λ x. x ≡ e) → Q e → IfErr r Q
+err_handed_on (Ok a) e Q same told = absurd same
+err_handed_on (Err x) e Q same told = subst Q (sym same) told

@@ -24,11 +24,13 @@ pub mod PutBatch
 pub mod PutCollection
 pub mod PutFeature
 pub mod Readable
+pub mod Reasons
 pub mod Refusing
 pub mod Resolving
 pub mod Running
 pub mod Schemas
 pub mod Settled
+pub mod Spared
 pub mod Told
 pub mod Unique
 pub mod Writing

@@ -104,7 +104,7 @@ module _ (s t : State) (roots : Roots) (db : Trees) (a : AreOf s roots db) (b : 
       let keys = same_map nat_list_cmp_total one_text s.keys t.keys (λ key. same_kept key _ _ (sym (a.batches.found key) ∙ b.batches.found key)) in
       λ i. record { collections = collections i; keys = keys i }
 
-untimed_is : (f : FeatureValue) → IsFeature f → IsFeature (untimed f)
+pub untimed_is : (f : FeatureValue) → IsFeature f → IsFeature (untimed f)
 untimed_is f h = record { named = h.named; text = h.text; made = h.made; few = h.few; oriented = h.oriented; kept = h.kept; flat = h.flat; whole = h.whole; exact = h.exact; timed = tt }
 
 -- the name finds one table

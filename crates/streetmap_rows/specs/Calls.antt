@@ -1,10 +1,13 @@
 -- What a statement does, on a connection whose database is that of a state.
-use Rattle.std.specs.Prelude.{◌≡◌, ℤ, ◌+◌, ◌≤◌, List, Vec, Option, None, Some, Result, MatchResult, IfSome, IsUtf8}
+use Rattle.std.specs.Prelude.{◌≡◌, ℕ, ℤ, ◌+◌, ◌≤◌, List, ◌∷◌, Ok, Vec, Option, None, Some, Result}
+use Rattle.std.specs.Prelude.{MatchResult, IfSome, IsUtf8}
 use Rattle.std.specs.FinMap.{get, insert, remove, len}
 use Rattle.std.specs.declared.alloc.Global.{Global}
 use Rattle.sqlite.specs.declared.error.Error.{Error}
 use Rattle.sqlite.specs.Order.{Row}
-use Rattle.sqlite.specs.State.{State as Seen, IsUnchanged, KeepsCommit}
+use Rattle.sqlite.specs.declared.types.Value.TheVariants.{Text as Words}
+use Rattle.sqlite.specs.State.{State as Seen, IsUnchanged, KeepsCommit, ExecutesInside}
+use Rattle.streetmap_rows.specs.Statements.{insert_feature}
 use Rattle.streetmap_grid.specs.Values.{BoxValue}
 use Rattle.streetmap_geojson.specs.FeatureValue.{FeatureValue}
 use Rattle.streetmap_geojson.specs.FeatureInvariant.{IsFeature}
@@ -60,3 +63,9 @@ pub record KeepsBatch (key : Text) (kept : AcceptedBatch) (s t : State) : Type 0
   pub next : kept.serial ≡ len s.keys + 1
   pub counted : (q : Text) (k : AcceptedBatch) → get s.keys q ≡ Some k → k.serial ≤ len s.keys
   pub is : t ≡ record s { keys = insert s.keys key kept }
+
+-- a row was inserted into the features, under this collection and this id, with this text
+abbrev pub RanInsert : KeyPair → Text → Seen → Seen → Type 0
+RanInsert p text old new =
+    (more : Row) × (count : ℕ)
+    × ExecutesInside 0 insert_feature (Words p.0 ∷ Words p.1 ∷ Words text ∷ more) old new (Ok count)

@@ -1,5 +1,7 @@
 -- Why a statement that no rule stands against may fail.
 use Rattle.std.specs.Prelude.{◌≡◌, Bool, true, false, IsTrue}
+use Rattle.sqlite_disk.specs.Disk.{MoreFaults}
+use Rattle.sqlite.specs.State.{State as Seen}
 use Rattle.sqlite.specs.declared.error.Error.{Error}
 use Rattle.sqlite.specs.declared.error.Error.TheVariants.{SqliteFailure}
 use Rattle.sqlite.specs.declared.error.ErrorCode.TheVariants.{NoRowid, OutOfMemory, SystemIoFailure, DatabaseCorrupt, DiskFull, Closed, TooBig}
@@ -25,3 +27,20 @@ is_memory _ = false
 
 abbrev pub IsMemory : Error → Type 0
 IsMemory e = e ≡ SqliteFailure OutOfMemory
+
+-- it tells that the disk failed or is full, or that the connection is shut
+abbrev pub tells_disk : Error → Bool
+tells_disk (SqliteFailure SystemIoFailure) = true
+tells_disk (SqliteFailure DatabaseCorrupt) = true
+tells_disk (SqliteFailure DiskFull) = true
+tells_disk (SqliteFailure Closed) = true
+tells_disk _ = false
+
+-- it tells nothing of it
+abbrev pub SparesDisk : Error → Type 0
+SparesDisk e = tells_disk e ≡ false
+
+-- where the connection was open, an error that tells of the disk came of a fault that the disk has
+-- met since
+abbrev pub HasReason : Seen → Seen → Error → Type 0
+HasReason old new e = IsTrue old.is_open → IsTrue (tells_disk e) → MoreFaults old.faults new.faults

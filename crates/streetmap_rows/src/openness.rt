@@ -2,7 +2,7 @@
 ghost use Rattle.std.specs.Prelude.{◌≡◌, IsTrue, false, IfErr, OnOk};
 ghost use Rattle.sqlite.specs.Held.{state};
 ghost use Rattle.sqlite.specs.State.{HasCleanDisk, IsUnchanged, KeepsCommit, Survives};
-ghost use Rattle.streetmap_rows.specs.Failing.{IsOfStore};
+ghost use Rattle.streetmap_rows.specs.Failing.{IsOfStore, HasReason};
 
 use sqlite::{Alter, Connection, Error};
 
@@ -20,6 +20,8 @@ pub fn probe<S: Alter>(conn: &mut Connection<S>) -> Result<(), Error>
     ensures settled { IsTrue (state S.Store conn.new).is_open → (state S.Store conn.new).now ≡ (state S.Store conn.new).committed }
     ensures unchanged { HasCleanDisk (state S.Store conn.new) → OnOk result (IsUnchanged (state S.Store conn.old) (state S.Store conn.new)) }
     ensures failed { HasCleanDisk (state S.Store conn.new) → IfErr result IsOfStore }
+    ensures reason { HasCleanDisk (state S.Store conn.new) →
+        IfErr result (HasReason (state S.Store conn.old) (state S.Store conn.new)) }
     ensures kept { HasCleanDisk (state S.Store conn.new) → KeepsCommit (state S.Store conn.old) (state S.Store conn.new) }
 {
     let probed = conn.prepare("COMMIT").map(|_| ());

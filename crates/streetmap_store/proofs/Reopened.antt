@@ -21,9 +21,10 @@ use Rattle.streetmap_ledger.specs.Keep.{LeavesOnly, LeavesEither}
 use Rattle.streetmap_rows.proofs.Schemas.{one_schema}
 use Rattle.streetmap_rows.specs.Tables.{Roots, IsOurs, IsNamed, meta_name, features_name}
 use Rattle.sqlite.specs.State.{State as Seen}
-use Rattle.streetmap_rows.specs.Keeping.{Keeps, MayLeave}
+use Rattle.streetmap_rows.specs.Keeping.{Keeps, MayLeave, Rests, Tells}
 use Rattle.streetmap_opening.specs.Old.{KeepsOld}
 use Rattle.streetmap_store.specs.Reopening.{IsJustOpened, OpensWithin}
+use Rattle.streetmap_store.specs.Sparing.{LeavesLast, LeavesStates, tells_last}
 
 -- a definition is that of one index of a name in a tree
 one_defined : (table : Table) (v : Value) (i j : Index) → i.tree ≡ j.tree → i.name ≡ j.name → IsDefined table i v → IsDefined table j v → i ≡ j
@@ -141,3 +142,26 @@ within_one seen s only o left = (s, only o left, refl)
 
 pub within_two : (seen : Seen) (s t : State) → LeavesEither (MayLeave seen) (Some s) (Some t) → (o : Option State) → MayLeave seen o → (u : State) × (o ≡ Some u) × ((u ≡ s) ⊎ (u ≡ t))
 within_two seen s t only o left = elim (only o left) [ inl is ↦ (s, is, inl refl) | inr is ↦ (t, is, inr refl) ]
+
+-- trees of a state that are opened again
+rests_again : (new : Seen) (s : State) → Tells new.now.trees (Some s) → IsJustOpened new → Rests new s
+rests_again new s tells fresh = record {
+  kept = keeps_too s tells.0 new.now.schema new.now.trees fresh.sound tells.1;
+  settled = fresh.settled;
+  live = fresh.live;
+  unlimited = fresh.unlimited;
+}
+
+-- a state that a keeper stands for, where a stop leaves what was committed last
+pub opens_standing : (old new : Seen) (s : State) → Rests old s → LeavesLast old
+    → old.may_leave new.now.trees → IsJustOpened new → Rests new s
+opens_standing old new s rests last left fresh =
+    rests_again new s (tells_last old s rests last new.now.trees left) fresh
+
+-- where each database that a stop may leave is a state's, one of these states stands where it is
+-- opened
+pub opens_some : (old new : Seen) → LeavesStates old → old.may_leave new.now.trees → IsJustOpened new
+    → (t : State) × Rests new t × MayLeave old (Some t)
+opens_some old new states left fresh =
+    let it = states new.now.trees left in
+    (it.0, rests_again new it.0 it.1 fresh, (new.now.trees, left, it.1))

@@ -1,10 +1,12 @@
 -- What a keeper over tables stands for.
-use Rattle.std.specs.Prelude.{◌≡◌, ℕ, Bool, true, Option, None, Some, IsSome, IsTrue, T, not}
+use Rattle.std.specs.Prelude.{◌≡◌, ◌⊎◌, ◌≤◌, ℕ, Bool, true, Option, None, Some, IsSome, IsTrue, T}
+use Rattle.std.specs.Prelude.{not}
 use Rattle.std.specs.Option.{option_map}
 use mathlib.Core.Path.{subst}
 use Rattle.std.specs.FinMap.{len}
+use Rattle.sqlite_disk.specs.Disk.{MoreFaults}
 use Rattle.sqlite.specs.declared.error.Error.{Error}
-use Rattle.sqlite.specs.State.{State as Seen, HasCleanDisk, IsUnchanged}
+use Rattle.sqlite.specs.State.{State as Seen, HasCleanDisk, IsUnchanged, KeepsCommit}
 use Rattle.streetmap_ledger.specs.State.{State}
 use Rattle.streetmap_ledger.specs.declared.reply.Reply.{Reply}
 use Rattle.streetmap_ledger.specs.declared.reply.Reply.TheVariants.{Accepted, Repeated, Refused}
@@ -16,7 +18,7 @@ use Rattle.streetmap_rows.specs.declared.failing.Stop.{Stop}
 use Rattle.streetmap_rows.specs.declared.failing.Stop.TheVariants.{Memory, Closed}
 use Rattle.streetmap_rows.specs.declared.failing.Shut.{Shut}
 use Rattle.streetmap_rows.specs.declared.failing.Shut.TheVariants.{Device, Damaged}
-use Rattle.streetmap_rows.specs.Failing.{IsOfStore, is_of_store}
+use Rattle.streetmap_rows.specs.Failing.{IsOfStore, is_of_store, HasReason}
 use Rattle.streetmap_rows.specs.Keeping.{Rests, MayLeave}
 use Rattle.streetmap_writing.specs.Acting.{LeavesOtherTables}
 use Rattle.streetmap_reading.specs.declared.fault.ReadFault.{ReadFault}
@@ -37,6 +39,12 @@ abbrev pub is_named : Option Shut → Bool
 is_named None = true
 is_named (Some (Device e)) = is_of_store e
 is_named (Some Damaged) = true
+
+-- an error of the store that shut it came about between these two for a reason
+abbrev pub HasShut : Seen → Seen → Option Shut → Type 0
+HasShut old new None = Unit {0}
+HasShut old new (Some (Device e)) = HasReason old new e
+HasShut old new (Some Damaged) = Unit {0}
 
 -- A keeper that is not shut stands for the state of its connection, holds how many batches were accepted, and a stop may leave that state. There is no other such state; both are lemmas, and stand here since the laws of a trait are proved without lemmas.
 pub record Serves (shut : Option Shut) (seen : Seen) (count : ℕ) (s : State) : Type 0 where
@@ -82,3 +90,16 @@ abbrev pub EndsLook : ReadFault → Seen → Seen → Fault → Type 0
 EndsLook read.Memory old new result = (result ≡ fault.Memory) × (IsTrue old.is_open → IsUnchanged old new)
 EndsLook (read.Store e) old new result = IsOfStore e → HasSettled old new result
 EndsLook read.Unread old new result = result ≡ fault.Damaged
+
+-- a look led from the first to the second, and gave up for this
+pub record GaveUp (first old : Seen) (fault : ReadFault) : Type 0 where
+  pub counts : first.faults ≤ old.faults
+  pub closes : IsTrue first.is_open → IsTrue old.is_open ⊎ MoreFaults first.faults old.faults
+  pub reason : (e : Error) → fault ≡ read.Store e → HasReason first old e
+
+-- a look that was given up holds what was committed
+abbrev pub LeavesCommitted : ReadFault → Seen → Seen → Type 0
+LeavesCommitted read.Memory old new = new.now ≡ old.now
+LeavesCommitted (read.Store e) old new =
+    KeepsCommit old new × (IsTrue new.is_open → new.now ≡ new.committed)
+LeavesCommitted read.Unread old new = Unit {0}

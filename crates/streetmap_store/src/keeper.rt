@@ -1,20 +1,28 @@
 //! The keeper.
-ghost use Rattle.std.specs.Prelude.{◌≡◌, ◌≢◌, ◌↔◌, Ok, Err, None, Some, false, IsTrue, IfOk, IfErr, IfSome, IsErrAnd, MatchResult, option_and_then};
+ghost use Rattle.std.specs.Prelude.{◌≡◌, ◌⊎◌, ◌≢◌, ◌↔◌, Ok, Err, None, Some, false, IsTrue, IfOk};
+ghost use Rattle.std.specs.Prelude.{IfErr, IfSome, IsErrAnd, MatchResult, option_and_then};
 ghost use Rattle.std.specs.Option.{option_map};
-ghost use Rattle.sqlite.specs.Held.{state};
+ghost use Rattle.sqlite.specs.Held.{Held, state};
 ghost use Rattle.sqlite.specs.State.{HasCleanDisk, Survives};
 ghost use Rattle.streetmap_ledger.specs.State.{State, opening_state};
 ghost use Rattle.streetmap_ledger.specs.Keep.{ShutsBy, LeavesOnly, LeavesEither};
 ghost use Rattle.streetmap_rows.specs.Failing.{IsOfStore};
 ghost use Rattle.streetmap_writing.specs.Acting.{IsToldByStore};
 ghost use Rattle.streetmap_rows.specs.Keeping.{Rests, MayLeave};
-ghost use Rattle.streetmap_opening.specs.Adopting.{IsAsItWas};
+ghost use Rattle.streetmap_opening.specs.Adopting.{IsAsItWas, LeavesTheSame};
 ghost use Rattle.streetmap_opening.specs.Making.{is_taken, IsReady, KeepsOtherTables, Makes, MayOpen};
-ghost use Rattle.streetmap_opening.specs.Refusing.{IsTold};
+ghost use Rattle.streetmap_opening.specs.Refusing.{IsTold, IsReasoned};
+ghost use Rattle.streetmap_opening.specs.Reasons.{OpensFor};
+ghost use Rattle.streetmap_opening.specs.Telling.{TellsKeys};
+ghost use Rattle.streetmap_opening.specs.Part.{HasCarried};
 ghost use Rattle.streetmap_opening.specs.Old.{RestsOld};
-ghost use Rattle.streetmap_opening.specs.Carrying.{LeavesUnlessOld, MayCarry, Carries, Opens, OpensBy};
+ghost use Rattle.streetmap_opening.specs.Carrying.{LeavesUnlessOld, MayCarry, Carries, Opens};
+ghost use Rattle.streetmap_opening.specs.Carrying.{OpensBy, KeepsNoMore};
 ghost use Rattle.streetmap_store.specs.Reopening.{IsJustOpened, OpensAs, OpensAsEither};
-ghost use Rattle.streetmap_store.specs.Serving.{Serves, EndsLook, is_named, cause_in, error_in, count_after, shut_by, fault_by};
+ghost use Rattle.streetmap_store.specs.Serving.{Serves, EndsLook, HasShut, GaveUp, is_named};
+ghost use Rattle.streetmap_store.specs.Serving.{cause_in, error_in, count_after, shut_by, fault_by};
+ghost use Rattle.streetmap_store.specs.Serving.{LeavesCommitted};
+ghost use Rattle.streetmap_store.specs.Sparing.{LeavesStates};
 
 use sqlite::{Alter, Connection, Error};
 use std::alloc::Global;
@@ -79,6 +87,11 @@ fn give_up<S: Alter>(conn: &mut Connection<S>, shut: &mut Option<Shut>, fault: R
     ensures survives { Survives (state S.Store conn.old) (state S.Store conn.new) (λ _. ⊥) }
     ensures faults { shut.old ≡ None → ShutsBy {T = Unit {0}} (Err result) None (option_map cause_in shut.new) }
     ensures ends { HasCleanDisk (state S.Store conn.new) → EndsLook fault (state S.Store conn.old) (state S.Store conn.new) result }
+    ensures reason { HasCleanDisk (state S.Store conn.new) → shut.old ≡ None → (first : Held S) →
+        GaveUp (state S.Store first) (state S.Store conn.old) fault →
+        HasShut (state S.Store first) (state S.Store conn.new) shut.new }
+    ensures committed { HasCleanDisk (state S.Store conn.new) →
+        LeavesCommitted fault (state S.Store conn.old) (state S.Store conn.new) }
     ensures kept { result ≡ Fault.Memory → shut.new ≡ shut.old }
     ensures not_shut_before { result ≢ Fault.Reopen }
     ensures named { HasCleanDisk (state S.Store conn.new) → IsTrue (is_named shut.old) → IsTrue (is_named shut.new) }
@@ -95,7 +108,8 @@ impl<S: Alter> TableKeeper<S> {
     /// Makes the four tables in a connection, with the opening state, and keeps it there.
     ///
     /// The connection is to have no step limit and room for the tables (`make_tables`). A stop then
-    /// leaves the opening state; after a refusal the connection, given back, holds what it held.
+    /// leaves the opening state; after a refusal the connection, given back, holds what it held, and
+    /// a stop may leave the same as before while it is open.
     ///
     /// # Errors
     ///
@@ -111,13 +125,20 @@ impl<S: Alter> TableKeeper<S> {
         ensures taken { IsErrAnd result (λ refused. refused.0 ≡ MakeFault.Taken) ↔ IsTrue (is_taken (state S.Store conn).now.schema) }
         ensures untouched { IfErr result (λ refused. refused.0 ≡ MakeFault.Taken → refused.1 ≡ conn) }
         ensures clean { MatchResult result (λ keeper. HasCleanDisk (state S.Store keeper.conn) → HasCleanDisk (state S.Store conn)) (λ refused. HasCleanDisk (state S.Store refused.1) → HasCleanDisk (state S.Store conn)) }
+        ensures reason { IfErr result (λ refused. HasCleanDisk (state S.Store refused.1) →
+            IsReasoned (state S.Store conn) (state S.Store refused.1) refused.0) }
         ensures made { IfOk result (λ keeper. HasCleanDisk (state S.Store keeper.conn) → IsReady (state S.Store conn) → Serves keeper.shut (state S.Store keeper.conn) keeper.count opening_state × LeavesOnly (MayLeave (state S.Store keeper.conn)) (Some opening_state)) }
         ensures refused { IfErr result (λ refused. HasCleanDisk (state S.Store refused.1) → IsReady (state S.Store conn) → Makes (state S.Store conn) (state S.Store refused.1) (Err refused.0)) }
         ensures told { IfErr result (λ refused. HasCleanDisk (state S.Store refused.1) → IsReady (state S.Store conn) → IsTold (state S.Store conn).now.schema refused.0) }
         ensures same { IfErr result (λ refused. HasCleanDisk (state S.Store refused.1) → IsAsItWas (state S.Store conn) (state S.Store refused.1)) }
+        ensures leaves { IfErr result (λ refused. HasCleanDisk (state S.Store refused.1) →
+            IsTrue (state S.Store conn).is_open → IsTrue (state S.Store refused.1).is_open →
+            LeavesTheSame (state S.Store conn) (state S.Store refused.1)) }
         ensures elsewhere { IfOk result (λ keeper. HasCleanDisk (state S.Store keeper.conn) → IsReady (state S.Store conn) → KeepsOtherTables (state S.Store conn).now (state S.Store keeper.conn).now) }
         ensures crash { IfErr result (λ refused. HasCleanDisk (state S.Store refused.1) → IsReady (state S.Store conn) → MayOpen (state S.Store conn) (state S.Store refused.1)) }
     {
+        // Between two transactions it holds what was committed.
+        let _idle = conn.is_autocommit();
         match make_tables(&mut conn) {
             Ok(()) => Ok(TableKeeper {
                 alloc,
@@ -132,13 +153,20 @@ impl<S: Alter> TableKeeper<S> {
     /// Opens the tables that a connection has, and keeps their state. Those of format 1 are carried over
     /// to format 2 first (`open_tables`); where the format is not 1 it writes nothing.
     ///
-    /// The connection is to have no step limit. After a refusal an open connection holds what it held.
+    /// Whatever the tables are, they are kept only where their format is 2, with the number of
+    /// batches that a look tells, or where a row was put into the new features for each row of the
+    /// old ones, with its text.
+    ///
+    /// The connection is to have no step limit. After a refusal an open connection holds what it
+    /// held, and a stop may leave the same as before; after one that blames the tables a stop may
+    /// leave no more than before in any case.
     ///
     /// # Errors
     ///
-    /// `NotOurs` where there is no format row of this product, `NewFormat` for a format above 2, `Damaged`
-    /// where the format is 1 and a row is none that this product writes, `Device` where the store fails, or
-    /// where tables of format 1 cannot be carried over, by the error that `open_tables` tells, `Memory`.
+    /// `NotOurs` where there is no format row of this product, `NewFormat` for a format above 2,
+    /// `Damaged` where the format is 1 and a row is none that this product writes, or it is 2 and
+    /// the look at the batches is refused, `Device` where the store fails, or where tables of format
+    /// 1 cannot be carried over, by the error that `open_tables` tells, `Memory`.
     pub fn adopt(
         alloc: Global,
         mut conn: Connection<S>,
@@ -146,9 +174,18 @@ impl<S: Alter> TableKeeper<S> {
         requires { conn.in_transaction ≡ false }
         ensures idle { IfErr result (λ refused. refused.1.in_transaction ≡ false) }
         ensures clean { MatchResult result (λ keeper. HasCleanDisk (state S.Store keeper.conn) → HasCleanDisk (state S.Store conn)) (λ refused. HasCleanDisk (state S.Store refused.1) → HasCleanDisk (state S.Store conn)) }
+        ensures reason { IfErr result (λ refused. HasCleanDisk (state S.Store refused.1) →
+            OpensFor (state S.Store conn) (state S.Store refused.1) refused.0) }
+        ensures fewer { IfErr result (λ refused. HasCleanDisk (state S.Store refused.1) →
+            KeepsNoMore refused.0 (state S.Store conn) (state S.Store refused.1)) }
         ensures unwritten { MatchResult result (λ keeper. HasCleanDisk (state S.Store keeper.conn) → LeavesUnlessOld (state S.Store conn) (state S.Store keeper.conn)) (λ refused. HasCleanDisk (state S.Store refused.1) → LeavesUnlessOld (state S.Store conn) (state S.Store refused.1)) }
         ensures same { IfErr result (λ refused. HasCleanDisk (state S.Store refused.1) → IsAsItWas (state S.Store conn) (state S.Store refused.1)) }
+        ensures leaves { IfErr result (λ refused. HasCleanDisk (state S.Store refused.1) →
+            IsTrue (state S.Store conn).is_open → IsTrue (state S.Store refused.1).is_open →
+            LeavesTheSame (state S.Store conn) (state S.Store refused.1)) }
         ensures tells { MatchResult result (λ keeper. HasCleanDisk (state S.Store keeper.conn) → OpensBy (state S.Store conn) (Ok keeper.count)) (λ refused. HasCleanDisk (state S.Store refused.1) → OpensBy (state S.Store conn) (Err refused.0)) }
+        ensures each { IfOk result (λ keeper. HasCleanDisk (state S.Store keeper.conn) →
+            TellsKeys (state S.Store conn) keeper.count ⊎ HasCarried S.Store conn keeper.conn) }
         ensures adopted { IfOk result (λ keeper. HasCleanDisk (state S.Store keeper.conn) → (s : State) → Rests (state S.Store conn) s → Serves keeper.shut (state S.Store keeper.conn) keeper.count s × LeavesOnly (MayLeave (state S.Store keeper.conn)) (Some s)) }
         ensures refused { IfErr result (λ refused. HasCleanDisk (state S.Store refused.1) → (s : State) → Rests (state S.Store conn) s → Opens s (state S.Store conn) (state S.Store refused.1) (Err refused.0)) }
         ensures carried { IfOk result (λ keeper. HasCleanDisk (state S.Store keeper.conn) → (s : State) → RestsOld (state S.Store conn) s → Serves keeper.shut (state S.Store keeper.conn) keeper.count s × LeavesOnly (MayLeave (state S.Store keeper.conn)) (Some s)) }
@@ -156,6 +193,8 @@ impl<S: Alter> TableKeeper<S> {
         ensures elsewhere { IfOk result (λ keeper. HasCleanDisk (state S.Store keeper.conn) → (s : State) → RestsOld (state S.Store conn) s → KeepsOtherTables (state S.Store conn).now (state S.Store keeper.conn).now) }
         ensures crash { MatchResult result (λ keeper. HasCleanDisk (state S.Store keeper.conn) → (s : State) → RestsOld (state S.Store conn) s → MayCarry s (state S.Store conn) (state S.Store keeper.conn)) (λ refused. HasCleanDisk (state S.Store refused.1) → (s : State) → RestsOld (state S.Store conn) s → MayCarry s (state S.Store conn) (state S.Store refused.1)) }
     {
+        // Between two transactions it holds what was committed.
+        let _idle = conn.is_autocommit();
         match open_tables(alloc, &mut conn) {
             Ok(count) => Ok(TableKeeper {
                 alloc,
@@ -193,20 +232,42 @@ impl<S: Alter> TableKeeper<S> {
     }
 }
 
-/// What a stop leaves of a keeper, opened again, is the state that its clauses on stops name: where a stop
-/// may leave one state alone the tables are that state's, and where it may leave one of two they are one
-/// of the two's. With `TableKeeper::adopt` it is kept again.
+/// What a stop leaves of a keeper, opened again. Of a keeper that stands for a state it is that
+/// state; and where each database that a stop may leave is a state's, as after each run of calls
+/// (`Keeper::spares`), one of these states. Where the clauses on stops name one state, or one of
+/// two, the tables are those of that state, or of one of the two. With `TableKeeper::adopt` it is
+/// kept again.
 pub fn what_a_stop_leaves_opens<S: Alter, T: Alter>(keeper: &TableKeeper<S>, opened: &Connection<T>)
-    ensures one { (s : State) → LeavesOnly (MayLeave (state S.Store keeper.now.conn)) (Some s) → (state S.Store keeper.now.conn).may_leave (state T.Store opened.now).now.trees → IsJustOpened (state T.Store opened.now) → OpensAs s (state T.Store opened.now) }
-    ensures either { (s t : State) → LeavesEither (MayLeave (state S.Store keeper.now.conn)) (Some s) (Some t) → (state S.Store keeper.now.conn).may_leave (state T.Store opened.now).now.trees → IsJustOpened (state T.Store opened.now) → OpensAsEither s t (state T.Store opened.now) }
+    ensures stands { (s : State) →
+        Serves keeper.now.shut (state S.Store keeper.now.conn) keeper.now.count s →
+        (state S.Store keeper.now.conn).may_leave (state T.Store opened.now).now.trees →
+        IsJustOpened (state T.Store opened.now) → Rests (state T.Store opened.now) s }
+    ensures states { LeavesStates (state S.Store keeper.now.conn) →
+        (state S.Store keeper.now.conn).may_leave (state T.Store opened.now).now.trees →
+        IsJustOpened (state T.Store opened.now) →
+        (t : State) × Rests (state T.Store opened.now) t ×
+        MayLeave (state S.Store keeper.now.conn) (Some t) }
+    ensures one { (s : State) → LeavesOnly (MayLeave (state S.Store keeper.now.conn)) (Some s) →
+        (state S.Store keeper.now.conn).may_leave (state T.Store opened.now).now.trees →
+        IsJustOpened (state T.Store opened.now) → OpensAs s (state T.Store opened.now) }
+    ensures either { (s t : State) →
+        LeavesEither (MayLeave (state S.Store keeper.now.conn)) (Some s) (Some t) →
+        (state S.Store keeper.now.conn).may_leave (state T.Store opened.now).now.trees →
+        IsJustOpened (state T.Store opened.now) → OpensAsEither s t (state T.Store opened.now) }
 {}
 
 impl<S: Alter> Keeper for TableKeeper<S> {
-    ghost use Rattle.std.specs.Prelude.{option_map};
+    ghost use Rattle.std.specs.Prelude.{◌≡◌, IsSome, option_map};
     ghost use Rattle.sqlite.specs.Held.{state};
     ghost use Rattle.sqlite.specs.State.{HasCleanDisk};
-    ghost use Rattle.streetmap_store.specs.Serving.{Serves, SparesOthers, never_shut, cause_in};
+    ghost use Rattle.std.proofs.Common.{refl, sym, subst, ◌∙◌};
+    ghost use Rattle.streetmap_ledger.specs.State.{State};
+    ghost use Rattle.streetmap_ledger.specs.Keep.{Acts};
     ghost use Rattle.streetmap_rows.specs.Keeping.{MayLeave};
+    ghost use Rattle.streetmap_store.specs.Serving.{Serves, SparesOthers};
+    ghost use Rattle.streetmap_store.specs.Serving.{never_shut, cause_in};
+    ghost use Rattle.streetmap_store.specs.Sparing as sparing;
+    ghost use Rattle.streetmap_store.specs.Sparing.{Spares, HasFailed, is_shut};
 
     ghost stands = { λ k s. Serves k.shut (state S.Store k.conn) k.count s };
 
@@ -216,7 +277,18 @@ impl<S: Alter> Keeper for TableKeeper<S> {
 
     ghost is_clean = { λ k. HasCleanDisk (state S.Store k.conn) };
 
-    ghost applies = { λ k b result after. SparesOthers k.shut k.count (state S.Store k.conn) (state S.Store after.conn) };
+    ghost applies = { λ k b result after.
+        SparesOthers k.shut k.count (state S.Store k.conn) (state S.Store after.conn) ×
+        (HasCleanDisk (state S.Store after.conn) → (s : State) →
+        Serves k.shut (state S.Store k.conn) k.count s →
+        Acts s b result (Serves after.shut (state S.Store after.conn) after.count)) };
+
+    ghost spares = { λ k after. (IsSome k.shut → after ≡ k) ×
+        Spares k.shut k.count (state S.Store k.conn)
+        after.shut after.count (state S.Store after.conn) };
+
+    ghost fails = { λ k after.
+        HasFailed (state S.Store k.conn) after.shut (state S.Store after.conn) };
 
     ghost one_state = { λ k s t p q. q.only s p.rests };
 
@@ -225,6 +297,19 @@ impl<S: Alter> Keeper for TableKeeper<S> {
     ghost may_leave_it = { λ k s p. p.left };
 
     ghost well_formed = { λ k s p. p.rests.kept.well };
+
+    ghost spares_itself = { λ k. (λ shut. refl, sparing.spares_itself _ _ _) };
+
+    ghost spares_then = { λ first mid last p q. (
+      λ shut. q.0 (subst (λ k. IsSome k.shut) (sym (p.0 shut)) shut) ∙ p.0 shut,
+      sparing.spares_then _ _ _ _ _ _ _ _ _ p.1 q.1,
+    ) };
+
+    ghost fails_later = { λ first mid last p q fails.
+        sparing.fails_later _ _ _ _ _ _ _ _ _ p.1 q.1 fails };
+
+    ghost fails_still = { λ first mid last fails shut q.
+        sparing.fails_still _ _ _ _ _ _ _ q.1 (is_shut mid.shut shut) fails };
 
     fn apply(&mut self, batch: &Batch) -> Result<Reply, Fault> {
         if self.shut.is_some() {

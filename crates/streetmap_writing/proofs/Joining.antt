@@ -22,7 +22,7 @@ keeps_then a b c p q = record { was_open = λ o. p.was_open (q.was_open o); comm
 pub same_all : (a b : Database) → b ≡ a → IsSameElsewhere a b
 same_all a b same = subst (IsSameElsewhere a) (sym same) (record { schema = refl; tables = λ t had other. refl; others = λ tree none no_index. refl })
 
-elsewhere_then : (a b c : Database) → IsSameElsewhere a b → IsSameElsewhere b c → IsSameElsewhere a c
+pub elsewhere_then : (a b c : Database) → IsSameElsewhere a b → IsSameElsewhere b c → IsSameElsewhere a c
 elsewhere_then a b c p q =
     let on = subst (λ s. IsSameElsewhere (record { schema = s; trees = b.trees }) c) p.schema q in
     record { schema = on.schema; tables = λ t had other. on.tables t had other ∙ p.tables t had other; others = λ tree none no_index. on.others tree none no_index ∙ p.others tree none no_index }

@@ -2,11 +2,13 @@
 ghost use Rattle.std.specs.Prelude.{◌≡◌, ◌≤◌, ◌<◌, ◌^◌, ◌-◌, false, IfErr};
 ghost use Rattle.std.specs.FinMap.{len};
 ghost use Rattle.sqlite.specs.Held.{state};
-ghost use Rattle.sqlite.specs.State.{HasCleanDisk};
+ghost use Rattle.sqlite.specs.State.{HasCleanDisk, Survives};
 ghost use Rattle.sqlite.specs.View.{doubt};
 ghost use Rattle.streetmap_ledger.specs.State.{State};
 ghost use Rattle.streetmap_batch.specs.BatchText.{batch_text};
 ghost use Rattle.streetmap_batch.specs.BatchView.{batch_value};
+ghost use Rattle.streetmap_rows.specs.Failing.{HasReason};
+ghost use Rattle.streetmap_rows.specs.Settling.{StopsFor};
 ghost use Rattle.streetmap_rows.specs.Keeping.{Rests, MayBecome};
 ghost use Rattle.streetmap_writing.specs.Acting.{Awaits, Applied, Ended, LeavesOtherTables, IsToldByStore};
 
@@ -33,6 +35,9 @@ fn act_alone<S: Alter>(
     requires room { count < 2 ^ 63 - 1 }
     ensures idle { conn.new.in_transaction ≡ false }
     ensures clean { doubt (state S.Store conn.old).is_clean ≤ doubt (state S.Store conn.new).is_clean }
+    ensures reason { HasCleanDisk (state S.Store conn.new) →
+        IfErr result (HasReason (state S.Store conn.old) (state S.Store conn.new)) }
+    ensures survives { Survives (state S.Store conn.old) (state S.Store conn.new) (λ _. Unit {0}) }
     ensures ended { HasCleanDisk (state S.Store conn.new) → (s : State) → Rests (state S.Store conn.old) s → Awaits s (batch_value batch.now) count → Ended s (batch_value batch.now) (state S.Store conn.new) result }
     ensures elsewhere { HasCleanDisk (state S.Store conn.new) → (s : State) → Rests (state S.Store conn.old) s → Awaits s (batch_value batch.now) count → LeavesOtherTables (state S.Store conn.old) (state S.Store conn.new) }
     ensures crash { HasCleanDisk (state S.Store conn.new) → (s : State) → Rests (state S.Store conn.old) s → Awaits s (batch_value batch.now) count → MayBecome s (batch_value batch.now) (state S.Store conn.old) (state S.Store conn.new) }
@@ -70,6 +75,9 @@ fn act_by_key<S: Alter>(
     requires its_text { text.now ≡ batch_text (batch_value batch.now) }
     ensures idle { conn.new.in_transaction ≡ false }
     ensures clean { doubt (state S.Store conn.old).is_clean ≤ doubt (state S.Store conn.new).is_clean }
+    ensures reason { HasCleanDisk (state S.Store conn.new) →
+        IfErr result (HasReason (state S.Store conn.old) (state S.Store conn.new)) }
+    ensures survives { Survives (state S.Store conn.old) (state S.Store conn.new) (λ _. Unit {0}) }
     ensures ended { HasCleanDisk (state S.Store conn.new) → (s : State) → Rests (state S.Store conn.old) s → len s.keys ≡ count → Ended s (batch_value batch.now) (state S.Store conn.new) result }
     ensures elsewhere { HasCleanDisk (state S.Store conn.new) → (s : State) → Rests (state S.Store conn.old) s → len s.keys ≡ count → LeavesOtherTables (state S.Store conn.old) (state S.Store conn.new) }
     ensures crash { HasCleanDisk (state S.Store conn.new) → (s : State) → Rests (state S.Store conn.old) s → len s.keys ≡ count → MayBecome s (batch_value batch.now) (state S.Store conn.old) (state S.Store conn.new) }
@@ -101,6 +109,9 @@ pub fn apply_batch<S: Alter>(
     requires { conn.old.in_transaction ≡ false }
     ensures idle { conn.new.in_transaction ≡ false }
     ensures clean { doubt (state S.Store conn.old).is_clean ≤ doubt (state S.Store conn.new).is_clean }
+    ensures reason { HasCleanDisk (state S.Store conn.new) →
+        IfErr result (StopsFor (state S.Store conn.old) (state S.Store conn.new)) }
+    ensures survives { Survives (state S.Store conn.old) (state S.Store conn.new) (λ _. Unit {0}) }
     ensures told { HasCleanDisk (state S.Store conn.new) → IfErr result IsToldByStore }
     ensures acts { HasCleanDisk (state S.Store conn.new) → (s : State) → Rests (state S.Store conn.old) s → len s.keys ≡ count → Applied s (batch_value batch.now) (state S.Store conn.new) result }
     ensures elsewhere { HasCleanDisk (state S.Store conn.new) → (s : State) → Rests (state S.Store conn.old) s → len s.keys ≡ count → LeavesOtherTables (state S.Store conn.old) (state S.Store conn.new) }

@@ -1,5 +1,5 @@
 //! Edits inside a transaction.
-ghost use Rattle.std.specs.Prelude.{◌≡◌, is_some, map};
+ghost use Rattle.std.specs.Prelude.{◌≡◌, IfErr, is_some, map};
 ghost use Rattle.std.specs.Option.{option_copied};
 ghost use Rattle.std.specs.FinMap.{get};
 ghost use Rattle.sqlite.specs.Held.{state};
@@ -8,6 +8,7 @@ ghost use Rattle.streetmap_batch.specs.BatchValue as edit;
 ghost use Rattle.streetmap_batch.specs.BatchView.{edit_value};
 ghost use Rattle.streetmap_rows.specs.Stands.{Looks};
 ghost use Rattle.streetmap_writing.specs.Editing.{Edits, EditsAll};
+ghost use Rattle.streetmap_rows.specs.Failing.{HasReason};
 
 use crate::storing::put_feature;
 use crate::timing::time_property;
@@ -21,6 +22,8 @@ use streetmap_rows::{collection_rows, delete_feature, has_feature, insert_collec
 fn has_collection<S: Alter>(tx: &mut Transaction<'_, S>, collection: &str) -> Result<bool, Error>
     ensures same_reference { tx.new.conn.ghost_name ≡ tx.old.conn.ghost_name }
     ensures looks { HasCleanDisk (state S.Store tx.new.conn.now) → Looks (λ s. is_some (get s.collections collection.now)) (state S.Store tx.old.conn.now) (state S.Store tx.new.conn.now) result }
+    ensures reason { HasCleanDisk (state S.Store tx.new.conn.now) →
+        IfErr result (HasReason (state S.Store tx.old.conn.now) (state S.Store tx.new.conn.now)) }
     ensures survives { Survives (state S.Store tx.old.conn.now) (state S.Store tx.new.conn.now) (λ _. ⊥) }
 {
     let rows = collection_rows(tx, collection)?;
@@ -37,6 +40,8 @@ fn open_in<S: Alter>(
 ) -> Result<Option<Refusal>, Error>
     ensures same_reference { tx.new.conn.ghost_name ≡ tx.old.conn.ghost_name }
     ensures edits { HasCleanDisk (state S.Store tx.new.conn.now) → Edits (edit.«open» collection.now title.now (option_copied time.entry)) (state S.Store tx.old.conn.now) (state S.Store tx.new.conn.now) result }
+    ensures reason { HasCleanDisk (state S.Store tx.new.conn.now) →
+        IfErr result (HasReason (state S.Store tx.old.conn.now) (state S.Store tx.new.conn.now)) }
     ensures survives { Survives (state S.Store tx.old.conn.now) (state S.Store tx.new.conn.now) (λ _. ⊥) }
 {
     if has_collection(tx, collection)? {
@@ -55,6 +60,8 @@ fn insert_in<S: Alter>(
 ) -> Result<Option<Refusal>, Error>
     ensures same_reference { tx.new.conn.ghost_name ≡ tx.old.conn.ghost_name }
     ensures edits { HasCleanDisk (state S.Store tx.new.conn.now) → Edits (edit.insert collection.now feature.now) (state S.Store tx.old.conn.now) (state S.Store tx.new.conn.now) result }
+    ensures reason { HasCleanDisk (state S.Store tx.new.conn.now) →
+        IfErr result (HasReason (state S.Store tx.old.conn.now) (state S.Store tx.new.conn.now)) }
     ensures survives { Survives (state S.Store tx.old.conn.now) (state S.Store tx.new.conn.now) (λ _. ⊥) }
 {
     let Some(property) = time_property(tx, collection)? else {
@@ -75,6 +82,8 @@ fn replace_in<S: Alter>(
 ) -> Result<Option<Refusal>, Error>
     ensures same_reference { tx.new.conn.ghost_name ≡ tx.old.conn.ghost_name }
     ensures edits { HasCleanDisk (state S.Store tx.new.conn.now) → Edits (edit.replace collection.now feature.now) (state S.Store tx.old.conn.now) (state S.Store tx.new.conn.now) result }
+    ensures reason { HasCleanDisk (state S.Store tx.new.conn.now) →
+        IfErr result (HasReason (state S.Store tx.old.conn.now) (state S.Store tx.new.conn.now)) }
     ensures survives { Survives (state S.Store tx.old.conn.now) (state S.Store tx.new.conn.now) (λ _. ⊥) }
 {
     let Some(property) = time_property(tx, collection)? else {
@@ -96,6 +105,8 @@ fn delete_in<S: Alter>(
 ) -> Result<Option<Refusal>, Error>
     ensures same_reference { tx.new.conn.ghost_name ≡ tx.old.conn.ghost_name }
     ensures edits { HasCleanDisk (state S.Store tx.new.conn.now) → Edits (edit.delete collection.now id.now) (state S.Store tx.old.conn.now) (state S.Store tx.new.conn.now) result }
+    ensures reason { HasCleanDisk (state S.Store tx.new.conn.now) →
+        IfErr result (HasReason (state S.Store tx.old.conn.now) (state S.Store tx.new.conn.now)) }
     ensures survives { Survives (state S.Store tx.old.conn.now) (state S.Store tx.new.conn.now) (λ _. ⊥) }
 {
     if !has_collection(tx, collection)? {
@@ -126,6 +137,8 @@ fn edit_in<S: Alter>(
 ) -> Result<Option<Refusal>, Error>
     ensures same_reference { tx.new.conn.ghost_name ≡ tx.old.conn.ghost_name }
     ensures edits { HasCleanDisk (state S.Store tx.new.conn.now) → Edits (edit_value edit.now) (state S.Store tx.old.conn.now) (state S.Store tx.new.conn.now) result }
+    ensures reason { HasCleanDisk (state S.Store tx.new.conn.now) →
+        IfErr result (HasReason (state S.Store tx.old.conn.now) (state S.Store tx.new.conn.now)) }
     ensures survives { Survives (state S.Store tx.old.conn.now) (state S.Store tx.new.conn.now) (λ _. ⊥) }
 {
     match edit {
@@ -154,6 +167,8 @@ pub fn edit_each<S: Alter>(
 ) -> Result<Option<(u64, Refusal)>, Error>
     ensures same_reference { tx.new.conn.ghost_name ≡ tx.old.conn.ghost_name }
     ensures edits { HasCleanDisk (state S.Store tx.new.conn.now) → EditsAll (map edit_value edits.now) (state S.Store tx.old.conn.now) (state S.Store tx.new.conn.now) result }
+    ensures reason { HasCleanDisk (state S.Store tx.new.conn.now) →
+        IfErr result (HasReason (state S.Store tx.old.conn.now) (state S.Store tx.new.conn.now)) }
     ensures survives { Survives (state S.Store tx.old.conn.now) (state S.Store tx.new.conn.now) (λ _. ⊥) }
 {
     let mut place: u64 = 1;

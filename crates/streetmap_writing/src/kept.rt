@@ -1,13 +1,15 @@
 //! What is kept for the key of a batch.
-ghost use Rattle.std.specs.Prelude.{◌≡◌, ◌≤◌, ◌<◌, ℕ, pos, Ok, length, false, IsTrue, option_map};
+ghost use Rattle.std.specs.Prelude.{◌≡◌, IfErr, ◌≤◌, ◌<◌, ℕ, pos, Ok, length, false, IsTrue};
+ghost use Rattle.std.specs.Prelude.{option_map};
 ghost use Rattle.std.specs.FinMap.{get};
 ghost use Rattle.sqlite.specs.Held.{state};
-ghost use Rattle.sqlite.specs.State.{HasCleanDisk};
+ghost use Rattle.sqlite.specs.State.{HasCleanDisk, Survives};
 ghost use Rattle.sqlite.specs.View.{doubt};
 ghost use Rattle.sqlite.specs.Tree.{Trees};
 ghost use Rattle.sqlite.specs.Order.{column};
 ghost use Rattle.sqlite.specs.declared.types.Value.TheVariants.{Int};
 ghost use Rattle.streetmap_ledger.specs.State.{State, AcceptedBatch};
+ghost use Rattle.streetmap_rows.specs.Failing.{HasReason, SparesDisk};
 ghost use Rattle.streetmap_rows.specs.Keeping.{Rests};
 ghost use Rattle.streetmap_rows.specs.Views.{kept_view};
 ghost use Rattle.streetmap_writing.specs.Acting.{Rested, kept_answer};
@@ -19,7 +21,9 @@ use streetmap_rows::kept_rows;
 
 /// The number in a column.
 fn number_at(row: &Row, at: usize) -> Result<u64, Error>
-    ensures { (n : ℕ) → at < length row.now → column row.now at ≡ Int (pos n) → result ≡ Ok n }
+    ensures spared { IfErr result SparesDisk }
+    ensures reads { (n : ℕ) → at < length row.now → column row.now at ≡ Int (pos n) →
+        result ≡ Ok n }
 {
     match row.get_ref(at)? {
         ValueRef::Int(number) if number >= 0 => Ok(number as u64),
@@ -29,7 +33,8 @@ fn number_at(row: &Row, at: usize) -> Result<u64, Error>
 
 /// The counts in a row that is kept for a key.
 fn counts_in(row: &Row) -> Result<Counts, Error>
-    ensures { (kept : AcceptedBatch) → row.now ≡ kept_view kept → result ≡ Ok kept.counts }
+    ensures spared { IfErr result SparesDisk }
+    ensures reads { (kept : AcceptedBatch) → row.now ≡ kept_view kept → result ≡ Ok kept.counts }
 {
     Ok(Counts {
         opened: number_at(row, 1)?,
@@ -42,7 +47,9 @@ fn counts_in(row: &Row) -> Result<Counts, Error>
 /// The answer to a batch with this text, by the row that is kept for its key: what was answered before
 /// where the texts are one, and else that the key was used.
 fn reply_in(row: &Row, text: &str) -> Result<Reply, Error>
-    ensures { (kept : AcceptedBatch) → row.now ≡ kept_view kept → result ≡ Ok (kept_answer text.now kept) }
+    ensures spared { IfErr result SparesDisk }
+    ensures reads { (kept : AcceptedBatch) → row.now ≡ kept_view kept →
+        result ≡ Ok (kept_answer text.now kept) }
 {
     let ValueRef::Text(kept) = row.get_ref(0)? else {
         return Err(Error::Utf8Error(0));
@@ -63,6 +70,9 @@ pub fn kept_reply<S: Alter>(
     requires { conn.old.in_transaction ≡ false }
     ensures idle { conn.new.in_transaction ≡ false }
     ensures clean { doubt (state S.Store conn.old).is_clean ≤ doubt (state S.Store conn.new).is_clean }
+    ensures reason { HasCleanDisk (state S.Store conn.new) →
+        IfErr result (HasReason (state S.Store conn.old) (state S.Store conn.new)) }
+    ensures survives { Survives (state S.Store conn.old) (state S.Store conn.new) (λ _. Unit {0}) }
     ensures looks { HasCleanDisk (state S.Store conn.new) → Rested (λ s. option_map (kept_answer text.now) (get s.keys key.now)) (state S.Store conn.old) (state S.Store conn.new) result }
     ensures same { HasCleanDisk (state S.Store conn.new) → (s : State) → Rests (state S.Store conn.old) s → IsTrue (state S.Store conn.new).is_open → (state S.Store conn.new).now ≡ (state S.Store conn.old).now }
     ensures crash { HasCleanDisk (state S.Store conn.new) → (s : State) → Rests (state S.Store conn.old) s → (trees : Trees) → (state S.Store conn.new).may_leave trees → (state S.Store conn.old).may_leave trees }

@@ -1,10 +1,12 @@
 //! A feature that is put into its collection, inside a transaction.
-ghost use Rattle.std.specs.Prelude.{◌≡◌, IfOk, IsTrue, OnOk, string_bytes};
+ghost use Rattle.std.specs.Prelude.{◌≡◌, IfErr, IfOk, IsTrue, OnOk, string_bytes, None};
 ghost use Rattle.std.specs.Option.{option_copied};
 ghost use Rattle.sqlite.specs.Held.{state};
 ghost use Rattle.sqlite.specs.State.{HasCleanDisk, KeepsCommit, Survives};
 ghost use Rattle.streetmap_rows.specs.Rows.{feature_text};
+ghost use Rattle.streetmap_rows.specs.Calls.{RanInsert};
 ghost use Rattle.streetmap_writing.specs.Storing.{Puts};
+ghost use Rattle.streetmap_rows.specs.Failing.{HasReason};
 
 use crate::timing::seconds_under;
 use sqlite::{Alter, Error, ErrorCode, Transaction};
@@ -39,8 +41,15 @@ pub fn put_feature<S: Alter>(
 ) -> Result<Option<Refusal>, Error>
     ensures same_reference { tx.new.conn.ghost_name ≡ tx.old.conn.ghost_name }
     ensures puts { HasCleanDisk (state S.Store tx.new.conn.now) → Puts collection.now (option_copied property.entry) feature.now (state S.Store tx.old.conn.now) (state S.Store tx.new.conn.now) result }
+    ensures ran { HasCleanDisk (state S.Store tx.new.conn.now) →
+        IsTrue (state S.Store tx.old.conn.now).in_transaction →
+        IfOk result (λ refusal. refusal ≡ None →
+        RanInsert (collection.now, feature.now.id) (feature_text feature.now)
+        (state S.Store tx.old.conn.now) (state S.Store tx.new.conn.now)) }
     ensures inside { HasCleanDisk (state S.Store tx.new.conn.now) → IsTrue (state S.Store tx.old.conn.now).in_transaction → OnOk result (IsTrue (state S.Store tx.new.conn.now).in_transaction) }
     ensures kept { HasCleanDisk (state S.Store tx.new.conn.now) → IsTrue (state S.Store tx.old.conn.now).in_transaction → KeepsCommit (state S.Store tx.old.conn.now) (state S.Store tx.new.conn.now) }
+    ensures reason { HasCleanDisk (state S.Store tx.new.conn.now) →
+        IfErr result (HasReason (state S.Store tx.old.conn.now) (state S.Store tx.new.conn.now)) }
     ensures survives { Survives (state S.Store tx.old.conn.now) (state S.Store tx.new.conn.now) (λ _. ⊥) }
 {
     let Ok(seconds) = seconds_under(feature, property) else {

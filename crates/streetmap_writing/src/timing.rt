@@ -1,11 +1,12 @@
 //! The time property of a collection, and what it tells of a feature.
-ghost use Rattle.std.specs.Prelude.{◌≡◌, Err, IfOk, OnErr};
+ghost use Rattle.std.specs.Prelude.{◌≡◌, IfErr, Err, IfOk, OnErr};
 ghost use Rattle.std.specs.Option.{option_copied};
 ghost use Rattle.sqlite.specs.Held.{state};
 ghost use Rattle.sqlite.specs.State.{HasCleanDisk, Survives};
 ghost use Rattle.streetmap_ledger.specs.State.{timed};
 ghost use Rattle.streetmap_ledger.specs.declared.reply.Refusal.TheVariants.{BadTime};
 ghost use Rattle.streetmap_writing.specs.Storing.{FindsTime, IsTimed};
+ghost use Rattle.streetmap_rows.specs.Failing.{HasReason};
 
 use sqlite::{Alter, Error, Transaction};
 use streetmap_geojson::Feature;
@@ -19,6 +20,8 @@ pub fn time_property<S: Alter>(
 ) -> Result<Option<Option<String>>, Error>
     ensures same_reference { tx.new.conn.ghost_name ≡ tx.old.conn.ghost_name }
     ensures finds { HasCleanDisk (state S.Store tx.new.conn.now) → FindsTime collection.now (state S.Store tx.old.conn.now) (state S.Store tx.new.conn.now) result }
+    ensures reason { HasCleanDisk (state S.Store tx.new.conn.now) →
+        IfErr result (HasReason (state S.Store tx.old.conn.now) (state S.Store tx.new.conn.now)) }
     ensures survives { Survives (state S.Store tx.old.conn.now) (state S.Store tx.new.conn.now) (λ _. ⊥) }
 {
     let rows = collection_rows(tx, collection)?;

@@ -1,10 +1,14 @@
-use Rattle.std.proofs.Common.{ap}
+use Rattle.std.proofs.Common.{ap, subst}
 use Rattle.sqlite.specs.Held.{state}
 use Rattle.streetmap_opening.proofs.Stopping.{clean_back}
 use Rattle.streetmap_opening.proofs.Opened.{rests_same}
 use Rattle.streetmap_rows.specs.declared.failing.Stop.TheVariants.{Closed}
+use Rattle.streetmap_rows.specs.declared.failing.Shut.TheVariants.{Device}
+use Rattle.streetmap_rows.specs.Settling.{Settles}
+use Rattle.streetmap_rows.proofs.Reasons.{stops_settled}
 use Rattle.streetmap_checking.proofs.Seeing.{unchanged_was}
 use Rattle.streetmap_checking.proofs.OfState.{totals_of, never_damaged, damaged_told, refused_told}
+use Rattle.streetmap_checking.proofs.OfState.{refused_for}
 use Rattle.streetmap_checking.proofs.Stated.{state_of}
 use Rattle.streetmap_checking.proofs.checking.check_tables.Goals as goal
 
@@ -36,3 +40,13 @@ returns-in-Closed-Damaged-clause-checks g c clean s rests =
 
 pub returns-in-Ok-clause-tells : goal.returns-in-Ok-clause-tells
 returns-in-Ok-clause-tells g c clean = state_of (state g.S.Store c.args.conn.now) c.in-Ok.totals (c.in-Ok.ensures.looks clean).0
+
+pub returns-in-Closed-Device-clause-reason : goal.returns-in-Closed-Device-clause-reason
+returns-in-Closed-Device-clause-reason g c clean =
+    let old = state g.S.Store c.args.conn.now in
+    let mid = state g.S.Store c.look_at_all.new.conn in
+    let new = state g.S.Store c.settle.new.conn in
+    let early = clean_back mid new _ c.settle.ensures.survives clean in
+    let come = refused_for old mid _ _ c.in-Err-Store.field-0-is (c.in-Err-Store.ensures.looks early) in
+    let ends = subst (Settles c.in-Err-Store.error mid new) (ap (λ shut. Closed shut) c.in-Closed-Device.field-0-is) (c.in-Closed-Device.ensures.ends clean) in
+    stops_settled old mid new c.in-Err-Store.error (Closed (Device c.in-Closed-Device.error)) _ _ c.look_at_all.ensures.survives c.settle.ensures.survives clean come ends

@@ -4,6 +4,7 @@ use Rattle.sqlite.proofs.Callers.{unchanged_then}
 use Rattle.streetmap_reading.proofs.Rests.{clean_before}
 use Rattle.streetmap_opening.proofs.Stopping.{is_handed}
 use Rattle.streetmap_rows.specs.Statements.{select_collections}
+use Rattle.streetmap_rows.proofs.Reasons.{counts_then}
 use Rattle.streetmap_checking.specs.Checking.{IsDamaged}
 use Rattle.streetmap_checking.specs.Good.{AreCollectionRows, AreOwnerRows, AreBatchRows}
 use Rattle.streetmap_checking.specs.Held.{known}
@@ -28,7 +29,7 @@ returns-in_err-heads-clause-looks g c clean =
     let same = (c.in_ok-check_format.ensures.looks (clean_before one two _ c.check_collections.ensures.survives clean)).1 in
     let limit = c.check_format.ensures.survives.limit in
     handed _ _ old two _ _ (is_handed _ _ c.from_residual-in_err-heads.ensures.1)
-    (fault_on (IsDamaged old) (NoHeads one) old one two c.in_err-heads.field-0.0 same (λ none. inr (inl (none_on select_collections [] collections_simple AreCollectionRows old one same limit none))) (c.in_err-heads.ensures.looks clean))
+    (fault_on (IsDamaged old) (NoHeads one) old one two c.in_err-heads.field-0.0 same c.check_format.ensures.survives.counts c.check_collections.ensures.survives.counts (λ none. inr (inl (none_on select_collections [] collections_simple AreCollectionRows old one same limit none))) (c.in_err-heads.ensures.looks clean))
 
 pub returns-in_err-features-clause-looks : goal.returns-in_err-features-clause-looks
 returns-in_err-features-clause-looks g c clean =
@@ -44,8 +45,9 @@ returns-in_err-features-clause-looks g c clean =
     let all = known c.in_ok-heads.heads.items in
     let is : c.as_slice.result.now ≡ c.in_ok-heads.heads.items = search rules in
     let told = subst (λ l. TellsWhy (NoFeaturesOfAll (known l) two) two three c.in_err-features.field-0.0) is (c.in_err-features.ensures.looks clean heads.1.0.is_open) in
+    let counts = counts_then old.faults one.faults two.faults c.check_format.ensures.survives.counts c.check_collections.ensures.survives.counts in
     handed _ _ old three _ _ (is_handed _ _ c.from_residual-in_err-features.ensures.1)
-    (fault_on (IsDamaged old) (NoFeaturesOfAll all two) old two three c.in_err-features.field-0.0 same (λ none. inr (inr (inl (all, heads_on all old one first heads.0, inl (no_features_all_on all old two same limit none))))) told)
+    (fault_on (IsDamaged old) (NoFeaturesOfAll all two) old two three c.in_err-features.field-0.0 same counts c.check_all_features.ensures.survives.counts (λ none. inr (inr (inl (all, heads_on all old one first heads.0, inl (no_features_all_on all old two same limit none))))) told)
 
 pub returns-in_err-check_owners-clause-looks : goal.returns-in_err-check_owners-clause-looks
 returns-in_err-check_owners-clause-looks g c clean =
@@ -62,8 +64,11 @@ returns-in_err-check_owners-clause-looks g c clean =
     let same = unchanged_then old two three (unchanged_then old one two first heads.1) features.1 in
     let limit = c.check_all_features.ensures.survives.limit ∙ c.check_collections.ensures.survives.limit ∙ c.check_format.ensures.survives.limit in
     let all = known c.in_ok-heads.heads.items in
+    let two_counts = counts_then old.faults one.faults two.faults c.check_format.ensures.survives.counts c.check_collections.ensures.survives.counts in
+    let three_counts = counts_then old.faults two.faults three.faults two_counts c.check_all_features.ensures.survives.counts in
+    let counts = three_counts in
     handed _ _ old four _ _ (is_handed _ _ c.from_residual-in_err-check_owners.ensures.1)
-    (fault_on (IsDamaged old) (NoOwners all three) old three four c.in_err-check_owners.field-0.0 same
+    (fault_on (IsDamaged old) (NoOwners all three) old three four c.in_err-check_owners.field-0.0 same counts c.check_owners.ensures.survives.counts
     (λ none. inr (inr (inl (all, heads_on all old one first heads.0, inr (none_on select_owners [] owners_simple (AreOwnerRows (map (λ (k : Known). k.0) all)) old three same limit none))))) (c.in_err-check_owners.ensures.looks clean))
 
 pub returns-in_err-batches-clause-looks : goal.returns-in_err-batches-clause-looks
@@ -83,8 +88,11 @@ returns-in_err-batches-clause-looks g c clean =
     let owners = c.in_ok-check_owners.ensures.looks clean4 in
     let same = unchanged_then old three four (unchanged_then old two three (unchanged_then old one two first heads.1) features.1) owners.1 in
     let limit = c.check_owners.ensures.survives.limit ∙ c.check_all_features.ensures.survives.limit ∙ c.check_collections.ensures.survives.limit ∙ c.check_format.ensures.survives.limit in
+    let two_counts = counts_then old.faults one.faults two.faults c.check_format.ensures.survives.counts c.check_collections.ensures.survives.counts in
+    let three_counts = counts_then old.faults two.faults three.faults two_counts c.check_all_features.ensures.survives.counts in
+    let counts = counts_then old.faults three.faults four.faults three_counts c.check_owners.ensures.survives.counts in
     handed _ _ old five _ _ (is_handed _ _ c.from_residual-in_err-batches.ensures.1)
-    (fault_on (IsDamaged old) (NoBatches four) old four five c.in_err-batches.field-0.0 same (λ none. inr (inr (inr (none_on select_batches [] batches_simple AreBatchRows old four same limit none)))) (c.in_err-batches.ensures.looks clean))
+    (fault_on (IsDamaged old) (NoBatches four) old four five c.in_err-batches.field-0.0 same counts c.check_batches.ensures.survives.counts (λ none. inr (inr (inr (none_on select_batches [] batches_simple AreBatchRows old four same limit none)))) (c.in_err-batches.ensures.looks clean))
 
 pub returns-clause-looks : goal.returns-clause-looks
 returns-clause-looks g c clean =

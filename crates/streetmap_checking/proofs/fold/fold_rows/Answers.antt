@@ -21,7 +21,7 @@ returns-in-Ok-clause-takes g c clean = λ simple held.
     let late : HasCleanDisk new = search rules in
     let start = begun sql params simple g.S.Store c.args.conn.now c.in-Ok.rows.conn.now (c.in-Ok.ensures.begun (clean_before _ _ _ c.take_rest.ensures.survives late)) in
     let took = c.take_rest.ensures.takes late sql params c.args.fold.now simple start.0 held in
-    let done = took_on g.F.RowCheck.holds g.F.RowCheck.is_good sql params simple c.args.fold.now c.take_rest.new.fold (state g.S.Store c.args.conn.now) (state g.S.Store c.in-Ok.rows.conn.now) new c.take_rest.result start.1 c.in-Ok.ensures.survives.limit took in
+    let done = took_on g.F.RowCheck.holds g.F.RowCheck.is_good sql params simple c.args.fold.now c.take_rest.new.fold (state g.S.Store c.args.conn.now) (state g.S.Store c.in-Ok.rows.conn.now) new c.take_rest.result start.1 c.in-Ok.ensures.survives.limit c.in-Ok.ensures.survives.counts c.take_rest.ensures.survives.counts took in
     search rules
 
 pub returns-in-Err-clause-survives : goal.returns-in-Err-clause-survives

@@ -1,10 +1,13 @@
 use Rattle.std.proofs.Common.{◌≡◌, subst, ◌∙◌, refl, ◌∷◌, [], ◌++◌, rules, true, false}
 use Rattle.sqlite.specs.Held.{state}
+use Rattle.sqlite.specs.declared.error.Error.TheVariants.{SqliteFailure}
+use Rattle.sqlite.specs.declared.error.ErrorCode.TheVariants.{TooBig}
 use Rattle.sqlite.proofs.Callers.{unchanged_then}
 use Rattle.streetmap_rows.proofs.Answering.{handed_on}
 use Rattle.streetmap_reading.proofs.Rests.{given_open, survives_still, survives_on, clean_before}
 use Rattle.streetmap_checking.specs.Folding.{TookNext}
 use Rattle.streetmap_checking.proofs.Stopping.{stops_on, sees_on}
+use Rattle.streetmap_rows.proofs.Reasons.{other}
 use Rattle.streetmap_checking.proofs.Seeing.{unchanged_was}
 use Rattle.streetmap_checking.proofs.fold.take_rest.Goals as goal
 
@@ -47,9 +50,12 @@ pub returns-in_err-took-clause-takes : goal.returns-in_err-took-clause-takes
 returns-in_err-took-clause-takes g c clean = λ sql params start simple given held.
     let before = c.rows.invariant.1 in
     let t = before.took (clean_before _ _ _ c.take_next.ensures.survives clean) sql params start simple given held in
-    handed_on _ _ _ _ c.from_residual.ensures.1 (stops_on g.F.RowCheck.holds g.F.RowCheck.is_good sql params simple start _ _ _ _ t.same before.survives.limit (c.in_err-took.ensures.takes clean sql params start t.done simple t.given t.held))
+    handed_on _ _ _ _ c.from_residual.ensures.1 (stops_on g.F.RowCheck.holds g.F.RowCheck.is_good sql params simple start _ _ _ _ t.same before.survives.limit before.survives.counts c.take_next.ensures.survives.counts (c.in_err-took.ensures.takes clean sql params start t.done simple t.given t.held))
 
 pub returns-clause-takes : goal.returns-clause-takes
 returns-clause-takes g c clean = λ sql params start simple given held.
-    let t = c.rows.invariant.1.took clean sql params start simple given held in
-    ((λ other. absurd (other (search rules))), unchanged_was _ _ t.same)
+    let t = c.rows.invariant.1.took clean sql params start simple given held in (
+      λ of. absurd (of (search rules)),
+      unchanged_was _ _ t.same,
+      other (state g.S.Store c.args.rows.now.conn.now) (state g.S.Store c.rows.rows.conn.now) (SqliteFailure TooBig) refl,
+    )

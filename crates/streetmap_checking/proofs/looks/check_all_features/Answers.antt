@@ -52,7 +52,7 @@ returns-in_err-count-clause-looks g c clean live =
     let early = clean_before mid new _ c.check_features.ensures.survives clean in
     let same = before.same early live in
     handed _ _ old new _ _ (is_handed _ _ c.from_residual.ensures.1)
-    (fault_on (NoFeaturesOfAll (known c.args.heads.now) old) (NoFeatures (known_of c.head-item.result) mid) old mid new c.in_err-count.field-0.0 same (λ none. none_of_all c.args.heads.now c.heads.head-index c.head-item.result old (search rules) c.head-item.is (no_features_on (known_of c.head-item.result) old mid same before.survives.limit none)) (c.in_err-count.ensures.looks clean same.0.is_open))
+    (fault_on (NoFeaturesOfAll (known c.args.heads.now) old) (NoFeatures (known_of c.head-item.result) mid) old mid new c.in_err-count.field-0.0 same before.survives.counts c.check_features.ensures.survives.counts (λ none. none_of_all c.args.heads.now c.heads.head-index c.head-item.result old (search rules) c.head-item.is (no_features_on (known_of c.head-item.result) old mid same before.survives.limit none)) (c.in_err-count.ensures.looks clean same.0.is_open))
 
 pub returns-in_err-features-clause-looks : goal.returns-in_err-features-clause-looks
 returns-in_err-features-clause-looks g c clean live =

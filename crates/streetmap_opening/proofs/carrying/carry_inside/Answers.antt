@@ -5,7 +5,7 @@ use Rattle.streetmap_rows.proofs.Answering.{handed_on}
 use Rattle.streetmap_opening.proofs.Others.{others_then, others_same, others_elsewhere}
 use Rattle.streetmap_opening.proofs.Stopping.{clean_back}
 use Rattle.streetmap_opening.specs.Old.{KeepsOld}
-use Rattle.streetmap_opening.specs.Part.{emptied, IsSpared}
+use Rattle.streetmap_opening.specs.Part.{emptied, IsSpared, PutsEach}
 use Rattle.streetmap_opening.proofs.Parts.{lacks_all}
 use Rattle.streetmap_opening.proofs.Closing.{held_back}
 use Rattle.streetmap_opening.specs.Carrying.{IsToldOld}
@@ -77,7 +77,7 @@ returns-clause-carries g c clean limit inside s keeps =
     let put = puts unlimited i2 s (emptied s) keeps.well made.0 (lacks_all s c.in_ok-rows.rows.items taken.0) in
     let kept : Keeps s s3.now = record { well = keeps.well; rows = put.0 } in
     let of = c.in-Err-read_serials.ensures.finds clean s (c.put_rows.ensures.survives.limit ∙ unlimited) kept in
-    held_back (state g.S.Store c.args.tx.now.conn.now).now.schema _ (subst IsSpared (sym (c.fault_of.ensures of)) of)
+    held_back (state g.S.Store c.args.tx.now.conn.now).now.schema _ (subst IsSpared (sym (c.fault_of.ensures.store of)) of)
 
 pub returns-in-Err-clause-carries : goal.returns-in-Err-clause-carries
 returns-in-Err-clause-carries g c clean limit inside s keeps =
@@ -87,3 +87,18 @@ returns-in-Err-clause-carries g c clean limit inside s keeps =
     let taken = c.in_ok-rows.ensures.takes k1 s limit keeps in
     let i1 = c.in_ok-rows.ensures.inside k1 inside in
     subst (λ (d : Database). IsToldOld d.schema c.in-Err.error) taken.1.0.now_is (c.in-Err.ensures.told clean i1 (c.take_rows.ensures.survives.limit ∙ limit) s (subst (KeepsOld s) (sym taken.1.0.now_is) keeps))
+
+pub returns-in-Ok-read_serials-clause-carried : goal.returns-in-Ok-read_serials-clause-carried
+returns-in-Ok-read_serials-clause-carried g c clean inside =
+    let s1 = state g.S.Store c.take_rows.new.tx.conn.now in
+    let s2 = state g.S.Store c.remake_tables.new.tx.conn.now in
+    let s3 = state g.S.Store c.put_rows.new.tx.conn.now in
+    let s4 = state g.S.Store c.read_serials.new.tx.conn.now in
+    let k3 = clean_back s3 s4 _ c.read_serials.ensures.survives clean in
+    let k2 = clean_back s2 s3 _ c.put_rows.ensures.survives k3 in
+    let k1 = clean_back s1 s2 _ c.remake_tables.ensures.survives k2 in
+    let i1 = c.in_ok-rows.ensures.inside k1 inside in
+    let i2 = c.in-Ok.ensures.inside k2 i1 in
+    let is : c.deref.result.now ≡ c.in_ok-rows.rows.items = search rules in
+    let each = subst (λ rows. PutsEach g.S.Store rows c.remake_tables.new.tx.conn.now c.put_rows.new.tx.conn.now) is (c.in_ok-put_rows.ensures.ran k3 i2) in
+    (c.in_ok-rows.rows.items, c.in_ok-rows.ensures.shown k1, c.remake_tables.new.tx.conn.now, c.put_rows.new.tx.conn.now, each, (c.in-Ok-read_serials.ensures.tells clean).1.0.now_is)

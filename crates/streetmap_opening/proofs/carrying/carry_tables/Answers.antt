@@ -1,8 +1,9 @@
-use Rattle.std.proofs.Common.{◌∙◌, sym, inl, inr}
+use Rattle.std.proofs.Common.{◌∙◌, sym, subst, inl, inr}
 use Rattle.sqlite.specs.Held.{state}
 use Rattle.streetmap_rows.proofs.Leaving.{leaves_only}
 use Rattle.streetmap_opening.proofs.Opened.{same_settled}
 use Rattle.streetmap_opening.proofs.Stopping.{clean_back, may_leave_it, leaves_same}
+use Rattle.streetmap_opening.specs.Reasons.{IsOwn}
 use Rattle.streetmap_opening.proofs.Closing.{old_same, refused_old}
 use Rattle.streetmap_opening.proofs.carrying.carry_tables.Goals as goal
 
@@ -39,5 +40,15 @@ returns-in-Err-clause-crash g c clean s rests trees may =
     let early = clean_back mid new _ c.tell.ensures.survives clean in
     elim (c.tell.ensures.survives.crash clean trees may) [
       | inl was ↦ c.in-Err.ensures.crash early s rests trees was
+      | inr none ↦ absurd none
+    ]
+
+pub returns-in-Err-clause-fewer : goal.returns-in-Err-clause-fewer
+returns-in-Err-clause-fewer g c clean is trees may =
+    let mid = state g.S.Store c.carry_alone.new.conn in
+    let new = state g.S.Store c.tell.new.conn in
+    let early = clean_back mid new _ c.tell.ensures.survives clean in
+    elim (c.tell.ensures.survives.crash clean trees may) [
+      | inl was ↦ c.in-Err.ensures.fewer early (subst IsOwn (sym (c.tell.ensures.damaged is)) tt) trees was
       | inr none ↦ absurd none
     ]

@@ -2,6 +2,9 @@ use Rattle.sqlite.specs.Held.{state}
 use Rattle.streetmap_rows.proofs.Answering.{by_result, by_either, on_ok}
 use Rattle.streetmap_rows.proofs.Looking.{collection_shown, collection_told_inside}
 use Rattle.streetmap_opening.proofs.Reading.{keeps_shown, keeps_failed, inside_shown}
+use Rattle.streetmap_rows.specs.Statements.{select_collection}
+use Rattle.streetmap_opening.proofs.Seeing.{leaves_unchanged}
+use Rattle.streetmap_opening.proofs.Telling.{head_bare}
 use Rattle.streetmap_opening.proofs.features.head_rows.Goals as goal
 
 pub returns-clause-looks : goal.returns-clause-looks
@@ -23,3 +26,9 @@ returns-clause-inside g c clean inside =
     let old = state g.S.Store c.args.tx.now.conn.now in
     let new = state g.S.Store c.query_all.new.self.conn.now in
     on_ok c.query_all.result _ _ (c.query_all.ensures.ok clean) (λ rows shown. inside_shown _ _ old new inside rows.items shown)
+
+pub returns-clause-same : goal.returns-clause-same
+returns-clause-same g c clean =
+    let old = state g.S.Store c.args.tx.now.conn.now in
+    let new = state g.S.Store c.query_all.new.self.conn.now in
+    on_ok c.query_all.result _ _ (c.query_all.ensures.ok clean) (λ rows shown. (leaves_unchanged select_collection head_bare _ old new rows.items shown).0.now_is)

@@ -5,7 +5,12 @@ use Rattle.sqlite.specs.Effect.{Database}
 use Rattle.streetmap_opening.specs.Adopting.{LeavesTheSame}
 use Rattle.streetmap_opening.specs.Making.{KeepsOtherTables}
 use Rattle.streetmap_opening.proofs.Stopping.{leaves_same}
-use Rattle.streetmap_opening.proofs.Closing.{old_same, carries_on, never_counted, never_foreign, never_new}
+use Rattle.streetmap_opening.proofs.Closing.{old_same, carries_on, fewer_on, never_counted}
+use Rattle.streetmap_opening.proofs.Closing.{never_foreign, never_lost, never_new}
+use Rattle.std.proofs.Common.{rules}
+use Rattle.streetmap_opening.specs.Telling.{TellsFault}
+use Rattle.streetmap_opening.specs.declared.adopting.AdoptFault.TheVariants as adopting
+use Rattle.streetmap_opening.proofs.Telling.{told_open, if_carried}
 use Rattle.streetmap_opening.proofs.opening.open_tables.Goals as goal
 
 pub returns-in-Ok-clause-carries : goal.returns-in-Ok-clause-carries
@@ -16,6 +21,9 @@ returns-in-Err-NotOurs-clause-carries g c clean s rests = never_foreign (state g
 
 pub returns-in-Err-NewFormat-clause-carries : goal.returns-in-Err-NewFormat-clause-carries
 returns-in-Err-NewFormat-clause-carries g c clean s rests = never_new (state g.S.Store c.args.conn.now) s rests (rw c.in-Err-NewFormat.field-0-is at (c.in-Err-NewFormat.ensures.tells clean))
+
+pub returns-in-Err-Damaged-clause-carries : goal.returns-in-Err-Damaged-clause-carries
+returns-in-Err-Damaged-clause-carries g c clean s rests = never_lost (state g.S.Store c.args.conn.now) s rests (rw c.in-Err-Damaged.field-0-is at (c.in-Err-Damaged.ensures.tells clean))
 
 pub returns-in-Err-OldFormat-clause-carries : goal.returns-in-Err-OldFormat-clause-carries
 returns-in-Err-OldFormat-clause-carries g c clean s rests =
@@ -52,3 +60,32 @@ returns-in-Err-OldFormat-clause-crash g c clean s rests trees may =
       | inl was ↦ elim (c.adopt_tables.ensures.survives.crash early trees was) [ inl before ↦ inl before | inr none ↦ absurd none ]
       | inr it ↦ inr it
     ]
+
+pub returns-in-Err-OldFormat-clause-carried : goal.returns-in-Err-OldFormat-clause-carried
+returns-in-Err-OldFormat-clause-carried g c clean =
+    let old = state g.S.Store c.args.conn.now in
+    let mid = state g.S.Store c.adopt_tables.new.conn in
+    let early : HasCleanDisk mid = omega (arith, clean, c.carry_tables.ensures.clean) in
+    let live : IsTrue mid.is_open = rw c.in-Err-OldFormat.field-0-is at (c.in-Err-OldFormat.ensures.live early) in
+    let told : TellsFault old adopting.OldFormat = rw c.in-Err-OldFormat.field-0-is at (c.in-Err-OldFormat.ensures.tells early) in
+    let was : IsTrue old.is_open = told_open old told.0 told.2 in
+    let same = c.in-Err-OldFormat.ensures.same early (c.is_autocommit-idle.ensures.settled (search rules) was) live in
+    if_carried g.S.Store c.adopt_tables.new.conn c.args.conn.now c.carry_tables.new.conn c.carry_tables.result same.0 c.adopt_tables.ensures.survives.limit was (c.carry_tables.ensures.carried clean)
+
+pub returns-in-Err-OldFormat-clause-fewer : goal.returns-in-Err-OldFormat-clause-fewer
+returns-in-Err-OldFormat-clause-fewer g c clean =
+    let old = state g.S.Store c.args.conn.now in
+    let mid = state g.S.Store c.adopt_tables.new.conn in
+    let new = state g.S.Store c.carry_tables.new.conn in
+    let early : HasCleanDisk mid = omega (arith, clean, c.carry_tables.ensures.clean) in
+    fewer_on old mid new c.carry_tables.result c.carry_tables.ensures.told (c.carry_tables.ensures.fewer clean)
+    (λ trees may. elim (c.adopt_tables.ensures.survives.crash early trees may) [ inl was ↦ was | inr none ↦ absurd none ])
+
+pub returns-in-Err-NotOurs-clause-fewer : goal.returns-in-Err-NotOurs-clause-fewer
+returns-in-Err-NotOurs-clause-fewer g c clean trees may = elim (c.adopt_tables.ensures.survives.crash clean trees may) [ inl was ↦ was | inr none ↦ absurd none ]
+
+pub returns-in-Err-NewFormat-clause-fewer : goal.returns-in-Err-NewFormat-clause-fewer
+returns-in-Err-NewFormat-clause-fewer g c clean trees may = elim (c.adopt_tables.ensures.survives.crash clean trees may) [ inl was ↦ was | inr none ↦ absurd none ]
+
+pub returns-in-Err-Damaged-clause-fewer : goal.returns-in-Err-Damaged-clause-fewer
+returns-in-Err-Damaged-clause-fewer g c clean trees may = elim (c.adopt_tables.ensures.survives.crash clean trees may) [ inl was ↦ was | inr none ↦ absurd none ]

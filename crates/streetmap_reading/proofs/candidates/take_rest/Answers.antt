@@ -50,9 +50,9 @@ pub returns-in_err-took-clause-takes : goal.returns-in_err-took-clause-takes
 returns-in_err-took-clause-takes g c clean = λ sql params q fs limit shows stored given held.
     let before = c.rows.invariant.1 in
     let t = before.took (clean_before _ _ _ c.take_next.ensures.survives clean) sql params q fs limit shows stored given held in
-    handed_on _ _ _ _ c.from_residual.ensures.1 (stopped_on _ _ _ _ t.same (c.in_err-took.ensures.takes clean sql params q t.done t.rest (before.survives.limit ∙ limit) (shows_still _ _ sql params fs (t.done ++ t.rest) t.same (sym t.are) shows) t.stored t.given t.held))
+    handed_on _ _ _ _ c.from_residual.ensures.1 (stopped_on _ _ _ _ t.same before.survives.counts (c.in_err-took.ensures.takes clean sql params q t.done t.rest (before.survives.limit ∙ limit) (shows_still _ _ sql params fs (t.done ++ t.rest) t.same (sym t.are) shows) t.stored t.given t.held))
 
 pub returns-clause-takes : goal.returns-clause-takes
 returns-clause-takes g c clean = λ sql params q fs limit shows stored given held.
     let t = c.rows.invariant.1.took clean sql params q fs limit shows stored given held in
-    (refl, record { was_open = λ _. t.same.0.was_open; committed = λ _. t.same.0.committed_is })
+    (refl, (λ live tells. absurd (cc)), record { was_open = λ _. t.same.0.was_open; committed = λ _. t.same.0.committed_is })

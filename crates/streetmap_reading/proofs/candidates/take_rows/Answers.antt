@@ -22,5 +22,5 @@ returns-in-Ok-clause-takes g c clean = λ q fs limit shows stored held.
     let late : HasCleanDisk new = search rules in
     let begun = begun_plain g.S.Store c.args.sql.now (bound c.args.params.now) c.args.conn.now c.in-Ok.rows.conn.now shows.plain (c.in-Ok.ensures.begun (clean_before _ _ _ c.take_rest.ensures.survives late)) in
     let took = c.take_rest.ensures.takes late c.args.sql.now (bound c.args.params.now) q fs (c.in-Ok.ensures.survives.limit ∙ limit) (shows_still old mid _ _ fs fs begun.1 refl shows) stored begun.0 held in
-    let done : MatchResult c.take_rest.result (λ _. Holds q c.take_rest.new.fold fs × IsUnchanged old new) (Stopped old new) = taken_on old mid new (Holds q c.take_rest.new.fold fs) c.take_rest.result begun.1 took in
+    let done : MatchResult c.take_rest.result (λ _. Holds q c.take_rest.new.fold fs × IsUnchanged old new) (Stopped old new) = taken_on old mid new (Holds q c.take_rest.new.fold fs) c.take_rest.result begun.1 c.in-Ok.ensures.survives.counts took in
     search rules

@@ -25,7 +25,7 @@ returns-clause-shows g c clean = λ s limit keeps.
     let found = c.in_ok-row.ensures.finds early s limit keeps in
     let it = there_is (get s.collections c.args.collection.now) c.in-Some.row (sym c.in-Some.is ∙ found.0) in
     let time = c.in_ok-time.ensures c.args.collection.now it.0 it.2 (keeps.rows.readable.collections c.args.collection.now it.0 it.1) in
-    looked_on old mid new (IsFeatureOf c.args.collection.now c.args.id.now s) c.feature_under.result found.1 (c.feature_under.ensures.shows clean s it.0 (c.collection_row.ensures.survives.limit ∙ limit) (keeps_still s old mid found.1 keeps) it.1 (sym (c.as_deref.ensures.value ∙ time)))
+    looked_on old mid new (IsFeatureOf c.args.collection.now c.args.id.now s) c.feature_under.result found.1 c.collection_row.ensures.survives.counts (c.feature_under.ensures.shows clean s it.0 (c.collection_row.ensures.survives.limit ∙ limit) (keeps_still s old mid found.1 keeps) it.1 (sym (c.as_deref.ensures.value ∙ time)))
 
 pub returns-clause-stays : goal.returns-clause-stays
 returns-clause-stays g c = λ clean s limit keeps trees left.

@@ -26,7 +26,7 @@ returns-in_err-outlines-clause-shows g c clean = λ s limit keeps.
     let new = state g.S.Store c.outlines_in.new.conn in
     let early : HasCleanDisk mid = omega (arith, clean, c.outlines_in.ensures.survives.clean) in
     let found = c.in_ok-_row.ensures.finds early s limit keeps in
-    handed_on _ _ _ _ c.from_residual-in_err-outlines.ensures.1 (stopped_on old mid new _ found.1 (c.in_err-outlines.ensures.shows clean s (c.collection_row.ensures.survives.limit ∙ limit) (keeps_still s old mid found.1 keeps)))
+    handed_on _ _ _ _ c.from_residual-in_err-outlines.ensures.1 (stopped_on old mid new _ found.1 c.collection_row.ensures.survives.counts (c.in_err-outlines.ensures.shows clean s (c.collection_row.ensures.survives.limit ∙ limit) (keeps_still s old mid found.1 keeps)))
 
 pub returns-clause-stays : goal.returns-clause-stays
 returns-clause-stays g c = λ clean s limit keeps trees left.

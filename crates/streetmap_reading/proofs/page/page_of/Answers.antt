@@ -40,7 +40,7 @@ returns-in_err-page-clause-shows g c clean = λ s limit keeps.
     let found = c.in_ok-row.ensures.finds early s limit keeps in
     let it = there_is (get s.collections c.args.collection.now) c.in-Some.row (sym c.in-Some.is ∙ found.0) in
     let time = c.in_ok-time.ensures c.args.collection.now it.0 it.2 (keeps.rows.readable.collections c.args.collection.now it.0 it.1) in
-    handed_on _ _ _ _ c.from_residual-in_err-page.ensures.1 (stopped_on old mid new _ found.1 (c.in_err-page.ensures.shows clean s it.0 (c.collection_row.ensures.survives.limit ∙ limit) (keeps_still s old mid found.1 keeps) it.1 (sym (c.as_deref.ensures.value ∙ time))))
+    handed_on _ _ _ _ c.from_residual-in_err-page.ensures.1 (stopped_on old mid new _ found.1 c.collection_row.ensures.survives.counts (c.in_err-page.ensures.shows clean s it.0 (c.collection_row.ensures.survives.limit ∙ limit) (keeps_still s old mid found.1 keeps) it.1 (sym (c.as_deref.ensures.value ∙ time))))
 
 pub returns-clause-stays : goal.returns-clause-stays
 returns-clause-stays g c = λ clean s limit keeps trees left.

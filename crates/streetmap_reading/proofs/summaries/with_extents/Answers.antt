@@ -36,7 +36,7 @@ returns-in_err-summary-clause-shows g c clean = λ live s limit keeps.
     let so = subst (λ l. SoFar (state g.S.Store c.args.conn.now) (state g.S.Store c.loop-head.conn) c.args.heads.items l c.loop-head.summaries.items) c.in-Some.ensures.steps.0 c.loop-head.invariant.4 in
     let new = state g.S.Store c.with_extent.new.conn in
     let before = early _ _ new _ _ _ _ so c.with_extent.ensures.survives s limit keeps clean in
-    handed_on _ _ _ _ c.from_residual.ensures.1 (stopped_on _ _ new _ (so.unchanged before s limit keeps live)
+    handed_on _ _ _ _ c.from_residual.ensures.1 (stopped_on _ _ new _ (so.unchanged before s limit keeps live) c.loop-head.invariant.4.survives.counts
     (c.in_err-summary.ensures.shows clean s (limited _ _ new _ _ _ _ so c.with_extent.ensures.survives s limit keeps clean) (kept _ _ new _ _ _ _ so c.with_extent.ensures.survives s limit keeps clean)))
 
 pub returns-in_err-summary-clause-mode : goal.returns-in_err-summary-clause-mode

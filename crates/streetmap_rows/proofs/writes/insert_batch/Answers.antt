@@ -6,7 +6,8 @@ use Rattle.sqlite.specs.declared.types.Value.TheVariants.{Int}
 use Rattle.streetmap_rows.specs.Stands.{StandsFor}
 use Rattle.streetmap_rows.specs.Elsewhere.{IsSameElsewhere}
 use Rattle.streetmap_rows.specs.Statements.{insert_batch}
-use Rattle.streetmap_rows.proofs.Answering.{handed_on}
+use Rattle.streetmap_rows.proofs.Answering.{handed_on, err_handed_on}
+use Rattle.streetmap_rows.proofs.Reasons.{run_inside}
 use Rattle.streetmap_rows.proofs.Writing.{keep_stands, keep_told}
 use Rattle.streetmap_rows.proofs.Bound.{seven}
 use Rattle.streetmap_rows.proofs.writes.insert_batch.Goals as goal
@@ -34,3 +35,8 @@ returns-in_err-execute-clause-writes g c clean inside limit s t stands leads =
     let e7 : owned c.params-to_sql-7.result ≡ Int (pos c.args.serial) = search rules in
     let ran = subst (λ row. ExecutesInside 0 insert_batch row old new (Err c.in_err-execute.field-0.0)) (seven c.params-to_sql.ensures c.params-to_sql-2.ensures e3 e4 e5 e6 e7) (c.in_err-execute.ensures.runs clean inside) in
     handed_on c.from_residual.result c.in_err-execute.field-0.0 _ _ c.from_residual.ensures.1 (keep_told old new s stands limit c.args.key.now (record { text = c.args.text.now; counts = c.args.counts; serial = c.args.serial }) leads.absent leads.next leads.counted _ ran)
+
+pub returns-in_err-execute-clause-reason : goal.returns-in_err-execute-clause-reason
+returns-in_err-execute-clause-reason g c clean =
+    err_handed_on c.from_residual.result c.in_err-execute.field-0.0 _ c.from_residual.ensures.1
+    (run_inside (state g.S.Store c.args.tx.now.conn.now) (state g.S.Store c.execute.new.self.conn.now) _ _ _ c.in_err-execute.ensures.ended (c.in_err-execute.ensures.runs clean))

@@ -2,7 +2,8 @@ use Rattle.std.proofs.Common.{sym, subst}
 use Rattle.sqlite.specs.Held.{state}
 use Rattle.streetmap_rows.specs.Stands.{StandsFor}
 use Rattle.streetmap_rows.specs.Elsewhere.{IsSameElsewhere}
-use Rattle.streetmap_rows.proofs.Answering.{handed_on}
+use Rattle.streetmap_rows.proofs.Answering.{handed_on, err_handed_on}
+use Rattle.streetmap_rows.proofs.Reasons.{run_inside}
 use Rattle.streetmap_rows.proofs.Writing.{open_stands, open_told}
 use Rattle.streetmap_rows.proofs.Bound.{text_bound}
 use Rattle.streetmap_rows.proofs.writes.insert_collection.Goals as goal
@@ -20,3 +21,8 @@ returns-in_err-execute-clause-writes g c clean inside limit s t stands leads =
     let new = state g.S.Store c.execute.new.self.conn.now in
     let ran = rw (c.params-to_sql.ensures, c.params-to_sql-2.ensures, c.params-to_sql-3.ensures, text_bound c.args.time) at (c.in_err-execute.ensures.runs clean inside) in
     handed_on c.from_residual.result c.in_err-execute.field-0.0 _ _ c.from_residual.ensures.1 (open_told old new s stands limit c.args.name.now c.args.title.now _ leads.absent _ ran)
+
+pub returns-in_err-execute-clause-reason : goal.returns-in_err-execute-clause-reason
+returns-in_err-execute-clause-reason g c clean =
+    err_handed_on c.from_residual.result c.in_err-execute.field-0.0 _ c.from_residual.ensures.1
+    (run_inside (state g.S.Store c.args.tx.now.conn.now) (state g.S.Store c.execute.new.self.conn.now) _ _ _ c.in_err-execute.ensures.ended (c.in_err-execute.ensures.runs clean))

@@ -8,7 +8,8 @@ use Rattle.streetmap_grid.specs.Views.{box_value}
 use Rattle.streetmap_rows.specs.Stands.{StandsFor}
 use Rattle.streetmap_rows.specs.Elsewhere.{IsSameElsewhere}
 use Rattle.streetmap_rows.specs.Statements.{insert_feature}
-use Rattle.streetmap_rows.proofs.Answering.{handed_on}
+use Rattle.streetmap_rows.proofs.Answering.{handed_on, err_handed_on}
+use Rattle.streetmap_rows.proofs.Reasons.{run_inside}
 use Rattle.streetmap_rows.proofs.Writing.{insert_stands, insert_told}
 use Rattle.streetmap_rows.proofs.Bound.{nine, feature_bound}
 use Rattle.streetmap_rows.proofs.writes.insert_feature.Goals as goal
@@ -38,3 +39,13 @@ returns-in_err-execute-clause-writes g c clean inside f is limit s t stands lead
     let e9 : c.map-6.result ≡ option_map (λ (s : ℤ × ℤ). s.1) c.args.seconds = search rules in
     let ran = subst (λ row. ExecutesInside 0 insert_feature row old new (Err c.in_err-execute.field-0.0)) (nine c.params-to_sql.ensures c.params-to_sql-2.ensures c.params-to_sql-3.ensures (c.params-to_sql-4.ensures ∙ ap (or_null Int) e4) (c.params-to_sql-5.ensures ∙ ap (or_null Int) e5) (c.params-to_sql-6.ensures ∙ ap (or_null Int) e6) (c.params-to_sql-7.ensures ∙ ap (or_null Int) e7) (c.params-to_sql-8.ensures ∙ ap (or_null Int) e8) (c.params-to_sql-9.ensures ∙ ap (or_null Int) e9) ∙ feature_bound (c.args.collection.now, c.args.id.now) f _ _ _ is) (c.in_err-execute.ensures.runs clean inside) in
     handed_on c.from_residual.result c.in_err-execute.field-0.0 _ _ c.from_residual.ensures.1 (insert_told old new s stands limit (c.args.collection.now, c.args.id.now) leads.collection leads.there f leads.absent _ ran)
+
+pub returns-in_err-execute-clause-reason : goal.returns-in_err-execute-clause-reason
+returns-in_err-execute-clause-reason g c clean =
+    err_handed_on c.from_residual.result c.in_err-execute.field-0.0 _ c.from_residual.ensures.1
+    (run_inside (state g.S.Store c.args.tx.now.conn.now) (state g.S.Store c.execute.new.self.conn.now) _ _ _ c.in_err-execute.ensures.ended (c.in_err-execute.ensures.runs clean))
+
+pub returns-clause-ran : goal.returns-clause-ran
+returns-clause-ran g c clean inside =
+    let ran = rw (c.params-to_sql.ensures, c.params-to_sql-2.ensures, c.params-to_sql-3.ensures) at (c.in_ok-execute.ensures.runs clean inside) in
+    (_, c.in_ok-execute.field-0, ran)

@@ -1,6 +1,7 @@
 use Rattle.std.proofs.Common.{◌≡◌, ◌⊎◌}
 use Rattle.sqlite.specs.Held.{state}
-use Rattle.streetmap_store.proofs.Reopened.{opens_only, within_one, within_two}
+use Rattle.streetmap_store.proofs.Reopened.{opens_only, opens_some, opens_standing, within_one}
+use Rattle.streetmap_store.proofs.Reopened.{within_two}
 use Rattle.streetmap_store.proofs.keeper.what_a_stop_leaves_opens.Goals as goal
 
 pub returns-clause-one : goal.returns-clause-one
@@ -8,3 +9,12 @@ returns-clause-one g c s only left fresh = let old = state g.S.Store c.args.keep
 
 pub returns-clause-either : goal.returns-clause-either
 returns-clause-either g c s t only left fresh = let old = state g.S.Store c.args.keeper.now.conn in opens_only old (state g.T.Store c.args.opened.now) (λ u. (u ≡ s) ⊎ (u ≡ t)) (within_two old s t only) left fresh
+
+pub returns-clause-stands : goal.returns-clause-stands
+returns-clause-stands g c s stands left fresh =
+    let store = c.args.keeper.now.conn.store in
+    opens_standing (state g.S.Store c.args.keeper.now.conn) (state g.T.Store c.args.opened.now) s stands.rests
+    (λ trees may. g.met.S.Store.settled store trees stands.rests.live may) left fresh
+
+pub returns-clause-states : goal.returns-clause-states
+returns-clause-states g c states left fresh = opens_some (state g.S.Store c.args.keeper.now.conn) (state g.T.Store c.args.opened.now) states left fresh

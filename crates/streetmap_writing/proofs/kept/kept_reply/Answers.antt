@@ -20,7 +20,7 @@ pub returns-clause-looks : goal.returns-clause-looks
 returns-clause-looks g c clean s rests =
     let r = c.in-Ok.ensures.looks clean rests.unlimited s rests.kept.rows in
     let k = the_row kept_view (get s.keys c.args.key.now) c.deref.result.now c.in-Some.row.now (search rules) c.in-Some.ensures.value in
-    let is = c.in_ok-reply.ensures k.0 k.2 in
+    let is = c.in_ok-reply.ensures.reads k.0 k.2 in
     let same : c.in_ok-reply.reply ≡ kept_answer c.args.text.now k.0 = cc in
     (rw (k.1, same) refl, rests_still (state g.S.Store c.args.conn.now) (state g.S.Store c.kept_rows.new.conn) s r.1 c.kept_rows.ensures.limit rests)
 
@@ -28,7 +28,7 @@ pub returns-in_err-reply-clause-looks : goal.returns-in_err-reply-clause-looks
 returns-in_err-reply-clause-looks g c clean s rests =
     let r = c.in-Ok.ensures.looks clean rests.unlimited s rests.kept.rows in
     let k = the_row kept_view (get s.keys c.args.key.now) c.deref.result.now c.in-Some.row.now (search rules) c.in-Some.ensures.value in
-    let is = c.in_err-reply.ensures k.0 k.2 in
+    let is = c.in_err-reply.ensures.reads k.0 k.2 in
     absurd (cc)
 
 pub returns-in_default-clause-looks : goal.returns-in_default-clause-looks

@@ -15,14 +15,14 @@ pub returns-clause-finds : goal.returns-clause-finds
 returns-clause-finds g c clean limit s stands =
     let r = c.in_ok-rows.ensures.looks clean limit s stands in
     let k = the_row collection_view (get s.collections c.args.collection.now) c.deref.result.now c.in-Some.row.now (search rules) c.in-Some.ensures.value in
-    let told = c.in_ok-time.ensures c.args.collection.now k.0 k.2 (stands.readable.collections c.args.collection.now k.0 k.1) in
+    let told = c.in_ok-time.ensures.reads c.args.collection.now k.0 k.2 (stands.readable.collections c.args.collection.now k.0 k.1) in
     (rw k.1 (ap (λ x. Some x) told), r.1)
 
 pub returns-in_err-time-clause-finds : goal.returns-in_err-time-clause-finds
 returns-in_err-time-clause-finds g c clean limit s stands =
     let r = c.in_ok-rows.ensures.looks clean limit s stands in
     let k = the_row collection_view (get s.collections c.args.collection.now) c.deref.result.now c.in-Some.row.now (search rules) c.in-Some.ensures.value in
-    let told = c.in_err-time.ensures c.args.collection.now k.0 k.2 (stands.readable.collections c.args.collection.now k.0 k.1) in
+    let told = c.in_err-time.ensures.reads c.args.collection.now k.0 k.2 (stands.readable.collections c.args.collection.now k.0 k.1) in
     handed_on _ _ _ _ c.from_residual-in_err-time.ensures.1 (ap is_of_store told, keeps (state g.S.Store c.args.tx.now.conn.now) (state g.S.Store c.collection_rows.new.tx.conn.now) r.1)
 
 pub returns-in_default-clause-finds : goal.returns-in_default-clause-finds

@@ -1,5 +1,6 @@
-use Rattle.std.proofs.Common.{refl, sym}
+use Rattle.std.proofs.Common.{refl, sym, rules}
 use Rattle.sqlite.specs.Held.{state}
+use Rattle.streetmap_opening.proofs.Stopping.{leaves_same}
 use Rattle.streetmap_store.proofs.Standing.{serves}
 use Rattle.streetmap_store.proofs.keeper.TableKeeper.adopt.Goals as goal
 
@@ -15,3 +16,15 @@ returns-in-Ok-clause-carried g c clean s rests =
 
 pub returns-in-Ok-clause-elsewhere : goal.returns-in-Ok-clause-elsewhere
 returns-in-Ok-clause-elsewhere g c clean s rests = c.in-Ok.ensures.elsewhere clean s rests (c.in-Ok.ensures.carries clean s rests).1.live
+
+pub returns-in-Err-clause-leaves : goal.returns-in-Err-clause-leaves
+returns-in-Err-clause-leaves g c clean was live =
+    let old = state g.S.Store c.args.conn in
+    let new = state g.S.Store c.open_tables.new.conn in
+    let before = c.args.conn.store in
+    let after = c.open_tables.new.conn.store in
+    let settled = c.is_autocommit-idle.ensures.settled (search rules) was in
+    let same = c.in-Err.ensures.same clean settled live in (
+      leaves_same old new same.1 (λ trees may. g.met.S.Store.settled after trees live may) (g.met.S.Store.stays before was),
+      leaves_same new old (sym same.1) (λ trees may. g.met.S.Store.settled before trees was may) (g.met.S.Store.stays after live),
+    )

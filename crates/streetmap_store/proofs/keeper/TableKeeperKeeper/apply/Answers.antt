@@ -1,4 +1,4 @@
-use Rattle.std.proofs.Common.{sym, ap, ◌∙◌}
+use Rattle.std.proofs.Common.{◌∙◌, IsSome, ap, rules, sym}
 use Rattle.std.specs.FinMap.{len}
 use Rattle.sqlite.specs.Held.{state}
 use Rattle.streetmap_batch.specs.BatchView.{batch_value}
@@ -6,7 +6,8 @@ use Rattle.streetmap_ledger.specs.Batches.{act}
 use Rattle.streetmap_rows.proofs.Leaving.{leaves_only}
 use Rattle.streetmap_store.specs.Serving.{count_after}
 use Rattle.streetmap_store.proofs.Counting.{count_is}
-use Rattle.streetmap_store.proofs.Standing.{serves, acts, leaves}
+use Rattle.streetmap_store.proofs.Standing.{serves, acts, leaves, shut_stopped, spares_acted}
+use Rattle.streetmap_store.proofs.Standing.{unless_stopped}
 use Rattle.streetmap_store.proofs.keeper.TableKeeperKeeper.apply.Goals as goal
 
 pub returns-in-Ok-clause-acts : goal.returns-in-Ok-clause-acts
@@ -34,3 +35,51 @@ returns-in-Err-clause-leaves g c clean s stands only =
     let store = c.apply_batch.new.conn.store in
     leaves s (batch_value c.args.batch.now) (state g.S.Store c.args.self.now.conn) (state g.S.Store c.apply_batch.new.conn) _ _ stands (g.met.S.Store.stays store) (λ trees live may. g.met.S.Store.settled store trees live may) c.in-Err.stop _
     (c.in-Err.ensures.acts clean s stands.rests stands.counted) c.shut_for.ensures.value (c.in-Err.ensures.crash clean s stands.rests stands.counted) only
+
+pub returns-in-Err-clause-device : goal.returns-in-Err-clause-device
+returns-in-Err-clause-device g c clean s stands is =
+    record { reason = λ _. shut_stopped (state g.S.Store c.args.self.now.conn) (state g.S.Store c.apply_batch.new.conn) c.in-Err.stop _ _ stands.unshut c.shut_for.ensures.after (c.in-Err.ensures.reason clean) }
+
+pub returns-in-Ok-clause-spared : goal.returns-in-Ok-clause-spared
+returns-in-Ok-clause-spared g c =
+    let unshut : IsSome c.args.self.now.shut → ⊥ = λ shut. search rules in
+    let store = c.apply_batch.new.conn.store in (
+      λ shut. absurd (unshut shut),
+      spares_acted _ _ _ _ (state g.S.Store c.args.self.now.conn) (state g.S.Store c.apply_batch.new.conn)
+          (batch_value c.args.batch.now) _ unshut c.in-Ok.ensures.survives
+          (λ trees live may. g.met.S.Store.settled store trees live may)
+          (λ clean s stands. c.in-Ok.ensures.elsewhere clean s stands.rests stands.counted)
+          (λ clean s stands. c.in-Ok.ensures.crash clean s stands.rests stands.counted)
+          (λ clean s stands none. (
+            (act s (batch_value c.args.batch.now)).state,
+            (returns-in-Ok-clause-acts g c clean s stands).1,
+          )),
+    )
+
+pub returns-in-Err-clause-spared : goal.returns-in-Err-clause-spared
+returns-in-Err-clause-spared g c =
+    let old = state g.S.Store c.args.self.now.conn in
+    let new = state g.S.Store c.apply_batch.new.conn in
+    let b = batch_value c.args.batch.now in
+    let unshut : IsSome c.args.self.now.shut → ⊥ = λ shut. search rules in
+    let store = c.apply_batch.new.conn.store in (
+      λ shut. absurd (unshut shut),
+      spares_acted _ _ _ _ old new b _ unshut c.in-Err.ensures.survives
+          (λ trees live may. g.met.S.Store.settled store trees live may)
+          (λ clean s stands. c.in-Err.ensures.elsewhere clean s stands.rests stands.counted)
+          (λ clean s stands. c.in-Err.ensures.crash clean s stands.rests stands.counted)
+          (λ clean s stands none. unless_stopped _ _ _ old new b s c.in-Err.stop (g.met.S.Store.stays store) stands
+          (c.in-Err.ensures.acts clean s stands.rests stands.counted) c.shut_for.ensures.after none),
+    )
+
+pub returns-in-Ok-clause-applied : goal.returns-in-Ok-clause-applied
+returns-in-Ok-clause-applied g c = (
+  λ clean s stands. c.in-Ok.ensures.elsewhere clean s stands.rests stands.counted,
+  λ clean s stands. returns-in-Ok-clause-acts g c clean s stands,
+)
+
+pub returns-in-Err-clause-applied : goal.returns-in-Err-clause-applied
+returns-in-Err-clause-applied g c = (
+  λ clean s stands. c.in-Err.ensures.elsewhere clean s stands.rests stands.counted,
+  λ clean s stands. returns-in-Err-clause-acts g c clean s stands,
+)
