@@ -1,5 +1,5 @@
 -- What two calls of a keeper say together.
-use Rattle.std.proofs.Common.{◌≡◌, Result, Ok, Err, subst}
+use Rattle.std.proofs.Common.{◌≡◌, Result, Ok, Err, ap, subst}
 use Rattle.streetmap_ledger.specs.State.{State}
 use Rattle.streetmap_ledger.specs.Keep.{Looks}
 use Rattle.streetmap_ledger.specs.declared.reply.Fault.{Fault}
@@ -23,3 +23,7 @@ looks_err T U s Is As Reopen P h = h
 -- where memory was refused the keeper stands as it did
 pub memory_stays : {T : Type 0} (s : State) (Is : T → Type 0) (fault : Fault) (P : State → Type 0) → fault ≡ Memory → Looks s Is (Err fault) P → P s
 memory_stays {T} s Is fault P is h = subst (λ f. Looks {T = T} s Is (Err f) P) is h
+
+-- a fault is the same one whatever the call would have returned
+pub err_of : (T U : Type 0) (fault why : Fault) → ◌≡◌ {A = Result T Fault} (Err fault) (Err why) → ◌≡◌ {A = Result U Fault} (Err fault) (Err why)
+err_of T U fault why h = let same : fault ≡ why = cc in ap (λ f. Err f) same

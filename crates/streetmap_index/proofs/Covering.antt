@@ -1,5 +1,5 @@
 -- Extents within bounds, and what bounds off a box tell of them.
-use Rattle.std.proofs.Common.{◌≡◌, ℤ, ◌≤ℤ◌, List, [], ◌∷◌, ◌++◌, Option, None, Some, Bool, true, false, option_map, refl, sym, ap, subst, ◌∙◌, append_assoc, append-nil, arith}
+use Rattle.std.proofs.Common.{◌≡◌, ℤ, ◌≤ℤ◌, List, [], ◌∷◌, ◌++◌, Option, None, Some, Bool, true, false, All, option_map, refl, sym, ap, subst, ◌∙◌, append_assoc, append-nil, arith}
 use Rattle.std.specs.Int.{int_max, int_min}
 use Rattle.std.proofs.lemmas.Int.{ints, clamps}
 use Rattle.std.proofs.lemmas.List.Elements.{All-head, All-tail, All-weaker}
@@ -85,12 +85,11 @@ none_passes (Some e) (Some b) (Some area) (Some v) (Some w) within is are off =
     ap (λ x. overlaps x (box_value area)) (sym one) ∙ off_too e b area within (ap (λ x. overlaps x (box_value area)) all ∙ off)
 
 -- features that are no candidates add nothing
-pub passed_over : (q : Query) (fold : PageFold) (features : Features) (bounds : Option GridBox) → ((o : FeatureOutline) (f : FeatureValue) → LiesWithin o.extent bounds → IsOutlineOf o f → is_candidate (query_value q) f ≡ false)
-    → (os : List FeatureOutline) → AllLieWithin os bounds → (met fs : List FeatureValue) → Pairs features os fs → HoldsCandidates (query_value q) fold met → HoldsCandidates (query_value q) fold (met ++ fs)
-passed_over q fold features bounds off [] within met [] pairs held = subst (HoldsCandidates (query_value q) fold) (sym (append-nil met)) held
-passed_over q fold features bounds off [] within met (f ∷ fs) pairs held = absurd pairs
-passed_over q fold features bounds off (o ∷ os) within met [] pairs held = absurd pairs
-passed_over q fold features bounds off (o ∷ os) within met (f ∷ fs) pairs held =
-    let P : FeatureOutline → Type 0 = λ o. LiesWithin o.extent bounds in
+pub passed_over : (P : FeatureOutline → Type 0) (q : Query) (fold : PageFold) (features : Features) → ((o : FeatureOutline) (f : FeatureValue) → P o → IsOutlineOf o f → is_candidate (query_value q) f ≡ false)
+    → (os : List FeatureOutline) → All P os → (met fs : List FeatureValue) → Pairs features os fs → HoldsCandidates (query_value q) fold met → HoldsCandidates (query_value q) fold (met ++ fs)
+passed_over P q fold features off [] within met [] pairs held = subst (HoldsCandidates (query_value q) fold) (sym (append-nil met)) held
+passed_over P q fold features off [] within met (f ∷ fs) pairs held = absurd pairs
+passed_over P q fold features off (o ∷ os) within met [] pairs held = absurd pairs
+passed_over P q fold features off (o ∷ os) within met (f ∷ fs) pairs held =
     subst (HoldsCandidates (query_value q) fold) (append_assoc met (f ∷ []) fs)
-    (passed_over q fold features bounds off os (All-tail P o os within) (met ++ f ∷ []) fs pairs.1 (left_out q fold met f pairs.0.made (off o f (All-head P o os within) pairs.0.known) held))
+    (passed_over P q fold features off os (All-tail P o os within) (met ++ f ∷ []) fs pairs.1 (left_out q fold met f pairs.0.made (off o f (All-head P o os within) pairs.0.known) held))

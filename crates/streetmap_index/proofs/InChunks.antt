@@ -46,7 +46,7 @@ last_reaches k (x ∷ (y ∷ os)) zero o len at = absurd (omega arith)
 last_reaches k (x ∷ (y ∷ os)) (suc n) o len at = last_reaches k (y ∷ os) n o (omega arith) at
 
 -- ---- entries that do not go on to a key
-falls_short : (r : Ordering) → is_ge r ≡ false → r ≡ Less
+pub falls_short : (r : Ordering) → is_ge r ≡ false → r ≡ Less
 falls_short Less h = refl
 falls_short Equal h = absurd cc
 falls_short Greater h = absurd cc
@@ -115,22 +115,22 @@ below_front : (x : Text) (es fs : Entries) → T (below_all text_cmp x (es ++ fs
 below_front x [] fs h = tt
 below_front x (e ∷ es) fs h = both _ _ (first _ _ h) (below_front x es fs (second _ _ h))
 
-sorted_front : (es fs : Entries) → T (is_sorted text_cmp (es ++ fs)) → T (is_sorted text_cmp es)
+pub sorted_front : (es fs : Entries) → T (is_sorted text_cmp (es ++ fs)) → T (is_sorted text_cmp es)
 sorted_front [] fs h = tt
 sorted_front (e ∷ es) fs h = both _ _ (below_front e.0 es fs (first _ _ h)) (sorted_front es fs (second _ _ h))
 
-sorted_rest : (es fs : Entries) → T (is_sorted text_cmp (es ++ fs)) → T (is_sorted text_cmp fs)
+pub sorted_rest : (es fs : Entries) → T (is_sorted text_cmp (es ++ fs)) → T (is_sorted text_cmp fs)
 sorted_rest [] fs h = h
 sorted_rest (e ∷ es) fs h = sorted_rest es fs (second _ _ h)
 
-record Split (xs ys : List FeatureOutline) (es : Entries) : Type 0 where
+pub record Split (xs ys : List FeatureOutline) (es : Entries) : Type 0 where
   pub front : Entries
   pub rest : Entries
   pub whole : front ++ rest ≡ es
   pub fronts : feature_outline_values xs ≡ outlines front
   pub rests : feature_outline_values ys ≡ outlines rest
 
-split : (xs ys : List FeatureOutline) (es : Entries) → feature_outline_values (xs ++ ys) ≡ outlines es → Split xs ys es
+pub split : (xs ys : List FeatureOutline) (es : Entries) → feature_outline_values (xs ++ ys) ≡ outlines es → Split xs ys es
 split [] ys es is = record { front = []; rest = es; whole = refl; fronts = refl; rests = is }
 split (x ∷ xs) ys [] is = too_few x (xs ++ ys) is
 split (x ∷ xs) ys (e ∷ es) is =

@@ -10,3 +10,6 @@ pub mod Each
 pub mod Covering
 pub mod Extents
 pub mod Listing
+pub mod Listed
+pub mod Counting
+pub mod Ordered

@@ -1,25 +1,32 @@
 -- What an index knows of collections without reading their features.
-use Rattle.std.specs.Prelude.{◌≡◌, ◌<◌, List, [], All, length, map, Option, None, Some, IsSome, IsTrue, String, string_bytes}
+use Rattle.std.specs.Prelude.{◌≡◌, ◌<◌, ℕ, ℤ, ◌≤ℤ◌, Bool, List, [], ◌∷◌, All, length, map, is_some}
+use Rattle.std.specs.Prelude.{Option, None, Some, IsSome, IsTrue, String, string_bytes}
 use Rattle.std.specs.Option.{option_map}
 use Rattle.std.specs.Ordering.{is_eq}
 use Rattle.std.specs.Map.{lookup}
-use Rattle.std.specs.List.{flat_map}
+use Rattle.std.specs.List.{flat_map, count_by}
 use Rattle.std.specs.FinMap.{get, entries}
 use Rattle.std.specs.declared.alloc.Global.{Global}
 use Rattle.streetmap_grid.specs.declared.grid_box.GridBox.{GridBox}
 use Rattle.streetmap_grid.specs.Views.{box_value}
 use Rattle.streetmap_grid.specs.Extent.{IsWithin}
+use Rattle.streetmap_grid.specs.Bounds.{AreBounds}
 use Rattle.streetmap_geojson.specs.FeatureValue.{FeatureValue}
+use Rattle.streetmap_geojson.specs.FeatureInvariant.{IsFeature}
 use Rattle.streetmap_batch.specs.Text.{Text, text_cmp}
 use Rattle.streetmap_batch.specs.BatchValue as edit
 use Rattle.streetmap_batch.specs.BatchValue.{EditValue}
 use Rattle.streetmap_ledger.specs.State.{State, Collection, Features}
 use Rattle.streetmap_ledger.specs.Outlines.{feature_outline_of}
+use Rattle.streetmap_ledger.specs.Summaries.{all_vertices}
 use Rattle.streetmap_ledger.specs.OutlineView.{feature_outline_value, feature_outline_values}
 use Rattle.streetmap_ledger.specs.declared.outline.FeatureOutline.{FeatureOutline}
 use Rattle.streetmap_ledger.specs.declared.reply.Fault.{Fault}
 use Rattle.streetmap_ledger.specs.declared.reply.Fault.TheVariants.{Memory, Device, Damaged, Reopen}
+use Rattle.streetmap_cells.specs.Cells.{HasExtent}
+use Rattle.streetmap_cells.specs.declared.cells.Cells.{Cells}
 use Rattle.streetmap_index.specs.declared.chunk.Chunk.{Chunk}
+use Rattle.streetmap_index.specs.declared.chunks.Chunks.{Chunks}
 use Rattle.streetmap_index.specs.declared.outlined.OutlinedCollection.{OutlinedCollection}
 use Rattle.streetmap_index.specs.declared.index.Index.{Index}
 
@@ -49,9 +56,41 @@ LiesWithin (Some extent) (Some bounds) = IsWithin (box_value extent) (box_value 
 abbrev pub AllLieWithin : List FeatureOutline → Option GridBox → Type 0
 AllLieWithin os bounds = All (λ o. LiesWithin o.extent bounds) os
 
--- the extents of a chunk's outlines lie within its bounds
-abbrev pub IsBounded : Chunk → Type 0
-IsBounded chunk = AllLieWithin chunk.outlines.items chunk.bounds
+-- an outline, and the feature that it is of
+pub record IsEntry (features : Features) (o : FeatureOutline) (f : FeatureValue) : Type 0 where
+  pub known : IsOutlineOf o f
+  pub made : IsFeature f
+  pub there : get features f.id ≡ Some f
+
+-- outlines and features, one by one
+abbrev pub Pairs : Features → List FeatureOutline → List FeatureValue → Type 0
+Pairs features [] [] = Unit {0}
+Pairs features [] (f ∷ fs) = ⊥
+Pairs features (o ∷ os) [] = ⊥
+Pairs features (o ∷ os) (f ∷ fs) = IsEntry features o f × Pairs features os fs
+
+-- whether a feature has an extent
+abbrev pub has_extent : FeatureOutline → Bool
+has_extent o = is_some o.extent
+
+-- the seconds of a time within bounds: its first one is not behind the latest first, nor its last
+-- one before the earliest last
+abbrev pub IsTimedBy : Option (ℤ × ℤ) → Option (ℤ × ℤ) → Type 0
+IsTimedBy seconds None = Unit {0}
+IsTimedBy None (Some bounds) = ⊥
+IsTimedBy (Some seconds) (Some bounds) = (seconds.0 ≤ℤ bounds.0) × (bounds.1 ≤ℤ seconds.1)
+
+-- those of each outline are
+abbrev pub AllTimedBy : List FeatureOutline → Option (ℤ × ℤ) → Type 0
+AllTimedBy os bounds = All (λ o. IsTimedBy o.seconds bounds) os
+
+-- a chunk's bounds are those of its features, and the extents of its outlines lie within them; as
+-- many of these have an extent as it says; and their seconds lie within its bounds of seconds
+pub record IsBounded (chunk : Chunk) : Type 0 where
+  pub within : AllLieWithin chunk.outlines.items chunk.bounds
+  pub exact : (features : Features) (fs : List FeatureValue) → Pairs features chunk.outlines.items fs → AreBounds (all_vertices fs) chunk.bounds
+  pub counted : chunk.with_extent ≡ count_by has_extent chunk.outlines.items
+  pub timed : AllTimedBy chunk.outlines.items chunk.seconds
 
 -- in each chunk they do
 abbrev pub AreBounded : List Chunk → Type 0
@@ -63,11 +102,33 @@ pub record AreChunksOf (chunks : List Chunk) (features : Features) : Type 0 wher
   pub filled : AreFilled chunks
   pub bounded : AreBounded chunks
 
+-- the extent, if there is one, stands in the cells under the number of a chunk
+abbrev pub IsListedIf : Cells → ℕ → Option GridBox → Type 0
+IsListedIf cells number None = Unit {0}
+IsListedIf cells number (Some extent) = HasExtent cells number (box_value extent)
+
+-- the extents of these outlines do
+abbrev pub AreListedUnder : Cells → ℕ → List FeatureOutline → Type 0
+AreListedUnder cells number os = All (λ o. IsListedIf cells number o.extent) os
+
+-- those of a chunk's outlines stand under its number
+abbrev pub IsListedChunk : Cells → Chunk → Type 0
+IsListedChunk cells chunk = AreListedUnder cells chunk.number chunk.outlines.items
+
+-- in each chunk they do
+abbrev pub AreListed : Cells → List Chunk → Type 0
+AreListed cells chunks = All (IsListedChunk cells) chunks
+
+-- the outlines of these features, in chunks and by cells
+pub record AreListedChunksOf (outlines : Chunks) (features : Features) : Type 0 where
+  pub chunks : AreChunksOf outlines.chunks.items features
+  pub listed : AreListed outlines.cells outlines.chunks.items
+
 -- what is known of a collection is so
 pub record IsOutlined (o : OutlinedCollection) (c : Collection) : Type 0 where
   pub title : string_bytes o.title ≡ c.title
   pub time : option_map string_bytes o.time ≡ c.time
-  pub outlines : AreChunksOf o.outlines.chunks.items c.features
+  pub outlines : AreListedChunksOf o.outlines c.features
 
 -- and the collection is there
 abbrev pub IsOutlinedIf : OutlinedCollection → Option Collection → Type 0

@@ -1,45 +1,79 @@
 -- Pages that are made from outlines.
-use Rattle.std.specs.Prelude.{◌≡◌, ◌++◌, ◌∷◌, [], List, Bool, IsTrue, Option, None, Some}
+use Rattle.std.specs.Prelude.{◌≡◌, ℕ, true, ◌++◌, ◌∷◌, [], List, All, length, Bool, ◌||◌, IsTrue}
+use Rattle.std.specs.Prelude.{Option, None, Some, is_none}
 use Rattle.std.specs.FinMap.{get, values}
 use Rattle.streetmap_geojson.specs.FeatureValue.{FeatureValue}
-use Rattle.streetmap_geojson.specs.FeatureInvariant.{IsFeature}
 use Rattle.streetmap_query.specs.QueryValue.{QueryValue}
 use Rattle.streetmap_batch.specs.Text.{Text}
 use Rattle.streetmap_ledger.specs.State.{State, Collection, Features}
-use Rattle.streetmap_ledger.specs.Pages.{feature_in, page_over}
+use Rattle.streetmap_ledger.specs.Pages.{feature_in, page_over, comes_after, selects, is_candidate}
+use Rattle.streetmap_ledger.specs.Pages.{candidates}
 use Rattle.streetmap_ledger.specs.PageView.{page_value}
 use Rattle.streetmap_ledger.specs.Folds.{Holds, HoldsCandidates}
 use Rattle.streetmap_ledger.specs.declared.fold.PageFold.{PageFold}
 use Rattle.streetmap_ledger.specs.declared.outline.FeatureOutline.{FeatureOutline}
 use Rattle.streetmap_ledger.specs.declared.page.Page.{Page}
-use Rattle.streetmap_index.specs.Index.{IsOutlineOf, AreChunksOf}
+pub use Rattle.streetmap_index.specs.Index.{IsEntry, Pairs}
+use Rattle.streetmap_index.specs.Index.{IsOutlineOf, has_extent, IsListedIf, AreListedChunksOf}
+use Rattle.streetmap_cells.specs.Searches.{is_marked}
+use Rattle.streetmap_cells.specs.declared.marks.Marks.{Marks}
 use Rattle.streetmap_index.specs.declared.chunk.Chunk.{Chunk}
+use Rattle.streetmap_index.specs.declared.chunks.Chunks.{Chunks}
 
 -- the feature that the state has under the id is taken
 abbrev pub TakesRead : State → Text → Text → PageFold → PageFold → Bool → Type 0
 TakesRead s name id old new taken =
     (f : FeatureValue) → feature_in s name id ≡ Some f → IsTrue taken × ((q : QueryValue) (fs : List FeatureValue) → Holds q old fs → Holds q new (fs ++ f ∷ []))
 
--- an outline, and the feature that it is of
-pub record IsEntry (features : Features) (o : FeatureOutline) (f : FeatureValue) : Type 0 where
-  pub known : IsOutlineOf o f
-  pub made : IsFeature f
-  pub there : get features f.id ≡ Some f
-
--- outlines and features, one by one
-abbrev pub Pairs : Features → List FeatureOutline → List FeatureValue → Type 0
-Pairs features [] [] = Unit {0}
-Pairs features [] (f ∷ fs) = ⊥
-Pairs features (o ∷ os) [] = ⊥
-Pairs features (o ∷ os) (f ∷ fs) = IsEntry features o f × Pairs features os fs
-
 -- if all were taken, the features with these outlines were met behind those met before
 abbrev pub TakesOutlined : State → Text → QueryValue → List FeatureOutline → PageFold → PageFold → Bool → Type 0
 TakesOutlined s name q outlines old new taken =
     IsTrue taken → (c : Collection) (met fs : List FeatureValue) → get s.collections name ≡ Some c → Pairs c.features outlines fs → HoldsCandidates q old met → HoldsCandidates q new (met ++ fs)
 
--- if the chunks are those of the collection's features, this is the page, if it is there
-abbrev pub IsOutlinedPage : State → Text → QueryValue → List Chunk → Option Page → Type 0
-IsOutlinedPage s name q chunks None = Unit {0}
-IsOutlinedPage s name q chunks (Some page) =
-    (c : Collection) → get s.collections name ≡ Some c → AreChunksOf chunks c.features → page_value page ≡ page_over q (values c.features)
+-- if the outlines are those of the collection's features, this is the page, if it is there
+abbrev pub IsOutlinedPage : State → Text → QueryValue → Chunks → Option Page → Type 0
+IsOutlinedPage s name q outlines None = Unit {0}
+IsOutlinedPage s name q outlines (Some page) =
+    (c : Collection) → get s.collections name ≡ Some c → AreListedChunksOf outlines c.features
+    → page_value page ≡ page_over q (values c.features)
+
+-- each chunk with a candidate among its outlines is marked
+abbrev pub MarksCandidates : Chunks → QueryValue → Marks → Type 0
+MarksCandidates outlines q marks =
+    (number : ℕ) (o : FeatureOutline) (f : FeatureValue) → IsListedIf outlines.cells number o.extent
+    → IsOutlineOf o f → is_candidate q f ≡ true → is_marked marks number ≡ true
+
+-- a chunk is marked, where there are marks
+abbrev pub is_marked_if : Option Marks → ℕ → Bool
+is_marked_if None number = true
+is_marked_if (Some marks) number = is_marked marks number
+
+-- whether a chunk that is counted whole counts an outline: each where no box is asked, else those
+-- with an extent
+abbrev pub counts : QueryValue → FeatureOutline → Bool
+counts q o = is_none q.bbox || has_extent o
+
+abbrev pub IsCountedFor : QueryValue → FeatureOutline → Type 0
+IsCountedFor q o = counts q o ≡ true
+
+-- of these features the query selects as many as this, and they are all candidates among them
+pub record SelectsCandidates (q : QueryValue) (n : ℕ) (fs : List FeatureValue) : Type 0 where
+  pub selected : All (λ f. selects q f ≡ true) (candidates q fs)
+  pub count : length (candidates q fs) ≡ n
+
+-- a query selects of the chunk's features as many as this, and examines no others
+abbrev pub CountsWhole : QueryValue → Chunk → ℕ → Type 0
+CountsWhole q chunk count =
+    (features : Features) (fs : List FeatureValue) → Pairs features chunk.outlines.items fs
+    → SelectsCandidates q count fs
+
+-- each feature with one of these outlines comes after the id asked, or none does
+abbrev pub AllComeAfter : QueryValue → Bool → List FeatureOutline → Type 0
+AllComeAfter q behind os =
+    All (λ o. (f : FeatureValue) → IsOutlineOf o f → comes_after q.after f ≡ behind) os
+
+-- the features of a chunk were met behind those met before
+abbrev pub TakesChunk : QueryValue → Chunk → PageFold → PageFold → Type 0
+TakesChunk q chunk old new =
+    (features : Features) (met fs : List FeatureValue) → Pairs features chunk.outlines.items fs
+    → HoldsCandidates q old met → HoldsCandidates q new (met ++ fs)

@@ -49,8 +49,11 @@ impl<K: Keeper> IndexedKeeper<K> {
 
     /// Learns of a collection that is not known, where memory for it is there.
     fn learn(&mut self, collection: &str) -> Result<(), Fault>
+        ensures spared { K.spares self.old.keeper self.new.keeper }
         ensures began_clean { K.is_clean self.new.keeper → K.is_clean self.old.keeper }
         ensures faults { ShutsBy result (K.cause self.old.keeper) (K.cause self.new.keeper) }
+        ensures device { K.is_clean self.new.keeper → (s : State) → K.stands self.old.keeper s →
+            IsErrOf result Fault.Device → K.fails self.old.keeper self.new.keeper }
         ensures learns { K.is_clean self.new.keeper → (s : State) → K.stands self.old.keeper s → IsIndexOf self.old.index s → Looks s (λ _. IsIndexOf self.new.index s) result (K.stands self.new.keeper) }
         ensures leaves { K.is_clean self.new.keeper → (s : State) → K.stands self.old.keeper s → LeavesOnly (K.may_leave self.old.keeper) (Some s) → LeavesOnly (K.may_leave self.new.keeper) (Some s) }
         ensures reopen { IsErrOf result Fault.Reopen → AsBefore (K.stands self.old.keeper) (K.stands self.new.keeper) (K.may_leave self.old.keeper) (K.may_leave self.new.keeper) }
@@ -72,8 +75,11 @@ impl<K: Keeper> IndexedKeeper<K> {
 
     /// The page of a collection by what is known of it, or else the keeper's own.
     fn page_known(&mut self, collection: &str, query: &Query) -> Result<Option<Page>, Fault>
+        ensures spared { K.spares self.old.keeper self.new.keeper }
         ensures began_clean { K.is_clean self.new.keeper → K.is_clean self.old.keeper }
         ensures faults { ShutsBy result (K.cause self.old.keeper) (K.cause self.new.keeper) }
+        ensures device { K.is_clean self.new.keeper → (s : State) → K.stands self.old.keeper s →
+            IsErrOf result Fault.Device → K.fails self.old.keeper self.new.keeper }
         ensures shows { K.is_clean self.new.keeper → (s : State) → K.stands self.old.keeper s → IsIndexOf self.old.index s → Shows s collection.now query.now result (K.stands self.new.keeper) }
         ensures leaves { K.is_clean self.new.keeper → (s : State) → K.stands self.old.keeper s → LeavesOnly (K.may_leave self.old.keeper) (Some s) → LeavesOnly (K.may_leave self.new.keeper) (Some s) }
         ensures reopen { IsErrOf result Fault.Reopen → AsBefore (K.stands self.old.keeper) (K.stands self.new.keeper) (K.may_leave self.old.keeper) (K.may_leave self.new.keeper) }
@@ -87,8 +93,11 @@ impl<K: Keeper> IndexedKeeper<K> {
 
     /// The page of a collection, which is learnt before where it is due.
     fn page_learnt(&mut self, collection: &str, query: &Query) -> Result<Option<Page>, Fault>
+        ensures spared { K.spares self.old.keeper self.new.keeper }
         ensures began_clean { K.is_clean self.new.keeper → K.is_clean self.old.keeper }
         ensures faults { ShutsBy result (K.cause self.old.keeper) (K.cause self.new.keeper) }
+        ensures device { K.is_clean self.new.keeper → (s : State) → K.stands self.old.keeper s →
+            IsIndexOf self.old.index s → IsErrOf result Fault.Device → K.fails self.old.keeper self.new.keeper }
         ensures shows { K.is_clean self.new.keeper → (s : State) → K.stands self.old.keeper s → IsIndexOf self.old.index s → Shows s collection.now query.now result (λ t. K.stands self.new.keeper t × IsIndexOf self.new.index t) }
         ensures leaves { K.is_clean self.new.keeper → (s : State) → K.stands self.old.keeper s → IsIndexOf self.old.index s → LeavesOnly (K.may_leave self.old.keeper) (Some s) → LeavesOnly (K.may_leave self.new.keeper) (Some s) }
         ensures reopen { IsErrOf result Fault.Reopen → AsBefore (K.stands self.old.keeper) (K.stands self.new.keeper) (K.may_leave self.old.keeper) (K.may_leave self.new.keeper) }
@@ -104,8 +113,11 @@ impl<K: Keeper> IndexedKeeper<K> {
 
     /// What is told of a collection by what is known of it, or else the keeper's own answer.
     fn collection_known(&mut self, id: &str) -> Result<Option<Summary>, Fault>
+        ensures spared { K.spares self.old.keeper self.new.keeper }
         ensures began_clean { K.is_clean self.new.keeper → K.is_clean self.old.keeper }
         ensures faults { ShutsBy result (K.cause self.old.keeper) (K.cause self.new.keeper) }
+        ensures device { K.is_clean self.new.keeper → (s : State) → K.stands self.old.keeper s →
+            IsErrOf result Fault.Device → K.fails self.old.keeper self.new.keeper }
         ensures tells { K.is_clean self.new.keeper → (s : State) → K.stands self.old.keeper s → IsIndexOf self.old.index s → Tells s id.now result (K.stands self.new.keeper) }
         ensures leaves { K.is_clean self.new.keeper → (s : State) → K.stands self.old.keeper s → LeavesOnly (K.may_leave self.old.keeper) (Some s) → LeavesOnly (K.may_leave self.new.keeper) (Some s) }
         ensures reopen { IsErrOf result Fault.Reopen → AsBefore (K.stands self.old.keeper) (K.stands self.new.keeper) (K.may_leave self.old.keeper) (K.may_leave self.new.keeper) }
@@ -119,8 +131,11 @@ impl<K: Keeper> IndexedKeeper<K> {
 
     /// What is told of a collection, which is learnt before where it is due.
     fn collection_learnt(&mut self, id: &str) -> Result<Option<Summary>, Fault>
+        ensures spared { K.spares self.old.keeper self.new.keeper }
         ensures began_clean { K.is_clean self.new.keeper → K.is_clean self.old.keeper }
         ensures faults { ShutsBy result (K.cause self.old.keeper) (K.cause self.new.keeper) }
+        ensures device { K.is_clean self.new.keeper → (s : State) → K.stands self.old.keeper s →
+            IsIndexOf self.old.index s → IsErrOf result Fault.Device → K.fails self.old.keeper self.new.keeper }
         ensures tells { K.is_clean self.new.keeper → (s : State) → K.stands self.old.keeper s → IsIndexOf self.old.index s → Tells s id.now result (λ t. K.stands self.new.keeper t × IsIndexOf self.new.index t) }
         ensures leaves { K.is_clean self.new.keeper → (s : State) → K.stands self.old.keeper s → IsIndexOf self.old.index s → LeavesOnly (K.may_leave self.old.keeper) (Some s) → LeavesOnly (K.may_leave self.new.keeper) (Some s) }
         ensures reopen { IsErrOf result Fault.Reopen → AsBefore (K.stands self.old.keeper) (K.stands self.new.keeper) (K.may_leave self.old.keeper) (K.may_leave self.new.keeper) }
@@ -136,8 +151,11 @@ impl<K: Keeper> IndexedKeeper<K> {
 
     /// What is told of all collections: by what is known of them, where all are known.
     fn collections_known(&mut self) -> Result<Vec<Summary>, Fault>
+        ensures spared { K.spares self.old.keeper self.new.keeper }
         ensures began_clean { K.is_clean self.new.keeper → K.is_clean self.old.keeper }
         ensures faults { ShutsBy result (K.cause self.old.keeper) (K.cause self.new.keeper) }
+        ensures device { K.is_clean self.new.keeper → (s : State) → K.stands self.old.keeper s →
+            IsErrOf result Fault.Device → K.fails self.old.keeper self.new.keeper }
         ensures lists { K.is_clean self.new.keeper → (s : State) → K.stands self.old.keeper s → IsIndexOf self.old.index s → Lists s result (λ t. K.stands self.new.keeper t × IsIndexOf self.new.index t) }
         ensures leaves { K.is_clean self.new.keeper → (s : State) → K.stands self.old.keeper s → LeavesOnly (K.may_leave self.old.keeper) (Some s) → LeavesOnly (K.may_leave self.new.keeper) (Some s) }
         ensures reopen { IsErrOf result Fault.Reopen → AsBefore (K.stands self.old.keeper) (K.stands self.new.keeper) (K.may_leave self.old.keeper) (K.may_leave self.new.keeper) }
@@ -168,6 +186,10 @@ impl<K: Keeper> Keeper for IndexedKeeper<K> {
 
     ghost applies = { λ k b result after. K.applies k.keeper b result after.keeper };
 
+    ghost spares = { λ k l. K.spares k.keeper l.keeper };
+
+    ghost fails = { λ k l. K.fails k.keeper l.keeper };
+
     ghost one_state = { λ k s t p q. K.one_state k.keeper s t p.0 q.0 };
 
     ghost shut_has_none = { λ k s shut stands. K.shut_has_none k.keeper s shut stands.0 };
@@ -175,6 +197,16 @@ impl<K: Keeper> Keeper for IndexedKeeper<K> {
     ghost may_leave_it = { λ k s stands. K.may_leave_it k.keeper s stands.0 };
 
     ghost well_formed = { λ k s stands. K.well_formed k.keeper s stands.0 };
+
+    ghost spares_itself = { λ k. K.spares_itself k.keeper };
+
+    ghost spares_then = { λ k l m first next. K.spares_then k.keeper l.keeper m.keeper first next };
+
+    ghost fails_later = { λ k l m first next failed.
+        K.fails_later k.keeper l.keeper m.keeper first next failed };
+
+    ghost fails_still = { λ k l m failed shut next.
+        K.fails_still k.keeper l.keeper m.keeper failed shut next };
 
     fn apply(&mut self, batch: &Batch) -> Result<Reply, Fault> {
         match self.keeper.apply(batch) {

@@ -19,8 +19,11 @@ fn learn_outlines<K: Keeper>(
     time: Option<String>,
 ) -> Result<Option<OutlinedCollection>, Fault>
     requires is_open { K.cause keeper.old ≡ None }
+    ensures spared { K.spares keeper.old keeper.new }
     ensures began_clean { K.is_clean keeper.new → K.is_clean keeper.old }
     ensures faults { ShutsBy result None (K.cause keeper.new) }
+    ensures device { K.is_clean keeper.new → (s : State) → K.stands keeper.old s →
+        IsErrOf result Fault.Device → K.fails keeper.old keeper.new }
     ensures learns { K.is_clean keeper.new → (s : State) → K.stands keeper.old s → Looks s (LearnsUnder s collection.now title time) result (K.stands keeper.new) }
     ensures leaves { K.is_clean keeper.new → (s : State) → K.stands keeper.old s → LeavesOnly (K.may_leave keeper.old) (Some s) → LeavesOnly (K.may_leave keeper.new) (Some s) }
 {
@@ -44,8 +47,11 @@ pub fn learn<K: Keeper>(
     keeper: &mut K,
     collection: &str,
 ) -> Result<Option<OutlinedCollection>, Fault>
+    ensures spared { K.spares keeper.old keeper.new }
     ensures began_clean { K.is_clean keeper.new → K.is_clean keeper.old }
     ensures faults { ShutsBy result (K.cause keeper.old) (K.cause keeper.new) }
+    ensures device { K.is_clean keeper.new → (s : State) → K.stands keeper.old s →
+        IsErrOf result Fault.Device → K.fails keeper.old keeper.new }
     ensures learns { K.is_clean keeper.new → (s : State) → K.stands keeper.old s → Looks s (Learns s collection.now) result (K.stands keeper.new) }
     ensures leaves { K.is_clean keeper.new → (s : State) → K.stands keeper.old s → LeavesOnly (K.may_leave keeper.old) (Some s) → LeavesOnly (K.may_leave keeper.new) (Some s) }
     ensures reopen { IsErrOf result Fault.Reopen → AsBefore (K.stands keeper.old) (K.stands keeper.new) (K.may_leave keeper.old) (K.may_leave keeper.new) }

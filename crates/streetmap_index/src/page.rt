@@ -6,15 +6,21 @@ ghost use Rattle.streetmap_geojson.specs.FeatureInvariant.{IsFeature};
 ghost use Rattle.streetmap_query.specs.Views.{query_value};
 ghost use Rattle.streetmap_ledger.specs.State.{State};
 ghost use Rattle.streetmap_ledger.specs.Pages.{is_candidate as is_candidate_of};
-ghost use Rattle.streetmap_ledger.specs.Folds.{Holds, HoldsCandidates};
+ghost use Rattle.streetmap_ledger.specs.Folds.{Holds, HoldsCandidates, IsFull};
 ghost use Rattle.streetmap_ledger.specs.Keep.{Looks, Shows, LeavesOnly, ShutsBy, AsBefore};
-ghost use Rattle.streetmap_index.specs.Index.{IsOutlineOf, IsOutlinedIf};
-ghost use Rattle.streetmap_index.specs.Taking.{TakesRead, TakesOutlined, IsOutlinedPage};
+ghost use Rattle.streetmap_index.specs.Chunks.{AreInOrder};
+ghost use Rattle.streetmap_index.specs.Index.{IsOutlineOf, IsBounded, IsOutlinedIf};
+ghost use Rattle.streetmap_index.specs.Taking.{TakesRead, TakesOutlined, TakesChunk};
+ghost use Rattle.streetmap_index.specs.Taking.{IsOutlinedPage};
 
 use crate::asking::ask;
 use crate::chunk::Chunk;
+use crate::chunks::Chunks;
 use crate::outlined::OutlinedCollection;
-use crate::selection::{comes_after, is_candidate, is_passed_over, is_selected};
+use crate::selection::{
+    all_come_after, comes_after, count_selected, is_candidate, is_passed_over, is_selected,
+    is_unmarked,
+};
 use std::alloc::Global;
 use streetmap_ledger::{Fault, FeatureOutline, Keeper, Page, PageFold};
 use streetmap_query::Query;
@@ -50,6 +56,36 @@ fn take_unread(query: &Query, fold: &mut PageFold<'_>, outline: &FeatureOutline)
     !is_candidate(query, outline) || count_unread(query, fold, outline)
 }
 
+/// Whether a page shows none of the features that come next: those that do not come after the id
+/// asked, and those that do once the page is full.
+fn hides(fold: &PageFold<'_>, behind: bool) -> bool
+    ensures { IsTrue result → IsTrue behind → IsFull fold.now }
+{
+    !behind || fold.is_full()
+}
+
+/// Counts the features of a chunk, which come next, where the chunk tells how many the query
+/// selects and the page shows none of them, and answers whether it did.
+fn count_chunk(query: &Query, fold: &mut PageFold<'_>, chunk: &Chunk) -> bool
+    ensures counted { IsTrue result → IsBounded chunk.now → AreInOrder chunk.now.outlines.items →
+        TakesChunk (query_value query.now) chunk.now fold.old fold.new }
+    ensures unchanged { result ≡ false → fold.new ≡ fold.old }
+{
+    let Some(behind) = all_come_after(query, chunk) else {
+        return false;
+    };
+    if !hides(fold, behind) {
+        return false;
+    }
+    match count_selected(query, chunk) {
+        Some(count) => {
+            fold.count_all_hidden(count, behind);
+            true
+        }
+        None => false,
+    }
+}
+
 /// Takes the feature with this id, which comes next, as the keeper has it, and answers whether it is there.
 fn take_read<K: Keeper>(
     keeper: &mut K,
@@ -57,8 +93,11 @@ fn take_read<K: Keeper>(
     id: &str,
     fold: &mut PageFold<'_>,
 ) -> Result<bool, Fault>
+    ensures spared { K.spares keeper.old keeper.new }
     ensures began_clean { K.is_clean keeper.new → K.is_clean keeper.old }
     ensures faults { ShutsBy result (K.cause keeper.old) (K.cause keeper.new) }
+    ensures device { K.is_clean keeper.new → (s : State) → K.stands keeper.old s →
+        IsErrOf result Fault.Device → K.fails keeper.old keeper.new }
     ensures takes { K.is_clean keeper.new → (s : State) → K.stands keeper.old s → Looks s (TakesRead s collection.now id.now fold.old fold.new) result (K.stands keeper.new) }
     ensures leaves { K.is_clean keeper.new → (s : State) → K.stands keeper.old s → LeavesOnly (K.may_leave keeper.old) (Some s) → LeavesOnly (K.may_leave keeper.new) (Some s) }
 {
@@ -83,8 +122,11 @@ fn take_outlined<K: Keeper>(
     read: &mut usize,
 ) -> Result<bool, Fault>
     requires is_open { K.cause keeper.old ≡ None }
+    ensures spared { K.spares keeper.old keeper.new }
     ensures began_clean { K.is_clean keeper.new → K.is_clean keeper.old }
     ensures faults { ShutsBy result None (K.cause keeper.new) }
+    ensures device { K.is_clean keeper.new → (s : State) → K.stands keeper.old s →
+        IsErrOf result Fault.Device → K.fails keeper.old keeper.new }
     ensures takes { K.is_clean keeper.new → (s : State) → K.stands keeper.old s → Looks s (TakesOutlined s collection.now (query_value query.now) outlines.now fold.old fold.new) result (K.stands keeper.new) }
     ensures leaves { K.is_clean keeper.new → (s : State) → K.stands keeper.old s → LeavesOnly (K.may_leave keeper.old) (Some s) → LeavesOnly (K.may_leave keeper.new) (Some s) }
 {
@@ -111,19 +153,32 @@ fn page_by_outlines<K: Keeper>(
     alloc: Global,
     keeper: &mut K,
     collection: &str,
-    chunks: &[Chunk],
+    outlines: &Chunks,
     query: &Query,
 ) -> Result<Option<Page>, Fault>
     requires is_open { K.cause keeper.old ≡ None }
+    ensures spared { K.spares keeper.old keeper.new }
     ensures began_clean { K.is_clean keeper.new → K.is_clean keeper.old }
     ensures faults { ShutsBy result None (K.cause keeper.new) }
-    ensures shows { K.is_clean keeper.new → (s : State) → K.stands keeper.old s → Looks s (IsOutlinedPage s collection.now (query_value query.now) chunks.now) result (K.stands keeper.new) }
+    ensures device { K.is_clean keeper.new → (s : State) → K.stands keeper.old s →
+        IsErrOf result Fault.Device → K.fails keeper.old keeper.new }
+    ensures shows { K.is_clean keeper.new → (s : State) → K.stands keeper.old s →
+        Looks s (IsOutlinedPage s collection.now (query_value query.now) outlines.now) result (K.stands keeper.new) }
     ensures leaves { K.is_clean keeper.new → (s : State) → K.stands keeper.old s → LeavesOnly (K.may_leave keeper.old) (Some s) → LeavesOnly (K.may_leave keeper.new) (Some s) }
 {
     let mut fold = PageFold::new(alloc, query);
     let mut read: usize = 0;
+    let found = outlines.marks(alloc, query);
+    let marks = found.as_ref();
+    let chunks = outlines.chunks.as_slice();
     for chunk in chunks {
+        if is_unmarked(marks, chunk) {
+            continue;
+        }
         if is_passed_over(query, chunk) {
+            continue;
+        }
+        if count_chunk(query, &mut fold, chunk) {
             continue;
         }
         match take_outlined(
@@ -153,21 +208,18 @@ pub fn page_with<K: Keeper>(
     outlined: &OutlinedCollection,
     query: &Query,
 ) -> Result<Option<Page>, Fault>
+    ensures spared { K.spares keeper.old keeper.new }
     ensures began_clean { K.is_clean keeper.new → K.is_clean keeper.old }
     ensures faults { ShutsBy result (K.cause keeper.old) (K.cause keeper.new) }
+    ensures device { K.is_clean keeper.new → (s : State) → K.stands keeper.old s →
+        IsErrOf result Fault.Device → K.fails keeper.old keeper.new }
     ensures shows { K.is_clean keeper.new → (s : State) → K.stands keeper.old s → IsOutlinedIf outlined.now (get s.collections collection.now) → Shows s collection.now query.now result (K.stands keeper.new) }
     ensures leaves { K.is_clean keeper.new → (s : State) → K.stands keeper.old s → LeavesOnly (K.may_leave keeper.old) (Some s) → LeavesOnly (K.may_leave keeper.new) (Some s) }
     ensures reopen { IsErrOf result Fault.Reopen → AsBefore (K.stands keeper.old) (K.stands keeper.new) (K.may_leave keeper.old) (K.may_leave keeper.new) }
 {
     match ask(keeper, collection) {
         Ok(()) => {
-            match page_by_outlines(
-                alloc,
-                keeper,
-                collection,
-                outlined.outlines.chunks.as_slice(),
-                query,
-            ) {
+            match page_by_outlines(alloc, keeper, collection, &outlined.outlines, query) {
                 Ok(Some(page)) => Ok(Some(page)),
                 Ok(None) => keeper.page(collection, query),
                 Err(fault) => Err(fault),

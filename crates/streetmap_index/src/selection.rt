@@ -1,14 +1,20 @@
 //! What an outline tells of a feature that a query asks for.
-ghost use Rattle.std.specs.Prelude.{◌≡◌, ℤ, Option, IsTrue, false, true};
+ghost use Rattle.std.specs.Prelude.{◌≡◌, ℤ, Option, IsTrue, IfSome, false, true, not};
+ghost use Rattle.std.specs.Prelude.{option_copied};
+ghost use Rattle.streetmap_grid.specs.Meeting.{geometry_meets};
 ghost use Rattle.streetmap_moment.specs.Meeting.{meets, seconds_overlap};
 ghost use Rattle.streetmap_geojson.specs.FeatureValue.{FeatureValue};
 ghost use Rattle.streetmap_geojson.specs.FeatureInvariant.{IsFeature};
 ghost use Rattle.streetmap_query.specs.Views.{query_value};
 ghost use Rattle.streetmap_ledger.specs.Pages.{passes, interval_asked, selects, comes_after as comes_after_of, is_candidate as is_candidate_of};
 ghost use Rattle.streetmap_ledger.specs.declared.outline.FeatureOutline.{FeatureOutline};
-ghost use Rattle.streetmap_index.specs.Index.{IsOutlineOf, LiesWithin};
+ghost use Rattle.streetmap_index.specs.Index.{IsOutlineOf, LiesWithin, IsTimedBy, IsBounded};
+ghost use Rattle.streetmap_index.specs.Taking.{is_marked_if, IsCountedFor, CountsWhole};
+ghost use Rattle.streetmap_index.specs.Taking.{AllComeAfter};
+ghost use Rattle.streetmap_index.specs.Chunks.{AreInOrder, BeginsAfter};
 
 use crate::chunk::Chunk;
+use streetmap_cells::Marks;
 use streetmap_ledger::{FeatureOutline, lies_within_box, overlaps_box};
 use streetmap_query::Query;
 
@@ -42,14 +48,26 @@ pub fn is_passed_over(query: &Query, chunk: &Chunk) -> bool
     !overlaps_box(query, chunk.bounds)
 }
 
-/// Whether the time begins in a second before the one that the interval ends in, and ends in one behind
-/// that it begins in, where one is asked. Then the time meets it.
-fn reaches_into_interval(query: &Query, outline: &FeatureOutline) -> bool
-    ensures { IsTrue result → (f : FeatureValue) → IsOutlineOf outline.now f → passes meets f.time (interval_asked (query_value query.now)) ≡ true }
+/// Whether a chunk has no mark, where there are marks.
+pub fn is_unmarked(marks: Option<&Marks>, chunk: &Chunk) -> bool
+    ensures { result ≡ not (is_marked_if (option_copied marks.entry) chunk.now.number) }
+{
+    match marks {
+        None => false,
+        Some(marks) => !marks.has(chunk.number),
+    }
+}
+
+/// Whether the first second comes before the one that the interval ends in, and the last one behind
+/// that it begins in, where one is asked. Then each time with seconds within these bounds meets it.
+fn reaches_into_interval(query: &Query, seconds: Option<(i64, i64)>) -> bool
+    ensures { IsTrue result → (outline : FeatureOutline) (f : FeatureValue) →
+        IsTimedBy outline.seconds seconds → IsOutlineOf outline f →
+        passes meets f.time (interval_asked (query_value query.now)) ≡ true }
 {
     match &query.datetime {
         None => true,
-        Some(datetime) => match outline.seconds {
+        Some(datetime) => match seconds {
             None => false,
             Some((first, last)) => {
                 let (start, end) = datetime.interval.seconds();
@@ -63,7 +81,42 @@ fn reaches_into_interval(query: &Query, outline: &FeatureOutline) -> bool
 pub fn is_selected(query: &Query, outline: &FeatureOutline) -> bool
     ensures { IsTrue result → (f : FeatureValue) → IsOutlineOf outline.now f → IsFeature f → selects (query_value query.now) f ≡ true }
 {
-    lies_within_box(query, outline.extent) && reaches_into_interval(query, outline)
+    lies_within_box(query, outline.extent) && reaches_into_interval(query, outline.seconds)
+}
+
+/// Whether the chunk's bounds lie within the box, where one is asked. Then each feature with an
+/// extent meets it.
+fn lies_whole_within_box(query: &Query, chunk: &Chunk) -> bool
+    ensures { IsTrue result → (outline : FeatureOutline) (f : FeatureValue) →
+        LiesWithin outline.extent chunk.now.bounds → IsOutlineOf outline f → IsFeature f →
+        IsCountedFor (query_value query.now) outline →
+        passes geometry_meets f.geometry (query_value query.now).bbox ≡ true }
+{
+    match &query.bbox {
+        None => true,
+        Some(area) => match chunk.bounds {
+            None => false,
+            Some(bounds) => bounds.is_within(area),
+        },
+    }
+}
+
+/// How many features of a chunk the query selects, where the chunk tells that it selects all those
+/// that a page examines: all of them where no box is asked, else those with an extent. None where
+/// it does not tell.
+pub fn count_selected(query: &Query, chunk: &Chunk) -> Option<u64>
+    ensures { IsBounded chunk.now → IfSome result (CountsWhole (query_value query.now) chunk.now) }
+{
+    if !lies_whole_within_box(query, chunk) {
+        return None;
+    }
+    if !reaches_into_interval(query, chunk.seconds) {
+        return None;
+    }
+    match &query.bbox {
+        None => Some(chunk.outlines.len() as u64),
+        Some(_) => Some(chunk.with_extent),
+    }
 }
 
 /// Whether the feature's id comes after the one asked.
@@ -73,5 +126,35 @@ pub fn comes_after(query: &Query, outline: &FeatureOutline) -> bool
     match &query.after {
         Some(id) => outline.id.as_str() > id.as_str(),
         None => true,
+    }
+}
+
+/// Whether the first outline of a chunk, if there is one, is under an id behind this one.
+fn begins_after(chunk: &Chunk, id: &str) -> bool
+    ensures { IsTrue result → BeginsAfter id.now chunk.now.outlines.items }
+{
+    match chunk.outlines.first() {
+        Some(first) => first.id.as_str() > id,
+        None => true,
+    }
+}
+
+/// Whether all features of a chunk come after the id asked, or none does; none where neither is
+/// known.
+pub fn all_come_after(query: &Query, chunk: &Chunk) -> Option<bool>
+    ensures { AreInOrder chunk.now.outlines.items →
+        IfSome result (λ behind. AllComeAfter (query_value query.now) behind chunk.now.outlines.items) }
+{
+    match &query.after {
+        None => Some(true),
+        Some(id) => {
+            if !chunk.reaches(id.as_str()) {
+                return Some(false);
+            }
+            if begins_after(chunk, id.as_str()) {
+                return Some(true);
+            }
+            None
+        }
     }
 }

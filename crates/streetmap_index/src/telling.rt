@@ -8,11 +8,12 @@ ghost use Rattle.streetmap_ledger.specs.WellFormed.{IsState, HoldsFeatures};
 ghost use Rattle.streetmap_ledger.specs.Summaries.{all_vertices, summary_of, summaries_in};
 ghost use Rattle.streetmap_ledger.specs.SummaryView.{summary_value, summary_values};
 ghost use Rattle.streetmap_ledger.specs.Keep.{Tells, Lists, LeavesOnly, ShutsBy, AsBefore};
-ghost use Rattle.streetmap_index.specs.Index.{joined, IsOutlined, IsOutlinedIf, AreKnown, KnowsAll};
+ghost use Rattle.streetmap_index.specs.Index.{joined, AreBounded, IsOutlined, IsOutlinedIf};
+ghost use Rattle.streetmap_index.specs.Index.{AreKnown, KnowsAll};
 ghost use Rattle.streetmap_index.specs.Taking.{Pairs};
 
 use crate::asking::ask;
-use crate::bounds::grown;
+use crate::bounds::bounds_of_both;
 use crate::chunk::Chunk;
 use crate::outlined::OutlinedCollection;
 use std::alloc::{AllocError, Global};
@@ -23,11 +24,12 @@ use streetmap_ledger::{Fault, Keeper, Summary};
 /// The extent of the features with the outlines in these chunks, in millimetres; none where none has a
 /// geometry.
 fn extent_of(chunks: &[Chunk]) -> Option<GridBox>
-    ensures { (features : Features) (fs : List FeatureValue) → Pairs features (joined chunks.now) fs → AreBounds (all_vertices fs) result }
+    ensures { AreBounded chunks.now → (features : Features) (fs : List FeatureValue) →
+        Pairs features (joined chunks.now) fs → AreBounds (all_vertices fs) result }
 {
     let mut bounds = None;
     for chunk in chunks {
-        bounds = grown(bounds, chunk.outlines.as_slice());
+        bounds = bounds_of_both(bounds, chunk.bounds);
     }
     bounds
 }
@@ -75,8 +77,11 @@ pub fn collection_with<K: Keeper>(
     id: &str,
     outlined: &OutlinedCollection,
 ) -> Result<Option<Summary>, Fault>
+    ensures spared { K.spares keeper.old keeper.new }
     ensures began_clean { K.is_clean keeper.new → K.is_clean keeper.old }
     ensures faults { ShutsBy result (K.cause keeper.old) (K.cause keeper.new) }
+    ensures device { K.is_clean keeper.new → (s : State) → K.stands keeper.old s →
+        IsErrOf result Fault.Device → K.fails keeper.old keeper.new }
     ensures tells { K.is_clean keeper.new → (s : State) → K.stands keeper.old s → IsOutlinedIf outlined.now (get s.collections id.now) → Tells s id.now result (K.stands keeper.new) }
     ensures leaves { K.is_clean keeper.new → (s : State) → K.stands keeper.old s → LeavesOnly (K.may_leave keeper.old) (Some s) → LeavesOnly (K.may_leave keeper.new) (Some s) }
     ensures reopen { IsErrOf result Fault.Reopen → AsBefore (K.stands keeper.old) (K.stands keeper.new) (K.may_leave keeper.old) (K.may_leave keeper.new) }
@@ -96,8 +101,11 @@ pub fn collections_with<K: Keeper>(
     keeper: &mut K,
     known: &BTreeMap<String, OutlinedCollection>,
 ) -> Result<Vec<Summary>, Fault>
+    ensures spared { K.spares keeper.old keeper.new }
     ensures began_clean { K.is_clean keeper.new → K.is_clean keeper.old }
     ensures faults { ShutsBy result (K.cause keeper.old) (K.cause keeper.new) }
+    ensures device { K.is_clean keeper.new → (s : State) → K.stands keeper.old s →
+        IsErrOf result Fault.Device → K.fails keeper.old keeper.new }
     ensures lists { K.is_clean keeper.new → (s : State) → K.stands keeper.old s → AreKnown known.now.entries s → KnowsAll known.now.entries s → Lists s result (K.stands keeper.new) }
     ensures leaves { K.is_clean keeper.new → (s : State) → K.stands keeper.old s → LeavesOnly (K.may_leave keeper.old) (Some s) → LeavesOnly (K.may_leave keeper.new) (Some s) }
     ensures reopen { IsErrOf result Fault.Reopen → AsBefore (K.stands keeper.old) (K.stands keeper.new) (K.may_leave keeper.old) (K.may_leave keeper.new) }

@@ -25,6 +25,7 @@ turn os i o within is = drop_more os i o within ∙ ap (λ (x : FeatureOutline).
 pub loop-outline-init : goal.loop-outline-init
 loop-outline-init g c = record {
   is_open = c.requires.is_open;
+  spared = g.met.K.Keeper.spares_itself _;
   clean = λ h. h;
   stands = λ h s e. e;
   leaves = λ h s e only. only;
@@ -40,6 +41,7 @@ loop-outline-preserved-then-take_unread g c =
     let o = c.outline-item.result in
     record {
       is_open = inv.is_open;
+      spared = inv.spared;
       clean = inv.clean;
       stands = inv.stands;
       leaves = inv.leaves;
@@ -58,6 +60,7 @@ loop-outline-preserved g c =
     let o = c.outline-item.result in
     record {
       is_open = says.faults.1;
+      spared = g.met.K.Keeper.spares_then _ _ _ inv.spared says.spared;
       clean = λ h. inv.clean (says.began_clean h);
       stands = λ h s e. (says.takes h s (inv.stands (says.began_clean h) s e)).1;
       leaves = λ h s e only. says.leaves h s (inv.stands (says.began_clean h) s e) (inv.leaves (says.began_clean h) s e only);
@@ -93,3 +96,15 @@ returns-clause-takes g c = λ h s e.
           all_held q c.loop-outline.fold d.features (met ++ all) (subst (Going q c.loop-outline.fold d.features (met ++ all)) (drop_all c.loop-outline.outline-index os (omega arith)) (inv.going h s d met all e there pairs held)),
       inv.stands h s e,
     )
+
+pub returns-in-Ok-false-clause-spared : goal.returns-in-Ok-false-clause-spared
+returns-in-Ok-false-clause-spared g c = g.met.K.Keeper.spares_then _ _ _ c.loop-outline.invariant.spared c.in-Ok-false.ensures.spared
+
+pub returns-in-Err-clause-spared : goal.returns-in-Err-clause-spared
+returns-in-Err-clause-spared g c = g.met.K.Keeper.spares_then _ _ _ c.loop-outline.invariant.spared c.in-Err.ensures.spared
+
+pub returns-in-Err-clause-device : goal.returns-in-Err-clause-device
+returns-in-Err-clause-device g c = λ h s e failed.
+    let inv = c.loop-outline.invariant in
+    let says = c.in-Err.ensures in
+    g.met.K.Keeper.fails_later _ _ _ inv.spared says.spared (says.device h s (inv.stands (says.began_clean h) s e) failed)

@@ -15,6 +15,7 @@ invariant-loop-outline g l =
     let k = g.K.Keeper in
     record {
       is_open : k.cause l.keeper ≡ None;
+      spared : k.spares l.fn.keeper l.keeper;
       clean : k.is_clean l.keeper → k.is_clean l.fn.keeper;
       stands : k.is_clean l.keeper → (s : State) → k.stands l.fn.keeper s → k.stands l.keeper s;
       leaves : k.is_clean l.keeper → (s : State) → k.stands l.fn.keeper s → LeavesOnly (k.may_leave l.fn.keeper) (Some s) → LeavesOnly (k.may_leave l.keeper) (Some s);

@@ -1,4 +1,4 @@
-use Rattle.std.proofs.Common.{◌≡◌, ℤ, pos, negsuc, ◌<ℤ◌, ◌≤ℤ◌, Option, None, Some, option_map, Bool, true, false, refl, sym, ap, ◌∙◌, arith, rules, SFits, w64}
+use Rattle.std.proofs.Common.{◌≡◌, ℤ, pos, negsuc, ◌<ℤ◌, ◌≤ℤ◌, Option, None, Some, option_map, Bool, true, false, refl, sym, ap, subst, ◌∙◌, arith, rules, SFits, w64}
 use Rattle.std.specs.Prelude.{int_lt}
 use Rattle.std.proofs.lemmas.Int.{ints, to_z-of_z}
 use Rattle.std.proofs.lemmas.Option.{same_Some}
@@ -10,6 +10,7 @@ use Rattle.streetmap_query.specs.Views.{datetime_value}
 use Rattle.streetmap_query.specs.declared.datetimes.Datetime.{Datetime}
 use Rattle.streetmap_ledger.specs.Outlines.{FeatureOutlineValue}
 use Rattle.streetmap_ledger.specs.Pages.{passes}
+use Rattle.streetmap_index.specs.Index.{IsTimedBy}
 use Rattle.streetmap_index.proofs.selection.reaches_into_interval.Goals as goal
 
 -- a moment of an earlier second comes before one of a later second
@@ -38,8 +39,17 @@ reaches (Some t) d first last start end is a b h k =
     let q = begins d.start t.end (rw (two, a) k) in
     rw (p, q) refl
 
+-- so does each time with seconds within such bounds
+timed : (o : Option (ℤ × ℤ)) (t : Option IntervalValue) (d : IntervalValue) (first last start end : ℤ) → IsTimedBy o (Some (first, last)) → o ≡ option_map seconds_of t
+    → first_second d.start ≡ start → last_second d.end ≡ end → first <ℤ end → start <ℤ last → passes meets t (Some d) ≡ true
+timed None t d first last start end within is a b h k = absurd within
+timed (Some (x, y)) t d first last start end within is a b h k =
+    let from : x ≤ℤ first = within.0 in
+    let to : last ≤ℤ y = within.1 in
+    reaches t d x y start end is a b (omega (arith, ints, from, h)) (omega (arith, ints, to, k))
+
 pub returns-then-first-end : goal.returns-then-first-end
-returns-then-first-end c = λ less f is.
+returns-then-first-end c = λ less outline f within is.
     let d = interval_value c.in-Some.datetime.interval in
     let first = c.in-Some-seconds.first in
     let last = c.in-Some-seconds.last in
@@ -53,4 +63,4 @@ returns-then-first-end c = λ less f is.
     let before : first <ℤ end = (let test = c.if-first-end.true in grind (arith, ints, to_z-of_z)) in
     let behind : start <ℤ last = grind (arith, ints, to_z-of_z) in
     ap (λ (o : Option Datetime). passes meets f.time (option_map (λ (v : DatetimeValue). v.interval) (option_map datetime_value o))) c.in-Some.is
-    ∙ reaches f.time d first last start end (sym c.in-Some-seconds.is ∙ ap (λ (o : FeatureOutlineValue). o.seconds) is) (sym (ap (λ p. p.0) value)) (sym (ap (λ p. p.1) value)) before behind
+    ∙ timed outline.seconds f.time d first last start end (subst (IsTimedBy outline.seconds) c.in-Some-seconds.is within) (ap (λ (o : FeatureOutlineValue). o.seconds) is) (sym (ap (λ p. p.0) value)) (sym (ap (λ p. p.1) value)) before behind

@@ -1,7 +1,7 @@
 use Rattle.std.proofs.Common.{sym, subst, ◌∙◌}
 use Rattle.std.specs.FinMap.{values}
 use Rattle.streetmap_ledger.specs.Summaries.{all_vertices}
-use Rattle.streetmap_index.specs.Index.{joined}
+use Rattle.streetmap_index.specs.Index.{joined, AreBounded}
 use Rattle.streetmap_index.specs.Taking.{Pairs}
 use Rattle.streetmap_index.proofs.Pairing.{paired}
 use Rattle.streetmap_index.proofs.Extents.{bounds_extent, same_summary}
@@ -14,4 +14,4 @@ returns c = λ d known holds.
     same_summary _ _ c.in_ok-from_str.ensures.ok
     (c.in_ok-from_str-2.ensures.ok ∙ (c.as_str.ensures.value ∙ known.title))
     (c.in_ok-owned.ensures ∙ (c.as_deref.ensures.value ∙ known.time))
-    (bounds_extent (all_vertices fs) c.extent_of.result (c.extent_of.ensures d.features fs (subst (λ xs. Pairs d.features (joined xs) fs) (sym c.as_slice.ensures.value) (paired (joined c.args.outlined.now.outlines.chunks.items) d known.outlines.outlines holds))))
+    (bounds_extent (all_vertices fs) c.extent_of.result (c.extent_of.ensures (subst AreBounded (sym c.as_slice.ensures.value) known.outlines.chunks.bounded) d.features fs (subst (λ xs. Pairs d.features (joined xs) fs) (sym c.as_slice.ensures.value) (paired (joined c.args.outlined.now.outlines.chunks.items) d known.outlines.chunks.outlines holds))))

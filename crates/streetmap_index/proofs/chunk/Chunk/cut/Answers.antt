@@ -1,3 +1,5 @@
+use Rattle.streetmap_index.proofs.Each.{each_removed}
+use Rattle.streetmap_index.proofs.Listed.{Listed}
 use Rattle.streetmap_index.proofs.Places.{cut_in_place, none_to_cut}
 use Rattle.streetmap_index.proofs.chunk.Chunk.cut.Goals as goal
 
@@ -8,3 +10,8 @@ returns-in-Ok-clause-outlines c = λ features known.
 
 pub returns-in_default-clause-outlines : goal.returns-in_default-clause-outlines
 returns-in_default-clause-outlines c = λ features known. none_to_cut c.args.self.now.outlines.items c.args.id.now c.in_default.field-0 features known c.in_default.ensures.place
+
+pub returns-in-Ok-clause-listed : goal.returns-in-Ok-clause-listed
+returns-in-Ok-clause-listed c = λ cells listed.
+    let old = c.args.self.now in
+    rw (c.bound.ensures.number, c.bound.ensures.same, c.remove.ensures.items) (each_removed (Listed cells old.number) old.outlines.items c.in-Ok.place listed)

@@ -1,7 +1,9 @@
-use Rattle.std.proofs.Common.{◌<◌, length, set, ap, ◌∙◌, arith}
+use Rattle.std.proofs.Common.{◌<◌, length, set, ap, sym, subst, ◌∙◌, arith}
 use Rattle.std.proofs.lemmas.List.Elements.{All-set, All-same}
 use Rattle.std.proofs.lemmas.Grind.{common_steps}
-use Rattle.streetmap_index.specs.Index.{joined, IsBounded}
+use Rattle.streetmap_index.specs.Index.{joined, IsBounded, AreListedUnder, IsListedChunk}
+use Rattle.streetmap_index.specs.declared.chunk.Chunk.{Chunk}
+use Rattle.streetmap_index.proofs.Listed.{still_listed}
 use Rattle.streetmap_index.proofs.InChunks.{HasSome, halved_at}
 use Rattle.streetmap_index.proofs.Each.{each_inserted}
 use Rattle.streetmap_index.proofs.chunks.Chunks.halve.Goals as goal
@@ -28,3 +30,17 @@ returns-clause-bounded c = λ bounded.
     let one = c.split_off.new.self in
     let says = c.in_ok-behind.ensures.bounded in
     All-same IsBounded _ _ c.in_ok-insert.ensures.items (each_inserted IsBounded (set cs place one) _ c.in_ok-behind.behind says.1 (All-set IsBounded cs place one says.0 bounded))
+
+pub returns-clause-listed : goal.returns-clause-listed
+returns-clause-listed c = λ listed.
+    let cs = c.args.self.now.chunks.items in
+    let place = c.args.place in
+    let old = c.index_mut.result.now in
+    let one = c.split_off.new.self in
+    let behind = c.in_ok-behind.behind in
+    let cells = c.list_outlines.new.cells in
+    let In : Chunk → Type 0 = IsListedChunk cells in
+    let still = still_listed c.args.self.now.cells cells c.list_outlines.ensures.kept cs listed in
+    let front = c.in_ok-behind.ensures.listed cells (subst In (sym c.index_mut.ensures.value) (still place old c.requires)) in
+    let rest : In behind = subst (AreListedUnder cells behind.number) c.as_slice.ensures.value c.in_ok-list_outlines.ensures.listed in
+    All-same In _ _ c.in_ok-insert.ensures.items (each_inserted In (set cs place one) _ behind rest (All-set In cs place one front still))

@@ -3,9 +3,10 @@ use Rattle.std.specs.Option.{option_map}
 use Rattle.streetmap_ledger.specs.Summaries.{summary_in}
 use Rattle.streetmap_ledger.specs.SummaryView.{summary_value}
 use Rattle.streetmap_ledger.specs.declared.summary.Summary.{Summary}
+use Rattle.streetmap_ledger.specs.declared.reply.Fault.TheVariants.{Device}
 use Rattle.streetmap_index.specs.declared.index.Index.{Index}
 use Rattle.streetmap_index.specs.Index.{IsIndexOf}
-use Rattle.streetmap_index.proofs.Calls.{looks_too, looks_err}
+use Rattle.streetmap_index.proofs.Calls.{looks_too, looks_err, err_of}
 use Rattle.streetmap_index.proofs.keeper.IndexedKeeper.collection_learnt.Goals as goal
 
 pub returns-then-not-is_due-clause-tells : goal.returns-then-not-is_due-clause-tells
@@ -40,3 +41,19 @@ returns-in-Err-clause-tells g c = λ h s e index.
 
 pub returns-in-Err-clause-leaves : goal.returns-in-Err-clause-leaves
 returns-in-Err-clause-leaves g c = λ h s e index only. c.in-Err.ensures.leaves h s e only
+
+pub returns-then-not-is_due-clause-device : goal.returns-then-not-is_due-clause-device
+returns-then-not-is_due-clause-device g c = λ h s e index failed. c.collection_known.ensures.device h s e failed
+
+pub returns-in-Ok-clause-spared : goal.returns-in-Ok-clause-spared
+returns-in-Ok-clause-spared g c = g.met.K.Keeper.spares_then _ _ _ c.in-Ok.ensures.spared c.collection_known-in-Ok.ensures.spared
+
+pub returns-in-Ok-clause-device : goal.returns-in-Ok-clause-device
+returns-in-Ok-clause-device g c = λ h s e index failed.
+    let learnt = c.in-Ok.ensures in
+    let says = c.collection_known-in-Ok.ensures in
+    let stands = (learnt.learns (says.began_clean h) s e (c.is_due.ensures.index s index)).1 in
+    g.met.K.Keeper.fails_later _ _ _ learnt.spared says.spared (says.device h s stands failed)
+
+pub returns-in-Err-clause-device : goal.returns-in-Err-clause-device
+returns-in-Err-clause-device g c = λ h s e index failed. c.in-Err.ensures.device h s e (err_of (Option Summary) (Unit {0}) c.in-Err.fault Device failed)

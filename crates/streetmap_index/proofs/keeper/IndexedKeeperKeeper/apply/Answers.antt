@@ -40,3 +40,12 @@ returns-in-Err-clause-leaves g c = λ h s e only.
     let same = c.heed.ensures.keeper in
     let clean = rw same at h in
     rw same (c.in-Err.ensures.leaves clean s e.0 only)
+
+pub returns-in-Err-clause-spared : goal.returns-in-Err-clause-spared
+returns-in-Err-clause-spared g c = rw c.heed.ensures.keeper c.in-Err.ensures.spared
+
+pub returns-in-Err-clause-device : goal.returns-in-Err-clause-device
+returns-in-Err-clause-device g c = λ h s e failed.
+    let same = c.heed.ensures.keeper in
+    let clean = rw same at h in
+    rw same (c.in-Err.ensures.device clean s e.0 failed)

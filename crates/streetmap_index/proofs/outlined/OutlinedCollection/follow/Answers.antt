@@ -1,7 +1,7 @@
 use Rattle.std.proofs.Common.{ap, subst}
 use Rattle.std.specs.FinMap.{remove}
 use Rattle.streetmap_batch.specs.BatchView.{edit_value}
-use Rattle.streetmap_index.specs.Index.{AreChunksOf}
+use Rattle.streetmap_index.specs.Index.{AreListedChunksOf}
 use Rattle.streetmap_index.proofs.Following.{follows_insert, follows_replace, follows_delete}
 use Rattle.streetmap_index.proofs.outlined.OutlinedCollection.follow.Goals as goal
 
@@ -16,4 +16,4 @@ returns-in-Delete c = λ s t.
     let old = c.args.self.now in
     let new = record old { outlines = c.cut.new.self } in
     follows_delete old new s t c.in-Delete.collection (edit_value c.args.edit.now) c.in-Delete.id (ap edit_value c.in-Delete.is)
-    (λ d known. record { title = known.title; time = known.time; outlines = subst (λ k. AreChunksOf c.cut.new.self.chunks.items (remove d.features k)) c.as_str.ensures.value (c.cut.ensures d.features known.outlines) })
+    (λ d known. record { title = known.title; time = known.time; outlines = subst (λ k. AreListedChunksOf c.cut.new.self (remove d.features k)) c.as_str.ensures.value (c.cut.ensures d.features known.outlines) })

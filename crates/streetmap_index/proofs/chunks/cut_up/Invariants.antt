@@ -1,6 +1,6 @@
 use Rattle.std.proofs.Common.{◌≡◌, ◌++◌, length, reverse}
 use Rattle.streetmap_index.specs.Index.{joined, AreFilled, AreBounded}
-use Rattle.streetmap_index.proofs.chunks.Chunks.new.Given as goal
+use Rattle.streetmap_index.proofs.chunks.cut_up.Given as goal
 
 -- the chunks cut off so far, the last one first, are behind what is left
 abbrev pub invariant-loop-outlines : goal.invariant-loop-outlines

@@ -3,8 +3,8 @@ use Rattle.std.proofs.lemmas.List.Elements.{All-push, All-same}
 use Rattle.streetmap_index.specs.Index.{joined, AreFilled, IsBounded, AreBounded}
 use Rattle.streetmap_index.proofs.InChunks.{HasSome, cut_off, last_pushed, empty_is, dropped_some}
 use Rattle.streetmap_index.proofs.Each.{each_back}
-use Rattle.streetmap_index.proofs.chunks.Chunks.new.Goals as goal
-use Rattle.streetmap_index.proofs.chunks.Chunks.new.Goals.{then-not-is_empty+in_ok-push-2, else-not-is_empty}
+use Rattle.streetmap_index.proofs.chunks.cut_up.Goals as goal
+use Rattle.streetmap_index.proofs.chunks.cut_up.Goals.{then-not-is_empty+in_ok-push-2, else-not-is_empty}
 
 pub loop-outlines-preserved : goal.loop-outlines-preserved
 loop-outlines-preserved c =

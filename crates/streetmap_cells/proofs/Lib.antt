@@ -1,0 +1,4 @@
+pub mod Sizes
+pub mod Listing
+pub mod Marking
+pub mod Envelopes
