@@ -4,3 +4,4 @@ pub mod AskView
 pub mod BaseUrl
 pub mod BaseView
 pub mod BaseFaults
+pub mod Paths

@@ -91,7 +91,8 @@ fn ask_batch(alloc: Global, body: &[u8]) -> Result<Ask, AllocError>
 
 /// What a query asks for.
 fn ask_page(alloc: Global, name: String, query: Option<&str>) -> Result<Ask, AllocError>
-    ensures { IfOk result (λ a. ask_value a ≡ spec.ask_page (string_bytes name) (query_of (option_copied query.entry))) }
+    ensures { IfOk result (λ a. ask_value a ≡
+        spec.ask_page (string_bytes name) (query_of (option_copied query.entry))) }
 {
     match read_query(alloc, query) {
         Ok(query) => Ok(Ask::Page(name, query)),
@@ -123,7 +124,8 @@ fn ask_resource(
     query: Option<&str>,
     body: &[u8],
 ) -> Result<Ask, AllocError>
-    ensures { IfOk result (λ a. ask_value a ≡ spec.queried (resource_value resource) (option_copied query.entry) body.now) }
+    ensures { IfOk result (λ a. ask_value a ≡
+        spec.queried (resource_value resource) (option_copied query.entry) body.now) }
 {
     if let Resource::Items { name } = resource {
         return ask_page(alloc, name, query);
@@ -144,7 +146,8 @@ fn ask_path(
     body: &[u8],
 ) -> Result<Ask, AllocError>
     requires { router.now ≡ the_rows }
-    ensures { IfOk result (λ a. ask_value a ≡ spec.placed (spec.resource_at path.now) method.now (option_copied query.entry) body.now) }
+    ensures { IfOk result (λ a. ask_value a ≡ spec.placed (spec.resource_at path.now) method.now
+        (option_copied query.entry) body.now) }
 {
     let Some(resource) = find_resource(alloc, router, path)? else {
         return Ok(Ask::Faulty(RequestFault::NotFound));

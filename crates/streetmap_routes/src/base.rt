@@ -14,8 +14,8 @@ use url::{ParseError, Position, Url};
 /// Why a text gives no base.
 #[derive(Clone, Copy, Debug, PartialEq, Eq)]
 pub enum BaseFault {
-    /// `bad_base`: the text is no `http` or `https` URL with the path `/` and no user name, password,
-    /// query or fragment.
+    /// `bad_base`: the text is no `http` or `https` URL with the path `/` and no user name,
+    /// password, query or fragment.
     BadBase,
     /// `memory`: memory was refused, or the URL came to 4 GB.
     Memory,
@@ -89,8 +89,8 @@ fn without_slash(url: &Url) -> &str
     url.slice(Position::BeforeScheme, Position::BeforePath)
 }
 
-/// The base of links: an `http` or `https` URL with the path `/` and no user name, password, query or
-/// fragment. It holds the router of the eight paths too.
+/// The base of links: an `http` or `https` URL with the path `/` and no user name, password, query
+/// or fragment. It holds the router of the eight paths too.
 #[derive(Drop)]
 pub struct Base {
     url: Url,
@@ -114,7 +114,8 @@ impl Base {
     /// `BadBase` exactly where the text is none, want of memory aside.
     pub fn new(alloc: Global, text: &str) -> Result<Base, BaseFault>
         ensures ok { IfOk result (λ base. ReadsBase text.now (url_of base)) }
-        ensures bad { IsErrOf result BaseFault.BadBase → (url : Parts) → ReadsBase text.now url → ⊥ }
+        ensures bad { IsErrOf result BaseFault.BadBase → (url : Parts) →
+            ReadsBase text.now url → ⊥ }
     {
         let url = match Url::parse(alloc, text) {
             Ok(url) => url,

@@ -1,5 +1,6 @@
 //! The eight paths (OGC 17-069, section 7).
-ghost use Rattle.std.specs.Prelude.{◌≡◌, ◌==◌, [], IfOk, OnOk, IsUtf8, MatchOption, option_map, slice_get, string_bytes};
+ghost use Rattle.std.specs.Prelude.{◌≡◌, ◌==◌, [], IfOk, OnOk, IsUtf8, MatchOption, option_map};
+ghost use Rattle.std.specs.Prelude.{slice_get, string_bytes};
 ghost use Rattle.percent_encoding.specs.Percent.{percent_decode as percent_decode_of};
 ghost use Rattle.std.specs.List.{slice_split};
 ghost use Rattle.streetmap_routes.specs.Routes.{the_rows, put};
@@ -86,7 +87,8 @@ fn route_of(router: &Router<Route>, path: &str) -> Option<Route>
 
 /// What a path has at this place between its slashes, where it has so many.
 fn find_segment(place: usize, path: &[u8]) -> Option<&[u8]>
-    ensures { option_map (λ part. part.now) result ≡ slice_get (slice_split (λ b. b == 47) path.now) place }
+    ensures { option_map (λ part. part.now) result ≡
+        slice_get (slice_split (λ b. b == 47) path.now) place }
 {
     path.split(|byte| *byte == b'/').nth(place)
 }
@@ -103,7 +105,8 @@ fn segment(place: usize, path: &[u8]) -> &[u8]
 
 /// Bytes without their percent escapes, or `None` where they are no text.
 fn decode(alloc: Global, bytes: &[u8]) -> Result<Option<String>, AllocError>
-    ensures { IfOk result (λ found. MatchOption found (IsUtf8 (percent_decode_of bytes.now) → ⊥) (λ text. string_bytes text ≡ percent_decode_of bytes.now)) }
+    ensures { IfOk result (λ found. MatchOption found (IsUtf8 (percent_decode_of bytes.now) → ⊥)
+        (λ text. string_bytes text ≡ percent_decode_of bytes.now)) }
 {
     match percent_decode(bytes).decode_utf8(alloc) {
         Ok(text) => Ok(Some(text.into_owned(alloc)?)),
@@ -122,7 +125,8 @@ fn decoded(alloc: Global, place: usize, path: &str) -> Result<Option<String>, Al
 
 /// The resource of one feature.
 fn find_item(alloc: Global, path: &str) -> Result<Option<Resource>, AllocError>
-    ensures { IfOk result (λ found. option_map resource_value found ≡ spec.resource_by path.now Route.Item) }
+    ensures { IfOk result (λ found. option_map resource_value found ≡
+        spec.resource_by path.now Route.Item) }
 {
     let Some(name) = decoded(alloc, 2, path)? else {
         return Ok(None);
@@ -135,7 +139,8 @@ fn find_item(alloc: Global, path: &str) -> Result<Option<Resource>, AllocError>
 
 /// The resource of a route, with the names that the path has.
 fn resource_by(alloc: Global, path: &str, route: Route) -> Result<Option<Resource>, AllocError>
-    ensures { IfOk result (λ found. option_map resource_value found ≡ spec.resource_by path.now route) }
+    ensures { IfOk result (λ found. option_map resource_value found ≡
+        spec.resource_by path.now route) }
 {
     match route {
         Route::Landing => Ok(Some(Resource::Landing)),

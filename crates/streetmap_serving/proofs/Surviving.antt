@@ -8,11 +8,12 @@ use Rattle.streetmap_ledger.specs.State.{State}
 use Rattle.streetmap_ledger.specs.Batches.{after_all}
 use Rattle.streetmap_ledger.specs.Keep.{LeavesOnly}
 use Rattle.streetmap_ledger.proofs.Repeat.{after_append}
-use Rattle.streetmap_web.specs.Standing.{Standing, Stands, of_state, shut, LeavesNoMore}
+use Rattle.streetmap_web.specs.Standing.{Standing, of_state, shut, LeavesAsBefore}
+use Rattle.streetmap_web.specs.Sight.{Sight, StandsSo}
 use Rattle.streetmap_web.specs.Beginnings.{LeavesBeginning}
 use Rattle.streetmap_web.proofs.Ends.{Ends, served_ends, served_shut}
 use Rattle.streetmap_web.proofs.Beginnings.{served_leaves}
-use Rattle.streetmap_serving.specs.Connections.{Sight, ServesOne, ServesInTurn, served}
+use Rattle.streetmap_serving.specs.Connections.{ServesOne, ServesInTurn, served}
 use Rattle.streetmap_serving.specs.Connections as chain
 use Rattle.streetmap_serving.specs.Surviving.{Brings, SurvivesInTurn, acted_over, answered_over}
 use Rattle.streetmap_serving.specs.Surviving as brought
@@ -53,9 +54,9 @@ ends_hold t acted answered (of_state u) ends = ends
 ends_hold t acted answered (shut why) ends = tt
 
 -- nothing behind them
-nothing_behind : (s : State) (bs : List BatchValue) (k : ℕ) (old new : Option State → Type 0) → LeavesNoMore old new → LeavesBeginning s bs k old → LeavesBeginning s (bs ++ []) (k + 0) new
-nothing_behind s bs k old new less leaves = λ o h.
-    let it = leaves o (less o h) in
+nothing_behind : (s : State) (bs : List BatchValue) (k : ℕ) (old new : Option State → Type 0) → LeavesAsBefore old new → LeavesBeginning s bs k old → LeavesBeginning s (bs ++ []) (k + 0) new
+nothing_behind s bs k old new same leaves = λ o h.
+    let it = leaves o ((same o).0 h) in
     (it.0, it.1, record { len = it.2.len; contains = (let c = it.2.contains in omega (arith, c)); is = it.2.is ∙ ap (λ l. after_all s (take it.2.len l)) (sym (append-nil bs)) })
 
 module _ {K : Type 0} (sight : Sight K) (root : Text) where
@@ -63,7 +64,7 @@ module _ {K : Type 0} (sight : Sight K) (root : Text) where
   record IsBehind (s : State) (k : K) (batches : List BatchValue) (answered : ℕ) : Type 0 where
     leaves : LeavesBeginning s batches answered (sight.may_leave k)
     standing : Standing
-    stands : Stands (sight.stands k) (sight.cause k) standing
+    stands : StandsSo sight k standing
     holds : Holds s batches answered standing
 
   -- and stays true over one more connection

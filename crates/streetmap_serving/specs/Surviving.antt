@@ -3,10 +3,11 @@ use Rattle.std.specs.Prelude.{ℕ, ◌+◌, ◌++◌, List, [], length}
 use Rattle.streetmap_batch.specs.Text.{Text}
 use Rattle.streetmap_batch.specs.BatchValue.{BatchValue}
 use Rattle.streetmap_ledger.specs.State.{State}
-use Rattle.streetmap_web.specs.Standing.{Standing, Stands, of_state, shut}
-use Rattle.streetmap_web.specs.Exchanges.{batches_of}
-use Rattle.streetmap_web.specs.Beginnings.{LeavesBeginning, last_of, batches_acted}
-use Rattle.streetmap_serving.specs.Connections.{Sight, ServesOne, served}
+use Rattle.streetmap_web.specs.Standing.{Standing, of_state, shut}
+use Rattle.streetmap_web.specs.Sight.{Sight, StandsSo}
+use Rattle.streetmap_web.specs.Exchanges.{batches_of, last_of}
+use Rattle.streetmap_web.specs.Beginnings.{LeavesBeginning, batches_acted}
+use Rattle.streetmap_serving.specs.Connections.{ServesOne, served}
 
 -- the batches of a connection that the keeper acted on: each was answered without a fault, or the device failed at it; a shut keeper acts on none
 abbrev pub acted_over : {K : Type 0} {sight : Sight K} {root : Text} {old new : K} (x : Standing) → ServesOne sight root old new x → List BatchValue
@@ -22,7 +23,7 @@ answered_over (shut why) one = []
 pub data Brings {K : Type 0} (sight : Sight K) (root : Text) : ℕ → K → K → List BatchValue → ℕ → Type 0 where
   none : (k : K) → Brings sight root 0 k k [] 0
   more : (n : ℕ) (first last new : K) (batches : List BatchValue) (answered : ℕ) → Brings sight root n first last batches answered
-      → (x : Standing) → Stands (sight.stands last) (sight.cause last) x → (one : ServesOne sight root last new x)
+      → (x : Standing) → StandsSo sight last x → (one : ServesOne sight root last new x)
       → Brings sight root (n + 1) first new (batches ++ acted_over x one) (answered + length (answered_over x one))
 
 -- Over connections that were served in turn, a stop leaves the state of a beginning of the batches acted on that contains each that was answered without a fault.

@@ -1,20 +1,15 @@
 -- The batches of many clients, and the states that a stop may leave of them.
-use Rattle.std.specs.Prelude.{◌≡◌, List, [], ◌∷◌, length, take, Option}
+use Rattle.std.specs.Prelude.{◌≡◌, List, [], ◌∷◌, length, take}
 use Rattle.mio.specs.declared.net.stream.TcpStream.{TcpStream}
 use Rattle.streetmap_batch.specs.Text.{Text}
 use Rattle.streetmap_batch.specs.BatchValue.{BatchValue}
 use Rattle.streetmap_ledger.specs.State.{State}
 use Rattle.streetmap_connections.specs.declared.client.Client.{Client}
-use Rattle.streetmap_connections.specs.History.{Exchange}
 use Rattle.streetmap_web.specs.Standing.{Standing, of_state, shut}
 use Rattle.streetmap_web.specs.Exchanges as web
 use Rattle.streetmap_web.specs.Beginnings.{LeavesBeginning, batches_acted}
-use Rattle.streetmap_serving.specs.ServingClients.{AnsweredInTurn, ServesClients}
-
--- the requests of the web that the exchanges of the one list are, in its order
-abbrev pub requests_of : (root : Text) (x : Standing) (es : List Exchange) (last : Standing) → AnsweredInTurn root x es last → List web.Exchange
-requests_of root x [] last answered = []
-requests_of root x (e ∷ es) last answered = answered.0 ∷ requests_of root (web.standing_after x answered.0) es last answered.2
+use Rattle.streetmap_web.specs.Sight.{Sight}
+use Rattle.streetmap_serving.specs.ServingClients.{ServesClients, requests_of}
 
 -- those of them that came while the keeper was not shut
 abbrev pub while_open : Standing → List web.Exchange → List web.Exchange
@@ -33,9 +28,9 @@ answered_over x ws = web.batches_of (while_open x ws)
 -- There is one list of exchanges, an interleaving of the clients' own lists, each answered for what the keeper stood for
 -- behind the one before. Afterwards a stop leaves the state of a beginning of the batches of all clients, in the order
 -- of that list, that contains each that was answered without a fault.
-pub record SurvivesClients (root : Text) (s : State) (stands : Standing → Type 0) (left : Option State → Type 0) (before after : List (Client TcpStream)) : Type 0 where
-  pub serves : ServesClients root (of_state s) stands before after
+pub record SurvivesClients {K : Type 0} (sight : Sight K) (root : Text) (s : State) (old new : K) (before after : List (Client TcpStream)) : Type 0 where
+  pub serves : ServesClients sight root (of_state s) old new before after
   pub requests : List web.Exchange
   pub are : requests ≡ requests_of root (of_state s) serves.exchanges serves.last serves.answered
   pub answered_first : take (length (answered_over (of_state s) requests)) (acted_over (of_state s) requests) ≡ answered_over (of_state s) requests
-  pub leaves : LeavesBeginning s (acted_over (of_state s) requests) (length (answered_over (of_state s) requests)) left
+  pub leaves : LeavesBeginning s (acted_over (of_state s) requests) (length (answered_over (of_state s) requests)) (sight.may_leave new)

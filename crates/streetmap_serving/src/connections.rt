@@ -1,6 +1,7 @@
 //! The connections of a listener, each a stream of requests.
 ghost use Rattle.std.specs.Prelude.{◌≡◌, ◌≤◌, ℕ, Some, IsOk, OnErr, OnOk};
 ghost use Rattle.streetmap_routes.specs.BaseView.{root_of};
+ghost use Rattle.streetmap_web.specs.Sight.{sight_of};
 ghost use Rattle.streetmap_web.specs.Standing.{Standing, Stands};
 ghost use Rattle.streetmap_ledger.specs.State.{State};
 ghost use Rattle.streetmap_ledger.specs.Keep.{LeavesOnly};
@@ -20,8 +21,8 @@ use streetmap_web::serve;
 /// The seconds for which a connection may keep a read or a write waiting.
 const PATIENCE: u64 = 30;
 
-/// Sets how a stream waits: a read or a write that waits longer than half a minute fails, and a write
-/// is sent at once.
+/// Sets how a stream waits: a read or a write that waits longer than half a minute fails, and a
+/// write is sent at once.
 fn set_patience(stream: &TcpStream) -> io::Result<()> {
     let patience = Duration::from_secs(PATIENCE);
     stream.set_read_timeout(Some(patience))?;
@@ -36,9 +37,12 @@ fn serve_connection<K: Keeper>(
     keeper: &mut K,
     base: &Base,
 ) -> Result<(), ServeFault>
+    ensures spared { K.spares keeper.old keeper.new }
     ensures began_clean { K.is_clean keeper.new → K.is_clean keeper.old }
-    ensures serves { OnOk result (K.is_clean keeper.new → (x : Standing) → Stands (K.stands keeper.old) (K.cause keeper.old) x →
-        ServesOne (record { stands = K.stands; cause = K.cause; may_leave = K.may_leave }) (root_of base.now) keeper.old keeper.new x) }
+    ensures serves { OnOk result (K.is_clean keeper.new → (x : Standing) →
+        Stands (K.stands keeper.old) (K.cause keeper.old) x →
+        ServesOne (sight_of K.stands K.cause K.may_leave K.is_clean K.applies K.spares K.fails)
+        (root_of base.now) keeper.old keeper.new x) }
     ensures same { OnErr result (keeper.new ≡ keeper.old) }
 {
     let _ = set_patience(stream);
@@ -52,10 +56,10 @@ fn serve_connection<K: Keeper>(
 
 /// Serves so many connections of a listener, one after the other.
 ///
-/// A connection ends where its stream of requests does, or where a read or a write of it fails or waits
-/// for half a minute, and the next one follows. After a stop, before or within any write, whatever is
-/// opened again holds the state of a beginning of the batches of all connections, in order, that contains
-/// each that was answered without a fault.
+/// A connection ends where its stream of requests does, or where a read or a write of it fails or
+/// waits for half a minute, and the next one follows. After a stop, before or within any write,
+/// whatever is opened again holds the state of a beginning of the batches of all connections, in
+/// order, that contains each that was answered without a fault.
 ///
 /// # Errors
 ///
@@ -68,14 +72,22 @@ pub fn serve_count<K: Keeper>(
     keeper: &mut K,
     base: &Base,
 ) -> Result<(), ServeFault>
-    // Where the store was clean: of so many connections, and of all of them where no fault is told, each was a
-    // stream of requests, served over the keeper that the one before left.
+    // Where the store was clean: of so many connections, and of all of them where no fault is told,
+    // each was a stream of requests, served over the keeper that the one before left.
     ensures serves { K.is_clean keeper.new → (n : ℕ) × (n ≤ count) × (IsOk result → n ≡ count)
-        × ServesInTurn (record { stands = K.stands; cause = K.cause; may_leave = K.may_leave }) (root_of base.now) n keeper.old keeper.new }
-    // Where a stop could leave only the state that the keeper stood for, it may leave the state of a beginning of
-    // the batches of all these connections, in order, that contains each that was answered without a fault.
-    ensures survives { K.is_clean keeper.new → (s : State) → K.stands keeper.old s → LeavesOnly (K.may_leave keeper.old) (Some s) → (n : ℕ) × (n ≤ count) × (IsOk result → n ≡ count)
-        × SurvivesInTurn (record { stands = K.stands; cause = K.cause; may_leave = K.may_leave }) (root_of base.now) n s keeper.old keeper.new }
+        × ServesInTurn (sight_of K.stands K.cause K.may_leave K.is_clean K.applies K.spares K.fails)
+        (root_of base.now) n keeper.old keeper.new }
+    // Where a stop could leave only the state that the keeper stood for, it may leave the state of
+    // a beginning of the batches of all these connections, in order, that contains each that was
+    // answered without a fault.
+    ensures survives { K.is_clean keeper.new → (s : State) → K.stands keeper.old s →
+        LeavesOnly (K.may_leave keeper.old) (Some s) →
+        (n : ℕ) × (n ≤ count) × (IsOk result → n ≡ count)
+        × SurvivesInTurn
+        (sight_of K.stands K.cause K.may_leave K.is_clean K.applies K.spares K.fails)
+        (root_of base.now) n s keeper.old keeper.new }
+    // What else the store has is kept.
+    ensures spared { K.spares keeper.old keeper.new }
     ensures began_clean { K.is_clean keeper.new → K.is_clean keeper.old }
 {
     for _served in 0..count {

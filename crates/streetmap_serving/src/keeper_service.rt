@@ -4,6 +4,7 @@ ghost use Rattle.streetmap_http.specs.Arrivals.{IsAnswered};
 ghost use Rattle.streetmap_routes.specs.BaseView.{root_of};
 ghost use Rattle.streetmap_connections.specs.Answers.{answer_text as sent_text};
 ghost use Rattle.streetmap_web.specs.Responds.{answer_text};
+ghost use Rattle.streetmap_web.specs.Sight.{sight_of};
 ghost use Rattle.streetmap_serving.specs.Answering.{AnswersOne};
 
 use crate::log::tell;
@@ -15,7 +16,8 @@ use streetmap_ledger::Keeper;
 use streetmap_routes::Base;
 use streetmap_web::answer_request;
 
-/// A keeper, the base of the links in its answers, and where a line is written for each answer, if one is.
+/// A keeper, the base of the links in its answers, and where a line is written for each answer, if
+/// one is.
 #[derive(Drop)]
 pub struct KeeperService<K, W> {
     pub alloc: Global,
@@ -28,7 +30,8 @@ impl<K: Keeper, W: Write> Service for KeeperService<K, W> {
     ghost is_request = { IsAnswered };
 
     ghost answers = { λ old request text closes new. (new.base ≡ old.base)
-        × AnswersOne (record { stands = K.stands; cause = K.cause; may_leave = K.may_leave; is_clean = K.is_clean; applies = K.applies }) (root_of old.base) old.keeper request text closes new.keeper };
+        × AnswersOne (sight_of K.stands K.cause K.may_leave K.is_clean K.applies K.spares K.fails)
+        (root_of old.base) old.keeper request text closes new.keeper };
 
     fn cut(&self, input: &[u8]) -> Cut {
         match arrival_of(input) {

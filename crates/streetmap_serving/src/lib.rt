@@ -1,4 +1,5 @@
-//! The connections of a listener over any keeper: served one after the other, or many clients at once.
+//! The connections of a listener over any keeper: served one after the other, or many clients at
+//! once.
 #![tactic(auto)]
 
 mod clients;

@@ -34,9 +34,9 @@ fn status(head: &[u8]) -> &str {
     }
 }
 
-/// Writes what was asked and answered as one line, where there is a log: the request line, the status and the bytes of
-/// the body, as in the common log format (`"GET /collections HTTP/1.1" 200 1234`). A line that cannot be written is left
-/// out.
+/// Writes what was asked and answered as one line, where there is a log: the request line, the
+/// status and the bytes of the body, as in the common log format
+/// (`"GET /collections HTTP/1.1" 200 1234`). A line that cannot be written is left out.
 pub(crate) fn tell<W: Write>(alloc: Global, log: &mut Option<W>, request: &[u8], answer: &Answer) {
     let Some(log) = log else {
         return;

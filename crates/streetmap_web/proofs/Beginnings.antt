@@ -10,8 +10,8 @@ use Rattle.streetmap_ledger.specs.Keep.{LeavesOnly}
 use Rattle.streetmap_ledger.proofs.Repeat.{after_append}
 use Rattle.streetmap_routes.specs.Ask.{AskValue}
 use Rattle.streetmap_web.specs.Standing.{Standing, Outcome, told, starved, failed, of_state, Leaves, Stays, StateLeaves}
-use Rattle.streetmap_web.specs.Exchanges.{Around, TurnSays, Serves, with_batch, with_answered, batches_of}
-use Rattle.streetmap_web.specs.Beginnings.{LeavesBeginning, ServedLeaves, last_of, with_acted, batches_acted}
+use Rattle.streetmap_web.specs.Exchanges.{Around, TurnSays, Serves, with_batch, with_answered, batches_of, last_of}
+use Rattle.streetmap_web.specs.Beginnings.{LeavesBeginning, ServedLeaves, with_acted, batches_acted}
 use Rattle.streetmap_web.specs.declared.serving.End.{End}
 use Rattle.streetmap_web.specs.declared.serving.Turn.{Turn}
 use Rattle.streetmap_web.specs.declared.serving.Turn.TheVariants.{Open, Closed, Ended, Truncated, ReadFailed, WriteFailed}

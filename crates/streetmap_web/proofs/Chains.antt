@@ -10,7 +10,7 @@ use Rattle.streetmap_ledger.specs.declared.reply.Cause.{Cause}
 use Rattle.streetmap_ledger.specs.declared.reply.Fault.TheVariants.{Memory, Device}
 use Rattle.streetmap_routes.specs.Ask.{AskValue, faulty, landing_page, api_text, conformance_classes, all_collections, one_collection, page, feature, batch}
 use Rattle.streetmap_web.specs.Response.{closes_with, state_in}
-use Rattle.streetmap_web.specs.Standing.{Standing, Outcome, of_state, shut, told, starved, failed, answer_by, after, Leaves, LeavesNoMore, IsKnown}
+use Rattle.streetmap_web.specs.Standing.{Standing, Outcome, of_state, shut, told, starved, failed, answer_by, after, Leaves, LeavesAsBefore, IsKnown}
 use Rattle.streetmap_web.specs.Exchanges.{Exchange, IsExchange, GoOn, closes, standing_after, standing_after_all, all_requests, all_answers, answer_bytes, batches_of, with_batch, with_answered, after_batches}
 use Rattle.streetmap_web.proofs.Standings.{fault_closes}
 
@@ -101,11 +101,11 @@ leaves_state t known old new ask o is k leaves = subst (λ p. Leaves (of_state t
 -- what a stop may leave after exchanges that leave the connection open
 abbrev pub LeavesAll : Standing → List Exchange → (old new : Option State → Type 0) → Type 0
 LeavesAll (of_state s) es old new = LeavesOnly old (Some s) → LeavesOnly new (Some (after_all s (batches_of es)))
-LeavesAll (shut why) es old new = LeavesNoMore old new
+LeavesAll (shut why) es old new = LeavesAsBefore old new
 
 pub LeavesAll-none : (x : Standing) (left : Option State → Type 0) → LeavesAll x [] left left
 LeavesAll-none (of_state s) left = λ only. only
-LeavesAll-none (shut why) left = λ o h. h
+LeavesAll-none (shut why) left = λ o. (λ h. h, λ h. h)
 
 pub LeavesAll-more : (root : Text) (x : Standing) (es : List Exchange) (e : Exchange) (old middle new : Option State → Type 0) → GoOn root x es
     → closes root (standing_after_all x es) e ≡ false → LeavesAll x es old middle
@@ -118,7 +118,7 @@ LeavesAll-more root (of_state s) es e old middle new go_on opens all leaves = λ
     subst (λ u. LeavesOnly new (Some u)) (sym (batches-more s es e is)) (leaves_state t (LeavesOnly middle (Some t)) middle new e.request.ask e.outcome is (all only) one)
 LeavesAll-more root (shut why) es e old middle new go_on opens all leaves =
     let one : Leaves (shut why) e.request.ask e.outcome (IsKnown (shut why) middle) middle new = subst (λ y. Leaves y e.request.ask e.outcome (IsKnown y middle) middle new) (stays_shut why es) leaves in
-    λ o h. all o (one o h)
+    λ o. (λ h. (all o).0 ((one o).0 h), λ h. (one o).1 ((all o).1 h))
 
 -- what is known after them
 pub known_after : (root : Text) (x : Standing) (es : List Exchange) (old middle : Option State → Type 0) → GoOn root x es → LeavesAll x es old middle → IsKnown x old → IsKnown (standing_after_all x es) middle
@@ -129,6 +129,6 @@ pub batches_after : (root : Text) (x : Standing) (es : List Exchange) → GoOn r
 batches_after root (of_state s) es go_on = states_after root s es go_on
 batches_after root (shut why) es go_on = stays_shut why es
 
-pub no_more_after : (x : Standing) (es : List Exchange) (old middle : Option State → Type 0) (why : Cause) → standing_after_all x es ≡ shut why → LeavesAll x es old middle → (root : Text) → GoOn root x es → LeavesNoMore old middle
-no_more_after (of_state s) es old middle why e all root go_on = let wrong : of_state (after_all s (batches_of es)) ≡ shut why = sym (states_after root s es go_on) ∙ e in cc
-no_more_after (shut cause) es old middle why e all root go_on = all
+pub as_before_after : (x : Standing) (es : List Exchange) (old middle : Option State → Type 0) (why : Cause) → standing_after_all x es ≡ shut why → LeavesAll x es old middle → (root : Text) → GoOn root x es → LeavesAsBefore old middle
+as_before_after (of_state s) es old middle why e all root go_on = let wrong : of_state (after_all s (batches_of es)) ≡ shut why = sym (states_after root s es go_on) ∙ e in cc
+as_before_after (shut cause) es old middle why e all root go_on = all

@@ -7,9 +7,9 @@ use Rattle.streetmap_ledger.specs.Batches.{after_all}
 use Rattle.streetmap_ledger.specs.declared.reply.Cause.{Cause}
 use Rattle.streetmap_ledger.proofs.Repeat.{after_append}
 use Rattle.streetmap_routes.specs.Ask.{AskValue}
-use Rattle.streetmap_web.specs.Standing.{Standing, Outcome, told, starved, failed, of_state, shut, after, Leaves, LeavesNoMore, Stays}
-use Rattle.streetmap_web.specs.Exchanges.{Around, TurnSays, Serves, with_batch, with_answered, batches_of}
-use Rattle.streetmap_web.specs.Beginnings.{last_of, with_acted, batches_acted}
+use Rattle.streetmap_web.specs.Standing.{Standing, Outcome, told, starved, failed, of_state, shut, after, Leaves, LeavesAsBefore, Stays}
+use Rattle.streetmap_web.specs.Exchanges.{Around, TurnSays, Serves, with_batch, with_answered, batches_of, last_of}
+use Rattle.streetmap_web.specs.Beginnings.{with_acted, batches_acted}
 use Rattle.streetmap_web.specs.declared.serving.End.{End}
 use Rattle.streetmap_web.specs.declared.serving.Turn.{Turn}
 use Rattle.streetmap_web.specs.declared.serving.Turn.TheVariants.{Open, Closed, Ended, Truncated, ReadFailed, WriteFailed}
@@ -38,9 +38,9 @@ module _ (t : State) (bs : List BatchValue) where
   turn_ends Truncated root z a says is = (_, subst a.stands is says.0.stands, (sym (after_append t bs []), refl))
   turn_ends ReadFailed root z a says is = (_, subst a.stands is says.stands, (sym (after_append t bs []), refl))
 
--- a shut keeper stays shut, and leaves no more
+-- a shut keeper stays shut, and leaves exactly what it could before
 abbrev StaysShut : Cause → Around → Type 0
-StaysShut why a = a.stands (shut why) × LeavesNoMore a.old_leaves a.new_leaves
+StaysShut why a = a.stands (shut why) × LeavesAsBefore a.old_leaves a.new_leaves
 
 acted_shut : (why : Cause) (z : Standing) (a : Around) (ask : AskValue) (o : Outcome) → z ≡ shut why → a.stands (after z ask o) → Leaves z ask o a.known a.old_leaves a.new_leaves → StaysShut why a
 acted_shut why z a ask o is stands leaves = (subst (λ w. a.stands (after w ask o)) is stands, subst (λ w. Leaves w ask o a.known a.old_leaves a.new_leaves) is leaves)
@@ -62,5 +62,5 @@ pub served_ends : (root : Text) (end : End) (count : ℕ) (s : State) (a : Aroun
 served_ends root end count s a serves = turn_ends s (batches_of serves.exchanges) serves.turn root _ _ serves.ends serves.batches
 
 -- and over one that was shut
-pub served_shut : (root : Text) (end : End) (count : ℕ) (why : Cause) (a : Around) → Serves root end count (shut why) a → a.stands (shut why) × LeavesNoMore a.old_leaves a.new_leaves
+pub served_shut : (root : Text) (end : End) (count : ℕ) (why : Cause) (a : Around) → Serves root end count (shut why) a → a.stands (shut why) × LeavesAsBefore a.old_leaves a.new_leaves
 served_shut root end count why a serves = turn_shut why serves.turn root _ _ serves.ends (stays_shut why serves.exchanges)

@@ -1,6 +1,6 @@
--- What a stop may leave behind a look.
+-- What comes of a look.
 use Rattle.std.proofs.Common.{◌≡◌, sym, subst, ◌∙◌, Some, Ok, Err, inl, IfOk, OnErr}
-use Rattle.std.specs.Prelude.{Option, Result}
+use Rattle.std.specs.Prelude.{Option, Result, IsErrOf}
 use Rattle.std.specs.declared.alloc.AllocError.{AllocError}
 use Rattle.streetmap_batch.specs.Text.{Text}
 use Rattle.streetmap_ledger.specs.declared.reply.Cause.{Cause}
@@ -26,3 +26,9 @@ pub found_responds : (root : Text) (s : State) (ask : AskValue) (found : Result 
     → p ≡ response_in root s ask → stands (state_in s ask) → stands s → RespondsIn root s ask result stands cause
 found_responds root s ask (Ok b) result p stands cause is same none e next old = subst (λ r. RespondsIn root s ask r stands cause) (sym same) (is ∙ e, next)
 found_responds root s ask (Err w) result p stands cause is same none e next old = subst (λ r. RespondsIn root s ask r stands cause) (sym none) old
+
+-- want of memory is no failure of the device
+pub no_device : (found : Result Response AllocError) (result : Result Response Fault) → IfOk found (λ b. result ≡ Ok b) → OnErr found (result ≡ Err faults.Memory)
+    → IsErrOf result faults.Device → ⊥
+no_device (Ok b) result same none is = let bad : ◌≡◌ {A = Result Response Fault} (Ok b) (Err faults.Device) = sym same ∙ is in cc
+no_device (Err w) result same none is = let bad : ◌≡◌ {A = Result Response Fault} (Err faults.Memory) (Err faults.Device) = sym none ∙ is in cc

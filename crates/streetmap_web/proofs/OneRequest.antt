@@ -1,6 +1,5 @@
 -- The bytes of one request, answered.
 use Rattle.std.proofs.Common.{◌≡◌, [], Bool, true, refl, sym, ap, subst, ◌∙◌, inl, inr, append-nil}
-use Rattle.std.specs.Prelude.{Option}
 use Rattle.streetmap_http.specs.Framing.{HeadValue, Breaks, IsRequest, is_bare}
 use Rattle.streetmap_http.specs.Arrivals.{SplitsAs}
 use Rattle.streetmap_http.specs.FramingView.{framing_value}
@@ -9,53 +8,61 @@ use Rattle.streetmap_http.specs.Streams.{Request, request, stops, refused}
 use Rattle.streetmap_http.specs.declared.fault.FramingFault.{FramingFault}
 use Rattle.streetmap_http.proofs.Fronts.{front_unique}
 use Rattle.streetmap_batch.specs.Text.{Text}
-use Rattle.streetmap_ledger.specs.State.{State}
 use Rattle.streetmap_routes.specs.Ask.{ask_of, faulty}
 use Rattle.streetmap_bodies.specs.declared.request_fault.RequestFault.TheVariants.{Framing}
 use Rattle.streetmap_web.specs.Response.{fault_response, response_text}
 use Rattle.streetmap_web.specs.Standing.{Standing, told, starved}
-use Rattle.streetmap_web.specs.Responds.{Answers, RefusesBy}
-use Rattle.streetmap_web.specs.Exchanges.{Exchange, Answered, request_of, broken_request, whole, broken, response}
-use Rattle.streetmap_web.proofs.Turning.{faulty_after, faulty_response, faulty_leaves, can_told, starved_after, starved_response, starved_leaves, can_starve}
+use Rattle.streetmap_web.specs.Sight.{Sight, StandsSo}
+use Rattle.streetmap_web.specs.Responds.{Answers, RefusesBy, TellsBatch}
+use Rattle.streetmap_web.specs.Exchanges.{Exchange, request_of, broken_request, whole, broken}
+use Rattle.streetmap_web.specs.Coming.{Answered}
+use Rattle.streetmap_web.proofs.Outcomes.{faulty_after, faulty_response, faulty_leaves, can_told, starved_after, starved_leaves, can_starve, starved_bytes, starved_closes}
+use Rattle.streetmap_web.proofs.Coming.{bytes_of, starved_comes, broken_comes, whole_comes}
 
--- a whole request
-pub whole_answered : (root : Text) (x : Standing) (h : HeadValue) (bytes body text : Text) (closing : Bool) (stands : Standing → Type 0) (old new : Option State → Type 0)
-    → IsRequest bytes h body
-    → Answers root x (ask_of h.method h.target body) h.closes (is_bare h.method) text closing stands old new
-    → Answered root x bytes text closing stands old new
-whole_answered root x h bytes body text closing stands old new is answers =
-    let e : Exchange = record { bytes = bytes; request = request_of h body; outcome = answers.outcome } in
-    record {
-      exchange = e;
-      bytes_are = refl;
-      is = record { asks = whole h body is refl; can = answers.can };
-      text_is = answers.bytes ∙ ap (λ c. response_text c (is_bare h.method) (response root x e)) answers.closed;
-      closing_is = answers.closed;
-      standing = answers.standing;
-      leaves = answers.leaves;
-    }
+module _ {K : Type 0} (sight : Sight K) (root : Text) (x : Standing) where
+  -- a whole request
+  pub whole_answered : (h : HeadValue) (bytes body text : Text) (closing : Bool) (old new : K) → IsRequest bytes h body
+      → Answers sight root x (ask_of h.method h.target body) h.closes (is_bare h.method) text closing old new
+      → TellsBatch sight.applies (ask_of h.method h.target body) h.closes (is_bare h.method) text closing old new
+      → Answered sight root x bytes text closing old new
+  whole_answered h bytes body text closing old new is answers tells =
+      let e : Exchange = record { bytes = bytes; request = request_of h body; outcome = answers.outcome } in
+      record {
+        exchange = e;
+        bytes_are = refl;
+        is = record { asks = whole h body is refl; can = answers.can };
+        text_is = bytes_of root x e text closing answers.closed answers.bytes;
+        closing_is = answers.closed;
+        standing = answers.standing;
+        leaves = answers.leaves;
+        comes = whole_comes sight root x old new h bytes body text closing answers tells;
+      }
 
--- one that breaks a rule of framing
-pub broken_answered : (root : Text) (x : Standing) (bytes text : Text) (bare : Bool) (fault : FramingFault) (stands : Standing → Type 0) (leaves : Option State → Type 0)
-    → Breaks bytes bare fault → RefusesBy text bare fault → stands x → Answered root x bytes text true stands leaves leaves
-broken_answered root x bytes text bare fault stands leaves breaks (answer, inl is, same) h = record {
-  exchange = record { bytes = bytes; request = broken_request bare fault; outcome = told };
-  bytes_are = refl;
-  is = record { asks = broken bare fault breaks refl; can = can_told x (faulty (Framing fault)) };
-  text_is = same ∙ ap (λ f. response_text true bare (fault_response f)) is ∙ ap (response_text true bare) (sym (faulty_response root x fault));
-  closing_is = refl;
-  standing = faulty_after x stands fault h;
-  leaves = faulty_leaves x fault leaves;
-}
-broken_answered root x bytes text bare fault stands leaves breaks (answer, inr is, same) h = record {
-  exchange = record { bytes = bytes; request = broken_request bare fault; outcome = starved };
-  bytes_are = refl;
-  is = record { asks = broken bare fault breaks refl; can = can_starve x (faulty (Framing fault)) };
-  text_is = same ∙ ap (λ f. response_text true bare (fault_response f)) is ∙ ap (response_text true bare) (sym (starved_response root x (faulty (Framing fault))));
-  closing_is = refl;
-  standing = starved_after x stands (faulty (Framing fault)) h;
-  leaves = starved_leaves x (faulty (Framing fault)) leaves;
-}
+  -- one that breaks a rule of framing
+  pub broken_answered : (bytes text : Text) (bare : Bool) (fault : FramingFault) (k : K) → Breaks bytes bare fault → RefusesBy text bare fault → StandsSo sight k x
+      → Answered sight root x bytes text true k k
+  broken_answered bytes text bare fault k breaks (answer, inl is, same) h = record {
+    exchange = record { bytes = bytes; request = broken_request bare fault; outcome = told };
+    bytes_are = refl;
+    is = record { asks = broken bare fault breaks refl; can = can_told x (faulty (Framing fault)) };
+    text_is = same ∙ ap (λ f. response_text true bare (fault_response f)) is ∙ ap (response_text true bare) (sym (faulty_response root x fault));
+    closing_is = refl;
+    standing = faulty_after x (StandsSo sight k) fault h;
+    leaves = faulty_leaves x fault (sight.may_leave k);
+    comes = broken_comes sight root x k bytes bare fault;
+  }
+  broken_answered bytes text bare fault k breaks (answer, inr is, same) h =
+      let request = broken_request bare fault in
+      record {
+        exchange = record { bytes = bytes; request = request; outcome = starved };
+        bytes_are = refl;
+        is = record { asks = broken bare fault breaks refl; can = can_starve x request.ask };
+        text_is = same ∙ ap (λ f. response_text true bare (fault_response f)) is ∙ starved_bytes root x bytes request;
+        closing_is = starved_closes root x bytes request;
+        standing = starved_after x (StandsSo sight k) request.ask h;
+        leaves = starved_leaves x request.ask (sight.may_leave k);
+        comes = starved_comes sight root x k bytes request;
+      }
 
 -- ---- bytes are one request
 

@@ -5,20 +5,9 @@ use Rattle.streetmap_batch.specs.BatchValue.{BatchValue}
 use Rattle.streetmap_ledger.specs.State.{State}
 use Rattle.streetmap_ledger.specs.Batches.{after_all}
 use Rattle.streetmap_routes.specs.Ask.{AskValue}
-use Rattle.streetmap_web.specs.Standing.{Standing, Outcome, told, starved, failed, of_state}
-use Rattle.streetmap_web.specs.Exchanges.{Exchange, Around, TurnSays, Serves, with_batch, batches_of}
+use Rattle.streetmap_web.specs.Standing.{Outcome, told, starved, failed, of_state}
+use Rattle.streetmap_web.specs.Exchanges.{Exchange, Around, Serves, with_batch, batches_of, last_of}
 use Rattle.streetmap_web.specs.declared.serving.End.{End}
-use Rattle.streetmap_web.specs.declared.serving.Turn.{Turn}
-use Rattle.streetmap_web.specs.declared.serving.Turn.TheVariants.{Open, Closed, Ended, Truncated, ReadFailed, WriteFailed}
-
--- the last request of a stream, where one was answered in the turn that ended it
-abbrev pub last_of : (turn : Turn) (root : Text) (x : Standing) (a : Around) → TurnSays turn root x a → List Exchange
-last_of Open root x a says = says.0 ∷ []
-last_of Closed root x a says = says.0 ∷ []
-last_of (WriteFailed begun) root x a says = says.0 ∷ []
-last_of Ended root x a says = []
-last_of Truncated root x a says = []
-last_of ReadFailed root x a says = []
 
 -- a batch before others, where the keeper acted on it: it was answered without a fault, or the device failed at it
 abbrev pub with_acted : AskValue → Outcome → List BatchValue → List BatchValue

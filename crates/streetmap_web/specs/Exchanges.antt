@@ -12,7 +12,7 @@ use Rattle.streetmap_ledger.specs.State.{State}
 use Rattle.streetmap_ledger.specs.Batches.{after_all}
 use Rattle.streetmap_routes.specs.Ask.{AskValue, faulty, batch, ask_of}
 use Rattle.streetmap_web.specs.Response.{ResponseValue, closes_with, response_text}
-use Rattle.streetmap_web.specs.Standing.{Standing, Outcome, told, starved, failed, CanBe, answer_by, after, Leaves, Stays, IsKnown, of_state, shut}
+use Rattle.streetmap_web.specs.Standing.{Standing, Outcome, told, starved, failed, CanBe, answer_by, after, Leaves, Stays, of_state, shut}
 use Rattle.streetmap_web.specs.Turns.{begun_in, end_of}
 use Rattle.streetmap_web.specs.declared.serving.End.{End}
 use Rattle.streetmap_web.specs.declared.serving.Turn.{Turn}
@@ -108,7 +108,8 @@ after_batches (shut why) bs = shut why
 
 -- ---- ends
 
--- what a keeper, a reader and a writer are before and after a turn; and what was known of the states that a stop may leave
+-- what a keeper, a reader and a writer are before and after; what was known of the states that a stop
+-- may leave; and along which exchanges the keeper came from the one to the other
 pub record Around : Type 1 where
   pub old_left : Option Text
   pub new_left : Option Text
@@ -118,6 +119,7 @@ pub record Around : Type 1 where
   pub known : Type 0
   pub old_leaves : Option State → Type 0
   pub new_leaves : Option State → Type 0
+  pub comes : List Exchange → Type 0
 
 -- a request was read and acted on: its bytes are off the reader, the keeper stands for what is after it, and a stop may leave that
 pub record Acted (x : Standing) (e : Exchange) (a : Around) : Type 0 where
@@ -125,16 +127,6 @@ pub record Acted (x : Standing) (e : Exchange) (a : Around) : Type 0 where
   pub read : Consumes a.old_left a.new_left e.bytes
   pub stands : a.stands (standing_after x e)
   pub leaves : Leaves x e.request.ask e.outcome a.known a.old_leaves a.new_leaves
-
--- one request was answered: these bytes are it and this text is its answer, the keeper stands for what is after it, and a stop may leave that
-pub record Answered (root : Text) (x : Standing) (bytes text : Text) (closing : Bool) (stands : Standing → Type 0) (old_leaves new_leaves : Option State → Type 0) : Type 0 where
-  pub exchange : Exchange
-  pub bytes_are : exchange.bytes ≡ bytes
-  pub is : IsExchange x exchange
-  pub text_is : text ≡ answer_bytes root x exchange
-  pub closing_is : closing ≡ closes root x exchange
-  pub standing : stands (standing_after x exchange)
-  pub leaves : Leaves x exchange.request.ask exchange.outcome (IsKnown x old_leaves) old_leaves new_leaves
 
 -- nothing was acted on or written
 pub record Rested (x : Standing) (a : Around) : Type 0 where
@@ -151,7 +143,23 @@ TurnSays Ended root x a = Rested x a × (bytes : Text) × IsBlank bytes × Consu
 TurnSays Truncated root x a = Rested x a × (bytes : Text) × IsUnfinished bytes × Consumes a.old_left a.new_left bytes × IsAtEnd a.new_left
 TurnSays ReadFailed root x a = Rested x a
 
--- what was served: exchanges that leave the connection open, and then the turn that ends it
+-- the request that was answered in a turn, where one was
+abbrev pub last_of :
+    (turn : Turn) (root : Text) (x : Standing) (a : Around) → TurnSays turn root x a → List Exchange
+last_of Open root x a says = says.0 ∷ []
+last_of Closed root x a says = says.0 ∷ []
+last_of (WriteFailed begun) root x a says = says.0 ∷ []
+last_of Ended root x a says = []
+last_of Truncated root x a says = []
+last_of ReadFailed root x a says = []
+
+-- what a turn did, and that the keeper came along its request
+abbrev pub TurnComes : Turn → Text → Standing → Around → Type 0
+TurnComes turn root x a =
+    (says : TurnSays turn root x a) × a.comes (last_of turn root x a says)
+
+-- what was served: exchanges that leave the connection open, and then the turn that ends it; the
+-- keeper came along all of them
 pub record Serves (root : Text) (end : End) (count : ℕ) (x : Standing) (a : Around) : Type 0 where
   pub exchanges : List Exchange
   pub turn : Turn
@@ -161,7 +169,10 @@ pub record Serves (root : Text) (end : End) (count : ℕ) (x : Standing) (a : Ar
   pub read : Consumes a.old_left middle (all_requests exchanges)
   pub answered : Appends a.old_held written (all_answers root x exchanges)
   pub batches : standing_after_all x exchanges ≡ after_batches x (batches_of exchanges)
-  pub ends : TurnSays turn root (standing_after_all x exchanges) (record a { old_left = middle; old_held = written })
+  pub ends :
+      TurnSays turn root (standing_after_all x exchanges)
+      (record a { old_left = middle; old_held = written })
   pub end_is : end ≡ end_of turn
   pub closed : turn ≢ Open
   pub counted : count ≡ (if begun_in turn then length exchanges + 1 else length exchanges)
+  pub comes : a.comes (exchanges ++ last_of turn root _ _ ends)

@@ -1,6 +1,7 @@
 -- What the functions that answer say of their results.
 use Rattle.std.specs.Prelude.{◌≡◌, ◌⊎◌, Bool, true, Option, Some, Result, Ok, Err, string_bytes, ◌++◌, ⊤}
 use Rattle.streetmap_batch.specs.Text.{Text}
+use Rattle.streetmap_batch.specs.BatchValue.{BatchValue}
 use Rattle.streetmap_ledger.specs.State.{State}
 use Rattle.streetmap_ledger.specs.Keep.{LeavesOnly, LeavesEither}
 use Rattle.streetmap_ledger.specs.declared.reply.Cause.{Cause}
@@ -8,9 +9,11 @@ use Rattle.streetmap_ledger.specs.declared.reply.Cause.TheVariants as causes
 use Rattle.streetmap_ledger.specs.declared.reply.Fault.{Fault}
 use Rattle.streetmap_ledger.specs.declared.reply.Fault.TheVariants as faults
 use Rattle.streetmap_ledger.specs.declared.reply.Reply.{Reply}
-use Rattle.streetmap_routes.specs.Ask.{AskValue}
-use Rattle.streetmap_web.specs.Response.{ResponseValue, response_in, response_shut, state_in, asks_state, fault_response, closes_with, response_text, replied}
-use Rattle.streetmap_web.specs.Standing.{Standing, Outcome, answer_by, after, CanBe, Leaves, IsKnown}
+use Rattle.streetmap_routes.specs.Ask.{AskValue, batch}
+use Rattle.streetmap_web.specs.Response.{ResponseValue, response_in, response_shut, state_in}
+use Rattle.streetmap_web.specs.Response.{asks_state, fault_response, closes_with, response_text, replied}
+use Rattle.streetmap_web.specs.Standing.{Standing, Outcome, failed, answer_by, after, CanBe, Leaves, IsKnown}
+use Rattle.streetmap_web.specs.Sight.{Sight, StandsSo}
 use Rattle.streetmap_http.specs.declared.fault.FramingFault.{FramingFault}
 use Rattle.streetmap_bodies.specs.declared.request_fault.RequestFault.{RequestFault}
 use Rattle.streetmap_bodies.specs.declared.request_fault.RequestFault.TheVariants.{Keeper, Framing}
@@ -68,14 +71,20 @@ body_bytes (Fixed head body) = body.now
 abbrev pub answer_text : Answer → Text
 answer_text answer = head_bytes answer ++ body_bytes answer
 
--- an answer to what is asked: how it came out, its bytes, whether the connection closes, what the keeper stands for afterwards, and what a stop may leave
-pub record Answers (root : Text) (x : Standing) (ask : AskValue) (asked bare : Bool) (text : Text) (closes : Bool) (new : Standing → Type 0) (old_left new_left : Option State → Type 0) : Type 0 where
+-- what is asked was answered between two keepers: how it came out, the bytes of its answer, whether
+-- the connection closes, what the second keeper stands for, what a stop may leave, and that the store
+-- failed where the device did
+pub record Answers {K : Type 0} (sight : Sight K) (root : Text) (x : Standing) (ask : AskValue)
+    (asked bare : Bool) (text : Text) (closes : Bool) (old new : K) : Type 0 where
   pub outcome : Outcome
   pub can : CanBe x ask outcome
   pub closed : closes ≡ closes_with asked (answer_by root x ask outcome)
   pub bytes : text ≡ response_text closes bare (answer_by root x ask outcome)
-  pub standing : new (after x ask outcome)
-  pub leaves : Leaves x ask outcome (IsKnown x old_left) old_left new_left
+  pub standing : StandsSo sight new (after x ask outcome)
+  pub leaves :
+      let left = sight.may_leave old in
+      Leaves x ask outcome (IsKnown x left) left (sight.may_leave new)
+  pub device : outcome ≡ failed → sight.fails old new
 
 -- an answer, or the fault that is to be answered, over a keeper that stood for a state
 abbrev pub TriesIn : Text → State → AskValue → Bool → Bool → Result (Answer × Bool) Fault → (State → Type 0) → Option Cause → Type 0
@@ -106,6 +115,15 @@ pub data BatchAnswers (key : Text) (asked bare : Bool) (text : Text) (closes : B
   by_reply : (reply : Reply) → applies (Ok reply) → closes ≡ closes_with asked (replied key reply) → text ≡ response_text closes bare (replied key reply) → BatchAnswers key asked bare text closes applies unasked
   by_fault : (fault : Fault) → applies (Err fault) → closes ≡ true → text ≡ response_text true bare (fault_response (Keeper fault)) → BatchAnswers key asked bare text closes applies unasked
   unasked_of : unasked → closes ≡ true → text ≡ response_text true bare (fault_response (Keeper faults.Memory)) → BatchAnswers key asked bare text closes applies unasked
+
+-- where a batch is asked between two keepers: it is answered as the first answered it, and was left
+-- so; or the keeper was never asked, is as it was, and memory was refused
+abbrev pub TellsBatch :
+    {K : Type 0} (applies : K → BatchValue → Result Reply Fault → K → Type 0) (ask : AskValue)
+    (asked bare : Bool) (text : Text) (closes : Bool) (old new : K) → Type 0
+TellsBatch applies ask asked bare text closes old new =
+    (b : BatchValue) → ask ≡ batch b
+    → BatchAnswers b.key asked bare text closes (λ r. applies old b r new) (new ≡ old)
 
 -- ---- broken rules
 

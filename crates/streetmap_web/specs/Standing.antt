@@ -1,5 +1,5 @@
 -- What a keeper stands for, what becomes of it, and what a stop may leave.
-use Rattle.std.specs.Prelude.{◌≡◌, true, Option, Some, ⊤}
+use Rattle.std.specs.Prelude.{◌≡◌, ◌↔◌, true, Option, Some, ⊤}
 use Rattle.streetmap_batch.specs.Text.{Text}
 use Rattle.streetmap_ledger.specs.State.{State}
 use Rattle.streetmap_ledger.specs.Keep.{LeavesOnly, LeavesEither}
@@ -53,21 +53,23 @@ StateLeaves s ask told left = LeavesOnly left (Some (state_in s ask))
 StateLeaves s ask starved left = LeavesOnly left (Some s)
 StateLeaves s ask failed left = LeavesEither left (Some s) (Some (state_in s ask))
 
--- no more than before
-abbrev pub LeavesNoMore : (old new : Option State → Type 0) → Type 0
-LeavesNoMore old new = (o : Option State) → new o → old o
+-- exactly what it could leave before
+abbrev pub LeavesAsBefore : (old new : Option State → Type 0) → Type 0
+LeavesAsBefore old new = (o : Option State) → new o ↔ old o
 
 -- what is known before: where the keeper stands for a state, a stop may leave it and no other
 abbrev pub IsKnown : Standing → (Option State → Type 0) → Type 0
 IsKnown (of_state s) left = LeavesOnly left (Some s)
 IsKnown (shut why) left = ⊤
 
--- what a stop may leave behind a request, where this was known before; a shut keeper leaves no more than before
-abbrev pub Leaves : Standing → AskValue → Outcome → (known : Type 0) → (old new : Option State → Type 0) → Type 0
+-- what a stop may leave behind a request, where this was known before; behind one over a shut
+-- keeper exactly what it could leave before
+abbrev pub Leaves :
+    Standing → AskValue → Outcome → (known : Type 0) → (old new : Option State → Type 0) → Type 0
 Leaves (of_state s) ask outcome known old new = known → StateLeaves s ask outcome new
-Leaves (shut why) ask outcome known old new = LeavesNoMore old new
+Leaves (shut why) ask outcome known old new = LeavesAsBefore old new
 
 -- what a stop may leave where nothing was acted on
 abbrev pub Stays : Standing → (known : Type 0) → (old new : Option State → Type 0) → Type 0
 Stays (of_state s) known old new = known → LeavesOnly new (Some s)
-Stays (shut why) known old new = LeavesNoMore old new
+Stays (shut why) known old new = LeavesAsBefore old new

@@ -1,5 +1,6 @@
 //! Answers to requests, over any keeper.
-ghost use Rattle.std.specs.Prelude.{◌≡◌, ◌≤◌, ◌++◌, ◌||◌, ◌==◌, [], true, Some, IfOk, string_bytes, string_len, string_capacity};
+ghost use Rattle.std.specs.Prelude.{◌≡◌, ◌≤◌, ◌++◌, ◌||◌, ◌==◌, [], true, Some, IfOk, IsErrOf};
+ghost use Rattle.std.specs.Prelude.{string_bytes, string_len, string_capacity};
 ghost use Rattle.streetmap_ledger.specs.Keep.{LeavesOnly};
 ghost use Rattle.streetmap_ledger.specs.State.{State};
 ghost use Rattle.streetmap_ledger.specs.declared.reply.Cause.{Cause};
@@ -9,9 +10,13 @@ ghost use Rattle.streetmap_batch.specs.BatchValue.{BatchValue};
 ghost use Rattle.streetmap_routes.specs.Ask.{ask_of, batch};
 ghost use Rattle.streetmap_routes.specs.BaseView.{root_of};
 ghost use Rattle.streetmap_web.specs.Response.{response_text, closes_with, head_of, fault_response};
-ghost use Rattle.streetmap_web.specs.Standing.{Standing, Stands, LeavesNoMore};
-ghost use Rattle.streetmap_web.specs.Responds.{response_value, answer_text, Answers, TriesIn, TriesShut, AnswerLeaves, BatchTries, BatchAnswers, RefusesBy};
-ghost use Rattle.streetmap_bodies.specs.declared.request_fault.RequestFault.TheVariants.{Keeper as KeeperFault, Framing};
+ghost use Rattle.streetmap_web.specs.Standing.{Standing, Stands, LeavesAsBefore};
+ghost use Rattle.streetmap_web.specs.Sight.{sight_of};
+ghost use Rattle.streetmap_web.specs.Responds.{response_value, answer_text, Answers, TriesIn};
+ghost use Rattle.streetmap_web.specs.Responds.{TriesShut, AnswerLeaves, BatchTries, TellsBatch};
+ghost use Rattle.streetmap_web.specs.Responds.{RefusesBy};
+ghost use Rattle.streetmap_bodies.specs.declared.request_fault.RequestFault.TheVariants.{Framing};
+ghost use Rattle.streetmap_bodies.specs.declared.request_fault.RequestFault.TheVariants as faults;
 
 use crate::respond::{faulty, respond_to};
 use crate::response::Response;
@@ -92,7 +97,7 @@ fn finish(room: String, response: Response, closes: bool, bare: bool) -> Answer
 
 /// The head of the answer with a keeper's fault.
 fn fixed_head(fault: Fault) -> &'static str
-    ensures { result.now ≡ head_text (head_of true (fault_response (KeeperFault fault))) }
+    ensures { result.now ≡ head_text (head_of true (fault_response (faults.Keeper fault))) }
 {
     match fault {
         Fault::Memory =>
@@ -108,7 +113,7 @@ fn fixed_head(fault: Fault) -> &'static str
 
 /// The body of the answer with a keeper's fault.
 fn fixed_body(fault: Fault) -> &'static str
-    ensures { result.now ≡ (fault_response (KeeperFault fault)).body }
+    ensures { result.now ≡ (fault_response (faults.Keeper fault)).body }
 {
     match fault {
         Fault::Memory =>
@@ -125,7 +130,7 @@ fn fixed_body(fault: Fault) -> &'static str
 /// The answer with a keeper's fault. It takes no memory.
 #[tactic(auto, unfolding(crate::specs::Response::response_text))]
 pub(crate) fn fixed(fault: Fault, bare: bool) -> Answer
-    ensures { answer_text result ≡ response_text true bare (fault_response (KeeperFault fault)) }
+    ensures { answer_text result ≡ response_text true bare (fault_response (faults.Keeper fault)) }
 {
     let body = if bare { "" } else { fixed_body(fault) };
     Answer::Fixed(fixed_head(fault), body)
@@ -146,11 +151,29 @@ fn try_answer<K: Keeper>(
     request: RequestHead,
     body: &[u8],
 ) -> Result<(Answer, bool), Fault>
-    ensures told { (b : BatchValue) → ask_of request.entry.method.now request.entry.target.now body.now ≡ batch b → BatchTries b.key request.entry.closes (is_bare_of request.entry.method.now) result (λ r. K.applies keeper.old b r keeper.new) (keeper.new ≡ keeper.old) }
+    ensures told { (b : BatchValue) →
+        ask_of request.entry.method.now request.entry.target.now body.now ≡ batch b →
+        BatchTries b.key request.entry.closes (is_bare_of request.entry.method.now) result
+        (λ r. K.applies keeper.old b r keeper.new) (keeper.new ≡ keeper.old) }
+    ensures spared { K.spares keeper.old keeper.new }
     ensures began_clean { K.is_clean keeper.new → K.is_clean keeper.old }
-    ensures answers { K.is_clean keeper.new → (s : State) → K.stands keeper.old s → TriesIn (root_of base.now) s (ask_of request.entry.method.now request.entry.target.now body.now) request.entry.closes (is_bare_of request.entry.method.now) result (K.stands keeper.new) (K.cause keeper.new) }
-    ensures shut { (why : Cause) → K.cause keeper.old ≡ Some why → TriesShut (root_of base.now) (ask_of request.entry.method.now request.entry.target.now body.now) request.entry.closes (is_bare_of request.entry.method.now) result × (K.cause keeper.new ≡ Some why) × LeavesNoMore (K.may_leave keeper.old) (K.may_leave keeper.new) }
-    ensures leaves { K.is_clean keeper.new → (s : State) → K.stands keeper.old s → LeavesOnly (K.may_leave keeper.old) (Some s) → AnswerLeaves s (ask_of request.entry.method.now request.entry.target.now body.now) result (K.may_leave keeper.new) }
+    ensures answers { K.is_clean keeper.new → (s : State) → K.stands keeper.old s →
+        TriesIn (root_of base.now) s
+        (ask_of request.entry.method.now request.entry.target.now body.now)
+        request.entry.closes (is_bare_of request.entry.method.now) result
+        (K.stands keeper.new) (K.cause keeper.new) }
+    ensures shut { (why : Cause) → K.cause keeper.old ≡ Some why →
+        TriesShut (root_of base.now)
+        (ask_of request.entry.method.now request.entry.target.now body.now)
+        request.entry.closes (is_bare_of request.entry.method.now) result
+        × (K.cause keeper.new ≡ Some why)
+        × LeavesAsBefore (K.may_leave keeper.old) (K.may_leave keeper.new) }
+    ensures device { K.is_clean keeper.new → (s : State) → K.stands keeper.old s →
+        IsErrOf result Fault.Device → K.fails keeper.old keeper.new }
+    ensures leaves { K.is_clean keeper.new → (s : State) → K.stands keeper.old s →
+        LeavesOnly (K.may_leave keeper.old) (Some s) →
+        AnswerLeaves s (ask_of request.entry.method.now request.entry.target.now body.now)
+        result (K.may_leave keeper.new) }
 {
     let Ok(room) = String::with_capacity(alloc, HEAD_ROOM) else {
         return Err(Fault::Memory);
@@ -178,10 +201,19 @@ pub(crate) fn answer_to<K: Keeper>(
     request: RequestHead,
     body: &[u8],
 ) -> (Answer, bool)
-    ensures told { (b : BatchValue) → ask_of request.entry.method.now request.entry.target.now body.now ≡ batch b → BatchAnswers b.key request.entry.closes (is_bare_of request.entry.method.now) (answer_text result.0) result.1 (λ r. K.applies keeper.old b r keeper.new) (keeper.new ≡ keeper.old) }
+    ensures told { TellsBatch K.applies
+        (ask_of request.entry.method.now request.entry.target.now body.now)
+        request.entry.closes (is_bare_of request.entry.method.now)
+        (answer_text result.0) result.1 keeper.old keeper.new }
+    ensures spared { K.spares keeper.old keeper.new }
     ensures began_clean { K.is_clean keeper.new → K.is_clean keeper.old }
-    ensures answers { K.is_clean keeper.new → (x : Standing) → Stands (K.stands keeper.old) (K.cause keeper.old) x →
-        Answers (root_of base.now) x (ask_of request.entry.method.now request.entry.target.now body.now) request.entry.closes (is_bare_of request.entry.method.now) (answer_text result.0) result.1 (Stands (K.stands keeper.new) (K.cause keeper.new)) (K.may_leave keeper.old) (K.may_leave keeper.new) }
+    ensures answers { K.is_clean keeper.new → (x : Standing) →
+        Stands (K.stands keeper.old) (K.cause keeper.old) x →
+        Answers (sight_of K.stands K.cause K.may_leave K.is_clean K.applies K.spares K.fails)
+        (root_of base.now) x
+        (ask_of request.entry.method.now request.entry.target.now body.now)
+        request.entry.closes (is_bare_of request.entry.method.now)
+        (answer_text result.0) result.1 keeper.old keeper.new }
 {
     match try_answer(alloc, keeper, base, request, body) {
         Ok(answer) => answer,
@@ -191,7 +223,8 @@ pub(crate) fn answer_to<K: Keeper>(
 
 /// The answer to a request that breaks a rule of framing, unless memory is refused for it.
 fn framing_answer(alloc: Global, fault: FramingFault, bare: bool) -> Result<Answer, AllocError>
-    ensures { IfOk result (λ a. answer_text a ≡ response_text true bare (fault_response (Framing fault))) }
+    ensures { IfOk result (λ a. answer_text a ≡
+        response_text true bare (fault_response (Framing fault))) }
 {
     let room = String::with_capacity(alloc, HEAD_ROOM)?;
     let response = faulty(alloc, RequestFault::Framing(fault))?;

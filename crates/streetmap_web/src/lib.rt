@@ -3,14 +3,15 @@
 //! One request in a state has one of three outcomes: the answer of that state with the state of the
 //! batch; the fixed 503 with the state as it was, where memory was refused; or the 500 of the fault
 //! that shut the keeper. `serve` reads requests one after the other and writes their answers, in
-//! order, up to the first that closes the connection; its contract says so for any keeper, reader and
-//! writer that tell their bytes (`specs/Exchanges`, `Serves`), and what a stop may leave.
+//! order, up to the first that closes the connection. Its contract says so for any keeper, reader
+//! and writer that show their bytes (`specs/Exchanges`, `Serves`), and what a stop may leave. Of
+//! each batch it says that what was answered is what the keeper answered (`specs/Coming`, `Comes`).
 //!
-//! For an edge with many connections there are the two halves of a turn: `streetmap_http` tells what
+//! For an edge with many connections there are the two halves of a turn: `streetmap_http` says what
 //! bytes that came hold of a request, and `answer_request` answers the bytes of one.
 //!
-//! Modules, in the order of reading: `response`, `respond` (what is answered in a state), `answer` (with
-//! its head), `requests` (the bytes of one), `serving`.
+//! Modules, in the order of reading: `response`, `respond` (what is answered in a state), `answer`
+//! (with its head), `requests` (the bytes of one), `serving`.
 #![tactic(auto)]
 
 mod answer;

@@ -2,12 +2,12 @@
 ghost use Rattle.std.specs.Prelude.{◌≡◌};
 ghost use Rattle.streetmap_http.specs.Arrivals.{IsAnswered};
 ghost use Rattle.streetmap_http.specs.Framing.{HeadValue, IsRequest, is_bare as is_bare_of};
-ghost use Rattle.streetmap_batch.specs.BatchValue.{BatchValue};
 ghost use Rattle.streetmap_batch.specs.Text.{Text};
-ghost use Rattle.streetmap_routes.specs.Ask.{ask_of, batch};
+ghost use Rattle.streetmap_routes.specs.Ask.{ask_of};
 ghost use Rattle.streetmap_routes.specs.BaseView.{root_of};
-ghost use Rattle.streetmap_web.specs.Exchanges.{Answered};
-ghost use Rattle.streetmap_web.specs.Responds.{answer_text, BatchAnswers};
+ghost use Rattle.streetmap_web.specs.Coming.{Answered};
+ghost use Rattle.streetmap_web.specs.Responds.{answer_text, TellsBatch};
+ghost use Rattle.streetmap_web.specs.Sight.{sight_of};
 ghost use Rattle.streetmap_web.specs.Standing.{Standing, Stands};
 
 use crate::answer::{Answer, answer_to, refused};
@@ -18,8 +18,8 @@ use streetmap_ledger::Keeper;
 use streetmap_routes::Base;
 
 /// Answers the bytes of one request over a keeper: hands out the answer, and whether the connection
-/// closes behind it. Nothing is asked of memory after a batch was applied; who writes the answer may
-/// write it piece by piece.
+/// closes behind it. Nothing is asked of memory after a batch was applied; who writes the answer
+/// may write it piece by piece.
 ///
 /// What bytes that came are one request, `streetmap_http::arrival_of` tells.
 pub fn answer_request<K: Keeper>(
@@ -29,14 +29,19 @@ pub fn answer_request<K: Keeper>(
     request: &[u8],
 ) -> (Answer, bool)
     requires { IsAnswered request.now }
-    // Over a keeper that stands so: the answer of what stands there, and what stands there afterwards. Want of
-    // memory (503) leaves the state as it was, and a 500 a keeper that is shut.
-    ensures answers { K.is_clean keeper.new → (x : Standing) → Stands (K.stands keeper.old) (K.cause keeper.old) x →
-        Answered (root_of base.now) x request.now (answer_text result.0) result.1 (Stands (K.stands keeper.new) (K.cause keeper.new)) (K.may_leave keeper.old) (K.may_leave keeper.new) }
-    // A batch is answered as the keeper answered it, whatever the reply is; 503 comes where the keeper answered
-    // so, or was never asked.
-    ensures told { (h : HeadValue) (body : Text) → IsRequest request.now h body → (b : BatchValue) → ask_of h.method h.target body ≡ batch b →
-        BatchAnswers b.key h.closes (is_bare_of h.method) (answer_text result.0) result.1 (λ r. K.applies keeper.old b r keeper.new) (keeper.new ≡ keeper.old) }
+    // Over a keeper that stands so: the answer of what stands there, and what stands there
+    // afterwards. Want of memory (503) leaves the state as it was, and a 500 a keeper that is shut.
+    ensures answers { K.is_clean keeper.new → (x : Standing) →
+        Stands (K.stands keeper.old) (K.cause keeper.old) x →
+        Answered (sight_of K.stands K.cause K.may_leave K.is_clean K.applies K.spares K.fails)
+        (root_of base.now) x request.now (answer_text result.0) result.1 keeper.old keeper.new }
+    // A batch is answered as the keeper answered it, whatever the reply is; 503 comes where the
+    // keeper answered so, or was never asked.
+    ensures told { (h : HeadValue) (body : Text) → IsRequest request.now h body →
+        TellsBatch K.applies (ask_of h.method h.target body) h.closes (is_bare_of h.method)
+        (answer_text result.0) result.1 keeper.old keeper.new }
+    // What else the store has is kept.
+    ensures spared { K.spares keeper.old keeper.new }
     ensures began_clean { K.is_clean keeper.new → K.is_clean keeper.old }
 {
     let mut headers = [EMPTY_HEADER_SPAN; FIELD_LIMIT];

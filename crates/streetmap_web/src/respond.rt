@@ -1,5 +1,6 @@
 //! What is answered to what is asked, over any keeper.
-ghost use Rattle.std.specs.Prelude.{◌≡◌, ◌≤◌, Some, None, IfOk, IfErr, OnErr, [], ⊤, string_bytes, string_len, string_capacity};
+ghost use Rattle.std.specs.Prelude.{◌≡◌, ◌≤◌, Some, None, IfOk, IfErr, IsErrOf, OnErr, [], ⊤};
+ghost use Rattle.std.specs.Prelude.{string_bytes, string_len, string_capacity};
 ghost use Rattle.std.specs.Option.{option_map};
 ghost use Rattle.serde_json.specs.Written.{compact_text};
 ghost use Rattle.streetmap_query.specs.Views.{query_value};
@@ -15,10 +16,12 @@ ghost use Rattle.streetmap_routes.specs.Ask as spec;
 ghost use Rattle.streetmap_web.specs.Response as spec_response;
 ghost use Rattle.streetmap_web.specs.Response.{fault_response, found};
 ghost use Rattle.streetmap_bodies.specs.Bodies as spec_bodies;
-ghost use Rattle.streetmap_web.specs.Standing.{LeavesNoMore};
+ghost use Rattle.streetmap_web.specs.Standing.{LeavesAsBefore};
 ghost use Rattle.streetmap_routes.specs.AskView.{ask_value};
-ghost use Rattle.streetmap_web.specs.Responds.{response_value, RespondsIn, RespondsShut, AnswerLeaves, BatchResponds};
-ghost use Rattle.streetmap_http.specs.declared.answer_head.MediaType.TheVariants.{Json, GeoJson, Html};
+ghost use Rattle.streetmap_web.specs.Responds.{response_value, RespondsIn, RespondsShut};
+ghost use Rattle.streetmap_web.specs.Responds.{AnswerLeaves, BatchResponds};
+ghost use Rattle.streetmap_http.specs.declared.answer_head.MediaType.TheVariants.{Json, GeoJson};
+ghost use Rattle.streetmap_http.specs.declared.answer_head.MediaType.TheVariants.{Html};
 
 use crate::response::Response;
 use http::StatusCode;
@@ -34,8 +37,8 @@ use streetmap_ledger::{Fault, Keeper, Page, Reply, Summary};
 use streetmap_query::Query;
 use streetmap_routes::Ask;
 
-/// The room that is taken for the body of the answer to a batch before the batch is applied. With that of
-/// the head, 256 bytes, it is 1,024.
+/// The room that is taken for the body of the answer to a batch before the batch is applied. With
+/// that of the head, 256 bytes, it is 1,024.
 const BODY_ROOM: usize = 768;
 
 /// An answer of a body.
@@ -97,8 +100,8 @@ fn reply_status(reply: Reply) -> StatusCode
     }
 }
 
-/// The answer to a batch that the keeper answered without a fault, in room that was taken before: there
-/// is one whatever the reply is, and no memory is taken for it.
+/// The answer to a batch that the keeper answered without a fault, in room that was taken before:
+/// there is one whatever the reply is, and no memory is taken for it.
 fn replied(body: String, batch: &Batch, reply: Reply) -> Response
     requires room { 320 ≤ string_capacity body }
     requires blank { string_bytes body ≡ [] }
@@ -117,11 +120,22 @@ fn replied(body: String, batch: &Batch, reply: Reply) -> Response
 
 /// Applies a batch. Once it was applied no memory is taken: what the keeper replied is the answer.
 fn respond_batch<K: Keeper>(alloc: Global, keeper: &mut K, batch: &Batch) -> Result<Response, Fault>
-    ensures told { BatchResponds (batch_value batch.now).key result (λ r. K.applies keeper.old (batch_value batch.now) r keeper.new) (keeper.new ≡ keeper.old) }
+    ensures told { BatchResponds (batch_value batch.now).key result
+        (λ r. K.applies keeper.old (batch_value batch.now) r keeper.new) (keeper.new ≡ keeper.old) }
+    ensures spared { K.spares keeper.old keeper.new }
     ensures began_clean { K.is_clean keeper.new → K.is_clean keeper.old }
-    ensures responds { K.is_clean keeper.new → (s : State) → K.stands keeper.old s → (root : Text) → RespondsIn root s (spec.batch (batch_value batch.now)) result (K.stands keeper.new) (K.cause keeper.new) }
-    ensures shut { (why : Cause) → K.cause keeper.old ≡ Some why → ((root : Text) → RespondsShut root (spec.batch (batch_value batch.now)) result) × (K.cause keeper.new ≡ Some why) × LeavesNoMore (K.may_leave keeper.old) (K.may_leave keeper.new) }
-    ensures leaves { K.is_clean keeper.new → (s : State) → K.stands keeper.old s → LeavesOnly (K.may_leave keeper.old) (Some s) → AnswerLeaves s (spec.batch (batch_value batch.now)) result (K.may_leave keeper.new) }
+    ensures responds { K.is_clean keeper.new → (s : State) → K.stands keeper.old s →
+        (root : Text) → RespondsIn root s (spec.batch (batch_value batch.now)) result
+        (K.stands keeper.new) (K.cause keeper.new) }
+    ensures shut { (why : Cause) → K.cause keeper.old ≡ Some why →
+        ((root : Text) → RespondsShut root (spec.batch (batch_value batch.now)) result)
+        × (K.cause keeper.new ≡ Some why)
+        × LeavesAsBefore (K.may_leave keeper.old) (K.may_leave keeper.new) }
+    ensures device { K.is_clean keeper.new → (s : State) → K.stands keeper.old s →
+        IsErrOf result Fault.Device → K.fails keeper.old keeper.new }
+    ensures leaves { K.is_clean keeper.new → (s : State) → K.stands keeper.old s →
+        LeavesOnly (K.may_leave keeper.old) (Some s) →
+        AnswerLeaves s (spec.batch (batch_value batch.now)) result (K.may_leave keeper.new) }
 {
     let Ok(body) = String::with_capacity(alloc, BODY_ROOM) else {
         return Err(Fault::Memory);
@@ -140,7 +154,8 @@ fn found_page(
     query: &Query,
     page: &Option<Page>,
 ) -> Result<Response, AllocError>
-    ensures { IfOk result (λ b. response_value b ≡ spec_response.found_page root.now name.now (query_value query.now) (option_map page_value page.now)) }
+    ensures { IfOk result (λ b. response_value b ≡ spec_response.found_page root.now name.now
+        (query_value query.now) (option_map page_value page.now)) }
 {
     match page {
         Some(page) => Ok(found(
@@ -159,10 +174,21 @@ fn respond_page<K: Keeper>(
     name: &str,
     query: &Query,
 ) -> Result<Response, Fault>
+    ensures spared { K.spares keeper.old keeper.new }
     ensures began_clean { K.is_clean keeper.new → K.is_clean keeper.old }
-    ensures responds { K.is_clean keeper.new → (s : State) → K.stands keeper.old s → RespondsIn root.now s (spec.page name.now (query_value query.now)) result (K.stands keeper.new) (K.cause keeper.new) }
-    ensures shut { (why : Cause) → K.cause keeper.old ≡ Some why → RespondsShut root.now (spec.page name.now (query_value query.now)) result × (K.cause keeper.new ≡ Some why) × LeavesNoMore (K.may_leave keeper.old) (K.may_leave keeper.new) }
-    ensures leaves { K.is_clean keeper.new → (s : State) → K.stands keeper.old s → LeavesOnly (K.may_leave keeper.old) (Some s) → AnswerLeaves s (spec.page name.now (query_value query.now)) result (K.may_leave keeper.new) }
+    ensures responds { K.is_clean keeper.new → (s : State) → K.stands keeper.old s →
+        RespondsIn root.now s (spec.page name.now (query_value query.now)) result
+        (K.stands keeper.new) (K.cause keeper.new) }
+    ensures shut { (why : Cause) → K.cause keeper.old ≡ Some why →
+        RespondsShut root.now (spec.page name.now (query_value query.now)) result
+        × (K.cause keeper.new ≡ Some why)
+        × LeavesAsBefore (K.may_leave keeper.old) (K.may_leave keeper.new) }
+    ensures device { K.is_clean keeper.new → (s : State) → K.stands keeper.old s →
+        IsErrOf result Fault.Device → K.fails keeper.old keeper.new }
+    ensures leaves { K.is_clean keeper.new → (s : State) → K.stands keeper.old s →
+        LeavesOnly (K.may_leave keeper.old) (Some s) →
+        AnswerLeaves s (spec.page name.now (query_value query.now)) result
+        (K.may_leave keeper.new) }
 {
     match keeper.page(name, query) {
         Ok(page) => or_starved(found_page(alloc, root, name, query, &page)),
@@ -177,7 +203,8 @@ fn found_feature(
     name: &str,
     feature: &Option<Feature>,
 ) -> Result<Response, AllocError>
-    ensures { IfOk result (λ b. response_value b ≡ spec_response.found_feature root.now name.now feature.now) }
+    ensures { IfOk result (λ b. response_value b ≡
+        spec_response.found_feature root.now name.now feature.now) }
 {
     match feature {
         Some(feature) => Ok(found(
@@ -196,10 +223,20 @@ fn respond_feature<K: Keeper>(
     name: &str,
     id: &str,
 ) -> Result<Response, Fault>
+    ensures spared { K.spares keeper.old keeper.new }
     ensures began_clean { K.is_clean keeper.new → K.is_clean keeper.old }
-    ensures responds { K.is_clean keeper.new → (s : State) → K.stands keeper.old s → RespondsIn root.now s (spec.feature name.now id.now) result (K.stands keeper.new) (K.cause keeper.new) }
-    ensures shut { (why : Cause) → K.cause keeper.old ≡ Some why → RespondsShut root.now (spec.feature name.now id.now) result × (K.cause keeper.new ≡ Some why) × LeavesNoMore (K.may_leave keeper.old) (K.may_leave keeper.new) }
-    ensures leaves { K.is_clean keeper.new → (s : State) → K.stands keeper.old s → LeavesOnly (K.may_leave keeper.old) (Some s) → AnswerLeaves s (spec.feature name.now id.now) result (K.may_leave keeper.new) }
+    ensures responds { K.is_clean keeper.new → (s : State) → K.stands keeper.old s →
+        RespondsIn root.now s (spec.feature name.now id.now) result
+        (K.stands keeper.new) (K.cause keeper.new) }
+    ensures shut { (why : Cause) → K.cause keeper.old ≡ Some why →
+        RespondsShut root.now (spec.feature name.now id.now) result
+        × (K.cause keeper.new ≡ Some why)
+        × LeavesAsBefore (K.may_leave keeper.old) (K.may_leave keeper.new) }
+    ensures device { K.is_clean keeper.new → (s : State) → K.stands keeper.old s →
+        IsErrOf result Fault.Device → K.fails keeper.old keeper.new }
+    ensures leaves { K.is_clean keeper.new → (s : State) → K.stands keeper.old s →
+        LeavesOnly (K.may_leave keeper.old) (Some s) →
+        AnswerLeaves s (spec.feature name.now id.now) result (K.may_leave keeper.new) }
 {
     match keeper.feature(name, id) {
         Ok(feature) => or_starved(found_feature(alloc, root, name, &feature)),
@@ -213,7 +250,8 @@ fn found_collection(
     root: &str,
     summary: &Option<Summary>,
 ) -> Result<Response, AllocError>
-    ensures { IfOk result (λ b. response_value b ≡ spec_response.found_collection root.now (option_map summary_value summary.now)) }
+    ensures { IfOk result (λ b. response_value b ≡
+        spec_response.found_collection root.now (option_map summary_value summary.now)) }
 {
     match summary {
         Some(summary) => Ok(found(MediaType::Json, collection_text(alloc, root, summary)?)),
@@ -228,10 +266,20 @@ fn respond_collection<K: Keeper>(
     root: &str,
     name: &str,
 ) -> Result<Response, Fault>
+    ensures spared { K.spares keeper.old keeper.new }
     ensures began_clean { K.is_clean keeper.new → K.is_clean keeper.old }
-    ensures responds { K.is_clean keeper.new → (s : State) → K.stands keeper.old s → RespondsIn root.now s (spec.one_collection name.now) result (K.stands keeper.new) (K.cause keeper.new) }
-    ensures shut { (why : Cause) → K.cause keeper.old ≡ Some why → RespondsShut root.now (spec.one_collection name.now) result × (K.cause keeper.new ≡ Some why) × LeavesNoMore (K.may_leave keeper.old) (K.may_leave keeper.new) }
-    ensures leaves { K.is_clean keeper.new → (s : State) → K.stands keeper.old s → LeavesOnly (K.may_leave keeper.old) (Some s) → AnswerLeaves s (spec.one_collection name.now) result (K.may_leave keeper.new) }
+    ensures responds { K.is_clean keeper.new → (s : State) → K.stands keeper.old s →
+        RespondsIn root.now s (spec.one_collection name.now) result
+        (K.stands keeper.new) (K.cause keeper.new) }
+    ensures shut { (why : Cause) → K.cause keeper.old ≡ Some why →
+        RespondsShut root.now (spec.one_collection name.now) result
+        × (K.cause keeper.new ≡ Some why)
+        × LeavesAsBefore (K.may_leave keeper.old) (K.may_leave keeper.new) }
+    ensures device { K.is_clean keeper.new → (s : State) → K.stands keeper.old s →
+        IsErrOf result Fault.Device → K.fails keeper.old keeper.new }
+    ensures leaves { K.is_clean keeper.new → (s : State) → K.stands keeper.old s →
+        LeavesOnly (K.may_leave keeper.old) (Some s) →
+        AnswerLeaves s (spec.one_collection name.now) result (K.may_leave keeper.new) }
 {
     match keeper.collection(name) {
         Ok(summary) => or_starved(found_collection(alloc, root, &summary)),
@@ -245,7 +293,8 @@ fn found_collections(
     root: &str,
     summaries: &[Summary],
 ) -> Result<Response, AllocError>
-    ensures { IfOk result (λ b. response_value b ≡ spec_response.found Json (compact_text (spec_bodies.collections_data root.now (summary_values summaries.now)))) }
+    ensures { IfOk result (λ b. response_value b ≡ spec_response.found Json
+        (compact_text (spec_bodies.collections_data root.now (summary_values summaries.now)))) }
 {
     let body = collections_text(alloc, root, summaries)?;
     Ok(found(MediaType::Json, body))
@@ -257,10 +306,20 @@ fn respond_collections<K: Keeper>(
     keeper: &mut K,
     root: &str,
 ) -> Result<Response, Fault>
+    ensures spared { K.spares keeper.old keeper.new }
     ensures began_clean { K.is_clean keeper.new → K.is_clean keeper.old }
-    ensures responds { K.is_clean keeper.new → (s : State) → K.stands keeper.old s → RespondsIn root.now s spec.all_collections result (K.stands keeper.new) (K.cause keeper.new) }
-    ensures shut { (why : Cause) → K.cause keeper.old ≡ Some why → RespondsShut root.now spec.all_collections result × (K.cause keeper.new ≡ Some why) × LeavesNoMore (K.may_leave keeper.old) (K.may_leave keeper.new) }
-    ensures leaves { K.is_clean keeper.new → (s : State) → K.stands keeper.old s → LeavesOnly (K.may_leave keeper.old) (Some s) → AnswerLeaves s spec.all_collections result (K.may_leave keeper.new) }
+    ensures responds { K.is_clean keeper.new → (s : State) → K.stands keeper.old s →
+        RespondsIn root.now s spec.all_collections result
+        (K.stands keeper.new) (K.cause keeper.new) }
+    ensures shut { (why : Cause) → K.cause keeper.old ≡ Some why →
+        RespondsShut root.now spec.all_collections result
+        × (K.cause keeper.new ≡ Some why)
+        × LeavesAsBefore (K.may_leave keeper.old) (K.may_leave keeper.new) }
+    ensures device { K.is_clean keeper.new → (s : State) → K.stands keeper.old s →
+        IsErrOf result Fault.Device → K.fails keeper.old keeper.new }
+    ensures leaves { K.is_clean keeper.new → (s : State) → K.stands keeper.old s →
+        LeavesOnly (K.may_leave keeper.old) (Some s) →
+        AnswerLeaves s spec.all_collections result (K.may_leave keeper.new) }
 {
     match keeper.collections() {
         Ok(summaries) => or_starved(found_collections(alloc, root, summaries.as_slice())),
@@ -270,7 +329,8 @@ fn respond_collections<K: Keeper>(
 
 /// The answer with the landing page.
 fn found_landing(alloc: Global, root: &str) -> Result<Response, AllocError>
-    ensures { IfOk result (λ b. response_value b ≡ spec_response.found Json (compact_text (spec_bodies.landing_data root.now))) }
+    ensures { IfOk result (λ b. response_value b ≡
+        spec_response.found Json (compact_text (spec_bodies.landing_data root.now))) }
 {
     let body = landing_text(alloc, root)?;
     Ok(found(MediaType::Json, body))
@@ -287,14 +347,16 @@ fn found_text(alloc: Global, kind: MediaType, text: &str) -> Result<Response, Al
 
 /// The answer with the description of the service.
 fn found_api(alloc: Global) -> Result<Response, AllocError>
-    ensures { IfOk result (λ b. response_value b ≡ spec_response.found Html spec_bodies.api_document) }
+    ensures { IfOk result (λ b. response_value b ≡
+        spec_response.found Html spec_bodies.api_document) }
 {
     found_text(alloc, MediaType::Html, api_text())
 }
 
 /// The answer with the conformance classes.
 fn found_conformance(alloc: Global) -> Result<Response, AllocError>
-    ensures { IfOk result (λ b. response_value b ≡ spec_response.found Json (compact_text spec_bodies.conformance_data)) }
+    ensures { IfOk result (λ b. response_value b ≡
+        spec_response.found Json (compact_text spec_bodies.conformance_data)) }
 {
     found_text(alloc, MediaType::Json, conformance_text())
 }
@@ -306,11 +368,23 @@ pub(crate) fn respond_to<K: Keeper>(
     root: &str,
     ask: &Ask,
 ) -> Result<Response, Fault>
-    ensures told { (b : BatchValue) → ask_value ask.now ≡ spec.batch b → BatchResponds b.key result (λ r. K.applies keeper.old b r keeper.new) (keeper.new ≡ keeper.old) }
+    ensures told { (b : BatchValue) → ask_value ask.now ≡ spec.batch b →
+        BatchResponds b.key result
+        (λ r. K.applies keeper.old b r keeper.new) (keeper.new ≡ keeper.old) }
+    ensures spared { K.spares keeper.old keeper.new }
     ensures began_clean { K.is_clean keeper.new → K.is_clean keeper.old }
-    ensures responds { K.is_clean keeper.new → (s : State) → K.stands keeper.old s → RespondsIn root.now s (ask_value ask.now) result (K.stands keeper.new) (K.cause keeper.new) }
-    ensures shut { (why : Cause) → K.cause keeper.old ≡ Some why → RespondsShut root.now (ask_value ask.now) result × (K.cause keeper.new ≡ Some why) × LeavesNoMore (K.may_leave keeper.old) (K.may_leave keeper.new) }
-    ensures leaves { K.is_clean keeper.new → (s : State) → K.stands keeper.old s → LeavesOnly (K.may_leave keeper.old) (Some s) → AnswerLeaves s (ask_value ask.now) result (K.may_leave keeper.new) }
+    ensures responds { K.is_clean keeper.new → (s : State) → K.stands keeper.old s →
+        RespondsIn root.now s (ask_value ask.now) result
+        (K.stands keeper.new) (K.cause keeper.new) }
+    ensures shut { (why : Cause) → K.cause keeper.old ≡ Some why →
+        RespondsShut root.now (ask_value ask.now) result
+        × (K.cause keeper.new ≡ Some why)
+        × LeavesAsBefore (K.may_leave keeper.old) (K.may_leave keeper.new) }
+    ensures device { K.is_clean keeper.new → (s : State) → K.stands keeper.old s →
+        IsErrOf result Fault.Device → K.fails keeper.old keeper.new }
+    ensures leaves { K.is_clean keeper.new → (s : State) → K.stands keeper.old s →
+        LeavesOnly (K.may_leave keeper.old) (Some s) →
+        AnswerLeaves s (ask_value ask.now) result (K.may_leave keeper.new) }
 {
     match ask {
         Ask::Faulty(fault) => or_starved(faulty(alloc, *fault)),

@@ -1,5 +1,6 @@
 //! A stream of requests, answered in order: a turn reads one and answers it.
-ghost use Rattle.std.specs.Prelude.{◌≡◌, ◌<◌, ◌+◌, ◌-◌, ◌^◌, Option, IfOk, if◌then◌else◌, length};
+ghost use Rattle.std.specs.Prelude.{◌≡◌, ◌<◌, ◌+◌, ◌-◌, ◌^◌, Option, IfOk, if◌then◌else◌};
+ghost use Rattle.std.specs.Prelude.{length};
 ghost use Rattle.std.specs.Io.KnownBytes.{Consumes, IsAtEnd};
 ghost use Rattle.streetmap_http.specs.Head.{IsHead};
 ghost use Rattle.streetmap_http.specs.Framing.{Frames, Breaks, sized};
@@ -7,10 +8,11 @@ ghost use Rattle.streetmap_http.specs.Sending.{SentSays};
 ghost use Rattle.streetmap_http.specs.FramingView.{framing_value, head_value};
 ghost use Rattle.streetmap_batch.specs.Text.{Text};
 ghost use Rattle.streetmap_routes.specs.BaseView.{root_of};
-ghost use Rattle.streetmap_ledger.specs.State.{State};
+ghost use Rattle.streetmap_web.specs.Coming.{around};
 ghost use Rattle.streetmap_web.specs.Responds.{answer_text};
-ghost use Rattle.streetmap_web.specs.Standing.{Standing, Stands, IsKnown};
-ghost use Rattle.streetmap_web.specs.Exchanges.{Around, TurnSays, Serves};
+ghost use Rattle.streetmap_web.specs.Sight.{sight_of};
+ghost use Rattle.streetmap_web.specs.Standing.{Standing, Stands};
+ghost use Rattle.streetmap_web.specs.Exchanges.{TurnComes, Serves};
 ghost use Rattle.streetmap_web.specs.Turns.{turn_after, end_of, begun_in, FillSays, RefuseSays};
 
 use crate::answer::{Answer, answer_to, fixed, refused};
@@ -103,11 +105,14 @@ fn count_after(answers: u64, turn: Turn) -> u64
     if is_begun(turn) { answers + 1 } else { answers }
 }
 
-/// Writes an answer.
+/// Writes an answer, and flushes the writer. A flush that fails is passed over.
 fn write_answer<W: Write>(writer: &mut W, answer: &Answer) -> Sent
-    ensures { SentSays result (answer_text answer.now) (W.contents writer.old) (W.contents writer.new) }
+    ensures { SentSays result (answer_text answer.now)
+        (W.contents writer.old) (W.contents writer.new) }
 {
-    send(writer, answer.head(), answer.body())
+    let sent = send(writer, answer.head(), answer.body());
+    let _ = writer.flush();
+    sent
 }
 
 /// Room for a body.
@@ -139,7 +144,8 @@ fn fill<R: Read>(reader: &mut R, room: &mut [u8]) -> BodyEnd
 /// Reads a body into room for it. Answers how that ended.
 fn read_all<R: Read>(reader: &mut R, room: Vec<u8>) -> (BodyEnd, Vec<u8>)
     ensures len { length result.1.items ≡ length room.items }
-    ensures says { FillSays result.0 result.1.items (R.remaining reader.old) (R.remaining reader.new) }
+    ensures says { FillSays result.0 result.1.items
+        (R.remaining reader.old) (R.remaining reader.new) }
 {
     let mut body = room;
     let end = fill(reader, &mut body);
@@ -155,9 +161,16 @@ fn answer_turn<K: Keeper, R: Read, W: Write>(
     reader: &mut R,
     writer: &mut W,
 ) -> Turn
+    ensures spared { K.spares keeper.old keeper.new }
     ensures began_clean { K.is_clean keeper.new → K.is_clean keeper.old }
-    ensures says { K.is_clean keeper.new → (bytes : Text) (left : Option Text) (x : Standing) → IsHead bytes → Frames bytes (sized (head_value head.entry)) → Consumes left (R.remaining reader.old) bytes → Stands (K.stands keeper.old) (K.cause keeper.old) x →
-        TurnSays result (root_of base.now) x (record { old_left = left; new_left = R.remaining reader.new; old_held = W.contents writer.old; new_held = W.contents writer.new; stands = Stands (K.stands keeper.new) (K.cause keeper.new); known = IsKnown x (K.may_leave keeper.old); old_leaves = K.may_leave keeper.old; new_leaves = K.may_leave keeper.new }) }
+    ensures says { K.is_clean keeper.new → (bytes : Text) (left : Option Text) (x : Standing) →
+        IsHead bytes → Frames bytes (sized (head_value head.entry)) →
+        Consumes left (R.remaining reader.old) bytes →
+        Stands (K.stands keeper.old) (K.cause keeper.old) x →
+        TurnComes result (root_of base.now) x
+        (around (sight_of K.stands K.cause K.may_leave K.is_clean K.applies K.spares K.fails)
+        (root_of base.now) x left (R.remaining reader.new)
+        (W.contents writer.old) (W.contents writer.new) keeper.old keeper.new) }
 {
     let Ok(room) = body_room(alloc, head.len) else {
         let bare = is_bare(head.method);
@@ -183,9 +196,14 @@ fn take_turn<K: Keeper, R: Read, W: Write>(
     buf: &mut [u8],
 ) -> Turn
     requires { length buf.old ≡ HEAD_LIMIT }
+    ensures spared { K.spares keeper.old keeper.new }
     ensures began_clean { K.is_clean keeper.new → K.is_clean keeper.old }
-    ensures says { K.is_clean keeper.new → (x : Standing) → Stands (K.stands keeper.old) (K.cause keeper.old) x →
-        TurnSays result (root_of base.now) x (record { old_left = R.remaining reader.old; new_left = R.remaining reader.new; old_held = W.contents writer.old; new_held = W.contents writer.new; stands = Stands (K.stands keeper.new) (K.cause keeper.new); known = IsKnown x (K.may_leave keeper.old); old_leaves = K.may_leave keeper.old; new_leaves = K.may_leave keeper.new }) }
+    ensures says { K.is_clean keeper.new → (x : Standing) →
+        Stands (K.stands keeper.old) (K.cause keeper.old) x →
+        TurnComes result (root_of base.now) x
+        (around (sight_of K.stands K.cause K.may_leave K.is_clean K.applies K.spares K.fails)
+        (root_of base.now) x (R.remaining reader.old) (R.remaining reader.new)
+        (W.contents writer.old) (W.contents writer.new) keeper.old keeper.new) }
 {
     let (end, len) = read_head(reader, buf);
     match end {
@@ -204,12 +222,13 @@ fn take_turn<K: Keeper, R: Read, W: Write>(
     }
 }
 
-/// Serves a stream of requests over a keeper: reads them from the reader, and writes their answers to
-/// the writer, in order, up to the first that closes the connection.
+/// Serves a stream of requests over a keeper: reads them from the reader, and writes their answers
+/// to the writer, in order, up to the first that closes the connection. Behind each answer the
+/// writer is flushed; a flush that fails is passed over.
 ///
-/// It ends where an answer closed the connection or the input ended (`Ended`), where the input ended
-/// within a request (`Truncated`), or where a read or a write failed; of a request that did not come
-/// whole nothing is applied.
+/// It ends where an answer closed the connection or the input ended (`Ended`), where the input
+/// ended within a request (`Truncated`), or where a read or a write failed; of a request that did
+/// not come whole nothing is applied.
 pub fn serve<K: Keeper, R: BufRead, W: Write>(
     alloc: Global,
     keeper: &mut K,
@@ -217,14 +236,22 @@ pub fn serve<K: Keeper, R: BufRead, W: Write>(
     reader: &mut R,
     writer: &mut W,
 ) -> Served
-    // Where the store was clean: for what the keeper stood for there is a list of requests with their answers,
-    // each of which leaves the connection open, and a last turn. The reader lost exactly the bytes of the requests,
-    // the writer got exactly the answers, and the keeper stands for the state after their batches. The last turn
-    // says how serving ends, and nothing was applied or written in one without an answer; so many answers are told
-    // as were begun. Where a stop could leave only the state before, it may leave only the state afterwards, or
-    // where the device failed at the last request that state or the one before it.
-    ensures serves { K.is_clean keeper.new → (x : Standing) → Stands (K.stands keeper.old) (K.cause keeper.old) x →
-        Serves (root_of base.now) result.end result.answers x (record { old_left = R.remaining reader.old; new_left = R.remaining reader.new; old_held = W.contents writer.old; new_held = W.contents writer.new; stands = Stands (K.stands keeper.new) (K.cause keeper.new); known = IsKnown x (K.may_leave keeper.old); old_leaves = K.may_leave keeper.old; new_leaves = K.may_leave keeper.new }) }
+    // Where the store was clean: for what the keeper stood for there is a list of requests with
+    // their answers, each of which leaves the connection open, and a last turn. The reader lost
+    // exactly the bytes of the requests, the writer got exactly the answers, and the keeper stands
+    // for the state after their batches. Each batch was answered by what `apply` came to, or was
+    // never asked. The last turn says how serving ends, and nothing was applied or written in one
+    // without an answer; so many answers are told as were begun. Where a stop could leave only the
+    // state before, it may leave only the state afterwards, or where the device failed at the last
+    // request that state or the one before it.
+    ensures serves { K.is_clean keeper.new → (x : Standing) →
+        Stands (K.stands keeper.old) (K.cause keeper.old) x →
+        Serves (root_of base.now) result.end result.answers x
+        (around (sight_of K.stands K.cause K.may_leave K.is_clean K.applies K.spares K.fails)
+        (root_of base.now) x (R.remaining reader.old) (R.remaining reader.new)
+        (W.contents writer.old) (W.contents writer.new) keeper.old keeper.new) }
+    // What else the store has is kept.
+    ensures spared { K.spares keeper.old keeper.new }
     ensures began_clean { K.is_clean keeper.new → K.is_clean keeper.old }
 {
     let mut buf = [0u8; HEAD_LIMIT];

@@ -5,20 +5,27 @@ use Rattle.streetmap_routes.specs.BaseView.{root_of}
 use Rattle.streetmap_web.specs.Response.{response_text, fault_response}
 use Rattle.streetmap_bodies.specs.declared.request_fault.RequestFault.TheVariants.{Keeper}
 use Rattle.streetmap_web.specs.Responds.{by_reply, by_fault, unasked_of}
+use Rattle.streetmap_web.specs.Sight.{sight_of}
 use Rattle.streetmap_web.proofs.Standings.{ok_answers, err_answers}
 use Rattle.streetmap_web.proofs.answer.answer_to.Goals as goal
 
 pub returns-in-Ok-clause-answers : goal.returns-in-Ok-clause-answers
 returns-in-Ok-clause-answers g c = λ clean x h.
+    let k = g.K.Keeper in
+    let sight = sight_of k.stands k.cause k.may_leave k.is_clean k.applies k.spares k.fails in
     let r = c.args.request in
-    ok_answers (root_of c.args.base.now) x (ask_of r.method.now r.target.now c.args.body.now) r.closes (is_bare r.method.now) c.in-Ok.answer _ _ _ _ _ _
-    (c.in-Ok.ensures.answers clean) c.in-Ok.ensures.shut (c.in-Ok.ensures.leaves clean) h
+    let says = c.in-Ok.ensures in
+    ok_answers sight (root_of c.args.base.now) (ask_of r.method.now r.target.now c.args.body.now) r.closes (is_bare r.method.now) c.args.keeper.now c.try_answer.new.keeper x c.in-Ok.answer
+    (says.answers clean) says.shut (says.leaves clean) h
 
 pub returns-in-Err-clause-answers : goal.returns-in-Err-clause-answers
 returns-in-Err-clause-answers g c = λ clean x h.
+    let k = g.K.Keeper in
+    let sight = sight_of k.stands k.cause k.may_leave k.is_clean k.applies k.spares k.fails in
     let r = c.args.request in
-    err_answers (root_of c.args.base.now) x (ask_of r.method.now r.target.now c.args.body.now) r.closes (is_bare r.method.now) c.in-Err.fault _ _ _ _ _ _ _
-    (c.in-Err.ensures.answers clean) c.in-Err.ensures.shut (c.in-Err.ensures.leaves clean) h
+    let says = c.in-Err.ensures in
+    err_answers sight (root_of c.args.base.now) (ask_of r.method.now r.target.now c.args.body.now) r.closes (is_bare r.method.now) c.args.keeper.now c.try_answer.new.keeper x c.in-Err.fault _
+    (says.answers clean) says.shut (says.leaves clean) (says.device clean) h
     (c.fixed.ensures ∙ ap (λ bare. response_text true bare (fault_response (Keeper c.in-Err.fault))) c.is_bare.ensures)
 
 pub returns-in-Ok-clause-told : goal.returns-in-Ok-clause-told

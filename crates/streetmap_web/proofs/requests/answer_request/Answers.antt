@@ -1,20 +1,19 @@
-use Rattle.std.proofs.Common.{◌≡◌}
 use Rattle.streetmap_http.specs.Framing.{is_bare}
 use Rattle.streetmap_http.specs.FramingView.{head_value}
 use Rattle.streetmap_http.specs.declared.framing.Framed.TheVariants.{Broken, Request}
-use Rattle.streetmap_batch.specs.BatchValue.{BatchValue}
-use Rattle.streetmap_routes.specs.Ask.{ask_of, batch}
+use Rattle.streetmap_routes.specs.Ask.{ask_of}
 use Rattle.streetmap_routes.specs.BaseView.{root_of}
-use Rattle.streetmap_web.specs.Responds.{answer_text, BatchAnswers}
-use Rattle.streetmap_web.specs.Standing.{Stands}
+use Rattle.streetmap_web.specs.Responds.{answer_text, TellsBatch}
+use Rattle.streetmap_web.specs.Sight.{sight_of}
 use Rattle.streetmap_web.proofs.OneRequest.{split_as, whole_answered, broken_answered, not_broken, said_of}
 use Rattle.streetmap_web.proofs.requests.answer_request.Goals as goal
 
 pub returns-in-Broken-clause-answers : goal.returns-in-Broken-clause-answers
 returns-in-Broken-clause-answers g c = λ clean x h.
+    let k = g.K.Keeper in
+    let sight = sight_of k.stands k.cause k.may_leave k.is_clean k.applies k.spares k.fails in
     let says = split_as c.split_request.result.0 (Broken c.in-Broken.bare c.in-Broken.fault) c.split_request.result.1.now c.args.request.now c.in-Broken.is c.split_request.ensures in
-    broken_answered (root_of c.args.base.now) x c.args.request.now (answer_text c.refused.result) c.in-Broken.bare c.in-Broken.fault
-    (Stands (g.K.Keeper.stands c.args.keeper.now) (g.K.Keeper.cause c.args.keeper.now)) (g.K.Keeper.may_leave c.args.keeper.now) says.0 c.refused.ensures h
+    broken_answered sight (root_of c.args.base.now) x c.args.request.now (answer_text c.refused.result) c.in-Broken.bare c.in-Broken.fault c.args.keeper.now says.0 c.refused.ensures h
 
 pub returns-in-Broken-clause-told : goal.returns-in-Broken-clause-told
 returns-in-Broken-clause-told g c = λ h body is b e.
@@ -23,14 +22,15 @@ returns-in-Broken-clause-told g c = λ h body is b e.
 
 pub returns-in-Request-clause-answers : goal.returns-in-Request-clause-answers
 returns-in-Request-clause-answers g c = λ clean x h.
+    let k = g.K.Keeper in
+    let sight = sight_of k.stands k.cause k.may_leave k.is_clean k.applies k.spares k.fails in
     let says = split_as c.split_request.result.0 (Request c.in-Request.head) c.split_request.result.1.now c.args.request.now c.in-Request.is c.split_request.ensures in
-    whole_answered (root_of c.args.base.now) x (head_value c.in-Request.head) c.args.request.now c.split_request.result.1.now (answer_text c.answer_to.result.0) c.answer_to.result.1
-    (Stands (g.K.Keeper.stands c.answer_to.new.keeper) (g.K.Keeper.cause c.answer_to.new.keeper)) (g.K.Keeper.may_leave c.args.keeper.now) (g.K.Keeper.may_leave c.answer_to.new.keeper)
-    says (c.answer_to.ensures.answers clean x h)
+    whole_answered sight (root_of c.args.base.now) x (head_value c.in-Request.head) c.args.request.now c.split_request.result.1.now (answer_text c.answer_to.result.0) c.answer_to.result.1
+    c.args.keeper.now c.answer_to.new.keeper says (c.answer_to.ensures.answers clean x h) c.answer_to.ensures.told
 
 pub returns-in-Request-clause-told : goal.returns-in-Request-clause-told
 returns-in-Request-clause-told g c = λ h body is.
     let says = split_as c.split_request.result.0 (Request c.in-Request.head) c.split_request.result.1.now c.args.request.now c.in-Request.is c.split_request.ensures in
     said_of c.args.request.now h (head_value c.in-Request.head) body c.split_request.result.1.now
-    (λ k a. (b : BatchValue) → ask_of k.method k.target a ≡ batch b → BatchAnswers b.key k.closes (is_bare k.method) (answer_text c.answer_to.result.0) c.answer_to.result.1 (λ r. g.K.Keeper.applies c.args.keeper.now b r c.answer_to.new.keeper) (c.answer_to.new.keeper ≡ c.args.keeper.now))
-    is says (λ b e. c.answer_to.ensures.told b e)
+    (λ k a. TellsBatch g.K.Keeper.applies (ask_of k.method k.target a) k.closes (is_bare k.method) (answer_text c.answer_to.result.0) c.answer_to.result.1 c.args.keeper.now c.answer_to.new.keeper)
+    is says c.answer_to.ensures.told

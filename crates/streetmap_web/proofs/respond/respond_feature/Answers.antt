@@ -1,7 +1,7 @@
 use Rattle.std.proofs.Common.{refl, Err, ap}
 use Rattle.streetmap_routes.specs.Ask.{feature}
 use Rattle.streetmap_web.specs.Response.{found_feature}
-use Rattle.streetmap_web.proofs.Looks.{look_leaves, found_responds}
+use Rattle.streetmap_web.proofs.Looks.{look_leaves, found_responds, no_device}
 use Rattle.streetmap_web.proofs.respond.respond_feature.Goals as goal
 
 pub returns-in-Ok-clause-responds : goal.returns-in-Ok-clause-responds
@@ -15,3 +15,6 @@ returns-in-Ok-clause-leaves g c = λ clean s stands only. look_leaves s (feature
 
 pub returns-in-Err-clause-leaves : goal.returns-in-Err-clause-leaves
 returns-in-Err-clause-leaves g c = λ clean s stands only. look_leaves s (feature c.args.name.now c.args.id.now) (Err c.in-Err.fault) _ refl (c.in-Err.ensures.leaves clean s stands only)
+
+pub returns-in-Ok-clause-device : goal.returns-in-Ok-clause-device
+returns-in-Ok-clause-device g c = λ clean s stands is. absurd (no_device c.found_feature.result c.or_starved.result c.or_starved.ensures.ok c.or_starved.ensures.err is)

@@ -9,29 +9,28 @@ use Rattle.streetmap_ledger.specs.declared.reply.Fault.TheVariants.{Memory}
 use Rattle.streetmap_routes.specs.BaseView.{root_of}
 use Rattle.streetmap_web.specs.Response.{response_text, fault_response}
 use Rattle.streetmap_web.specs.Responds.{answer_text}
-use Rattle.streetmap_web.specs.Standing.{Stands, IsKnown}
+use Rattle.streetmap_web.specs.Sight.{sight_of}
 use Rattle.streetmap_web.specs.Turns.{FillSays}
-use Rattle.streetmap_web.specs.Exchanges.{request_of, no_room, Around, TurnSays}
+use Rattle.streetmap_web.specs.Exchanges.{request_of, no_room}
+use Rattle.streetmap_web.specs.Coming.{around}
 use Rattle.streetmap_bodies.specs.declared.request_fault.RequestFault.TheVariants.{Keeper}
-use Rattle.streetmap_web.proofs.Turning.{starved_turn, answered_turn, truncated_turn, unread_turn, unfinished_body}
+use Rattle.streetmap_web.proofs.Turning.{turn_of, starved_turn, answered_turn, truncated_turn, unread_turn, unfinished_body}
 use Rattle.streetmap_web.proofs.serving.answer_turn.Goals as goal
 
 pub returns-in_default-clause-says : goal.returns-in_default-clause-says
 returns-in_default-clause-says g c = λ clean bytes left x cut framed read h.
+    let k = g.K.Keeper in
+    let sight = sight_of k.stands k.cause k.may_leave k.is_clean k.applies k.spares k.fails in
+    let root = root_of c.args.base.now in
     let head = head_value c.args.head in
+    let keeper = c.args.keeper.now in
+    let rest = g.R.Read.remaining c.args.reader.now in
+    let held = g.W.Write.contents c.args.writer.now in
+    let now = g.W.Write.contents c.write_answer.new.writer in
     let text = c.fixed.ensures ∙ ap (λ bare. response_text true bare (fault_response (Keeper Memory))) c.is_bare-bare.ensures in
-    subst (λ t. TurnSays t (root_of c.args.base.now) x (record {
-      old_left = left;
-      new_left = g.R.Read.remaining c.args.reader.now;
-      old_held = g.W.Write.contents c.args.writer.now;
-      new_held = g.W.Write.contents c.write_answer.new.writer;
-      stands = Stands (g.K.Keeper.stands c.args.keeper.now) (g.K.Keeper.cause c.args.keeper.now);
-      known = IsKnown x (g.K.Keeper.may_leave c.args.keeper.now);
-      old_leaves = g.K.Keeper.may_leave c.args.keeper.now;
-      new_leaves = g.K.Keeper.may_leave c.args.keeper.now;
-    })) (sym c.turn_after.ensures)
-    (starved_turn (root_of c.args.base.now) x bytes (answer_text c.fixed.result) (request_of head []) c.write_answer.result _ _ _ _ _ _
-    (no_room head cut framed refl refl) read h text c.write_answer.ensures)
+    turn_of c.write_answer.result true c.turn_after.result root x (around sight root x left rest held now keeper keeper) c.turn_after.ensures
+    (starved_turn sight root x left rest keeper h bytes (answer_text c.fixed.result) (request_of head []) c.write_answer.result held now
+    (no_room head cut framed refl refl) read text c.write_answer.ensures)
 
 -- what filling says where it is known how it ended
 filled : (e f : BodyEnd) (bytes : List ℕ) (a b : Option (List ℕ)) → e ≡ f → FillSays e bytes a b → FillSays f bytes a b
@@ -39,33 +38,35 @@ filled e f bytes a b is says = subst (λ x. FillSays x bytes a b) is says
 
 pub returns-in-Truncated-clause-says : goal.returns-in-Truncated-clause-says
 returns-in-Truncated-clause-says g c = λ clean bytes left x cut framed read h.
+    let k = g.K.Keeper in
+    let sight = sight_of k.stands k.cause k.may_leave k.is_clean k.applies k.spares k.fails in
     let (part, short, came, end) = filled _ Truncated _ _ _ c.in-Truncated.is c.read_all-end.ensures.says in
     let fits : length c.read_all-end.result.1.items ≡ c.args.head.len = c.read_all-end.ensures.len ∙ c.in-Ok.ensures in
-    truncated_turn (root_of c.args.base.now) x (bytes ++ part) left _ _ _ _
+    truncated_turn sight (root_of c.args.base.now) x left _ c.args.keeper.now h (bytes ++ part) _
     (unfinished_body bytes part (head_value c.args.head) cut framed (subst (λ n. length part < n) fits short))
-    (Consumes-trans left _ _ bytes part read came) end h
+    (Consumes-trans left _ _ bytes part read came) end
 
 pub returns-in-Failed-clause-says : goal.returns-in-Failed-clause-says
-returns-in-Failed-clause-says g c = λ clean bytes left x cut framed read h. unread_turn (root_of c.args.base.now) x _ _ _ _ _ h
+returns-in-Failed-clause-says g c = λ clean bytes left x cut framed read h.
+    let k = g.K.Keeper in
+    let sight = sight_of k.stands k.cause k.may_leave k.is_clean k.applies k.spares k.fails in
+    unread_turn sight (root_of c.args.base.now) x left _ c.args.keeper.now h _
 
 pub returns-clause-says : goal.returns-clause-says
 returns-clause-says g c = λ clean bytes left x cut framed read h.
+    let k = g.K.Keeper in
+    let sight = sight_of k.stands k.cause k.may_leave k.is_clean k.applies k.spares k.fails in
+    let root = root_of c.args.base.now in
     let body = c.as_slice.result.now in
     let value = c.as_slice.ensures.value in
-    let y = g.R.Read.remaining c.args.reader.now in
-    let z = g.R.Read.remaining c.read_all-end.new.reader in
-    let a : Around = record {
-      old_left = left;
-      new_left = z;
-      old_held = g.W.Write.contents c.args.writer.now;
-      new_held = g.W.Write.contents c.write_answer-2.new.writer;
-      stands = Stands (g.K.Keeper.stands c.answer_to-answer.new.keeper) (g.K.Keeper.cause c.answer_to-answer.new.keeper);
-      known = IsKnown x (g.K.Keeper.may_leave c.args.keeper.now);
-      old_leaves = g.K.Keeper.may_leave c.args.keeper.now;
-      new_leaves = g.K.Keeper.may_leave c.answer_to-answer.new.keeper;
-    } in
-    let came : Consumes y z body = subst (Consumes y z) (sym value) (filled _ Whole _ y z c.in-Whole.is c.read_all-end.ensures.says) in
-    subst (λ t. TurnSays t (root_of c.args.base.now) x a) (sym c.turn_after-2.ensures)
-    (answered_turn (root_of c.args.base.now) x (head_value c.args.head) bytes body (answer_text c.answer_to-answer.result.0) c.answer_to-answer.result.1 c.write_answer-2.result a
-    cut framed (ap length value ∙ c.read_all-end.ensures.len ∙ c.in-Ok.ensures) (Consumes-trans left y z bytes body read came) refl
-    (c.answer_to-answer.ensures.answers clean x h) c.write_answer-2.ensures)
+    let before = g.R.Read.remaining c.args.reader.now in
+    let rest = g.R.Read.remaining c.read_all-end.new.reader in
+    let held = g.W.Write.contents c.args.writer.now in
+    let now = g.W.Write.contents c.write_answer-2.new.writer in
+    let said = c.answer_to-answer in
+    let old = c.args.keeper.now in
+    let came : Consumes before rest body = subst (Consumes before rest) (sym value) (filled _ Whole _ before rest c.in-Whole.is c.read_all-end.ensures.says) in
+    turn_of c.write_answer-2.result said.result.1 c.turn_after-2.result root x (around sight root x left rest held now old said.new.keeper) c.turn_after-2.ensures
+    (answered_turn sight root x left rest (head_value c.args.head) bytes body (answer_text said.result.0) said.result.1 c.write_answer-2.result held now old said.new.keeper
+    cut framed (ap length value ∙ c.read_all-end.ensures.len ∙ c.in-Ok.ensures) (Consumes-trans left before rest bytes body read came)
+    (said.ensures.answers clean x h) said.ensures.told c.write_answer-2.ensures)
