@@ -15,7 +15,7 @@ use Rattle.sqlite.specs.Held.{Held}
 use Rattle.sqlite_store.specs.declared.store.FileStore.{FileStore}
 use Rattle.sqlite.specs.Files.{IsNothing, FailsToOpenFiles, image_of}
 use Rattle.streetmap_ledger.specs.State.{State}
-use Rattle.streetmap_opening.specs.Telling.{TellsFault, TellsNothing}
+use Rattle.streetmap_opening.specs.Telling.{TellsFault, TellsNothing, LosesKeys}
 use Rattle.streetmap_opening.specs.Carrying.{IsOld, Carries, Opens, OpensBy}
 use Rattle.streetmap_opening.specs.declared.opening.TablesFault.{TablesFault}
 use Rattle.streetmap_opening.specs.declared.opening.TablesFault.TheVariants as tables
@@ -23,6 +23,7 @@ use Rattle.streetmap_opening.specs.declared.adopting.AdoptFault.TheVariants as a
 use Rattle.streetmap_opening.specs.declared.making.MakeFault.{MakeFault}
 use Rattle.streetmap_opening.specs.declared.making.MakeFault.TheVariants as making
 use Rattle.streetmap_files.specs.Refusing.{refused_to_open, refused_to_create, not_adopted, not_made}
+use Rattle.streetmap_files.specs.Reasons.{IsUnopened, OpensNothing, CreatesNothing}
 use Rattle.streetmap_files.specs.Reasons.{IsForeign, OpenBlamesNoFile, CreateBlamesNoFile, Showed, RefusesToOpen, RefusesToCreate, FailsToConnect, StaysAsItWas, HoldsStill}
 use Rattle.streetmap_files.specs.declared.fault.OpenFault.TheVariants as opened
 use Rattle.streetmap_files.specs.declared.fault.CreateFault.{CreateFault}
@@ -119,6 +120,19 @@ module _ {D : Type 0} {g : disk.Ghosts D} (image : Image) (e : Error) (rest : Le
     | inr more ↦ elim more [ inl is ↦ subst (λ x. RefusesToCreate image (refused_to_create x)) (sym is) tt | inr is ↦ subst (RefusesToCreate image) (sym is.1) tt ]
   ]
 
+-- where nothing was opened
+pub unopened_to_open : (e : Error) → IsUnopened e → OpensNothing (refused_to_open e)
+unopened_to_open e (inl is) = subst (λ x. OpensNothing (refused_to_open x)) (sym is) (inl refl)
+unopened_to_open e (inr (inl is)) = subst (λ x. OpensNothing (refused_to_open x)) (sym is) tt
+unopened_to_open e (inr (inr is)) =
+    subst (λ x. OpensNothing (refused_to_open x)) (sym is) (inr (inr refl))
+
+pub unopened_to_create : (e : Error) → IsUnopened e → CreatesNothing (refused_to_create e)
+unopened_to_create e (inl is) = subst (λ x. CreatesNothing (refused_to_create x)) (sym is) (inl refl)
+unopened_to_create e (inr (inl is)) = subst (λ x. CreatesNothing (refused_to_create x)) (sym is) tt
+unopened_to_create e (inr (inr is)) =
+    subst (λ x. CreatesNothing (refused_to_create x)) (sym is) (inr (inr refl))
+
 pub still_held : {D : Type 0} {g : disk.Ghosts D} (image : Image) (rest : Left (Leftover D g) (Held (FileStore D g))) → StaysAsItWas image rest → HoldsStill image rest
 still_held image left.Nothing h = tt
 still_held image (left.Files files) h = h
@@ -131,7 +145,7 @@ pub not_adopted_for : {D : Type 0} {g : disk.Ghosts D} (image : Image) (rest : L
     → OpensBy seen (Err fault) → RefusesToOpen image (not_adopted fault) rest
 not_adopted_for image rest seen show tables.NotOurs by = inr (show (λ x. TellsFault x adopting.NotOurs ⊎ TellsNothing x) by)
 not_adopted_for image rest seen show tables.NewFormat by = show (λ x. TellsFault x adopting.NewFormat) by
-not_adopted_for image rest seen show tables.Damaged by = show IsOld by
+not_adopted_for image rest seen show tables.Damaged by = show (λ x. IsOld x ⊎ LosesKeys x) by
 not_adopted_for image rest seen show (tables.Device e) (inl of) = inr (inl of)
 not_adopted_for image rest seen show (tables.Device e) (inr old) = inr (inr (show IsOld old))
 not_adopted_for image rest seen show tables.Memory by = tt

@@ -1,5 +1,7 @@
 -- What a stop leaves, opened again.
-use Rattle.std.proofs.Common.{◌≡◌, inl, inr, ℕ, ◌+◌, List, take, Option, None, Some, refl, sym, subst, arith}
+use Rattle.std.proofs.Common.{◌≡◌, inl, inr, ℕ, ◌+◌, List, take, Option, None, Some, refl, sym}
+use Rattle.std.proofs.Common.{subst, subst₂, arith}
+use Rattle.std.proofs.lemmas.List.{take-take}
 use Rattle.sqlite.specs.Effect.{Database, IsDatabase}
 use Rattle.sqlite.specs.State.{State as Seen}
 use Rattle.streetmap_batch.specs.BatchValue.{BatchValue}
@@ -15,11 +17,13 @@ use Rattle.streetmap_web.specs.Standing.{Standing, of_state}
 use Rattle.streetmap_web.specs.Exchanges.{Around, Serves}
 use Rattle.streetmap_web.specs.declared.serving.End.{End}
 use Rattle.streetmap_web.proofs.Beginnings.{served_leaves}
-use Rattle.streetmap_serving.specs.Connections.{Sight}
+use Rattle.streetmap_web.specs.Sight.{Sight}
 use Rattle.streetmap_serving.specs.Surviving.{SurvivesInTurn}
 use Rattle.mio.specs.declared.net.stream.TcpStream.{TcpStream}
 use Rattle.streetmap_connections.specs.declared.client.Client.{Client}
 use Rattle.streetmap_serving.specs.SurvivingClients.{SurvivesClients}
+use Rattle.streetmap_store.specs.Sparing.{LeavesStates}
+use Rattle.streetmap_files.specs.Surviving.{Holds}
 use Rattle.streetmap_files.specs.Surviving.{IsOfOne, Survives, ServesTables, ServesTablesInTurn, ServesTablesAtOnce}
 
 -- where a stop may leave these states alone, a database that is opened again is of one of them
@@ -50,6 +54,37 @@ run_survives seen s batches k (Some Device) left = two_left seen s batches k lef
 run_survives seen s batches k (Some Damaged) left = absurd left
 run_survives seen s batches k (Some Reopen) left = absurd left
 
+-- the batches up to the one behind the answered ones
+take_in : (k : ℕ) (bs : List BatchValue) → take k (take (k + 1) bs) ≡ take k bs
+take_in k bs = take-take k (k + 1) bs (omega arith)
+
+take_same : (k : ℕ) (bs : List BatchValue) → take (k + 1) (take (k + 1) bs) ≡ take (k + 1) bs
+take_same k bs = take-take (k + 1) (k + 1) bs (omega arith)
+
+-- what a run may leave of these alone
+leaves_next : (s : State) (bs : List BatchValue) (k : ℕ) (fault : Option Fault) (left : Option State → Type 0)
+    → RunLeaves s bs k fault left → RunLeaves s (take (k + 1) bs) k fault left
+leaves_next s bs k None left h = subst (λ l. LeavesOnly left (Some (after_all s l))) (sym (take_in k bs)) h
+leaves_next s bs k (Some Memory) left h = subst (λ l. LeavesOnly left (Some (after_all s l))) (sym (take_in k bs)) h
+leaves_next s bs k (Some Device) left h =
+    subst₂ (λ l m. LeavesEither left (Some (after_all s l)) (Some (after_all s m))) (sym (take_in k bs)) (sym (take_same k bs)) h
+leaves_next s bs k (Some Damaged) left h = absurd h
+leaves_next s bs k (Some Reopen) left h = absurd h
+
+-- at most one batch more than was answered
+pub run_survives_next : (seen : Seen) (s : State) (bs : List BatchValue) (k : ℕ) (fault : Option Fault)
+    → RunLeaves s bs k fault (MayLeave seen) → Survives s (take (k + 1) bs) k seen
+run_survives_next seen s bs k fault left =
+    run_survives seen s (take (k + 1) bs) k fault (leaves_next s bs k fault (MayLeave seen) left)
+
+-- where each database that a stop may leave is a state's, that state is there
+pub holds : (seen : Seen) (s : State) (bs : List BatchValue) (k : ℕ) → LeavesStates seen
+    → Survives s bs k seen → Holds s bs k seen
+holds seen s bs k states survives db left sound =
+    let it = states db.trees left in
+    let kept = keeps_too it.0 it.1.0 db.schema db.trees sound it.1.1 in
+    (it.0, (survives db left sound).only it.0 kept, kept)
+
 -- and what serving may leave
 pub served_survives : (root : Text) (end : End) (count : ℕ) (s : State) (a : Around) (seen : Seen) → Serves root end count (of_state s) a → a.known
     → ((o : Option State) → MayLeave seen o → a.new_leaves o) → ServesTables root end count s a seen
@@ -69,9 +104,10 @@ turns_survive sight root n s old new seen it bound = record {
 }
 
 -- and of many clients at once
-pub clients_survive : (root : Text) (s : State) (stands : Standing → Type 0) (before after : List (Client TcpStream)) (seen : Seen)
-    → SurvivesClients root s stands (MayLeave seen) before after → ServesTablesAtOnce root s stands (MayLeave seen) before after seen
-clients_survive root s stands before after seen it = record {
+pub clients_survive : {K : Type 0} (sight : Sight K) (root : Text) (s : State) (old new : K) (before after : List (Client TcpStream)) (seen : Seen)
+    → SurvivesClients sight root s old new before after → ((o : Option State) → MayLeave seen o → sight.may_leave new o)
+    → ServesTablesAtOnce sight root s old new before after seen
+clients_survive sight root s old new before after seen it bound = record {
   serves = it;
-  survives = opens seen _ it.leaves;
+  survives = opens seen _ λ o left. it.leaves o (bound o left);
 }

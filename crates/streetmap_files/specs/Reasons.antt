@@ -9,7 +9,7 @@ use Rattle.sqlite_store.specs.declared.store.FileStore.{FileStore}
 use Rattle.sqlite.specs.Schema.{Schema}
 use Rattle.sqlite.specs.declared.error.Error.{Error}
 use Rattle.sqlite.specs.declared.error.Error.TheVariants.{SqliteFailure}
-use Rattle.sqlite.specs.declared.error.ErrorCode.TheVariants.{NotADatabase}
+use Rattle.sqlite.specs.declared.error.ErrorCode.TheVariants.{NotADatabase, CannotOpen, OutOfMemory, DatabaseBusy}
 use Rattle.sqlite.specs.declared.file.Leftover.{Leftover}
 use Rattle.sqlite.specs.State.{State as Seen, HasCleanDisk}
 use Rattle.sqlite.specs.Held.{Held}
@@ -17,7 +17,7 @@ use Rattle.sqlite.specs.Opening.{is_open_error}
 use Rattle.sqlite.specs.Files.{HoldsDatabase, IsNothing, AreFoundIn, IsCleanLeft, LeavesFiles, image_of, file_state}
 use Rattle.streetmap_rows.specs.Failing.{IsOfStore}
 use Rattle.streetmap_opening.specs.Adopting.{IsAsItWas}
-use Rattle.streetmap_opening.specs.Telling.{TellsFault, TellsNothing}
+use Rattle.streetmap_opening.specs.Telling.{TellsFault, TellsNothing, LosesKeys}
 use Rattle.streetmap_opening.specs.Making.{is_taken}
 use Rattle.streetmap_ledger.specs.State.{State}
 use Rattle.streetmap_opening.specs.Old.{RestsOld}
@@ -48,6 +48,27 @@ CreateBlamesNoFile created.NotOurs = ⊥
 CreateBlamesNoFile created.Taken = ⊥
 CreateBlamesNoFile (created.Device e) = ⊤
 CreateBlamesNoFile created.Memory = ⊤
+
+-- an error of opening by which nothing was opened: the files cannot be opened or are in use, or
+-- memory was refused
+abbrev pub IsUnopened : Error → Type 0
+IsUnopened e =
+    (e ≡ SqliteFailure CannotOpen)
+    ⊎ ((e ≡ SqliteFailure OutOfMemory) ⊎ (e ≡ SqliteFailure DatabaseBusy))
+
+-- what is answered where nothing was opened
+abbrev pub OpensNothing : OpenFault → Type 0
+OpensNothing opened.NotOurs = ⊥
+OpensNothing opened.NewFormat = ⊥
+OpensNothing opened.Damaged = ⊥
+OpensNothing (opened.Device e) = IsUnopened e
+OpensNothing opened.Memory = ⊤
+
+abbrev pub CreatesNothing : CreateFault → Type 0
+CreatesNothing created.NotOurs = ⊥
+CreatesNothing created.Taken = ⊥
+CreatesNothing (created.Device e) = IsUnopened e
+CreatesNothing created.Memory = ⊤
 
 module _ {D : Type 0} {g : disk.Ghosts D} where
   -- a connection that was opened on the files showed this
@@ -90,11 +111,14 @@ module _ {D : Type 0} {g : disk.Ghosts D} where
   HoldsStill image (left.Files rest) = LeavesHeld image rest
   HoldsStill image (left.Connection c) = ShowedFirst image (λ (first : Held (FileStore D g)). IsAsItWas (file_state first) (file_state c))
 
-  -- Why files are not opened: they are no database; the format row is not ours, or is above 2, as a look told, or the look was refused; it is 1, and the tables are damaged; a call of SQLite failed with that error, or it is 1, and a statement that makes its tables anew was refused with it; memory was refused.
+  -- Why files are not opened: they are no database; the format row is not ours, or is above 2, as a
+  -- look told, or the look was refused; it is 1, and the tables are damaged, or it is 2, and the
+  -- look at the batches was refused; a call of SQLite failed with that error, or it is 1, and a
+  -- statement that makes its tables anew was refused with it; memory was refused.
   abbrev pub RefusesToOpen : Image → OpenFault → Left (Leftover D g) (Held (FileStore D g)) → Type 0
   RefusesToOpen image opened.NotOurs rest = IsForeign image ⊎ Showed image (λ seen. TellsFault seen adopting.NotOurs ⊎ TellsNothing seen) rest
   RefusesToOpen image opened.NewFormat rest = Showed image (λ seen. TellsFault seen adopting.NewFormat) rest
-  RefusesToOpen image opened.Damaged rest = Showed image IsOld rest
+  RefusesToOpen image opened.Damaged rest = Showed image (λ seen. IsOld seen ⊎ LosesKeys seen) rest
   RefusesToOpen image (opened.Device e) rest = IsTrue (is_open_error e) ⊎ (IsOfStore e ⊎ Showed image IsOld rest)
   RefusesToOpen image opened.Memory rest = ⊤
 

@@ -1,19 +1,19 @@
 -- What a stop leaves of batches over tables.
-use Rattle.std.specs.Prelude.{ℕ, ◌++◌, List, length, Option}
+use Rattle.std.specs.Prelude.{ℕ, ◌++◌, List, length}
 use Rattle.sqlite.specs.Effect.{Database, IsDatabase}
 use Rattle.sqlite.specs.State.{State as Seen}
 use Rattle.streetmap_batch.specs.Text.{Text}
 use Rattle.streetmap_batch.specs.BatchValue.{BatchValue}
 use Rattle.streetmap_ledger.specs.State.{State}
 use Rattle.streetmap_rows.specs.Keeping.{Keeps}
-use Rattle.streetmap_web.specs.Standing.{Standing, of_state}
-use Rattle.streetmap_web.specs.Exchanges.{Around, Serves, batches_of}
-use Rattle.streetmap_web.specs.Beginnings.{IsAfterBeginning, last_of, batches_acted}
+use Rattle.streetmap_web.specs.Standing.{of_state}
+use Rattle.streetmap_web.specs.Sight.{Sight}
+use Rattle.streetmap_web.specs.Exchanges.{Around, Serves, batches_of, last_of}
+use Rattle.streetmap_web.specs.Beginnings.{IsAfterBeginning, batches_acted}
 use Rattle.streetmap_web.specs.declared.serving.End.{End}
 use Rattle.mio.specs.declared.net.stream.TcpStream.{TcpStream}
 use Rattle.streetmap_connections.specs.declared.client.Client.{Client}
 use Rattle.streetmap_serving.specs.SurvivingClients.{SurvivesClients, acted_over, answered_over}
-use Rattle.streetmap_serving.specs.Connections.{Sight}
 use Rattle.streetmap_serving.specs.Surviving.{Brings}
 
 -- The database is that of one of these states: it is of no other, and it cannot be that it is of none.
@@ -24,6 +24,12 @@ pub record IsOfOne (P : State → Type 0) (db : Database) : Type 0 where
 -- Whatever database is opened again after a stop holds the state of a beginning of the batches that contains each acknowledged one.
 abbrev pub Survives : State → List BatchValue → ℕ → Seen → Type 0
 Survives s batches acknowledged seen = (db : Database) → seen.may_leave db.trees → IsDatabase db → IsOfOne (IsAfterBeginning s batches acknowledged) db
+
+-- such a state is there, in whatever database is opened again
+abbrev pub Holds : State → List BatchValue → ℕ → Seen → Type 0
+Holds s batches acknowledged seen =
+    (db : Database) → seen.may_leave db.trees → IsDatabase db →
+    (t : State) × IsAfterBeginning s batches acknowledged t × Keeps t db
 
 -- Over tables of a state these requests were served with these answers, and a stop leaves the state of a beginning of the batches acted on that contains each that was answered without a fault.
 pub record ServesTables (root : Text) (end : End) (count : ℕ) (s : State) (a : Around) (seen : Seen) : Type 0 where
@@ -39,6 +45,6 @@ pub record ServesTablesInTurn {K : Type 0} (sight : Sight K) (root : Text) (n : 
   pub survives : Survives s batches answered seen
 
 -- Over tables of a state many clients were served at once, and a stop leaves the state of a beginning of the batches of all clients, in the one order in which they were answered, that contains each that was answered without a fault.
-pub record ServesTablesAtOnce (root : Text) (s : State) (stands : Standing → Type 0) (left : Option State → Type 0) (before after : List (Client TcpStream)) (seen : Seen) : Type 0 where
-  pub serves : SurvivesClients root s stands left before after
+pub record ServesTablesAtOnce {K : Type 0} (sight : Sight K) (root : Text) (s : State) (old new : K) (before after : List (Client TcpStream)) (seen : Seen) : Type 0 where
+  pub serves : SurvivesClients sight root s old new before after
   pub survives : Survives s (acted_over (of_state s) serves.requests) (length (answered_over (of_state s) serves.requests)) seen

@@ -8,7 +8,9 @@ ghost use Rattle.streetmap_ledger.specs.Keep.{LeavesOnly};
 ghost use Rattle.streetmap_rows.specs.Keeping.{MayLeave};
 ghost use Rattle.streetmap_store.specs.Serving.{Serves};
 ghost use Rattle.streetmap_files.specs.Holding.{IsJustOpenedOn, HoldsState, HoldsOldState, LeavesRoom};
-ghost use Rattle.streetmap_files.specs.Reasons.{IsCleanRest, FailsToConnect, RefusesToOpen, RefusesToCreate, OpenBlamesNoFile, CreateBlamesNoFile, StaysAsItWas, HoldsStill};
+ghost use Rattle.streetmap_files.specs.Reasons.{IsCleanRest, FailsToConnect, RefusesToOpen, RefusesToCreate};
+ghost use Rattle.streetmap_files.specs.Reasons.{OpenBlamesNoFile, CreateBlamesNoFile, StaysAsItWas, HoldsStill};
+ghost use Rattle.streetmap_files.specs.Reasons.{IsUnopened, OpensNothing, CreatesNothing};
 
 use crate::fault::{CreateFault, Left, OpenFault};
 use sqlite::{Connection, Error, FileFrom, FileStore, Leftover, Start};
@@ -28,6 +30,7 @@ fn connect<S: Start>(
 ) -> Result<Connection<FileStore<FileFrom<S>>>, (Error, FilesLeft<S>)>
     ensures opened { IfOk result (IsJustOpenedOn (image_at S.Start)) }
     ensures refused { IfErr result (λ refused. IsCleanRest refused.1 → FailsToConnect (image_at S.Start) refused.0 refused.1) }
+    ensures unopened { IfErr result (λ refused. refused.1 ≡ Left.Nothing → IsUnopened refused.0) }
 {
     match Connection::open_from(rt, path, false, start) {
         Ok(conn) => Ok(conn),
@@ -55,6 +58,7 @@ pub fn create<S: Start>(
     ensures made { IfOk result (λ keeper. HasCleanDisk (file_state keeper.conn) → LeavesRoom (image_at S.Start) → Serves keeper.shut (file_state keeper.conn) keeper.count opening_state × LeavesOnly (MayLeave (file_state keeper.conn)) (Some opening_state)) }
     ensures refused { IfErr result (λ refused. IsCleanRest refused.1 → RefusesToCreate (image_at S.Start) refused.0) }
     ensures new_files { IfErr result (λ refused. IsCleanRest refused.1 → IsNothing (image_at S.Start) → CreateBlamesNoFile refused.0) }
+    ensures unopened { IfErr result (λ refused. refused.1 ≡ Left.Nothing → CreatesNothing refused.0) }
     ensures stays { IfErr result (λ refused. IsCleanRest refused.1 → HoldsStill (image_at S.Start) refused.1) }
 {
     let conn = match connect(rt, path, start) {
@@ -89,6 +93,7 @@ pub fn open<S: Start>(
     ensures refused { IfErr result (λ refused. IsCleanRest refused.1 → RefusesToOpen (image_at S.Start) refused.0 refused.1) }
     ensures ours { IfErr result (λ refused. IsCleanRest refused.1 → (s : State) → HoldsState (image_at S.Start) s → OpenBlamesNoFile refused.0) }
     ensures ours_old { IfErr result (λ refused. IsCleanRest refused.1 → (s : State) → HoldsOldState (image_at S.Start) s → OpenBlamesNoFile refused.0) }
+    ensures unopened { IfErr result (λ refused. refused.1 ≡ Left.Nothing → OpensNothing refused.0) }
     ensures stays { IfErr result (λ refused. IsCleanRest refused.1 → StaysAsItWas (image_at S.Start) refused.1) }
 {
     let conn = match connect(rt, path, start) {

@@ -1,19 +1,28 @@
 //! Batches over tables, and what a stop leaves of them.
-ghost use Rattle.std.specs.Prelude.{◌≡◌, ◌<◌, ◌≤◌, ℕ, IsOk, Some, IsNone, IsSome, length, take, map};
+ghost use Rattle.std.specs.Prelude.{◌≡◌, ◌<◌, ◌≤◌, ◌+◌, ℕ, IsOk, Some, IsNone, IsSome, length};
+ghost use Rattle.std.specs.Prelude.{take, map};
 ghost use Rattle.std.specs.Option.{option_map};
 ghost use Rattle.sqlite.specs.Held.{state};
 ghost use Rattle.sqlite.specs.State.{HasCleanDisk};
 ghost use Rattle.streetmap_batch.specs.BatchView.{batch_value};
 ghost use Rattle.streetmap_ledger.specs.State.{State};
 ghost use Rattle.streetmap_ledger.specs.Batches.{replies_of};
-ghost use Rattle.streetmap_ledger.specs.Keep.{LeavesOnly};
+ghost use Rattle.streetmap_ledger.specs.Keep.{LeavesOnly, RunShuts, RunEnds, RunLeaves};
+ghost use Rattle.streetmap_ledger.specs.declared.reply.Fault.{Fault};
 ghost use Rattle.streetmap_index.specs.Index.{IsIndexOf};
 ghost use Rattle.streetmap_rows.specs.Keeping.{MayLeave};
-ghost use Rattle.streetmap_store.specs.Serving.{Serves, cause_in};
+ghost use Rattle.streetmap_store.specs.Serving.{Serves, HasShut, cause_in};
+ghost use Rattle.streetmap_store.specs.Sparing.{Spares};
 ghost use Rattle.streetmap_routes.specs.BaseView.{root_of};
-ghost use Rattle.streetmap_web.specs.Standing.{Stands};
+ghost use Rattle.streetmap_web.specs.Coming.{around};
+ghost use Rattle.streetmap_web.specs.Standing.{of_state};
+ghost use Rattle.streetmap_web.specs.Exchanges.{Serves as ServesStream};
+ghost use Rattle.streetmap_serving.specs.Connections.{ServesInTurn};
+ghost use Rattle.streetmap_serving.specs.ServingClients.{ServesClients};
 ghost use Rattle.streetmap_connections.specs.Served.{clients_of};
-ghost use Rattle.streetmap_files.specs.Surviving.{Survives, ServesTables, ServesTablesInTurn, ServesTablesAtOnce};
+ghost use Rattle.streetmap_files.specs.Surviving.{Survives, ServesTables, ServesTablesInTurn};
+ghost use Rattle.streetmap_files.specs.Surviving.{ServesTablesAtOnce, Holds};
+ghost use Rattle.streetmap_files.specs.Tables.{tables_sight};
 
 use mio::net::TcpStream;
 use sqlite::Alter;
@@ -31,30 +40,60 @@ use streetmap_web::{Served, serve};
 
 /// Runs batches over tables, in order, up to the first that the keeper answers with a fault.
 ///
-/// The replies are those of the batches in the state that the tables held. After a stop, before or
-/// within any write, whatever is opened again holds the state of a beginning of the batches that
-/// contains each acknowledged one.
+/// The replies are those of the batches in the state that the tables held, and the keeper then
+/// stands for the state after them. After a stop, before or within any write, whatever is opened
+/// again holds the state after the batches that were answered, or, where the store failed, after
+/// one batch more.
 pub fn run_over_tables<S: Alter>(
     alloc: Global,
     keeper: &mut TableKeeper<S>,
     batches: &[Batch],
 ) -> Run
+    ensures count { length result.replies.items ≤ length batches.now }
     ensures all { IsNone result.fault → length result.replies.items ≡ length batches.now }
     ensures some { IsSome result.fault → length result.replies.items < length batches.now }
-    ensures replies { HasCleanDisk (state S.Store keeper.new.conn) → (s : State) → Serves keeper.old.shut (state S.Store keeper.old.conn) keeper.old.count s →
-        result.replies.items ≡ replies_of s (take (length result.replies.items) (map batch_value batches.now)) }
-    ensures survives { HasCleanDisk (state S.Store keeper.new.conn) → (s : State) → Serves keeper.old.shut (state S.Store keeper.old.conn) keeper.old.count s → LeavesOnly (MayLeave (state S.Store keeper.old.conn)) (Some s) →
-        Survives s (map batch_value batches.now) (length result.replies.items) (state S.Store keeper.new.conn) }
+    ensures faults { RunShuts result.fault
+        (option_map cause_in keeper.old.shut) (option_map cause_in keeper.new.shut) }
+    ensures spared { Spares keeper.old.shut keeper.old.count (state S.Store keeper.old.conn)
+        keeper.new.shut keeper.new.count (state S.Store keeper.new.conn) }
+    ensures replies { HasCleanDisk (state S.Store keeper.new.conn) → (s : State) →
+        Serves keeper.old.shut (state S.Store keeper.old.conn) keeper.old.count s →
+        result.replies.items ≡
+        replies_of s (take (length result.replies.items) (map batch_value batches.now)) }
+    ensures ends { HasCleanDisk (state S.Store keeper.new.conn) → (s : State) →
+        Serves keeper.old.shut (state S.Store keeper.old.conn) keeper.old.count s →
+        RunEnds s (map batch_value batches.now) (length result.replies.items) result.fault
+        (Serves keeper.new.shut (state S.Store keeper.new.conn) keeper.new.count) }
+    ensures device { HasCleanDisk (state S.Store keeper.new.conn) → (s : State) →
+        Serves keeper.old.shut (state S.Store keeper.old.conn) keeper.old.count s →
+        result.fault ≡ Some Fault.Device →
+        HasShut (state S.Store keeper.old.conn) (state S.Store keeper.new.conn) keeper.new.shut }
+    ensures leaves { HasCleanDisk (state S.Store keeper.new.conn) → (s : State) →
+        Serves keeper.old.shut (state S.Store keeper.old.conn) keeper.old.count s →
+        LeavesOnly (MayLeave (state S.Store keeper.old.conn)) (Some s) →
+        RunLeaves s (map batch_value batches.now) (length result.replies.items) result.fault
+        (MayLeave (state S.Store keeper.new.conn)) }
+    ensures survives { HasCleanDisk (state S.Store keeper.new.conn) → (s : State) →
+        Serves keeper.old.shut (state S.Store keeper.old.conn) keeper.old.count s →
+        LeavesOnly (MayLeave (state S.Store keeper.old.conn)) (Some s) →
+        Survives s (take (length result.replies.items + 1) (map batch_value batches.now))
+        (length result.replies.items) (state S.Store keeper.new.conn) }
+    ensures holds { HasCleanDisk (state S.Store keeper.new.conn) → (s : State) →
+        Serves keeper.old.shut (state S.Store keeper.old.conn) keeper.old.count s →
+        LeavesOnly (MayLeave (state S.Store keeper.old.conn)) (Some s) →
+        Holds s (take (length result.replies.items + 1) (map batch_value batches.now))
+        (length result.replies.items) (state S.Store keeper.new.conn) }
 {
     run(alloc, keeper, batches)
 }
 
-/// Serves a stream of requests over tables, with an index in memory: reads them from the reader, and writes their answers to the
-/// writer, in order, up to the first that closes the connection (`streetmap_web::serve`).
+/// Serves a stream of requests over tables, with an index in memory: reads them from the reader,
+/// and writes their answers to the writer, in order, up to the first that closes the connection
+/// (`streetmap_web::serve`).
 ///
-/// Each page answered is exactly the part that was asked of the features of the state at that request.
-/// After a stop, before or within any write, whatever is opened again holds the state of a beginning of
-/// the batches that contains each that was answered without a fault.
+/// Each page answered is exactly the part that was asked of the features of the state at that
+/// request. After a stop, before or within any write, whatever is opened again holds the state of a
+/// beginning of the batches that contains each that was answered without a fault.
 pub fn serve_over_tables<S: Alter, R: BufRead, W: Write>(
     alloc: Global,
     keeper: &mut IndexedKeeper<TableKeeper<S>>,
@@ -62,17 +101,41 @@ pub fn serve_over_tables<S: Alter, R: BufRead, W: Write>(
     reader: &mut R,
     writer: &mut W,
 ) -> Served
-    ensures { HasCleanDisk (state S.Store keeper.new.keeper.conn) → (s : State) → Serves keeper.old.keeper.shut (state S.Store keeper.old.keeper.conn) keeper.old.keeper.count s → IsIndexOf keeper.old.index s → LeavesOnly (MayLeave (state S.Store keeper.old.keeper.conn)) (Some s) →
-        ServesTables (root_of base.now) result.end result.answers s (record { old_left = R.remaining reader.old; new_left = R.remaining reader.new; old_held = W.contents writer.old; new_held = W.contents writer.new; stands = Stands (λ t. Serves keeper.new.keeper.shut (state S.Store keeper.new.keeper.conn) keeper.new.keeper.count t × IsIndexOf keeper.new.index t) (option_map cause_in keeper.new.keeper.shut); known = LeavesOnly (MayLeave (state S.Store keeper.old.keeper.conn)) (Some s); old_leaves = MayLeave (state S.Store keeper.old.keeper.conn); new_leaves = MayLeave (state S.Store keeper.new.keeper.conn) }) (state S.Store keeper.new.keeper.conn) }
+    ensures serves { HasCleanDisk (state S.Store keeper.new.keeper.conn) → (s : State) →
+        Serves keeper.old.keeper.shut (state S.Store keeper.old.keeper.conn)
+        keeper.old.keeper.count s → IsIndexOf keeper.old.index s →
+        ServesStream (root_of base.now) result.end result.answers (of_state s)
+        (around
+        (tables_sight (λ k. k.keeper) (λ t. t.shut) (λ t. state S.Store t.conn) (λ t. t.count)
+        (λ k. k.index))
+        (root_of base.now) (of_state s) (R.remaining reader.old) (R.remaining reader.new)
+        (W.contents writer.old) (W.contents writer.new) keeper.old keeper.new) }
+    ensures survives { HasCleanDisk (state S.Store keeper.new.keeper.conn) → (s : State) →
+        Serves keeper.old.keeper.shut (state S.Store keeper.old.keeper.conn)
+        keeper.old.keeper.count s → IsIndexOf keeper.old.index s →
+        LeavesOnly (MayLeave (state S.Store keeper.old.keeper.conn)) (Some s) →
+        ServesTables (root_of base.now) result.end result.answers s
+        (around
+        (tables_sight (λ k. k.keeper) (λ t. t.shut) (λ t. state S.Store t.conn) (λ t. t.count)
+        (λ k. k.index))
+        (root_of base.now) (of_state s) (R.remaining reader.old) (R.remaining reader.new)
+        (W.contents writer.old) (W.contents writer.new) keeper.old keeper.new)
+        (state S.Store keeper.new.keeper.conn) }
+    ensures spared { Spares
+        keeper.old.keeper.shut keeper.old.keeper.count
+        (state S.Store keeper.old.keeper.conn)
+        keeper.new.keeper.shut keeper.new.keeper.count
+        (state S.Store keeper.new.keeper.conn) }
 {
     serve(alloc, keeper, base, reader, writer)
 }
 
-/// Serves so many connections of a listener over tables, with an index in memory, one after the other
-/// (`streetmap_serving::serve_count`).
+/// Serves so many connections of a listener over tables, with an index in memory, one after the
+/// other (`streetmap_serving::serve_count`).
 ///
-/// After a stop, before or within any write, whatever is opened again holds the state of a beginning of
-/// the batches of all connections, in order, that contains each that was answered without a fault.
+/// After a stop, before or within any write, whatever is opened again holds the state of a
+/// beginning of the batches of all connections, in order, that contains each that was answered
+/// without a fault.
 ///
 /// # Errors
 ///
@@ -84,19 +147,36 @@ pub fn serve_count_over_tables<S: Alter>(
     keeper: &mut IndexedKeeper<TableKeeper<S>>,
     base: &Base,
 ) -> Result<(), ServeFault>
-    ensures { HasCleanDisk (state S.Store keeper.new.keeper.conn) → (s : State) → Serves keeper.old.keeper.shut (state S.Store keeper.old.keeper.conn) keeper.old.keeper.count s → IsIndexOf keeper.old.index s → LeavesOnly (MayLeave (state S.Store keeper.old.keeper.conn)) (Some s) →
-        (n : ℕ) × (n ≤ count) × (IsOk result → n ≡ count)
-        × ServesTablesInTurn (record { stands = λ k t. Serves k.keeper.shut (state S.Store k.keeper.conn) k.keeper.count t × IsIndexOf k.index t; cause = λ k. option_map cause_in k.keeper.shut; may_leave = λ k. MayLeave (state S.Store k.keeper.conn) }) (root_of base.now) n s keeper.old keeper.new (state S.Store keeper.new.keeper.conn) }
+    ensures serves { HasCleanDisk (state S.Store keeper.new.keeper.conn) →
+        (n : ℕ) × (n ≤ count) × (IsOk result → n ≡ count) ×
+        ServesInTurn
+        (tables_sight (λ k. k.keeper) (λ t. t.shut) (λ t. state S.Store t.conn) (λ t. t.count)
+        (λ k. k.index))
+        (root_of base.now) n keeper.old keeper.new }
+    ensures survives { HasCleanDisk (state S.Store keeper.new.keeper.conn) → (s : State) →
+        Serves keeper.old.keeper.shut (state S.Store keeper.old.keeper.conn)
+        keeper.old.keeper.count s → IsIndexOf keeper.old.index s →
+        LeavesOnly (MayLeave (state S.Store keeper.old.keeper.conn)) (Some s) →
+        (n : ℕ) × (n ≤ count) × (IsOk result → n ≡ count) ×
+        ServesTablesInTurn
+        (tables_sight (λ k. k.keeper) (λ t. t.shut) (λ t. state S.Store t.conn) (λ t. t.count)
+        (λ k. k.index))
+        (root_of base.now) n s keeper.old keeper.new (state S.Store keeper.new.keeper.conn) }
+    ensures spared { Spares
+        keeper.old.keeper.shut keeper.old.keeper.count
+        (state S.Store keeper.old.keeper.conn)
+        keeper.new.keeper.shut keeper.new.keeper.count
+        (state S.Store keeper.new.keeper.conn) }
 {
     serve_count(alloc, listener, count, keeper, base)
 }
 
-/// Serves clients of a listener over tables, with an index in memory, many at once, until so many of them
-/// ended (`streetmap_serving::serve_clients`).
+/// Serves clients of a listener over tables, with an index in memory, many at once, until so many
+/// of them ended (`streetmap_serving::serve_clients`).
 ///
-/// After a stop, before or within any write, whatever is opened again holds the state of a beginning of
-/// the batches of all clients, in the one order in which they were answered, that contains each that was
-/// answered without a fault.
+/// After a stop, before or within any write, whatever is opened again holds the state of a
+/// beginning of the batches of all clients, in the one order in which they were answered, that
+/// contains each that was answered without a fault.
 ///
 /// # Errors
 ///
@@ -109,8 +189,29 @@ pub fn serve_clients_over_tables<R: Net + Clock, S: Alter, W: Write>(
     clients: &mut Clients<TcpStream>,
     service: &mut KeeperService<IndexedKeeper<TableKeeper<S>>, W>,
 ) -> Result<(), ServeFault>
-    ensures { HasCleanDisk (state S.Store service.new.keeper.keeper.conn) → (s : State) → Serves service.old.keeper.keeper.shut (state S.Store service.old.keeper.keeper.conn) service.old.keeper.keeper.count s → IsIndexOf service.old.keeper.index s → LeavesOnly (MayLeave (state S.Store service.old.keeper.keeper.conn)) (Some s) →
-        ServesTablesAtOnce (root_of service.old.base) s (Stands (λ t. Serves service.new.keeper.keeper.shut (state S.Store service.new.keeper.keeper.conn) service.new.keeper.keeper.count t × IsIndexOf service.new.keeper.index t) (option_map cause_in service.new.keeper.keeper.shut)) (MayLeave (state S.Store service.new.keeper.keeper.conn)) (clients_of clients.old) (clients_of clients.new) (state S.Store service.new.keeper.keeper.conn) }
+    ensures serves { HasCleanDisk (state S.Store service.new.keeper.keeper.conn) → (s : State) →
+        Serves service.old.keeper.keeper.shut (state S.Store service.old.keeper.keeper.conn)
+        service.old.keeper.keeper.count s → IsIndexOf service.old.keeper.index s →
+        ServesClients
+        (tables_sight (λ k. k.keeper) (λ t. t.shut) (λ t. state S.Store t.conn) (λ t. t.count)
+        (λ k. k.index))
+        (root_of service.old.base) (of_state s) service.old.keeper service.new.keeper
+        (clients_of clients.old) (clients_of clients.new) }
+    ensures survives { HasCleanDisk (state S.Store service.new.keeper.keeper.conn) → (s : State) →
+        Serves service.old.keeper.keeper.shut (state S.Store service.old.keeper.keeper.conn)
+        service.old.keeper.keeper.count s → IsIndexOf service.old.keeper.index s →
+        LeavesOnly (MayLeave (state S.Store service.old.keeper.keeper.conn)) (Some s) →
+        ServesTablesAtOnce
+        (tables_sight (λ k. k.keeper) (λ t. t.shut) (λ t. state S.Store t.conn) (λ t. t.count)
+        (λ k. k.index))
+        (root_of service.old.base) s service.old.keeper service.new.keeper
+        (clients_of clients.old) (clients_of clients.new)
+        (state S.Store service.new.keeper.keeper.conn) }
+    ensures spared { Spares
+        service.old.keeper.keeper.shut service.old.keeper.keeper.count
+        (state S.Store service.old.keeper.keeper.conn)
+        service.new.keeper.keeper.shut service.new.keeper.keeper.count
+        (state S.Store service.new.keeper.keeper.conn) }
 {
     serve_clients(rt, listener, count, clients, service)
 }

@@ -2,7 +2,7 @@ use Rattle.std.proofs.Common.{subst}
 use Rattle.sqlite.specs.State.{HasCleanDisk}
 use Rattle.sqlite.specs.Files.{file_state}
 use Rattle.streetmap_files.proofs.Opened.{ready, taken}
-use Rattle.streetmap_files.proofs.Refusals.{still_held, not_connected_to_create, not_made_for, new_spared}
+use Rattle.streetmap_files.proofs.Refusals.{unopened_to_create, still_held, not_connected_to_create, not_made_for, new_spared}
 use Rattle.streetmap_files.proofs.file.create.Goals as goal
 
 pub returns-in-Ok-make-clause-made : goal.returns-in-Ok-make-clause-made
@@ -28,3 +28,6 @@ returns-in-Err-clause-stays g c clean = still_held _ _ (c.in-Err.ensures.refused
 
 pub returns-in-Err-make-clause-stays : goal.returns-in-Err-make-clause-stays
 returns-in-Err-make-clause-stays g c clean = record { first = c.in-Ok.conn; on = c.in-Ok.ensures.opened; clean = c.in-Err-make.ensures.clean clean; showed = c.in-Err-make.ensures.same clean }
+
+pub returns-in-Err-clause-unopened : goal.returns-in-Err-clause-unopened
+returns-in-Err-clause-unopened g c none = rw c.of_files.ensures (unopened_to_create _ (c.in-Err.ensures.unopened none))

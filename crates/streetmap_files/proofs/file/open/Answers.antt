@@ -1,7 +1,7 @@
 use Rattle.sqlite.specs.State.{HasCleanDisk}
 use Rattle.sqlite.specs.Files.{file_state}
 use Rattle.streetmap_files.proofs.Opened.{rests, rests_old}
-use Rattle.streetmap_files.proofs.Refusals.{not_connected, not_adopted_for, ours_spared, old_spared}
+use Rattle.streetmap_files.proofs.Refusals.{unopened_to_open, not_connected, not_adopted_for, ours_spared, old_spared}
 use Rattle.streetmap_files.proofs.file.open.Goals as goal
 
 pub returns-in-Ok-adopt-clause-opened : goal.returns-in-Ok-adopt-clause-opened
@@ -36,3 +36,6 @@ pub returns-in-Err-adopt-clause-stays : goal.returns-in-Err-adopt-clause-stays
 returns-in-Err-adopt-clause-stays g c clean =
     let connected : HasCleanDisk (file_state c.in-Ok.conn) = c.in-Err-adopt.ensures.clean clean in
     record { first = c.in-Ok.conn; on = c.in-Ok.ensures.opened; clean = connected; showed = (c.in-Err-adopt.ensures.same clean, c.in-Err-adopt.ensures.unwritten clean, c.in-Err-adopt.ensures.crash clean) }
+
+pub returns-in-Err-clause-unopened : goal.returns-in-Err-clause-unopened
+returns-in-Err-clause-unopened g c none = rw c.of_files.ensures (unopened_to_open _ (c.in-Err.ensures.unopened none))
