@@ -1,8 +1,9 @@
 //! The keeper of a file: here alone its store is named.
 use crate::fault::ProgramFault;
-use crate::tasks::Task;
+use crate::tasks::{Task, read_batch};
 use sqlite::Unknown;
 use std::fs::exists;
+use streetmap_command::Import;
 
 /// Whether there is a file of that name.
 fn is_there(rt: &HostRuntime, path: &str) -> Result<bool, ProgramFault> {
@@ -40,5 +41,16 @@ pub(crate) fn run(rt: &HostRuntime, path: &str, task: Task<'_>) -> Result<(), Pr
         Ok(true) => run_over(rt, path, task),
         Ok(false) => Err(ProgramFault::NoFile),
         Err(fault) => Err(fault),
+    }
+}
+
+/// Puts the features of a text into a collection of a file. The text is read, and its batch made, before
+/// the file is opened: a text that is refused writes nothing.
+pub(crate) fn import(rt: &HostRuntime, path: &str, asked: Import<'_>) -> Result<(), ProgramFault> {
+    if is_there(rt, path)? {
+        let batch = read_batch(rt, asked)?;
+        run_over(rt, path, Task::Import(batch))
+    } else {
+        Err(ProgramFault::NoFile)
     }
 }

@@ -13,7 +13,7 @@ mod tasks;
 mod texts;
 
 use crate::fault::ProgramFault;
-use crate::tasks::{Connections, Import, Task};
+use crate::tasks::Task;
 use std::env;
 use std::io::{BufReader, BufWriter, writer};
 use std::process::ExitCode;
@@ -41,38 +41,13 @@ fn perform(rt: &HostRuntime, command: Command<'_>) -> Result<(), ProgramFault> {
         }
         Command::Serve {
             file,
-            port,
-            count,
-            clients,
-            log,
+            connections,
             base,
         } => {
-            let connections = Connections {
-                port,
-                count: count.map_or(u64::MAX, u64::from),
-                clients,
-                log,
-            };
             let base = Base::new(rt.alloc(), base.as_str())?;
             files::run(rt, file, Task::Serve(connections, base))
         }
-        Command::Import {
-            file,
-            text,
-            key,
-            collection,
-            replace,
-            progress,
-        } => {
-            let asked = Import {
-                text,
-                key,
-                collection,
-                replace,
-                progress,
-            };
-            files::run(rt, file, Task::Import(asked))
-        }
+        Command::Import { file, import } => files::import(rt, file, import),
         Command::Export {
             file,
             collection,

@@ -5,9 +5,11 @@ use crate::texts;
 use sqlite::Alter;
 use std::io::{BufReader, Write, writer};
 use std::net::{Ipv4Addr, TcpListener};
+use streetmap_batch::Batch;
 use streetmap_checking::check_tables;
+use streetmap_command::{Connections, Import};
 use streetmap_connections::{Clients, Limits};
-use streetmap_exchange::{export, import};
+use streetmap_exchange::{ImportStop, apply_import, export, import_batch};
 use streetmap_files::{serve_clients_over_tables, serve_count_over_tables, serve_over_tables};
 use streetmap_index::IndexedKeeper;
 use streetmap_ledger::Keeper;
@@ -22,33 +24,12 @@ pub(crate) enum Task<'a> {
     Pipe(Base),
     /// Connections are served.
     Serve(Connections, Base),
-    /// The features of a text are put into a collection by one batch, and its reply is printed.
-    Import(Import<'a>),
+    /// The batch that a text was read into is applied, and its reply is printed.
+    Import(Batch),
     /// A collection is written on standard output; with `progress` lines on standard error tell how far it is.
     Export { collection: &'a str, progress: bool },
     /// All rows are read, and it is printed how many there are.
     Check,
-}
-
-/// Which connections are served: those to a port of this host, so many of them, of so many clients at once, and
-/// whether a line is written for each answer.
-#[derive(Drop, Clone, Copy)]
-pub(crate) struct Connections {
-    pub(crate) port: u16,
-    pub(crate) count: u64,
-    pub(crate) clients: u32,
-    pub(crate) log: bool,
-}
-
-/// The path of a text, the key and the collection of the batch of its features, whether they replace those with their
-/// ids, and whether lines tell how far it is.
-#[derive(Drop, Clone, Copy)]
-pub(crate) struct Import<'a> {
-    pub(crate) text: &'a str,
-    pub(crate) key: &'a str,
-    pub(crate) collection: &'a str,
-    pub(crate) replace: bool,
-    pub(crate) progress: bool,
 }
 
 impl Task<'_> {
@@ -68,8 +49,9 @@ impl Task<'_> {
                     base,
                 )
             }
-            Task::Import(asked) => {
-                import_text(rt, &mut IndexedKeeper::new(rt.alloc(), keeper), asked)
+            Task::Import(batch) => {
+                let mut keeper = keeper;
+                apply_batch(rt, &mut keeper, &batch)
             }
             Task::Export {
                 collection,
@@ -118,10 +100,11 @@ fn serve<S: Alter + Drop>(
         serve_count_over_tables(
             rt.alloc(),
             &listener,
-            connections.count,
+            connections.count.map_or(u64::MAX, u64::from),
             &mut keeper,
             &base,
-        ).map_err(ProgramFault::from)
+        )
+        .map_err(ProgramFault::from)
     } else {
         serve_at_once(rt, &listener, connections, keeper, base)
     }
@@ -151,31 +134,37 @@ fn serve_service<S: Alter + Drop, W: Write + Drop>(
     connections: Connections,
     mut service: KeeperService<IndexedKeeper<TableKeeper<S>>, W>,
 ) -> Result<(), ProgramFault> {
+    let count = connections.count.map_or(u64::MAX, u64::from);
     let mut clients = Clients::new(rt.alloc(), Limits::of(connections.clients as usize))?;
-    serve_clients_over_tables(rt, listener, connections.count, &mut clients, &mut service).map_err(
+    serve_clients_over_tables(rt, listener, count, &mut clients, &mut service).map_err(
         ProgramFault::from,
     )
 }
 
-/// Puts the features of a text into a collection, and prints the reply.
-fn import_text<K: Keeper>(
-    rt: &HostRuntime,
-    keeper: &mut K,
-    asked: Import<'_>,
-) -> Result<(), ProgramFault> {
+/// Reads a text into the batch that puts its features into a collection.
+pub(crate) fn read_batch(rt: &HostRuntime, asked: Import<'_>) -> Result<Batch, ProgramFault> {
     let text = texts::read(rt, asked.text)?;
     let mut lines = ProgressLines {
         output: asked.progress.then(|| rt.stderr()),
     };
-    let reply = import(
+    let batch = import_batch(
         rt.alloc(),
-        keeper,
         text.as_slice(),
         asked.key,
         asked.collection,
         asked.replace,
         &mut lines,
-    )?;
+    );
+    batch.map_err(|fault| ProgramFault::from(ImportStop::from(fault)))
+}
+
+/// Applies a batch, and prints its reply.
+fn apply_batch<K: Keeper>(
+    rt: &HostRuntime,
+    keeper: &mut K,
+    batch: &Batch,
+) -> Result<(), ProgramFault> {
+    let reply = apply_import(rt.alloc(), keeper, batch)?;
     println!(rt; "{reply}").map_err(|_| ProgramFault::WriteFailed)
 }
 

@@ -8,7 +8,9 @@ abbrev pub command_value : Command → CommandValue
 command_value Lines = lines_command
 command_value (Create file) = create_command file.now
 command_value (Pipe file base) = pipe_command file.now (string_bytes base)
-command_value (Serve file port count clients log base) = serve_command file.now port count clients log (string_bytes base)
-command_value (Import file text key collection replace progress) = import_command file.now text.now key.now collection.now replace progress
+command_value (Serve file c base) =
+    serve_command file.now c.port c.count c.clients c.log (string_bytes base)
+command_value (Import file i) =
+    import_command file.now i.text.now i.key.now i.collection.now i.replace i.progress
 command_value (Export file collection progress) = export_command file.now collection.now progress
 command_value (Check file) = check_command file.now

@@ -81,10 +81,11 @@ abbrev pub count_given : Option Text → Option (Option ℕ)
 count_given None = Some None
 count_given (Some text) = option_map Some (number_up_to 4294967295 text)
 
--- 1 to 1,024 clients at once, or one after the other where none is given
-abbrev pub clients_given : Option Text → Option ℕ
-clients_given None = Some 1
-clients_given (Some text) = number_up_to 1024 text
+-- 1 to 1,024 clients at once; where none is given, one after the other if a count is, else 64 at once
+abbrev pub clients_given : (count : Option ℕ) → Option Text → Option ℕ
+clients_given None None = Some 64
+clients_given (Some n) None = Some 1
+clients_given count (Some text) = number_up_to 1024 text
 
 abbrev pub create_by : List Row → Option CommandValue
 create_by rows = option_map create_command (first_of (codes "file") rows)
@@ -100,7 +101,7 @@ is_set (Some value) = bytes_eq value (codes "true")
 -- what serves, of what is given for its file, port, count, clients, flag and base
 abbrev pub serve_given : (file port count clients log base : Option Text) → Option CommandValue
 serve_given file port count clients log base =
-    option_and_then (λ f. option_and_then (λ p. option_and_then (λ n. option_map (λ c. serve_command f p n c (is_set log) (unwrap_or base (base_at p))) (clients_given clients)) (count_given count)) (port_given port)) file
+    option_and_then (λ f. option_and_then (λ p. option_and_then (λ n. option_map (λ c. serve_command f p n c (is_set log) (unwrap_or base (base_at p))) (clients_given n clients)) (count_given count)) (port_given port)) file
 
 abbrev pub serve_by : List Row → Option CommandValue
 serve_by rows = serve_given (first_of (codes "file") rows) (first_of (codes "port") rows) (first_of (codes "count") rows) (first_of (codes "clients") rows) (first_of (codes "log") rows) (first_of (codes "base") rows)

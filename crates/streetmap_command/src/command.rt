@@ -11,6 +11,38 @@ use clap::error::ErrorKind;
 use clap::{ArgMatches, Error};
 use std::alloc::{AllocError, Global};
 
+/// How many clients are served at once where neither their number nor a count is given.
+const AT_ONCE: u32 = 64;
+
+/// The connections that are served.
+#[derive(Clone, Copy, Debug, Drop)]
+pub struct Connections {
+    /// The port of this host that they come to.
+    pub port: u16,
+    /// How many are served in all: any number where none is given.
+    pub count: Option<u32>,
+    /// How many are served at once, 1 to 1,024: 64 where no number is given, and one after the other
+    /// where a count alone is.
+    pub clients: u32,
+    /// Whether each answer has a line on standard error.
+    pub log: bool,
+}
+
+/// The import of a text of features.
+#[derive(Clone, Copy, Debug, Drop)]
+pub struct Import<'a> {
+    /// The path of the text.
+    pub text: &'a str,
+    /// The key of the batch of its features.
+    pub key: &'a str,
+    /// The collection that they are put into.
+    pub collection: &'a str,
+    /// Whether they replace those with their ids.
+    pub replace: bool,
+    /// Whether lines on standard error say how far the import is.
+    pub progress: bool,
+}
+
 /// What the program is to do.
 #[derive(Debug, Drop)]
 pub enum Command<'a> {
@@ -26,29 +58,19 @@ pub enum Command<'a> {
         file: &'a str,
         base: String,
     },
-    /// `streetmap serve FILE`: serve so many connections to a port of this host, or any number of them; so many
-    /// clients at once, 1 to 1,024; with `log` a line on standard error for each answer.
+    /// `streetmap serve FILE`: serve connections, with links under the base.
     Serve {
         file: &'a str,
-        port: u16,
-        count: Option<u32>,
-        clients: u32,
-        log: bool,
+        connections: Connections,
         base: String,
     },
-    /// `streetmap import FILE TEXT`: put the features of the file `text` into a collection by one batch,
-    /// with `replace` in the place of those with their ids; with `progress` lines on standard error tell how far
-    /// it is.
+    /// `streetmap import FILE TEXT`: put the features of a text into a collection by one batch.
     Import {
         file: &'a str,
-        text: &'a str,
-        key: &'a str,
-        collection: &'a str,
-        replace: bool,
-        progress: bool,
+        import: Import<'a>,
     },
-    /// `streetmap export FILE`: write a collection on standard output; with `progress` lines on standard error
-    /// tell how far it is.
+    /// `streetmap export FILE`: write a collection on standard output; with `progress` lines on
+    /// standard error say how far it is.
     Export {
         file: &'a str,
         collection: &'a str,
@@ -142,12 +164,14 @@ fn read_count(given: Option<&str>) -> Option<Option<u32>>
     }
 }
 
-fn read_clients(given: Option<&str>) -> Option<u32>
-    ensures { result ≡ clients_given (option_map (λ s. s.now) given.entry) }
+/// How many clients are served at once, where so many connections are to be served in all.
+fn read_clients(given: Option<&str>, count: Option<u32>) -> Option<u32>
+    ensures { result ≡ clients_given count (option_map (λ s. s.now) given.entry) }
 {
-    match given {
-        Some(text) => read_number(text, 1024),
-        None => Some(1),
+    match (given, count) {
+        (Some(text), _) => read_number(text, 1024),
+        (None, Some(_)) => Some(1),
+        (None, None) => Some(AT_ONCE),
     }
 }
 
@@ -159,15 +183,18 @@ fn read_serve<'a>(alloc: Global, found: &ArgMatches<'a>) -> Result<Command<'a>, 
     let file = value_of(found, "file").ok_or(CommandFault::Usage)?;
     let port = read_port(value_of(found, "port")).ok_or(CommandFault::Usage)?;
     let count = read_count(value_of(found, "count")).ok_or(CommandFault::Usage)?;
-    let clients = read_clients(value_of(found, "clients")).ok_or(CommandFault::Usage)?;
+    let clients = read_clients(value_of(found, "clients"), count).ok_or(CommandFault::Usage)?;
     let default = format!(in alloc; "http://localhost:{port}/")?;
     let base = read_base(alloc, value_of(found, "base"), default.as_str())?;
+    let log = has_flag(found, "log");
     Ok(Command::Serve {
         file,
-        port,
-        count,
-        clients,
-        log: has_flag(found, "log"),
+        connections: Connections {
+            port,
+            count,
+            clients,
+            log,
+        },
         base,
     })
 }
@@ -200,14 +227,14 @@ fn read_import<'a>(found: &ArgMatches<'a>) -> Result<Command<'a>, CommandFault>
     let text = value_of(found, "text").ok_or(CommandFault::Usage)?;
     let key = value_of(found, "key").ok_or(CommandFault::Usage)?;
     let collection = value_of(found, "collection").ok_or(CommandFault::Usage)?;
-    Ok(Command::Import {
-        file,
+    let import = Import {
         text,
         key,
         collection,
         replace: has_flag(found, "replace"),
         progress: has_flag(found, "progress"),
-    })
+    };
+    Ok(Command::Import { file, import })
 }
 
 /// The command `export`, of what is given with it.

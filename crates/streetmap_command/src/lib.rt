@@ -7,4 +7,4 @@
 mod command;
 mod parser;
 
-pub use command::{Command, CommandFault, read_command};
+pub use command::{Command, CommandFault, Connections, Import, read_command};

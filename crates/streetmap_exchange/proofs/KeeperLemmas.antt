@@ -1,5 +1,5 @@
 -- What an import into a keeper does, by its parts.
-use Rattle.std.proofs.Common.{◌≡◌, Option, None, Some, Result, Ok, Err, String, subst}
+use Rattle.std.proofs.Common.{◌≡◌, Option, None, Some, Result, Ok, Err, String, subst, sym}
 use Rattle.std.specs.declared.alloc.Global.{Global}
 use Rattle.streetmap_batch.specs.Text.{Text}
 use Rattle.streetmap_batch.specs.BatchValue.{BatchValue}
@@ -13,7 +13,7 @@ use Rattle.streetmap_ledger.specs.declared.reply.Reply.TheVariants as replies
 use Rattle.streetmap_exchange.specs.declared.fault.ImportFault.{ImportFault}
 use Rattle.streetmap_exchange.specs.declared.fault.ImportStop.{ImportStop}
 use Rattle.streetmap_exchange.specs.declared.fault.ImportStop.TheVariants.{NotRead, Refused, Stopped}
-use Rattle.streetmap_exchange.specs.KeeperImports.{IsTold, BatchTells, BatchLeaves, Imports, ImportLeaves, ImportShuts}
+use Rattle.streetmap_exchange.specs.KeeperImports.{IsTold, BatchTells, BatchLeaves, Imports, ImportLeaves, ImportShuts, IsOfReply}
 
 -- ---- a reply is told as its body or as its refusal
 
@@ -66,3 +66,28 @@ batch_leaves s read b (Ok body) left e h = (b, e, h)
 batch_leaves s read b (Err (NotRead fault)) left e h = absurd h
 batch_leaves s read b (Err (Refused why place)) left e h = (b, e, h)
 batch_leaves s read b (Err (Stopped fault)) left e h = (b, e, h)
+
+-- ---- a text that reads as a batch is imported as that batch
+
+pub read_imports : (s : State) (read : Result BatchValue ImportFault) (b : BatchValue)
+    (r : Result (String Global) ImportStop) (stands : State → Type 0)
+    → read ≡ Ok b → Imports s (Ok b) r stands → Imports s read r stands
+read_imports s read b r stands e h =
+    subst (λ (x : Result BatchValue ImportFault). Imports s x r stands) (sym e) h
+
+pub read_leaves : (s : State) (read : Result BatchValue ImportFault) (b : BatchValue)
+    (r : Result (String Global) ImportStop) (left : Option State → Type 0)
+    → read ≡ Ok b → ImportLeaves s (Ok b) r left → ImportLeaves s read r left
+read_leaves s read b r left e h =
+    subst (λ (x : Result BatchValue ImportFault). ImportLeaves s x r left) (sym e) h
+
+-- ---- what is returned is what the keeper replied
+
+pub told_of_reply : {K : Type 0} (applies : K → BatchValue → Result Reply Fault → K → Type 0)
+    (b : BatchValue) (reply : Reply) (r : Result (String Global) ImportStop) (old new : K)
+    → IsTold b.key reply r → applies old b (Ok reply) new
+    → IsOfReply b.key (λ x. applies old b x new) (new ≡ old) r
+told_of_reply applies b reply (Ok body) old new told h = (reply, h, told)
+told_of_reply applies b reply (Err (NotRead fault)) old new told h = absurd (never_unread b.key reply fault told)
+told_of_reply applies b reply (Err (Refused why place)) old new told h = (reply, h, told)
+told_of_reply applies b reply (Err (Stopped fault)) old new told h = absurd (never_stopped b.key reply fault told)

@@ -8,6 +8,7 @@ use Rattle.streetmap_ledger.specs.State.{State}
 use Rattle.streetmap_ledger.specs.Batches.{act}
 use Rattle.streetmap_ledger.specs.Keep.{Acts, ApplyLeaves, LeavesOnly, ShutsBy}
 use Rattle.streetmap_ledger.specs.declared.reply.Cause.{Cause}
+use Rattle.streetmap_ledger.specs.declared.reply.Fault.{Fault}
 use Rattle.streetmap_ledger.specs.declared.reply.Reply.{Reply}
 use Rattle.streetmap_ledger.specs.declared.reply.Reply.TheVariants as replies
 use Rattle.streetmap_bodies.specs.Replies.{reply_body}
@@ -48,3 +49,10 @@ abbrev pub ImportShuts : Result (String Global) ImportStop → Option Cause → 
 ImportShuts (Err (NotRead fault)) old new = new ≡ old
 ImportShuts (Err (Stopped fault)) old new = ShutsBy {T = Unit {0}} (Err fault) old new
 ImportShuts told old new = (old ≡ None) × (new ≡ None)
+
+-- the keeper was never asked and is as it was, or what is reported is what it replied to the batch
+abbrev pub IsOfReply : (key : Text) → (came : Result Reply Fault → Type 0) → (same : Type 0) →
+    Result (String Global) ImportStop → Type 0
+IsOfReply key came same (Err (NotRead fault)) = same
+IsOfReply key came same (Err (Stopped fault)) = came (Err fault)
+IsOfReply key came same told = (reply : Reply) × came (Ok reply) × IsTold key reply told

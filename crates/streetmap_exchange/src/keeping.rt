@@ -1,11 +1,15 @@
 //! Texts of features, imported into a keeper.
-ghost use Rattle.std.specs.Prelude.{◌≡◌, ◌≤◌, ◌+◌, [], Some, IfOk, IfErr, IsErrOf, string_bytes, string_len, string_capacity};
+ghost use Rattle.std.specs.Prelude.{◌≡◌, ◌≤◌, ◌+◌, [], Some, Ok, IfOk, IfErr, IsErrOf};
+ghost use Rattle.std.specs.Prelude.{string_bytes, string_len, string_capacity};
+ghost use Rattle.streetmap_batch.specs.BatchValue.{BatchValue};
 ghost use Rattle.streetmap_batch.specs.BatchView.{batch_value};
 ghost use Rattle.streetmap_ledger.specs.Keep.{LeavesOnly, AsBefore};
 ghost use Rattle.streetmap_ledger.specs.State.{State};
 ghost use Rattle.streetmap_ledger.specs.declared.reply.Fault.TheVariants.{Reopen};
 ghost use Rattle.streetmap_exchange.specs.Imports.{import_of};
-ghost use Rattle.streetmap_exchange.specs.KeeperImports.{IsTold, BatchTells, BatchLeaves, Imports, ImportLeaves, ImportShuts};
+ghost use Rattle.streetmap_exchange.specs.KeeperImports.{IsTold, IsOfReply, BatchTells};
+ghost use Rattle.streetmap_exchange.specs.KeeperImports.{BatchLeaves, Imports, ImportLeaves};
+ghost use Rattle.streetmap_exchange.specs.KeeperImports.{ImportShuts};
 
 use crate::fault::{ImportFault, ImportStop};
 use crate::importing::import_batch;
@@ -43,15 +47,23 @@ fn tell(body: String, batch: &Batch, reply: Reply) -> Result<String, ImportStop>
     }
 }
 
-/// Applies a batch, and tells its reply in room that was taken before.
+/// Asks the keeper to act on a batch, and returns its reply in room that was taken before.
 fn apply<K: Keeper>(keeper: &mut K, batch: &Batch, body: String) -> Result<String, ImportStop>
     requires empty { string_bytes body ≡ [] }
     requires wide { string_len body + 320 ≤ string_capacity body }
+    ensures told { IsOfReply (batch_value batch.now).key
+        (λ r. K.applies keeper.old (batch_value batch.now) r keeper.new)
+        (keeper.new ≡ keeper.old) result }
     ensures began_clean { K.is_clean keeper.new → K.is_clean keeper.old }
     ensures faults { ImportShuts result (K.cause keeper.old) (K.cause keeper.new) }
-    ensures acts { K.is_clean keeper.new → (s : State) → K.stands keeper.old s → BatchTells s (batch_value batch.now) result (K.stands keeper.new) }
-    ensures leaves { K.is_clean keeper.new → (s : State) → K.stands keeper.old s → LeavesOnly (K.may_leave keeper.old) (Some s) → BatchLeaves s (batch_value batch.now) result (K.may_leave keeper.new) }
-    ensures reopen { IsErrOf result (ImportStop.Stopped Reopen) → AsBefore (K.stands keeper.old) (K.stands keeper.new) (K.may_leave keeper.old) (K.may_leave keeper.new) }
+    ensures acts { K.is_clean keeper.new → (s : State) → K.stands keeper.old s →
+        BatchTells s (batch_value batch.now) result (K.stands keeper.new) }
+    ensures leaves { K.is_clean keeper.new → (s : State) → K.stands keeper.old s →
+        LeavesOnly (K.may_leave keeper.old) (Some s) →
+        BatchLeaves s (batch_value batch.now) result (K.may_leave keeper.new) }
+    ensures reopen { IsErrOf result (ImportStop.Stopped Reopen) →
+        AsBefore (K.stands keeper.old) (K.stands keeper.new)
+        (K.may_leave keeper.old) (K.may_leave keeper.new) }
 {
     match keeper.apply(batch) {
         Ok(reply) => tell(body, batch, reply),
@@ -59,9 +71,43 @@ fn apply<K: Keeper>(keeper: &mut K, batch: &Batch, body: String) -> Result<Strin
     }
 }
 
-/// Puts the features of a FeatureCollection text into a collection by one batch (`import_batch`), and
-/// answers the body of its reply, as compact JSON text. The room for it is taken before the batch is
-/// applied, so a batch that acted is answered. `progress` is told how many features are read.
+/// Applies the batch that a text was imported by (`import_batch`) to a keeper, and returns the body of
+/// its reply, as compact JSON text. The room for it is taken before the keeper is asked, so a batch
+/// that acted is answered.
+///
+/// # Errors
+///
+/// `NotRead` with `Memory` where there is no room, and then the keeper was not asked; `Refused` where
+/// the batch is, which changed nothing either; `Stopped` with the fault of the keeper.
+pub fn apply_import<K: Keeper>(
+    alloc: Global,
+    keeper: &mut K,
+    batch: &Batch,
+) -> Result<String, ImportStop>
+    // The keeper was never asked and is as it was, or what is returned is what it replied.
+    ensures told { IsOfReply (batch_value batch.now).key
+        (λ r. K.applies keeper.old (batch_value batch.now) r keeper.new)
+        (keeper.new ≡ keeper.old) result }
+    ensures began_clean { K.is_clean keeper.new → K.is_clean keeper.old }
+    // A shut keeper that is asked answers `Reopen` and no other does; `Device` and `Damaged` shut it.
+    ensures faults { ImportShuts result (K.cause keeper.old) (K.cause keeper.new) }
+    // What is returned, and the state afterwards, are those of the batch.
+    ensures imports { K.is_clean keeper.new → (s : State) → K.stands keeper.old s →
+        Imports s (Ok (batch_value batch.now)) result (K.stands keeper.new) }
+    // A stop may leave the state after the batch alone, where it was answered.
+    ensures leaves { K.is_clean keeper.new → (s : State) → K.stands keeper.old s →
+        LeavesOnly (K.may_leave keeper.old) (Some s) →
+        ImportLeaves s (Ok (batch_value batch.now)) result (K.may_leave keeper.new) }
+    ensures reopen { IsErrOf result (ImportStop.Stopped Reopen) →
+        AsBefore (K.stands keeper.old) (K.stands keeper.new)
+        (K.may_leave keeper.old) (K.may_leave keeper.new) }
+{
+    let body = room(alloc)?;
+    apply(keeper, batch, body)
+}
+
+/// Puts the features of a FeatureCollection text into a collection by one batch: `import_batch`, and
+/// then `apply_import`. `progress` is told how many features are read.
 ///
 /// # Errors
 ///
@@ -76,16 +122,26 @@ pub fn import<K: Keeper, P: Progress>(
     replace: bool,
     progress: &mut P,
 ) -> Result<String, ImportStop>
+    // The keeper was never asked and is as it was, or what is returned is what it replied to the
+    // batch that the text is.
+    ensures told { (b : BatchValue) →
+        import_of replace key.now collection.now text.now ≡ Ok b →
+        IsOfReply b.key (λ r. K.applies keeper.old b r keeper.new) (keeper.new ≡ keeper.old) result }
     ensures began_clean { K.is_clean keeper.new → K.is_clean keeper.old }
     // A shut keeper that is asked answers `Reopen` and no other does; `Device` and `Damaged` shut it.
     ensures faults { ImportShuts result (K.cause keeper.old) (K.cause keeper.new) }
-    // What is told, and the state afterwards, are those of the batch that the text is.
-    ensures imports { K.is_clean keeper.new → (s : State) → K.stands keeper.old s → Imports s (import_of replace key.now collection.now text.now) result (K.stands keeper.new) }
+    // What is returned, and the state afterwards, are those of the batch that the text is.
+    ensures imports { K.is_clean keeper.new → (s : State) → K.stands keeper.old s →
+        Imports s (import_of replace key.now collection.now text.now) result (K.stands keeper.new) }
     // A stop may leave the state after the batch alone, where it was answered.
-    ensures leaves { K.is_clean keeper.new → (s : State) → K.stands keeper.old s → LeavesOnly (K.may_leave keeper.old) (Some s) → ImportLeaves s (import_of replace key.now collection.now text.now) result (K.may_leave keeper.new) }
-    ensures reopen { IsErrOf result (ImportStop.Stopped Reopen) → AsBefore (K.stands keeper.old) (K.stands keeper.new) (K.may_leave keeper.old) (K.may_leave keeper.new) }
+    ensures leaves { K.is_clean keeper.new → (s : State) → K.stands keeper.old s →
+        LeavesOnly (K.may_leave keeper.old) (Some s) →
+        ImportLeaves s (import_of replace key.now collection.now text.now)
+        result (K.may_leave keeper.new) }
+    ensures reopen { IsErrOf result (ImportStop.Stopped Reopen) →
+        AsBefore (K.stands keeper.old) (K.stands keeper.new)
+        (K.may_leave keeper.old) (K.may_leave keeper.new) }
 {
     let batch = import_batch(alloc, text, key, collection, replace, progress)?;
-    let body = room(alloc)?;
-    apply(keeper, &batch, body)
+    apply_import(alloc, keeper, &batch)
 }

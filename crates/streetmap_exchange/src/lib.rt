@@ -1,9 +1,9 @@
 //! Collections of features as GeoJSON texts: read into batches, and written out of a keeper.
 //!
 //! `import_batch` makes of the text of a FeatureCollection the batch that puts its features into a
-//! collection; which batch, and which refusal comes first, is `specs/Imports`. `import` applies it to a
-//! keeper, and answers the body of the reply; what is told, and what the keeper stands for then, is
-//! `specs/KeeperImports`.
+//! collection; which batch, and which refusal comes first, is `specs/Imports`. `apply_import` applies it
+//! to a keeper, and returns the body of the reply; what is returned, and what the keeper stands for
+//! then, is `specs/KeeperImports`. `import` is both.
 //!
 //! `export` writes the text of a whole collection, page by page, over any keeper; which text, and what
 //! was written where it ends early, is `specs/Exports`.
@@ -24,5 +24,5 @@ mod progress;
 pub use exporting::export;
 pub use fault::{ExportFault, ImportFault, ImportStop};
 pub use importing::{MAX_TEXT, import_batch};
-pub use keeping::import;
+pub use keeping::{apply_import, import};
 pub use progress::Progress;

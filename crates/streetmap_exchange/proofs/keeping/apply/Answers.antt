@@ -1,4 +1,4 @@
-use Rattle.streetmap_exchange.proofs.KeeperLemmas.{told_acts, told_leaves, told_shuts, told_answers}
+use Rattle.streetmap_exchange.proofs.KeeperLemmas.{told_acts, told_leaves, told_shuts, told_answers, told_of_reply}
 use Rattle.streetmap_exchange.proofs.keeping.apply.Goals as goal
 
 pub returns-in-Ok-clause-faults : goal.returns-in-Ok-clause-faults
@@ -15,3 +15,7 @@ returns-in-Ok-clause-leaves g c = λ clean s stands only.
 
 pub returns-in-Ok-clause-reopen : goal.returns-in-Ok-clause-reopen
 returns-in-Ok-clause-reopen g c = λ stopped. absurd (told_answers _ _ _ _ c.tell.ensures stopped)
+
+pub returns-in-Ok-clause-told : goal.returns-in-Ok-clause-told
+returns-in-Ok-clause-told g c =
+    told_of_reply g.K.Keeper.applies _ _ _ _ _ c.tell.ensures c.in-Ok.ensures.applied
