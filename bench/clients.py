@@ -1,22 +1,23 @@
-"""Times requests over sockets: `GET /conformance` on 1, 10 and 100 connections of `streetmap serve --clients`, beside `streetmap serve`
-of one connection after the other, and beside nginx with a file of the same size. It needs `wrk`, and `nginx` for the last column
-(Debian's packages of these names); where they are missing it says so. Then the slowest of 1,000 requests beside 200 idle connections.
+"""Requests over sockets, on 1, 10 and 100 connections, beside nginx with a file of the same size.
 
-    python3 bench/clients.py PROGRAM
+It needs `wrk`, and `nginx` for the comparison (Debian's packages of these names); where they are
+missing it says so. Then the slowest of 1,000 requests beside 200 idle connections.
 """
+
+import contextlib
 import os
 import shutil
 import socket
 import subprocess
-import sys
-import tempfile
 import time
+from collections.abc import Iterator
+from pathlib import Path
 
-PROGRAM = os.path.abspath(sys.argv[1])
-BODY = '{"conformsTo":["tag:streetmap.invalid,2024:conf/grid-features"]}'
-ASKED = b"GET /conformance HTTP/1.1\r\nHost: localhost\r\n\r\n"
+from harness import free_port
+from measures import CONFORMANCE, create, fail, peak_of, report
+
+BODY = b'{"conformsTo":["tag:streetmap.invalid,2024:conf/grid-features"]}'
 SECONDS = 3
-
 NGINX = """
 worker_processes 1;
 daemon off;
@@ -39,106 +40,97 @@ http {{
     }}
 }}
 """
+Started = tuple[subprocess.Popen[bytes], int]
 
 
-def free_port():
-    with socket.socket() as free:
-        free.bind(("127.0.0.1", 0))
-        return free.getsockname()[1]
-
-
-def until_it_listens(port):
-    for _ in range(100):
-        try:
-            socket.create_connection(("127.0.0.1", port), timeout=1).close()
-            return
-        except OSError:
+@contextlib.contextmanager
+def until_done(process: subprocess.Popen[bytes], port: int) -> Iterator[Started]:
+    """A server from the time that it listens on; it is stopped where the block ends."""
+    try:
+        for _ in range(600):
+            with contextlib.suppress(OSError):
+                socket.create_connection(("127.0.0.1", port), timeout=1).close()
+                break
             time.sleep(0.05)
-    sys.exit(f"nothing listens at port {port}")
+        else:
+            fail(f"nothing listens at port {port}")
+        yield process, port
+    finally:
+        process.terminate()
+        process.wait()
 
 
-def serve(file, *words):
+def serve(program: Path, file: Path, *words: str) -> contextlib.AbstractContextManager[Started]:
     port = free_port()
-    started = subprocess.Popen([PROGRAM, "serve", file, "--port", str(port), *words], stdout=subprocess.PIPE)
-    started.stdout.readline()
-    return started, port
+    given: list[str | Path] = [program, "serve", file, "--port", str(port), *words]
+    return until_done(subprocess.Popen(given, stdout=subprocess.DEVNULL), port)
 
 
-def nginx(folder):
-    port = free_port()
-    os.makedirs(f"{folder}/www")
-    with open(f"{folder}/www/conformance", "w") as out:
-        out.write(BODY)
-    with open(f"{folder}/nginx.conf", "w") as out:
-        out.write(NGINX.format(folder=folder, port=port, user="user root;" if os.getuid() == 0 else ""))
-    started = subprocess.Popen(["nginx", "-p", folder, "-c", f"{folder}/nginx.conf"], stderr=subprocess.DEVNULL)
-    until_it_listens(port)
-    return started, port
+def nginx(folder: Path) -> contextlib.AbstractContextManager[Started]:
+    port, written = free_port(), folder / "nginx.conf"
+    (folder / "www").mkdir()
+    (folder / "www" / "conformance").write_bytes(BODY)
+    user = "user root;" if os.getuid() == 0 else ""
+    written.write_text(NGINX.format(folder=folder, port=port, user=user))
+    given = ["nginx", "-p", str(folder), "-c", str(written)]
+    return until_done(subprocess.Popen(given, stderr=subprocess.DEVNULL), port)
 
 
-def rate(port, connections):
+def rate(port: int, connections: int) -> float:
     """Requests a second."""
-    done = subprocess.run(["wrk", "-t1", f"-c{connections}", f"-d{SECONDS}s", f"http://127.0.0.1:{port}/conformance"],
-                          capture_output=True, text=True, check=True).stdout
+    url = f"http://127.0.0.1:{port}/conformance"
+    given = ["wrk", "-t1", f"-c{connections}", f"-d{SECONDS}s", url]
+    done = subprocess.run(given, capture_output=True, text=True, check=True).stdout
     if "Non-2xx" in done or "Socket errors" in done:
-        sys.exit(f"wrk told of errors: {done}")
+        fail(f"wrk reports errors: {done}")
     return float(done.partition("Requests/sec:")[2].split()[0])
 
 
-def ended(started):
-    started.terminate()
-    started.wait()
+def report_rates(name: str, port: int, counts: tuple[int, ...]) -> None:
+    found = ", ".join(f"{rate(port, count):,.0f} on {count}" for count in counts)
+    report(f"{name}, requests a second by connections", found)
 
 
-def rates(file, folder):
-    columns = [("serve --clients 256", *serve(file, "--clients", "256"), (1, 10, 100)),
-               ("serve, one after the other", *serve(f"{folder}/other.streetmap"), (1,))]
-    if shutil.which("nginx"):
-        columns.append(("nginx, a file of the same size", *nginx(folder), (1, 10, 100)))
-    else:
-        print("nginx is not here: nothing to compare with")
-    for name, started, port, counts in columns:
-        told = ", ".join(f"{rate(port, count):,.0f} on {count}" for count in counts)
-        print(f"{name}: GET /conformance, requests a second by connections: {told}")
-        ended(started)
+def rates(program: Path, folder: Path) -> None:
+    if not shutil.which("wrk"):
+        report("requests a second", "wrk is not installed")
+        return
+    file = create(program, folder / "rates.streetmap")
+    with serve(program, file, "--clients", "256") as (_, port):
+        report_rates("serve --clients 256", port, (1, 10, 100))
+    with serve(program, file) as (_, port):
+        report_rates("serve, one connection after the other", port, (1,))
+    if not shutil.which("nginx"):
+        report("nginx", "it is not installed")
+        return
+    with nginx(folder) as (_, port):
+        report_rates("nginx", port, (1, 10, 100))
 
 
-def answer(stream):
-    came = b""
-    while not came.endswith(BODY.encode()):
+def one_answer(stream: socket.socket) -> float:
+    """Seconds of one request."""
+    start, came = time.perf_counter(), b""
+    stream.sendall(CONFORMANCE)
+    while not came.endswith(BODY):
         came += stream.recv(65536)
+    return time.perf_counter() - start
 
 
-def slowest(file):
-    started, port = serve(file, "--clients", "256")
-    idle = [socket.create_connection(("127.0.0.1", port)) for _ in range(200)]
-    took = []
-    with socket.create_connection(("127.0.0.1", port)) as asks:
-        for _ in range(1000):
-            start = time.perf_counter()
-            asks.sendall(ASKED)
-            answer(asks)
-            took.append(time.perf_counter() - start)
-    with open(f"/proc/{started.pid}/status") as status:
-        memory = int(status.read().partition("VmHWM:")[2].split()[0])
-    print(f"1,000 requests beside 200 idle connections: {sum(took):.3f} s, the slowest {max(took) * 1000:.2f} ms; "
-          f"the process took {memory / 1024:.1f} MiB")
-    for stream in idle:
-        stream.close()
-    ended(started)
+def beside_idle_clients(program: Path, folder: Path) -> None:
+    file = create(program, folder / "idle.streetmap")
+    with contextlib.ExitStack() as open_ones:
+        process, port = open_ones.enter_context(serve(program, file, "--clients", "256"))
+        address = ("127.0.0.1", port)
+        for _ in range(200):
+            open_ones.enter_context(socket.create_connection(address))
+        asks = open_ones.enter_context(socket.create_connection(address))
+        took = [one_answer(asks) for _ in range(1000)]
+        figures = f"{sum(took):.3f} s, the slowest {max(took) * 1000:.2f} ms"
+        peak = f"the process held {peak_of(process) / 2**20:.1f} MiB"
+        report("1,000 requests beside 200 idle connections", f"{figures}; {peak}")
 
 
-def main():
-    with tempfile.TemporaryDirectory() as folder:
-        os.chmod(folder, 0o755)
-        file = f"{folder}/bench.streetmap"
-        for path in (file, f"{folder}/other.streetmap"):
-            subprocess.run([PROGRAM, "create", path], check=True)
-        if shutil.which("wrk"):
-            rates(file, folder)
-        else:
-            print("wrk is not here: requests a second are not measured")
-        slowest(file)
-
-
-main()
+def run(program: Path, folder: Path) -> None:
+    folder.chmod(0o755)
+    rates(program, folder)
+    beside_idle_clients(program, folder)

@@ -1,69 +1,46 @@
-"""Times HTTP answers of `streetmap pipe`, a file below it and no socket between: the fixed answer of `/conformance`, a page of ten
-points, and the body of a page of 1,000 features. Beside them: what plain Python takes to write the same JSON.
+"""HTTP answers over a file, with no socket: fixed ones, pages of points and of boxes.
 
-    python3 bench/serving.py PROGRAM
+Beside them: what plain Python takes to write the same JSON.
 """
-import json
-import re
-import subprocess
-import sys
-import tempfile
+
 import time
+from pathlib import Path
+from typing import Any
 
-FEATURES = 1000
+from measures import CONFORMANCE, best, compact, create, pipe, report, seconds_of
+from messages import feature, get, open_collection, point, put
 
-
-def post(batch):
-    body = json.dumps(batch, separators=(",", ":")).encode()
-    return b"POST /batches HTTP/1.1\r\nHost: localhost\r\nContent-Length: %d\r\n\r\n" % len(body) + body
-
-
-def get(target):
-    return f"GET {target} HTTP/1.1\r\nHost: localhost\r\n\r\n".encode()
+FEATURES = 1_000
+ITEMS = "/collections/lamps/items"
 
 
-def feature(at):
-    return {"type": "Feature", "id": f"lamp-{at:05}", "geometry": {"type": "Point", "coordinates": [at * 100, at * 7 % 5000]},
-            "properties": {"owner": "town", "height": at % 9000, "kind": "street lamp", "no": at}}
+def lamp(number: int) -> dict[str, Any]:
+    properties = {"owner": "town", "height": number % 9000, "kind": "street lamp", "no": number}
+    return feature(f"lamp-{number:05}", point(number * 100, number * 7 % 5000), properties)
 
 
-def pipe(program, file, stream):
-    """The best of three runs: seconds, the answers, and the bytes of them all."""
-    runs = []
-    for _ in range(3):
-        start = time.perf_counter()
-        told = subprocess.run([program, "pipe", file], input=stream, capture_output=True, check=True).stdout
-        runs.append((time.perf_counter() - start, len(re.findall(rb"HTTP/1\.1 200 ", told)), len(told)))
-    return min(runs)
+def measure(program: Path, file: Path, name: str, request: bytes, count: int) -> None:
+    size = len(pipe(program, file, request)[1])
+    took = seconds_of(program, file, request, count, request)
+    figures = f"{took * 1e6:.1f} microseconds, {size} bytes, {size / took / 1e6:.0f} MB a second"
+    report(name, figures)
 
 
-def compare(program, file, name, asked, count):
-    """What one more answer takes, behind a first one by which the index is learnt."""
-    once, again = (pipe(program, file, asked * times) for times in (1, 1 + count))
-    seconds, answers, size = (more - less for more, less in zip(again, once))
-    if answers != count:
-        sys.exit(f"{name}: {answers} answers in place of {count}")
-    print(f"{name}: {seconds / count * 1e6:.1f} microseconds, {size / count:.0f} bytes, {size / seconds / 1e6:.0f} MB a second")
-
-
-def main():
-    program = sys.argv[1]
-    setup = post({"key": "first", "edits": [{"op": "open", "collection": "lamps"}]
-                  + [{"op": "insert", "collection": "lamps", "feature": feature(at)} for at in range(FEATURES)]})
-    with tempfile.TemporaryDirectory() as folder:
-        file = f"{folder}/bench.streetmap"
-        subprocess.run([program, "create", file], check=True)
-        subprocess.run([program, "pipe", file], input=setup, stdout=subprocess.DEVNULL, check=True)
-        compare(program, file, "GET /conformance", get("/conformance"), 100_000)
-        compare(program, file, "a page of ten points", get("/collections/lamps/items?limit=10"), 2_000)
-        compare(program, file, "a page of ten points in a box", get("/collections/lamps/items?limit=10&bbox=0,0,2000,5000"), 2_000)
-        compare(program, file, "a page of 1,000 features", get("/collections/lamps/items?limit=1000"), 50)
-    page = {"features": [feature(at) for at in range(FEATURES)], "type": "FeatureCollection"}
+def in_python() -> float:
+    page = {"features": [lamp(at) for at in range(FEATURES)], "type": "FeatureCollection"}
     start = time.perf_counter()
-    for _ in range(20):
-        size = len(json.dumps(page, separators=(",", ":")))
-    each = (time.perf_counter() - start) / 20 * 1e6
-    print(f"the same features by Python's json.dumps: {each:.0f} microseconds, {size / each:.0f} MB a second")
+    compact(page)
+    return time.perf_counter() - start
 
 
-main()
+def run(program: Path, folder: Path) -> None:
+    inserts = [put("insert", "lamps", lamp(at)) for at in range(FEATURES)]
+    batch = {"key": "first", "edits": [open_collection("lamps"), *inserts]}
+    file = create(program, folder / "lamps.streetmap", batch)
+    measure(program, file, "GET /conformance", CONFORMANCE, 20_000)
+    measure(program, file, "a page of ten points", get(f"{ITEMS}?limit=10"), 2_000)
+    boxed = get(f"{ITEMS}?limit=10&bbox=0,0,2000,5000")
+    measure(program, file, "a page of ten points in a box", boxed, 2_000)
+    measure(program, file, "a page of 1,000 points", get(f"{ITEMS}?limit=1000"), 50)
+    took = best(20, in_python)
+    report("the features of that page by Python's json.dumps", f"{took * 1e6:.0f} microseconds")

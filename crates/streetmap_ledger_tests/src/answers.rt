@@ -1,7 +1,6 @@
 //! Want of memory, that no clause rules out: the ledger is as it was, and the line is answered when it comes again.
 //! Each allocation is refused in turn by `make refusals`.
-use std::alloc::Global;
-use std::process::Abort;
+use std::alloc::{AllocError, Global};
 use std::test::Fail;
 use streetmap_lines::answer_line;
 use streetmap_memory::PlainKeeper;
@@ -109,36 +108,43 @@ const ROWS: &[Row] = &[
     },
 ];
 
-/// Wants that a line is answered so.
-fn check_text(rt: &impl Abort, line: &str, answer: &Option<String>, wanted: &str) {
-    let text = answer.as_ref().map_or("", |text| text.as_str());
-    assert_eq!(rt; text, wanted, "at {line}");
+/// The rows.
+fn rows() -> &'static [Row] {
+    ROWS
 }
 
-/// Wants that a line is answered so, with memory for it.
-fn check_again(
-    rt: &impl Abort,
+/// Whether a line is answered so.
+fn is_answered(
     alloc: Global,
     keeper: &mut PlainKeeper,
     line: &str,
     wanted: &str,
-) -> Result<(), Fail> {
+) -> Result<bool, AllocError> {
     let answer = answer_line(alloc, keeper, line.as_bytes())?;
-    check_text(rt, line, &answer, wanted);
-    Ok(())
+    Ok(answer.is_some_and(|text| text.as_str() == wanted))
+}
+
+/// Whether a line that was refused for memory changed nothing, and is answered when it comes again.
+fn is_answered_again(
+    alloc: Global,
+    keeper: &mut PlainKeeper,
+    row: &Row,
+) -> Result<bool, AllocError> {
+    Ok(
+        is_answered(alloc, keeper, row.look, row.seen)?
+            && is_answered(alloc, keeper, row.line, row.answer)?,
+    )
 }
 
 #[test]
 fn a_line_refused_for_memory_is_answered_again(rt: HostRuntime) -> Result<(), Fail> {
     let mut keeper = PlainKeeper::new(rt.alloc());
-    for row in ROWS {
-        match answer_line(rt.alloc(), &mut keeper, row.line.as_bytes()) {
-            Ok(answer) => check_text(&rt, row.line, &answer, row.answer),
-            Err(_) => {
-                check_again(&rt, rt.alloc(), &mut keeper, row.look, row.seen)?;
-                check_again(&rt, rt.alloc(), &mut keeper, row.line, row.answer)?;
-            }
-        }
+    for row in rows() {
+        let is_as_wanted = match is_answered(rt.alloc(), &mut keeper, row.line, row.answer) {
+            Ok(is_as_wanted) => is_as_wanted,
+            Err(_) => is_answered_again(rt.alloc(), &mut keeper, row)?,
+        };
+        assert!(rt; is_as_wanted, "at {}", row.line);
     }
     Ok(())
 }

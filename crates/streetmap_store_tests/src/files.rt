@@ -87,11 +87,3 @@ pub(crate) fn visit_again<V: Visit + Drop>(
     let db = file(alloc, files.db.inner().bytes())?;
     Ok(visit_fused(alloc, log, db, calls, visit))
 }
-
-/// What came of a visit, where the files were opened for it.
-pub(crate) fn came<T>((told, _): (Option<Result<T, Fail>>, Files<Fused>)) -> Result<T, Fail> {
-    match told {
-        Some(told) => told,
-        None => Err(Fail::from("the files are not opened")),
-    }
-}

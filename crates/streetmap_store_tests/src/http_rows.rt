@@ -1,96 +1,125 @@
-//! The rows of HTTP over a keeper in memory, over tables and with an index over them: the answers are the same bytes.
+//! The rows of HTTP over a keeper in memory, over tables, and with an index over each: the answers are the same bytes.
 use crate::answers::answers;
-use crate::rows::ROWS;
-use crate::sessions::over_tables;
+use crate::rows::{COUNT, ROWS};
 use serde_json::Value;
-use std::alloc::Global;
+use sqlite::{Connection, MemStore};
+use std::alloc::{AllocError, Global};
 use std::test::Fail;
 use streetmap_index::IndexedKeeper;
 use streetmap_ledger::Keeper;
 use streetmap_memory::PlainKeeper;
+use streetmap_store::TableKeeper;
 
 /// The rows, a line each.
 fn rows() -> &'static str {
     ROWS
 }
 
+/// What is sent to a new keeper: first what makes the state, and then what is answered so.
+#[derive(Clone, Copy)]
+struct Row<'a> {
+    first: &'a str,
+    sent: &'a str,
+    written: &'a str,
+}
+
 /// A text of a row.
-fn text<'a>(row: &'a Value, name: &str) -> Result<&'a str, Fail> {
-    match row.get(name).and_then(Value::as_str) {
-        Some(text) => Ok(text),
-        None => Err(Fail::from("a text of a row is missing")),
-    }
+fn text<'a>(row: &'a Value, name: &str) -> &'a str {
+    row.get(name).and_then(Value::as_str).unwrap_or("")
 }
 
-/// The request that posts a batch.
-fn post(alloc: Global, batch: &Value) -> Result<String, Fail> {
-    let body = batch.as_str().unwrap_or("");
+/// Appends the request that posts a batch.
+fn push_post(alloc: Global, requests: &mut String, body: &str) -> Result<(), AllocError> {
     let len = body.len();
-    Ok(format!(in alloc;
-        "POST /batches HTTP/1.1\r\nHost: localhost\r\nContent-Length: {len}\r\n\r\n{body}"
-    )?)
+    let head = format!(in alloc;
+        "POST /batches HTTP/1.1\r\nHost: localhost\r\nContent-Length: {len}\r\n\r\n"
+    )?;
+    requests.push_str(head.as_str())?;
+    requests.push_str(body)
 }
 
-/// The requests that post the batches which are there before.
-fn before(alloc: Global, row: &Value) -> Result<String, Fail> {
-    let mut requests = String::new(alloc);
-    let Some(batches) = row.get("before").and_then(Value::as_array) else {
-        return Err(Fail::from("the batches of a row are missing"));
-    };
-    for batch in batches {
-        requests.push_str(post(alloc, batch)?.as_str())?;
+/// Appends the requests that post the batches which are there before.
+fn push_before(alloc: Global, requests: &mut String, row: &Value) -> Result<(), AllocError> {
+    if let Some(batches) = row.get("before").and_then(Value::as_array) {
+        for batch in batches {
+            push_post(alloc, requests, batch.as_str().unwrap_or(""))?;
+        }
     }
-    Ok(requests)
-}
-
-/// What a new keeper answers to the requests of a row.
-fn answered<K: Keeper + Drop>(alloc: Global, mut keeper: K, row: &Value) -> Result<String, Fail> {
-    let first = before(alloc, row)?;
-    let _accepted = answers(alloc, &mut keeper, first.as_str())?;
-    answers(alloc, &mut keeper, text(row, "sent")?)
+    Ok(())
 }
 
 /// Whether a new keeper answers so to the requests of a row.
-fn is_answered_so<K: Keeper + Drop>(
-    alloc: Global,
-    keeper: K,
-    row: &Value,
-    wanted: &str,
-) -> Result<bool, Fail> {
-    Ok(answered(alloc, keeper, row)?.as_str() == wanted)
+fn is_answered_so<K: Keeper>(alloc: Global, keeper: &mut K, row: Row<'_>) -> bool {
+    answers(alloc, keeper, row.first).is_some()
+        && answers(alloc, keeper, row.sent).is_some_and(|text| text.as_slice()
+            == row.written.as_bytes())
+}
+
+/// A keeper over new tables; none where they are not made.
+fn over_tables(alloc: Global) -> Option<TableKeeper<MemStore>> {
+    let conn = Connection::open_in_memory(alloc).ok()?;
+    if conn.is_autocommit() {
+        TableKeeper::make(alloc, conn).ok()
+    } else {
+        None
+    }
+}
+
+/// Whether a keeper over new tables answers so.
+fn is_answered_by_tables(alloc: Global, row: Row<'_>) -> bool {
+    match over_tables(alloc) {
+        Some(mut keeper) => is_answered_so(alloc, &mut keeper, row),
+        None => false,
+    }
+}
+
+/// Whether an index over a keeper over new tables answers so.
+fn is_answered_by_indexed_tables(alloc: Global, row: Row<'_>) -> bool {
+    match over_tables(alloc) {
+        Some(keeper) => is_answered_so(alloc, &mut IndexedKeeper::new(alloc, keeper), row),
+        None => false,
+    }
 }
 
 /// Which keeper answers otherwise to the requests of a row; none where all answer so.
-fn differing(alloc: Global, row: &Value, wanted: &str) -> Result<Option<&'static str>, Fail> {
-    if !is_answered_so(alloc, PlainKeeper::new(alloc), row, wanted)? {
-        return Ok(Some("in memory"));
+fn differing(alloc: Global, row: Row<'_>) -> Option<&'static str> {
+    if !is_answered_so(alloc, &mut PlainKeeper::new(alloc), row) {
+        return Some("in memory");
     }
-    if !is_answered_so(alloc, over_tables(alloc)?, row, wanted)? {
-        return Ok(Some("over tables"));
+    let mut indexed = IndexedKeeper::new(alloc, PlainKeeper::new(alloc));
+    if !is_answered_so(alloc, &mut indexed, row) {
+        return Some("with an index over memory");
     }
-    let keeper = IndexedKeeper::new(alloc, over_tables(alloc)?);
-    let is_answered = is_answered_so(alloc, keeper, row, wanted)?;
-    Ok(if is_answered {
-        None
-    } else {
-        Some("with an index over tables")
-    })
+    if !is_answered_by_tables(alloc, row) {
+        return Some("over tables");
+    }
+    if !is_answered_by_indexed_tables(alloc, row) {
+        return Some("with an index over tables");
+    }
+    None
 }
 
 /// The same of the row of a line.
 fn differing_at(alloc: Global, line: &str) -> Result<Option<&'static str>, Fail> {
     let row = Value::from_str(alloc, line)?;
-    differing(alloc, &row, text(&row, "written")?)
+    let mut first = String::new(alloc);
+    push_before(alloc, &mut first, &row)?;
+    let row = Row {
+        first: first.as_str(),
+        sent: text(&row, "sent"),
+        written: text(&row, "written"),
+    };
+    Ok(differing(alloc, row))
 }
 
 #[test]
-fn rows_are_answered_alike_in_memory_and_over_tables(rt: HostRuntime) -> Result<(), Fail> {
+fn each_keeper_answers_the_rows(rt: HostRuntime) -> Result<(), Fail> {
     let mut count = 0u64;
     for line in rows().lines() {
         let differing = differing_at(rt.alloc(), line)?;
         assert_eq!(rt; differing, None, "{line}");
         count = count.saturating_add(1);
     }
-    assert_eq!(rt; count, 96);
+    assert_eq!(rt; count, COUNT);
     Ok(())
 }

@@ -1,54 +1,29 @@
-//! A stop at each call of the files in turn: what opens again is the state of a beginning of the batches,
-//! with each acknowledged one.
-use crate::answers::{answers, is_answered};
-use crate::files::{ALL_CALLS, Calls, Fused, Visit, came, visit_again, visit_new};
+//! A stop at each call of the files in turn. Of batches, what opens again is the state of a beginning of them, with each
+//! acknowledged one; of carrying format 1 over, it is the state that was there.
+use crate::files::{ALL_CALLS, Calls, Fused, Visit, visit_again, visit_new};
+use crate::states::{COUNT, Look, Seen, act, seen_twice, states};
 use sqlite::{Alter, Connection};
-use sqlite_disk::{Crash, Files};
+use sqlite_disk::Files;
 use std::alloc::Global;
 use std::test::Fail;
-use streetmap_ledger::Keeper;
-use streetmap_memory::PlainKeeper;
-use streetmap_opening::TablesFault;
 use streetmap_store::TableKeeper;
 
-/// What stops are tried on.
-const BATCHES: [&str; 5] = [
-    r#"{"key":"b1","edits":[{"op":"open","collection":"lamps"},{"op":"insert","collection":"lamps","feature":{"type":"Feature","id":"L1","geometry":{"type":"Point","coordinates":[1000,2000]},"properties":null}}]}"#,
-    r#"{"key":"b2","edits":[{"op":"insert","collection":"lamps","feature":{"type":"Feature","id":"L2","geometry":null,"properties":{"height":12}}}]}"#,
-    r#"{"key":"b3","edits":[{"op":"replace","collection":"lamps","feature":{"type":"Feature","id":"L1","geometry":{"type":"Point","coordinates":[5,6]},"properties":null}}]}"#,
-    r#"{"key":"b4","edits":[{"op":"open","collection":"kerbs"},{"op":"insert","collection":"kerbs","feature":{"type":"Feature","id":"K1","geometry":{"type":"LineString","coordinates":[[0,0],[9,9]]},"properties":null}},{"op":"delete","collection":"lamps","id":"L2"}]}"#,
-    r#"{"key":"b5","edits":[{"op":"delete","collection":"kerbs","id":"K1"}]}"#,
-];
+/// More calls than any run makes.
+const MOST_CALLS: u64 = 10_000;
 
-/// What is looked at of a state.
-const LOOKS: &str =
-    "GET /collections/lamps/items HTTP/1.1\r\nHost: localhost\r\n\r\nGET /collections/kerbs/items HTTP/1.1\r\nHost: localhost\r\n\r\n";
-
-/// What a stop left.
-#[derive(Drop)]
-struct Left {
-    /// How many batches were acknowledged; none where the tables were not made.
-    acknowledged: Option<usize>,
-    files: Files<Fused>,
-}
-
-/// Acts on the batches up to the first that is not answered. Answers how many were.
-fn act<K: Keeper>(alloc: Global, keeper: &mut K, most: usize) -> usize {
-    let mut acknowledged: usize = 0;
-    for text in BATCHES.iter().take(most) {
-        if !is_answered(alloc, keeper, text) {
-            break;
+/// So many calls of the log, or of the database, and all of the other.
+fn calls(of_log: bool, count: u64) -> Calls {
+    if of_log {
+        Calls {
+            log: count,
+            db: u64::MAX,
         }
-        acknowledged = acknowledged.saturating_add(1);
+    } else {
+        Calls {
+            log: u64::MAX,
+            db: count,
+        }
     }
-    acknowledged
-}
-
-/// What is seen after so many batches.
-fn wanted(alloc: Global, count: usize) -> Result<String, Fail> {
-    let mut keeper = PlainKeeper::new(alloc);
-    let _ = act(alloc, &mut keeper, count);
-    answers(alloc, &mut keeper, LOOKS)
 }
 
 /// New tables are made, and the batches acted on: how many were answered, none where the tables were not made.
@@ -61,7 +36,7 @@ impl Visit for ActOnAll {
     fn visit<S: Alter + Drop>(self, alloc: Global, conn: Connection<S>) -> (Option<usize>, S) {
         match TableKeeper::make(alloc, conn) {
             Ok(mut keeper) => {
-                let acknowledged = act(alloc, &mut keeper, 5);
+                let acknowledged = act(alloc, &mut keeper);
                 (Some(acknowledged), keeper.release().into_store())
             }
             Err((_, conn)) => (None, conn.into_store()),
@@ -69,94 +44,136 @@ impl Visit for ActOnAll {
     }
 }
 
-/// New files, whose calls stop after so many.
-fn run(alloc: Global, calls: Calls) -> Left {
-    let (told, files) = visit_new(alloc, calls, ActOnAll);
-    Left {
-        acknowledged: told.unwrap_or(None),
-        files,
-    }
-}
-
-/// What a keeper answers to the looks, and after all batches once more.
-fn seen_twice<K: Keeper>(alloc: Global, keeper: &mut K) -> Result<(String, String), Fail> {
-    let before = answers(alloc, keeper, LOOKS)?;
-    let _ = act(alloc, keeper, 5);
-    Ok((before, answers(alloc, keeper, LOOKS)?))
-}
-
-/// Tables are opened again and looked at; nothing is seen where they are none of this product.
-#[derive(Drop)]
-struct Look;
-
-impl Visit for Look {
-    type Told = Result<Option<(String, String)>, Fail>;
-
-    fn visit<S: Alter + Drop>(
-        self,
-        alloc: Global,
-        conn: Connection<S>,
-    ) -> (Result<Option<(String, String)>, Fail>, S) {
-        match TableKeeper::adopt(alloc, conn) {
-            Ok(mut keeper) => {
-                let seen = seen_twice(alloc, &mut keeper);
-                (seen.map(Some), keeper.release().into_store())
-            }
-            Err((TablesFault::NotOurs, conn)) => (Ok(None), conn.into_store()),
-            Err((_, conn)) => (
-                Err(Fail::from("the tables are not opened")),
-                conn.into_store(),
-            ),
+/// Whether this may be seen where so many batches were acknowledged, or no tables made.
+fn may_be_left(seen: Seen, acknowledged: Option<usize>) -> bool {
+    match seen {
+        Seen::NotOurs => acknowledged.is_none(),
+        Seen::Behind(count) => {
+            let least = acknowledged.unwrap_or(0);
+            count == least || count == least.saturating_add(1)
         }
+        Seen::Other => false,
     }
 }
 
-/// What is seen of files that are opened again.
-fn reopened(alloc: Global, files: &Files<Fused>) -> Result<Option<(String, String)>, Fail> {
-    came(visit_again(alloc, files, ALL_CALLS, Look)?)
-}
-
-/// Whether what is found is the state of a beginning of the batches that contains each acknowledged one.
-fn is_a_beginning(alloc: Global, left: &Left) -> Result<bool, Fail> {
-    let Some((before, after)) = reopened(alloc, &left.files)? else {
-        return Ok(left.acknowledged.is_none());
+/// Acts on the batches in new files that take so many calls. Answers whether all were acknowledged; none where what is
+/// left may not be.
+fn stopped(alloc: Global, calls: Calls, states: &[Vec<u8>]) -> Result<Option<bool>, Fail> {
+    let (told, mut files) = visit_new(alloc, calls, ActOnAll);
+    let acknowledged = told.unwrap_or(None);
+    let look = Look {
+        states,
+        acts_again: true,
     };
-    let least = left.acknowledged.unwrap_or(0);
-    let next = least.saturating_add(1);
-    let is_one = before == wanted(alloc, least)? || before == wanted(alloc, next)?;
-    Ok(is_one && after == wanted(alloc, 5)?)
+    let (written, synchronised) = seen_twice(alloc, &mut files, look)?;
+    let is_right = may_be_left(written, acknowledged) && may_be_left(synchronised, acknowledged);
+    Ok(is_right.then_some(acknowledged == Some(COUNT)))
 }
 
-/// Tries both what was written and what was synchronised alone. Answers whether the run came to its end.
-fn tried(alloc: Global, calls: Calls) -> Result<bool, Fail> {
-    let mut left = run(alloc, calls);
-    if !is_a_beginning(alloc, &left)? {
-        return Err(Fail::from("what was written is no beginning"));
+/// After how many calls the batches came to their end, where each stop before left what it may.
+fn calls_of_batches(alloc: Global, of_log: bool, states: &[Vec<u8>]) -> Result<Option<u64>, Fail> {
+    for count in 0..MOST_CALLS {
+        match stopped(alloc, calls(of_log, count), states)? {
+            Some(false) => {}
+            Some(true) => return Ok(Some(count)),
+            None => return Ok(None),
+        }
     }
-    left.files.log.crash();
-    left.files.db.crash();
-    if !is_a_beginning(alloc, &left)? {
-        return Err(Fail::from("what was synchronised is no beginning"));
-    }
-    Ok(left.acknowledged == Some(5))
+    Ok(None)
 }
 
 #[test]
-fn a_stop_at_each_call_of_the_log_leaves_a_beginning(rt: HostRuntime) -> Result<(), Fail> {
-    for log in 0..10_000 {
-        if tried(rt.alloc(), Calls { log, db: u64::MAX })? {
-            return Ok(());
+fn a_stop_at_each_call_leaves_a_beginning(rt: HostRuntime) -> Result<(), Fail> {
+    let states = states(rt.alloc())?;
+    for of_log in [true, false] {
+        let calls = calls_of_batches(rt.alloc(), of_log, &states)?;
+        assert!(rt; calls.is_some_and(|count| count > 10), "{of_log} {calls:?}");
+    }
+    Ok(())
+}
+
+/// Makes of the tables of format 2 those of format 1.
+const TO_FORMAT_1: &str =
+    "CREATE TABLE old (collection TEXT, id TEXT, body TEXT); INSERT INTO old SELECT collection, id, body FROM streetmap_features; DROP TABLE streetmap_features; CREATE TABLE streetmap_features (collection TEXT NOT NULL REFERENCES streetmap_collections(id), id TEXT NOT NULL, body TEXT NOT NULL, PRIMARY KEY (collection, id)) STRICT; INSERT INTO streetmap_features SELECT collection, id, body FROM old; DROP TABLE old; UPDATE streetmap_meta SET value = 1";
+
+/// Tables of format 1 with the batches are made: whether they were.
+#[derive(Drop)]
+struct MakeOld;
+
+impl Visit for MakeOld {
+    type Told = bool;
+
+    fn visit<S: Alter + Drop>(self, alloc: Global, conn: Connection<S>) -> (bool, S) {
+        match TableKeeper::make(alloc, conn) {
+            Ok(mut keeper) => {
+                let is_acted = act(alloc, &mut keeper) == COUNT;
+                let mut conn = keeper.release();
+                let is_old = conn.execute_batch(TO_FORMAT_1).is_ok();
+                (is_acted && is_old, conn.into_store())
+            }
+            Err((_, conn)) => (false, conn.into_store()),
         }
     }
-    Err(Fail::from("the run never came to its end"))
+}
+
+/// Tables are opened: whether they were.
+#[derive(Drop)]
+struct Open;
+
+impl Visit for Open {
+    type Told = bool;
+
+    fn visit<S: Alter + Drop>(self, alloc: Global, conn: Connection<S>) -> (bool, S) {
+        match TableKeeper::adopt(alloc, conn) {
+            Ok(keeper) => (true, keeper.release().into_store()),
+            Err((_, conn)) => (false, conn.into_store()),
+        }
+    }
+}
+
+/// Opens copies of files of format 1 that take so many calls. Answers whether they were opened; none where what is left
+/// is another state.
+fn carried(
+    alloc: Global,
+    old: &Files<Fused>,
+    calls: Calls,
+    states: &[Vec<u8>],
+) -> Result<Option<bool>, Fail> {
+    let (opened, mut files) = visit_again(alloc, old, calls, Open)?;
+    let look = Look {
+        states,
+        acts_again: false,
+    };
+    let seen = seen_twice(alloc, &mut files, look)?;
+    let is_right = seen == (Seen::Behind(COUNT), Seen::Behind(COUNT));
+    Ok(is_right.then_some(opened == Some(true)))
+}
+
+/// After how many calls the files were opened, where each stop before left their state.
+fn calls_of_carrying(
+    alloc: Global,
+    old: &Files<Fused>,
+    of_log: bool,
+    states: &[Vec<u8>],
+) -> Result<Option<u64>, Fail> {
+    for count in 0..MOST_CALLS {
+        match carried(alloc, old, calls(of_log, count), states)? {
+            Some(false) => {}
+            Some(true) => return Ok(Some(count)),
+            None => return Ok(None),
+        }
+    }
+    Ok(None)
 }
 
 #[test]
-fn a_stop_at_each_call_of_the_database_leaves_a_beginning(rt: HostRuntime) -> Result<(), Fail> {
-    for db in 0..10_000 {
-        if tried(rt.alloc(), Calls { log: u64::MAX, db })? {
-            return Ok(());
-        }
+fn a_stop_at_each_call_of_carrying_over_leaves_the_state(rt: HostRuntime) -> Result<(), Fail> {
+    let states = states(rt.alloc())?;
+    let (is_old, old) = visit_new(rt.alloc(), ALL_CALLS, MakeOld);
+    assert!(rt; is_old == Some(true));
+    for of_log in [true, false] {
+        let calls = calls_of_carrying(rt.alloc(), &old, of_log, &states)?;
+        assert!(rt; calls.is_some_and(|count| count > 0), "{of_log} {calls:?}");
     }
-    Err(Fail::from("the run never came to its end"))
+    Ok(())
 }

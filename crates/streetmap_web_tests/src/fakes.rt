@@ -1,12 +1,13 @@
 //! Readers and a writer that fail where a test asks for it.
+ghost use Rattle.std.specs.Counts.{IsPrefixLen};
+ghost use Rattle.std.specs.Result.{IfOk};
 
 use std::io::{self, ErrorKind, Read, Write};
 
-/// Gives at most `step` bytes at a read, and fails at the read that `reads` others came before.
+/// Gives a byte at a read, and fails at the read that `reads` others came before.
 #[derive(Drop)]
 pub(crate) struct Steps<'a> {
     pub(crate) rest: &'a [u8],
-    pub(crate) step: usize,
     pub(crate) reads: usize,
 }
 
@@ -16,14 +17,11 @@ impl Read for Steps<'_> {
             return Err(io::Error::from(ErrorKind::BrokenPipe));
         }
         self.reads -= 1;
-        let count = buf.len().min(self.rest.len()).min(self.step);
-        buf[..count].copy_from_slice(&self.rest[..count]);
-        self.rest = &self.rest[count..];
-        Ok(count)
+        give(&mut self.rest, buf, 1)
     }
 }
 
-/// Is interrupted before each read.
+/// Is interrupted before each read, which gives three bytes.
 #[derive(Drop)]
 pub(crate) struct Interrupted<'a> {
     pub(crate) rest: &'a [u8],
@@ -36,21 +34,35 @@ impl Read for Interrupted<'_> {
         if self.again {
             return Err(io::Error::from(ErrorKind::Interrupted));
         }
-        let count = buf.len().min(self.rest.len()).min(3);
-        buf[..count].copy_from_slice(&self.rest[..count]);
-        self.rest = &self.rest[count..];
-        Ok(count)
+        give(&mut self.rest, buf, 3)
     }
 }
 
-/// Is interrupted before each write, takes two bytes at a write, and none behind `room`; then it
-/// fails, or takes no byte.
+/// Gives at most so many of the bytes that are left.
+fn give(rest: &mut &[u8], buf: &mut [u8], most: usize) -> io::Result<usize>
+    ensures { IfOk result (λ n. IsPrefixLen n buf.new) }
+{
+    let count = buf.len().min(rest.len()).min(most);
+    buf[..count].copy_from_slice(&rest[..count]);
+    *rest = &rest[count..];
+    Ok(count)
+}
+
+/// Is interrupted before each write, takes a byte at a write, and none behind `room`; then it fails, or takes no byte.
 #[derive(Drop)]
 pub(crate) struct Sink {
-    pub(crate) taken: Vec<u8>,
+    pub(crate) taken: [u8; 8],
+    pub(crate) len: usize,
     pub(crate) room: usize,
     pub(crate) fails: bool,
     pub(crate) again: bool,
+}
+
+impl Sink {
+    /// What was taken.
+    pub(crate) fn taken(&self) -> &[u8] {
+        self.taken.get(..self.len).unwrap_or(&[])
+    }
 }
 
 impl Write for Sink {
@@ -59,13 +71,15 @@ impl Write for Sink {
         if self.again {
             return Err(io::Error::from(ErrorKind::Interrupted));
         }
-        if self.room == 0 && self.fails {
-            return Err(io::Error::from(ErrorKind::BrokenPipe));
+        match (buf.first(), self.taken.get_mut(self.len)) {
+            (Some(byte), Some(place)) if self.len < self.room => {
+                *place = *byte;
+                self.len += 1;
+                Ok(1)
+            }
+            _ if self.fails => Err(io::Error::from(ErrorKind::BrokenPipe)),
+            _ => Ok(0),
         }
-        let count = buf.len().min(self.room).min(2);
-        self.taken.extend_from_slice(&buf[..count])?;
-        self.room -= count;
-        Ok(count)
     }
 
     fn flush(&mut self) -> io::Result<()> {

@@ -1,25 +1,13 @@
-//! Tests of HTTP by public items alone: heads, bodies and streams that are cut at every byte or whose reads and writes
-//! fail, memory that is refused, one connection of a listener, and a client of another service, in pieces. The rows of HTTP are
-//! data, and run through the built program (`tests/rows.py`), as do more connections and many clients of it.
+//! Tests of HTTP by public items alone, of what no clause says: memory that is refused to a stream over the keeper in
+//! memory, heads and bodies from readers that are interrupted or fail, and answers to writers that stop. What the built
+//! program shows of streams, in pieces and cut at every byte, stands in `tests/groups/pieces.py`.
 #![tactic(auto)]
 
 #[cfg(test)]
-mod clients;
-#[cfg(test)]
-mod cuts;
-#[cfg(test)]
-mod failing;
-#[cfg(test)]
 mod fakes;
-#[cfg(test)]
-mod listener;
 #[cfg(test)]
 mod readers;
 #[cfg(test)]
 mod refused_memory;
 #[cfg(test)]
-mod requests;
-#[cfg(test)]
 mod sending;
-#[cfg(test)]
-mod streams;

@@ -1,47 +1,33 @@
-//! Answers sent to writers that stop, and the head of the longest.
-
+//! Answers sent to writers that stop.
 use crate::fakes::Sink;
-use http::StatusCode;
-use std::test::Fail;
-use streetmap_http::{ANSWER_HEAD_LIMIT, AnswerHead, MediaType, Sent, push_head, send};
+use streetmap_http::{Sent, send};
 
-#[test]
-fn the_longest_body_has_a_head(rt: HostRuntime) -> Result<(), Fail> {
-    let mut text = String::with_capacity(rt.alloc(), ANSWER_HEAD_LIMIT)?;
-    push_head(
-        &mut text,
-        AnswerHead {
-            status: StatusCode::OK,
-            kind: MediaType::GeoJson,
-            len: u64::MAX,
-            allow: None,
-            closes: false,
-        },
-    );
-    assert_eq!(rt;
-        text.as_str(),
-        "HTTP/1.1 200 OK\r\nContent-Type: application/geo+json\r\nContent-Length: 18446744073709551615\r\n\r\n"
-    );
-    Ok(())
+/// What is told of an answer that is sent to a writer with so much room, and whether it took the beginning that fits.
+fn sent(room: usize, fails: bool) -> (Sent, bool) {
+    let mut sink = Sink {
+        taken: [0; 8],
+        len: 0,
+        room,
+        fails,
+        again: false,
+    };
+    let told = send(&mut sink, b"head:", b"abc");
+    (
+        told,
+        b"head:abc".starts_with(sink.taken()) && sink.len == room,
+    )
 }
 
 #[test]
 fn answers_are_sent_until_a_writer_stops(rt: HostRuntime) {
     for fails in [false, true] {
         for room in 0..9 {
-            let mut sink = Sink {
-                taken: Vec::new(rt.alloc()),
-                room,
-                fails,
-                again: false,
-            };
-            let want = if room < 8 {
+            let wanted = if room < 8 {
                 Sent::Part(room > 0)
             } else {
                 Sent::Whole
             };
-            assert_eq!(rt; send(&mut sink, b"head:", b"abc"), want);
-            assert_eq!(rt; sink.taken.as_slice(), &b"head:abc"[..room.min(8)]);
+            assert!(rt; sent(room.min(8), fails) == (wanted, true), "{room}");
         }
     }
 }

@@ -1,0 +1,137 @@
+//! Batches, the states that they lead to one by one, and which of these is seen in files that are opened again.
+use crate::answers::{answers, is_answered};
+use crate::files::{ALL_CALLS, Fused, Visit, visit_again};
+use sqlite::{Alter, Connection};
+use sqlite_disk::{Crash, Files};
+use std::alloc::Global;
+use std::test::Fail;
+use streetmap_ledger::Keeper;
+use streetmap_memory::PlainKeeper;
+use streetmap_opening::TablesFault;
+use streetmap_store::TableKeeper;
+
+/// Points, features without a geometry, and features with a time.
+const BATCHES: [&str; COUNT] = [
+    r#"{"key":"b1","edits":[{"op":"open","collection":"lamps"},{"op":"insert","collection":"lamps","feature":{"type":"Feature","id":"L1","geometry":{"type":"Point","coordinates":[1000,2000]},"properties":null}}]}"#,
+    r#"{"key":"b2","edits":[{"op":"insert","collection":"lamps","feature":{"type":"Feature","id":"L2","geometry":null,"properties":{"height":12}}}]}"#,
+    r#"{"key":"b3","edits":[{"op":"replace","collection":"lamps","feature":{"type":"Feature","id":"L1","geometry":{"type":"Point","coordinates":[5,6]},"properties":null}}]}"#,
+    r#"{"key":"b4","edits":[{"op":"open","collection":"works","time":"when"},{"op":"insert","collection":"works","feature":{"type":"Feature","id":"K1","geometry":{"type":"LineString","coordinates":[[9,-9],[0,4]]},"properties":{"when":"1969-12-31T23:59:00Z/1970-01-01T00:01:00Z"}}},{"op":"insert","collection":"works","feature":{"type":"Feature","id":"K2","geometry":{"type":"Point","coordinates":[30,30]},"properties":{"when":"1970-01-01"}}},{"op":"insert","collection":"lamps","feature":{"type":"Feature","id":"L3","geometry":null,"properties":null}},{"op":"delete","collection":"lamps","id":"L2"}]}"#,
+    r#"{"key":"b5","edits":[{"op":"delete","collection":"works","id":"K2"}]}"#,
+];
+
+/// How many batches there are.
+pub(crate) const COUNT: usize = 5;
+
+/// What is looked at of a state.
+const LOOKS: &str =
+    "GET /collections/lamps/items HTTP/1.1\r\nHost: localhost\r\n\r\nGET /collections/works/items?datetime=1970-01-01T00:00:00Z HTTP/1.1\r\nHost: localhost\r\n\r\nGET /collections HTTP/1.1\r\nHost: localhost\r\n\r\n";
+
+/// Acts on the batches up to the first that is not answered. Answers how many were.
+pub(crate) fn act<K: Keeper>(alloc: Global, keeper: &mut K) -> usize {
+    let mut acknowledged: usize = 0;
+    for text in BATCHES {
+        if !is_answered(alloc, keeper, text) {
+            break;
+        }
+        acknowledged = acknowledged.saturating_add(1);
+    }
+    acknowledged
+}
+
+/// Appends what is seen of a keeper.
+fn push_state<K: Keeper>(
+    alloc: Global,
+    keeper: &mut K,
+    states: &mut Vec<Vec<u8>>,
+) -> Result<(), Fail> {
+    match answers(alloc, keeper, LOOKS) {
+        Some(text) => Ok(states.push(text)?),
+        None => Err(Fail::from("nothing was answered")),
+    }
+}
+
+/// What is seen behind none of the batches, and behind each of them.
+pub(crate) fn states(alloc: Global) -> Result<Vec<Vec<u8>>, Fail> {
+    let mut keeper = PlainKeeper::new(alloc);
+    let mut states = Vec::new(alloc);
+    push_state(alloc, &mut keeper, &mut states)?;
+    for text in BATCHES {
+        let _is_answered = is_answered(alloc, &mut keeper, text);
+        push_state(alloc, &mut keeper, &mut states)?;
+    }
+    Ok(states)
+}
+
+/// What is seen of files that are opened again.
+#[derive(Clone, Copy, PartialEq, Eq)]
+pub(crate) enum Seen {
+    /// The tables are none of this product.
+    NotOurs,
+    /// The state behind so many batches; and where all act again, then that behind all.
+    Behind(usize),
+    /// Anything else.
+    Other,
+}
+
+/// Behind how many batches a keeper is; none where it is in no such state.
+fn place<K: Keeper>(alloc: Global, keeper: &mut K, states: &[Vec<u8>]) -> Option<usize> {
+    let text = answers(alloc, keeper, LOOKS)?;
+    states.iter().position(|state| *state == text)
+}
+
+/// Whether a keeper is behind all batches once all have acted again.
+fn acts_again<K: Keeper>(alloc: Global, keeper: &mut K, states: &[Vec<u8>]) -> bool {
+    act(alloc, keeper) == COUNT && place(alloc, keeper, states) == Some(COUNT)
+}
+
+/// Tables are opened and looked at, and all batches act again where that is asked.
+#[derive(Clone, Copy)]
+pub(crate) struct Look<'a> {
+    pub(crate) states: &'a [Vec<u8>],
+    pub(crate) acts_again: bool,
+}
+
+impl Look<'_> {
+    /// What is seen of a keeper.
+    fn seen<K: Keeper>(self, alloc: Global, keeper: &mut K) -> Seen {
+        match place(alloc, keeper, self.states) {
+            Some(count) if !self.acts_again || acts_again(alloc, keeper, self.states) => {
+                Seen::Behind(count)
+            }
+            _ => Seen::Other,
+        }
+    }
+}
+
+impl Visit for Look<'_> {
+    type Told = Seen;
+
+    fn visit<S: Alter + Drop>(self, alloc: Global, conn: Connection<S>) -> (Seen, S) {
+        match TableKeeper::adopt(alloc, conn) {
+            Ok(mut keeper) => {
+                let seen = self.seen(alloc, &mut keeper);
+                (seen, keeper.release().into_store())
+            }
+            Err((TablesFault::NotOurs, conn)) => (Seen::NotOurs, conn.into_store()),
+            Err((_, conn)) => (Seen::Other, conn.into_store()),
+        }
+    }
+}
+
+/// What is seen of files that are opened again.
+fn reopened(alloc: Global, files: &Files<Fused>, look: Look<'_>) -> Result<Seen, Fail> {
+    let (seen, _) = visit_again(alloc, files, ALL_CALLS, look)?;
+    Ok(seen.unwrap_or(Seen::Other))
+}
+
+/// What is seen of what was written, and then of what was synchronised alone.
+pub(crate) fn seen_twice(
+    alloc: Global,
+    files: &mut Files<Fused>,
+    look: Look<'_>,
+) -> Result<(Seen, Seen), Fail> {
+    let written = reopened(alloc, files, look)?;
+    files.log.crash();
+    files.db.crash();
+    Ok((written, reopened(alloc, files, look)?))
+}
