@@ -1,5 +1,5 @@
-/* Has the reads of standard input fail once READS bytes were read, or the writes of standard output once WRITES bytes were
-   written (tests/fails.py). A number that is not given lets all pass. */
+/* Has the reads of standard input fail once READS bytes were read, or the writes of standard output
+   once WRITES bytes were written. A number that is not given lets all pass. */
 #define _GNU_SOURCE
 #include <dlfcn.h>
 #include <errno.h>
@@ -10,8 +10,10 @@ enum { UNREAD = -2, ALL = -1 };
 
 typedef ssize_t Call(int, void *, size_t);
 
-/* The call, of as many bytes as may still pass by the number of that name; where none may, it fails. */
-static ssize_t limited(Call *real, const char *name, long *room, int fd, void *bytes, size_t count) {
+/* The call, of as many bytes as may still pass by the number of that name; where none may, it
+   fails. */
+static ssize_t limited(Call *real, const char *name, long *room, int fd, void *bytes,
+                       size_t count) {
     if (*room == UNREAD) {
         const char *value = getenv(name);
         *room = value ? atol(value) : ALL;
@@ -26,11 +28,13 @@ static ssize_t limited(Call *real, const char *name, long *room, int fd, void *b
 ssize_t read(int fd, void *bytes, size_t count) {
     static long room = UNREAD;
     Call *real = (Call *)dlsym(RTLD_NEXT, "read");
-    return fd == STDIN_FILENO ? limited(real, "READS", &room, fd, bytes, count) : real(fd, bytes, count);
+    if (fd != STDIN_FILENO) return real(fd, bytes, count);
+    return limited(real, "READS", &room, fd, bytes, count);
 }
 
 ssize_t write(int fd, const void *bytes, size_t count) {
     static long room = UNREAD;
     Call *real = (Call *)dlsym(RTLD_NEXT, "write");
-    return fd == STDOUT_FILENO ? limited(real, "WRITES", &room, fd, (void *)bytes, count) : real(fd, (void *)bytes, count);
+    if (fd != STDOUT_FILENO) return real(fd, (void *)bytes, count);
+    return limited(real, "WRITES", &room, fd, (void *)bytes, count);
 }

@@ -1,6 +1,8 @@
-/* Stops a program at one of its calls that write a file or have it synchronised: the Nth, N being STOP in its environment; 0 stops none.
-   HOW says what is left of it: "before" it nothing of the call, "within" it the first half of what a write would write, and "lost" nothing
-   of the call nor of any write to a file since that file was last synchronised. It is loaded before the C library (LD_PRELOAD). */
+/* Stops a program at one of its calls that write a file or have it synchronised: the Nth, N being
+   STOP in its environment; 0 stops none. HOW says what is left of it: "before" it nothing of the
+   call, "within" it the first half of what a write would write, and "lost" nothing of the call nor
+   of any write to a file since that file was last synchronised. It is loaded before the C library
+   (LD_PRELOAD). */
 #define _GNU_SOURCE
 #include <dlfcn.h>
 #include <fcntl.h>

@@ -1,0 +1,158 @@
+"""Faults of the server: a damaged row, a failed device, a shut store, refused memory."""
+
+import re
+import resource
+import socket
+from collections.abc import Callable
+from pathlib import Path
+
+from harness import Context, Server
+from messages import feature, get, open_collection, point, put, read_all
+from model import PHRASES, Ledger, Refused, Request, compact
+from sqlite_file import Rows, change, make_format_1, rows
+
+LINE = {"type": "LineString", "coordinates": [[9, -9], [0, 4]]}
+SPAN = "1969-12-31T23:59:00Z/1970-01-01T00:01:00Z"
+FIRST = Request(
+    "POST",
+    "/batches",
+    {
+        "key": "b1",
+        "edits": [
+            open_collection("lamps"),
+            put("insert", "lamps", feature("L1", point(1000, 2000))),
+            put("insert", "lamps", feature("L2", None, {"height": 12})),
+            open_collection("works", time="when"),
+            put("insert", "works", feature("K1", LINE, {"when": SPAN})),
+        ],
+    },
+)
+ITEMS = "/collections/works/items"
+# A text that is no feature, an id that is not that of its text, and a time that ends before it
+# starts.
+DAMAGES = (
+    "UPDATE streetmap_features SET body = 'unreadable' WHERE id = 'K1'",
+    "UPDATE streetmap_features SET id = 'L9' WHERE id = 'L1'",
+    "UPDATE streetmap_features SET body = replace(body, '1970', '1960') WHERE id = 'K1'",
+)
+KEPT = (
+    "SELECT * FROM streetmap_meta",
+    "SELECT * FROM streetmap_features ORDER BY collection, id",
+    "SELECT * FROM streetmap_batches",
+)
+
+
+def fault(code: str) -> bytes:
+    """The answer to a request that a fault of the server stops, which closes the connection."""
+    refused = Refused(code)
+    body = compact(refused.body).encode()
+    head = [f"HTTP/1.1 {refused.status} {PHRASES[refused.status]}"]
+    head += ["Content-Type: application/json", f"Content-Length: {len(body)}"]
+    return "\r\n".join([*head, "Connection: close", "", ""]).encode() + body
+
+
+def kept(file: Path) -> list[Rows]:
+    return [rows(file, query) for query in KEPT]
+
+
+def asked(server: Server, sent: bytes) -> bytes:
+    with server.connect() as client:
+        client.sendall(sent)
+        return read_all(client)
+
+
+def a_damaged_row(context: Context) -> None:
+    """It shuts the store, which then refuses all that asks for its state, and nothing else."""
+    file = context.new_file("damaged", FIRST.sent)
+    change(file, DAMAGES[0])
+    for words in ((), ("--clients", "4")):
+        with context.serve(file, *words) as server:
+            looked = asked(server, get(f"{ITEMS}?bbox=0,0,9,9") + get("/"))
+            context.check("a damaged row", looked, fault("damaged"))
+            for path in ("/collections", "/collections/lamps", ITEMS, f"{ITEMS}/K1"):
+                context.check(f"{path} of a shut store", asked(server, get(path)), fault("reopen"))
+            sent = Request("POST", "/batches", {"key": "b2", "edits": []}).sent
+            context.check("a batch to a shut store", asked(server, sent), fault("reopen"))
+            (answer,) = server.ask(get("/conformance"))
+            context.check("what asks for no state", answer.status, 200)
+    export = ("export", file, "--collection")
+    context.run(*export, "works", status=3, code="damaged")
+    ledger = Ledger()
+    ledger.answer(FIRST)
+    context.check("another export", context.run(*export, "lamps"), ledger.exported("lamps"))
+
+
+def a_row_of_format_1(context: Context) -> None:
+    """A file of format 1 with a row that this product does not write is left as it is."""
+    for number, statement in enumerate(DAMAGES):
+        file = context.new_file(f"format-1-{number}", FIRST.sent)
+        make_format_1(file)
+        change(file, statement)
+        before = kept(file)
+        context.check("the format", before[0], [("format", 1)])
+        context.run("pipe", file, sent=get("/collections"), status=3, code="damaged")
+        context.run("check", file, status=3, code="damaged")
+        context.check(f"what is left behind {statement}", kept(file), before)
+
+
+def limits_file_size(size: int) -> Callable[[], None]:
+    def limit() -> None:
+        resource.setrlimit(resource.RLIMIT_FSIZE, (size, size))
+
+    return limit
+
+
+def a_failed_device(context: Context) -> None:
+    """A file that may grow no more: a batch is refused, and the file opens again as it was."""
+    lamps = [put("insert", "lamps", feature(f"M{at}", point(at, at))) for at in range(400)]
+    batch = Request("POST", "/batches", {"key": "b2", "edits": lamps})
+    for size in (30_000, 60_000, 90_000):
+        file = context.new_file(f"full-{size}", FIRST.sent)
+        sent = batch.sent + get("/collections")
+        limit = limits_file_size(size)
+        ended = context.start("pipe", file, sent=sent, preexec_fn=limit, restore_signals=False)
+        got = ended.returncode, ended.stdout
+        context.check(f"a batch beyond {size} bytes", got, (0, fault("device")))
+        context.check("what is left of it", context.run("check", file), b"ok 2 3 1\n")
+        (answer,) = context.pipe(file, batch.sent)
+        context.check("the batch once there is room", answer.status, 200)
+
+
+def address_space(server: Server) -> int:
+    """The bytes of address space that a server has."""
+    status = Path(f"/proc/{server.process.pid}/status").read_text()
+    found = re.search(r"VmSize:\s+(\d+) kB", status)
+    assert found is not None
+    return int(found[1]) * 1024
+
+
+def refused_memory(context: Context) -> None:
+    """A body for which there is no memory is answered so, and as ever once there is memory."""
+    edits = [open_collection("large", title="x" * 200)]
+    batch = Request("POST", "/batches", {"key": "large", "edits": edits})
+    body = batch.text.encode().ljust(2_000_000)
+    head = b"POST /batches HTTP/1.1\r\nHost: localhost\r\nContent-Length: %d\r\n\r\n" % len(body)
+    look, ledger = Request("GET", "/collections"), Ledger()
+    with context.serve(context.new_file("memory"), "--base", "http://localhost/") as server:
+        before = resource.prlimit(server.process.pid, resource.RLIMIT_AS)
+        least = address_space(server) + 500_000
+        resource.prlimit(server.process.pid, resource.RLIMIT_AS, (least, before[1]))
+        context.check("a body without memory", asked(server, head), fault("memory"))
+        resource.prlimit(server.process.pid, resource.RLIMIT_AS, before)
+        context.check("nothing was applied", asked_once(server, look.sent), ledger.answer(look))
+        context.check("the body again", asked_once(server, head + body), ledger.answer(batch))
+
+
+def asked_once(server: Server, sent: bytes) -> bytes:
+    """What a client is sent that ends its side behind its request."""
+    with server.connect() as client:
+        client.sendall(sent)
+        client.shutdown(socket.SHUT_WR)
+        return read_all(client)
+
+
+def run(context: Context) -> None:
+    a_damaged_row(context)
+    a_row_of_format_1(context)
+    a_failed_device(context)
+    refused_memory(context)

@@ -1,0 +1,51 @@
+"""The gateway in real reference systems: boxes, edits, faults, and QGIS, GDAL and OWSLib."""
+
+from gateway_tests import answers, boxes, clients, edits, faults, orders, pages, settings
+from gateway_tests.data import batches, collections
+from gateway_tests.service import gateway
+from harness import Context
+from messages import post
+
+PACKAGES = (
+    "python3-fastapi",
+    "python3-uvicorn",
+    "python3-httpx",
+    "python3-pyproj",
+    "python3-shapely",
+    "python3-qgis",
+    "python3-gdal",
+    "gdal-bin",
+    "python3-owslib",
+    "mypy",
+    "black",
+)
+
+
+def run(context: Context) -> None:
+    settings.check_style(context)
+    settings.check_settings(context)
+    settings.check_package(context)
+    file = context.new_file("town.streetmap", *map(post, batches(collections())))
+    with context.serve(file, "--clients", "48") as server:
+        with gateway(context, server.url) as asked:
+            answers.check_resources(context, asked)
+            answers.check_systems(context, asked)
+            answers.check_refusals(context, asked)
+            pages.check_pages(context, asked)
+            pages.check_times(context, asked)
+            pages.check_next(context, asked)
+            boxes.check_office_boxes(context, asked)
+            boxes.check_turned_orders(context, asked)
+            boxes.check_wide_boxes(context, asked)
+            boxes.check_small_boxes(context, asked)
+            boxes.check_long_lines(context, asked)
+            boxes.check_random_boxes(context, asked)
+            clients.check_clients(context, asked)
+            settings.check_place(context, asked)
+            faults.check_many(context, asked)
+        pages.check_secret(context, server.url)
+    boxes.check_antimeridian(context)
+    orders.check_orders(context)
+    pages.check_short_pages(context)
+    edits.check_edits(context)
+    faults.check_faults(context)

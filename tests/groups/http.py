@@ -1,0 +1,58 @@
+"""Rows of HTTP to the byte, each over a file of its own, and bodies at their limits.
+
+A row (examples/http.jsonl) has the batches that are there before, the bytes of the requests, and
+all bytes of the answers. A proved test runs the same rows over other keepers, from a table.
+"""
+
+import json
+
+import http_table
+from examples import error_text, rows_of
+from harness import Context
+from messages import OPEN_LAMPS, delete, feature, post, put
+
+MOST_BYTES = 8_388_608
+MOST_EDITS = 10_000
+
+
+def written(context: Context, number: int, before: list[str], sent: bytes) -> str:
+    """What is written over a new file in which these batches were accepted."""
+    file = context.new_file(f"{number}.streetmap", *map(post, before))
+    return context.run("pipe", file, sent=sent).decode()
+
+
+def answer(status: str, body: str, fields: str = "") -> str:
+    head = f"Content-Type: application/json\r\nContent-Length: {len(body)}\r\n{fields}"
+    return f"HTTP/1.1 {status}\r\n{head}\r\n{body}"
+
+
+def limits() -> list[tuple[str, list[str], bytes, str]]:
+    """Bodies of as many bytes as there may be and of one more, and so batches of edits."""
+    unreadable = error_text("bad_batch", "The batch cannot be read.")
+    too_large = error_text("body_too_large", "The body is too large.")
+    too_many = error_text("too_many_edits", "The batch has more than 10000 edits.")
+    reply = '{"deleted":5000,"inserted":5000,"key":"m","opened":0,"replaced":0,"serial":2}'
+    opened = [json.dumps({"key": "b1", "edits": [OPEN_LAMPS]})]
+    turns = [put("insert", "lamps", feature("T")), delete("lamps", "T")] * (MOST_EDITS // 2 + 1)
+
+    def turning(count: int) -> bytes:
+        return post(json.dumps({"key": "m", "edits": turns[:count]}))
+
+    bad = "400 Bad Request"
+    closing = answer("413 Payload Too Large", too_large, "Connection: close\r\n")
+    return [
+        ("a body at the limit", [], post(" " * MOST_BYTES), answer(bad, unreadable)),
+        ("a body over the limit", [], post(" " * (MOST_BYTES + 1)), closing),
+        ("a batch at the limit", opened, turning(MOST_EDITS), answer("200 OK", reply)),
+        ("a batch over the limit", opened, turning(MOST_EDITS + 1), answer(bad, too_many)),
+    ]
+
+
+def run(context: Context) -> None:
+    context.check("the table of the proved test is that of the rows", http_table.is_current(), True)
+    asked = [
+        (row["what"], row["before"], row["sent"].encode(), row["written"])
+        for row in rows_of("http.jsonl")
+    ]
+    for number, (what, before, sent, wanted) in enumerate([*asked, *limits()]):
+        context.check(what, written(context, number, before, sent), wanted)

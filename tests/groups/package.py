@@ -1,0 +1,382 @@
+"""make install, and the Debian package: lintian, a fresh Debian, an upgrade, nginx, purging."""
+
+import contextlib
+import dataclasses
+import os
+import re
+import shutil
+import socket
+import ssl
+import subprocess
+import time
+import urllib.request
+from collections.abc import Iterator
+from dataclasses import dataclass
+from pathlib import Path
+
+from harness import Context, Word, first_line, free_port
+from messages import OPEN_LAMPS, batch, get
+
+PACKAGES = (
+    "bash-completion",
+    "debhelper",
+    "debootstrap",
+    "dpkg-dev",
+    "libjs-leaflet",
+    "lintian",
+    "mandoc",
+    "nginx",
+    "openssl",
+    "strace",
+    "systemd",
+)
+REPOSITORY = Path(__file__).resolve().parents[2]
+UNIT = REPOSITORY / "deploy" / "streetmap@.service"
+# What `systemd-analyze security` may say of the unit: 0 is the best, 10 the worst.
+MOST_EXPOSURE = 2.0
+# What enabling the unit for the file `town` makes.
+ENABLED = "/etc/systemd/system/multi-user.target.wants/streetmap@town.service"
+# Below the prefix, what both ways to install leave.
+INSTALLED = """
+bin/streetmap
+share/bash-completion/completions/streetmap
+share/doc/streetmap/README.md
+share/doc/streetmap/docs/API.md
+share/doc/streetmap/examples/town.json
+""".split()
+# Words before the cursor, and what completes them.
+COMPLETIONS = {
+    "": "create pipe serve import export check lines",
+    "ex": "export",
+    "serve town --c": "--count --clients",
+    "serve town --clients ": "1 64 1024",
+    "import town lamps.json --": "--key --collection --replace --progress",
+    "check town --": "",
+}
+COMPLETE = """
+. /usr/share/bash-completion/bash_completion
+. "$1"
+COMP_LINE="streetmap $2" COMP_POINT=${#COMP_LINE}
+read -ra COMP_WORDS <<< "$COMP_LINE"
+[ "${COMP_LINE% }" = "$COMP_LINE" ] || COMP_WORDS+=("")
+COMP_CWORD=$((${#COMP_WORDS[@]} - 1))
+_streetmap streetmap
+echo "${COMPREPLY[*]}"
+"""
+
+
+def output_of(*words: Word) -> str:
+    """What a command prints, which has to succeed."""
+    given = list(map(str, words))
+    ended = subprocess.run(given, capture_output=True, text=True, check=False)
+    if ended.returncode != 0:
+        raise RuntimeError(f"{' '.join(given)}: {ended.stdout}{ended.stderr}")
+    return ended.stdout
+
+
+def unit_lines(unit: Path) -> dict[str, list[str]]:
+    """The settings of a unit, with the values of each in order."""
+    settings: dict[str, list[str]] = {}
+    for line in unit.read_text().replace("\\\n", " ").splitlines():
+        name, equals, value = line.partition("=")
+        if equals and not line.startswith("#"):
+            settings.setdefault(name, []).append(value)
+    return settings
+
+
+def texts_that_name(text: str, folder: Path) -> list[Path]:
+    """The files below a folder, beside programs, that contain a text."""
+    files = [path for path in folder.rglob("*") if path.is_file() and path.parent.name != "bin"]
+    return [path for path in files if text.encode() in path.read_bytes()]
+
+
+def check_make_install(context: Context) -> None:
+    folder = context.folder / "installed"
+    words = ["make", "-C", str(REPOSITORY), "install", f"DESTDIR={folder}"]
+    words.append(f"PROGRAM={context.program}")
+    output_of(*words)
+    prefix = folder / "usr" / "local"
+    manual = prefix / "share" / "man" / "man1" / "streetmap.1"
+    missing = [name for name in INSTALLED if not (prefix / name).is_file()]
+    context.check("make install leaves all files", missing, [])
+    context.check("the program", (prefix / "bin" / "streetmap").stat().st_mode & 0o777, 0o755)
+    context.check("no file names the repository", texts_that_name(str(REPOSITORY), folder), [])
+    unit = unit_lines(prefix / "lib" / "systemd" / "system" / "streetmap@.service")
+    context.check("its program", unit["ExecStart"][0].split()[0], "/usr/local/bin/streetmap")
+    context.check("the manual page", output_of("mandoc", "-T", "lint", "-W", "warning", manual), "")
+    settings = folder / "etc" / "streetmap" / "town.conf"
+    settings.write_text("PORT=1\n")
+    output_of(*words)
+    context.check("settings stay", settings.read_text(), "PORT=1\n")
+
+
+def check_completion(context: Context) -> None:
+    script = REPOSITORY / "packaging" / "completion" / "streetmap.bash"
+    for begun, wanted in COMPLETIONS.items():
+        offered = output_of("bash", "-c", COMPLETE, "bash", script, begun).strip()
+        context.check(f"completion of {begun!r}", offered, wanted)
+
+
+def system_calls(name: str) -> set[str]:
+    """The calls of one of systemd's sets, with those of the sets within it."""
+    lines = output_of("systemd-analyze", "syscall-filter", name).splitlines()[1:]
+    calls = {line.strip() for line in lines} - {""}
+    within = {call for call in calls if call.startswith("@")}
+    named = {call for call in calls if not call.startswith(("@", "#"))}
+    return named.union(*map(system_calls, within))
+
+
+def allowed_calls(unit: Path) -> set[str]:
+    """The system calls that the filters of a unit allow."""
+    allowed: set[str] = set()
+    for filters in unit_lines(unit)["SystemCallFilter"]:
+        calls = set[str]().union(*map(system_calls, filters.removeprefix("~").split()))
+        allowed = allowed - calls if filters.startswith("~") else allowed | calls
+    return allowed
+
+
+def check_unit(context: Context) -> None:
+    analysed = output_of("systemd-analyze", "security", "--offline=true", UNIT)
+    exposure = re.search(r"exposure level for \S+: ([0-9.]+)", analysed)
+    assert exposure is not None
+    context.check("exposure", float(exposure[1]) <= MOST_EXPOSURE, True)
+    trace = context.folder / "trace"
+    traced = context.folder / "traced"
+    traced.write_text(f'#!/bin/sh\nexec strace -f -qq -o "{trace}" "{context.program}" "$@"\n')
+    traced.chmod(0o755)
+    file = context.new_file("traced.db", batch("b1", [OPEN_LAMPS]))
+    under_trace = dataclasses.replace(context, program=traced)
+    with under_trace.serve(file, "--clients", "8", "--count", "1") as server:
+        answers = server.ask(batch("b2", []) + get("/collections/lamps/items"))
+        server.ends()
+    context.check("answers under a trace", [answer.status for answer in answers], [200, 200])
+    made = set(re.findall(r"^\d+ +(\w+)\(", trace.read_text(), re.MULTILINE)) - {"execve"}
+    context.check("calls that the unit forbids", made - allowed_calls(UNIT), set())
+
+
+def built_package(context: Context, folder: Path) -> Path:
+    """The package of the program, in a folder."""
+    output_of("bash", REPOSITORY / "packaging" / "deb.sh", context.program, folder)
+    (package,) = folder.glob("streetmap_*.deb")
+    return package
+
+
+def code_of(program: Path, copy: Path) -> bytes:
+    """The machine code of a program."""
+    output_of("objcopy", "-O", "binary", "--only-section=.text", program, copy)
+    return copy.read_bytes()
+
+
+def check_package(context: Context, package: Path) -> None:
+    folder = context.folder / "unpacked"
+    output_of("dpkg-deb", "-x", package, folder)
+    missing = [name for name in INSTALLED if not (folder / "usr" / name).is_file()]
+    context.check("the package has all files", missing, [])
+    context.check("no file names the repository", texts_that_name(str(REPOSITORY), folder), [])
+    settings = output_of("dpkg-deb", "-I", package, "conffiles").split()
+    files = {f"/{path.relative_to(folder)}" for path in (folder / "etc").rglob("*.conf")}
+    context.check("settings are marked as such", files <= set(settings), True)
+    depends = output_of("dpkg-deb", "-f", package, "Depends")
+    context.check("it names its libraries", "libc6 (>=" in depends, True)
+    copy = context.folder / "code"
+    code = code_of(context.program, copy)
+    context.check("its code is the program's", code_of(folder / "usr/bin/streetmap", copy), code)
+    root = ["--allow-root"] if os.geteuid() == 0 else []
+    found = output_of("lintian", *root, "--fail-on", "error", package)
+    context.check("lintian finds no fault", found, "")
+
+
+def earlier_package(context: Context, package: Path) -> Path:
+    """The same package with a lower version, and with other settings than the package has."""
+    folder = context.folder / "earlier"
+    output_of("dpkg-deb", "-R", package, folder)
+    control = folder / "DEBIAN" / "control"
+    control.write_text(re.sub(r"(?m)^Version: .*", "Version: 0.0.1-1", control.read_text()))
+    with (folder / "etc" / "streetmap" / "town.conf").open("a") as settings:
+        settings.write("# Of an earlier version.\n")
+    built = context.folder / "earlier.deb"
+    output_of("dpkg-deb", "-Znone", "--root-owner-group", "-b", folder, built)
+    return built
+
+
+@dataclass(frozen=True)
+class FreshRoot:
+    """A Debian without anything beside its base, in a folder."""
+
+    context: Context
+    folder: Path
+
+    def run(self, *words: str) -> str:
+        """Runs a command in it as root."""
+        return output_of("chroot", self.folder, *words)
+
+    def run_as_user(self, *words: str) -> str:
+        """Runs a command in it as the package's user."""
+        return output_of("chroot", "--userspec=streetmap:streetmap", self.folder, *words)
+
+    def path(self, name: str) -> Path:
+        return self.folder / name.lstrip("/")
+
+    def install(self, package: Path) -> None:
+        """Installs a package, keeping settings that were changed."""
+        shutil.copy(package, self.path("package.deb"))
+        self.run("dpkg", "--force-confdef", "--force-confold", "--install", "/package.deb")
+
+    def started(self) -> list[str]:
+        """The words that the unit starts for the file `town`, by the settings that are there."""
+        (line,) = unit_lines(self.path("/lib/systemd/system/streetmap@.service"))["ExecStart"]
+        text = self.path("/etc/streetmap/town.conf").read_text()
+        for name, value in re.findall(r"(?m)^([A-Z]+)=(.*)$", text):
+            line = line.replace(f"${{{name}}}", value)
+        return line.replace("%i", "town").split()
+
+    @contextlib.contextmanager
+    def serving(self) -> Iterator[str]:
+        """The unit's program serves `town` as the unit's user; gives its address."""
+        words = ["chroot", "--userspec=streetmap:streetmap", str(self.folder), *self.started()]
+        with subprocess.Popen(words, stdout=subprocess.PIPE) as process:
+            assert process.stdout is not None
+            try:
+                line = first_line(process.stdout, self.context.seconds).decode()
+                self.context.check("the unit's line serves", line[:10], "listening ")
+                yield f"http://{line.split()[-1]}"
+            finally:
+                process.kill()
+
+
+def asked(address: str, body: bytes | None = None) -> str:
+    """The body that is answered; certificates are taken as they are."""
+    trusting = ssl.create_default_context()
+    trusting.check_hostname, trusting.verify_mode = False, ssl.CERT_NONE
+    with urllib.request.urlopen(address, body, timeout=60, context=trusting) as answer:
+        read: bytes = answer.read()
+    return read.decode()
+
+
+def check_installed(root: FreshRoot, port: int) -> None:
+    """What an operator does first: settings, a file, a collection, an import."""
+    context = root.context
+    output_of("systemctl", f"--root={root.folder}", "enable", "streetmap@town")
+    context.check("the unit is enabled", root.path(ENABLED).is_symlink(), True)
+    data = root.path("/var/lib/streetmap").stat()
+    user = root.run("id", "-u", "streetmap").strip()
+    context.check("the folder of data", (str(data.st_uid), data.st_mode & 0o777), (user, 0o750))
+    settings = root.path("/etc/streetmap/town.conf")
+    settings.write_text(settings.read_text().replace("8080", str(port)))
+    root.run_as_user("streetmap", "create", "/var/lib/streetmap/town")
+    with root.serving() as address:
+        body = b'{"key":"b1","edits":[{"op":"open","collection":"lamps","time":"set"}]}'
+        context.check("a batch", '"opened":1' in asked(f"{address}/batches", body), True)
+    town = "/usr/share/doc/streetmap/examples/town.json"
+    words = ["/var/lib/streetmap/town", town, "--key", "b2", "--collection", "lamps"]
+    reply = root.run_as_user("streetmap", "import", *words)
+    context.check("an import", '"serial":2' in reply, True)
+
+
+def exported(root: FreshRoot) -> str:
+    words = ["/var/lib/streetmap/town", "--collection", "lamps"]
+    return root.run_as_user("streetmap", "export", *words)
+
+
+def check_upgrade(root: FreshRoot, package: Path) -> None:
+    context, settings = root.context, root.path("/etc/streetmap/town.conf")
+    before = settings.read_text(), exported(root)
+    root.install(package)
+    wanted = output_of("dpkg-deb", "-f", package, "Version").strip()
+    installed = root.run("dpkg-query", "-W", "-f=${Version}", "streetmap")
+    context.check("the version after an upgrade", installed, wanted)
+    context.check("an upgrade keeps both", (settings.read_text(), exported(root)), before)
+
+
+def check_removal(root: FreshRoot) -> None:
+    program, data = root.path("/usr/bin/streetmap"), root.path("/var/lib/streetmap/town")
+    settings = root.path("/etc/streetmap/town.conf")
+    shutil.copy(settings, settings.with_name("harbour.conf"))
+    root.run("dpkg", "--remove", "streetmap")
+    there = [path.exists() for path in (program, data, settings)]
+    root.context.check("program, data, settings after removal", there, [False, True, True])
+    root.run("dpkg", "--purge", "streetmap")
+    enabled = root.path(ENABLED)
+    there = [os.path.lexists(path) for path in (data.parent, settings.parent, enabled)]
+    root.context.check("data, settings, unit after purging", there, [False, False, False])
+
+
+def wait_for(port: int, process: subprocess.Popen[bytes], seconds: float) -> None:
+    """Waits until something listens at the port."""
+    end = time.monotonic() + seconds
+    while process.poll() is None and time.monotonic() < end:
+        with contextlib.suppress(OSError), socket.create_connection(("127.0.0.1", port), 1):
+            return
+        time.sleep(0.1)
+    raise RuntimeError(f"{process.args!r} does not listen")
+
+
+def adapt_nginx(root: FreshRoot, port: int, server: int) -> Path:
+    """Puts ports and folders of a test in place of those of the package's configuration, with a
+    certificate of its own; gives the file that nginx begins with."""
+    folder = root.path("/etc/nginx")
+    site = folder / "sites-available" / "streetmap"
+    text = site.read_text().replace("/usr/share/streetmap", str(root.path("/usr/share/streetmap")))
+    text = text.replace("listen 443 ", f"listen 127.0.0.1:{port} ").replace(":8080", f":{server}")
+    site.write_text(text.replace("listen 80;", f"listen 127.0.0.1:{free_port()};"))
+    key, certificate = folder / "streetmap" / "key.pem", folder / "streetmap" / "certificate.pem"
+    words = ["req", "-x509", "-newkey", "rsa:2048", "-nodes", "-subj", "/CN=localhost"]
+    output_of("openssl", *words, "-keyout", key, "-out", certificate)
+    whole = folder / "nginx.conf"
+    whole.write_text(
+        f"pid {folder}/nginx.pid; daemon off; user root; events {{}}\n"
+        f"http {{ include /etc/nginx/mime.types; access_log off; include {site}; }}\n"
+    )
+    return whole
+
+
+def check_map(root: FreshRoot, server: int) -> None:
+    """The map page and the server, by the package's configuration of nginx."""
+    page = root.path("/usr/share/streetmap/map/index.html")
+    if not page.exists():
+        return
+    port = free_port()
+    words = ["/usr/sbin/nginx", "-e", "stderr", "-c", str(adapt_nginx(root, port, server))]
+    with root.serving(), subprocess.Popen(words) as process:
+        try:
+            wait_for(port, process, root.context.seconds)
+            address = f"https://127.0.0.1:{port}"
+            root.context.check("the map page", asked(f"{address}/map/"), page.read_text())
+            collections = asked(f"{address}/collections")
+            root.context.check("the server behind nginx", '"lamps"' in collections, True)
+        finally:
+            process.terminate()
+
+
+def hindrance(folder: Path) -> str | None:
+    """Makes a fresh Debian in the folder; or says why there is none."""
+    if os.geteuid() != 0:
+        return "that needs root"
+    words = ["debootstrap", "--variant=minbase", "bookworm", str(folder)]
+    made = subprocess.run(words, capture_output=True, text=True, check=False)
+    return made.stdout.strip().rpartition("\n")[2] if made.returncode else None
+
+
+def check_fresh_root(context: Context, package: Path) -> None:
+    folder = context.folder / "root"
+    if reason := hindrance(folder):
+        print(f"  skipped, a fresh Debian to install in: {reason}", flush=True)
+        return
+    root, port = FreshRoot(context, folder), free_port()
+    root.install(earlier_package(context, package))
+    check_installed(root, port)
+    check_upgrade(root, package)
+    check_map(root, port)
+    check_removal(root)
+
+
+def run(context: Context) -> None:
+    check_make_install(context)
+    check_completion(context)
+    check_unit(context)
+    if context.program.read_bytes()[:4] != b"\x7fELF":
+        print("  skipped, the package: the program is a script, no ELF file", flush=True)
+        return
+    package = built_package(context, context.folder / "packages")
+    check_package(context, package)
+    check_fresh_root(context, package)

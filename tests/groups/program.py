@@ -1,0 +1,218 @@
+"""The commands over files: output, exit statuses, imports, exports, a pipe, --progress."""
+
+import json
+import os
+import subprocess
+from pathlib import Path
+
+from examples import text_path
+from harness import Context, Word
+from messages import OPEN_LAMPS, batch, get, insert_lamp, open_collection
+
+MOST_BYTES = 8_388_608
+ITEMS = "/collections/lamps/items"
+# Command lines that are refused, the first of them empty.
+WRONG_COMMANDS = """
+lines x
+create
+create a b
+pipe
+pipe a --port 80
+serve a
+serve a --port 0
+serve a --port 65536
+serve a --port +80
+serve a --port 80 --port 81
+serve a --port 80 --count 0
+serve a --port 80 --count 4294967296
+serve a --port 80 --clients 0
+serve a --port 80 --clients 1025
+import a t --collection c
+import a t --key k
+import a --key k --collection c
+import a t u --key k --collection c
+import a t --key k --collection c --replace=true
+import a t --key k --collection c --progress --progress
+export a
+export a t --collection c
+export a --collection c --progress=true
+export a --progress --collection c --progress
+check
+check a b
+check a --base http://localhost/
+check a --progress
+--help
+"""
+
+
+def check_wrong_commands(context: Context) -> None:
+    for line in WRONG_COMMANDS.split("\n")[:-1]:
+        context.run(*line.split(), status=2, code="usage")
+
+
+def check_faults_of_files(context: Context) -> None:
+    folder, file = context.folder, context.folder / "first.db"
+    context.run("pipe", file, status=1, code="no_file")
+    context.run("serve", file, "--port", "9", status=1, code="no_file")
+    context.run("check", file, status=1, code="no_file")
+    for base in ("localhost", "http://localhost/a"):
+        context.run("pipe", file, "--base", base, status=1, code="bad_base")
+    context.run("create", folder / "none" / "first.db", status=3, code="device")
+    context.check("what create prints", context.run("create", file), b"")
+    context.run("create", file, status=1, code="exists")
+    context.check("nothing asked", context.run("pipe", file), b"")
+    context.check("nothing to count", context.run("check", file), b"ok 0 0 0\n")
+    text = text_path(context, "text", "no tables\n" * 200)
+    empty = text_path(context, "empty", "")
+    context.run("pipe", text, status=1, code="not_ours")
+    context.run("check", text, status=1, code="not_ours")
+    context.run("pipe", empty, status=1, code="not_ours")
+    context.run("create", empty, status=1, code="exists")
+
+
+def check_pipe(context: Context) -> None:
+    file = context.new_file("pipe.db")
+    sent = batch("b1", [OPEN_LAMPS, insert_lamp(1)])
+    first, again, page = context.pipe(file, sent, sent, get(ITEMS))
+    reply = b'{"deleted":0,"inserted":1,"key":"b1","opened":1,"replaced":0,"serial":1}'
+    context.check("a batch", (first.status, first.body), (200, reply))
+    context.check("the batch again", again, first)
+    context.check("its counts", context.run("check", file), b"ok 1 1 1\n")
+    context.check("a page", page.json()["numberMatched"], 1)
+    context.check("the default base", f'"http://localhost{ITEMS}'.encode() in page.body, True)
+    words = ("--base", "https://maps.example:8443/")
+    (based,) = context.pipe(file, get("/collections/lamps"), words=words)
+    start = b'"https://maps.example:8443/collections/lamps'
+    context.check("a base", start in based.body, True)
+    cut = context.run("pipe", file, sent=batch("b2", [insert_lamp(2)])[:-1])
+    context.check("a request that is cut", cut, b"")
+    (left,) = context.pipe(file, get(ITEMS))
+    context.check("nothing of it is applied", left.json()["numberMatched"], 1)
+    check_faults_of_pipe(context, file)
+
+
+def check_faults_of_pipe(context: Context, file: Path) -> None:
+    descriptor = os.open(context.folder, os.O_RDONLY)
+    ended = context.start("pipe", file, stdin=descriptor)
+    os.close(descriptor)
+    got = (ended.returncode, ended.stderr)
+    context.check("a folder as input", got, (3, b"streetmap: read_failed\n"))
+    with open("/dev/full", "wb") as full:
+        ended = context.start("pipe", file, sent=get("/"), stdout=full)
+    got = (ended.returncode, ended.stderr)
+    context.check("a full output", got, (3, b"streetmap: write_failed\n"))
+
+
+NAMELESS = (
+    b'{"type":"FeatureCollection","name":"lamps","features":[{"type":"Feature",'
+    b'"properties":{"no":7},"geometry":{"type":"Point","coordinates":[5,6]}}]}'
+)
+SHORT_RING = (
+    b'{"type":"FeatureCollection","features":[{"type":"Feature"},{"type":"Feature",'
+    b'"geometry":{"type":"Polygon","coordinates":[[[0,0],[9,0],[0,0]]]}}]}'
+)
+EXPORTED = (
+    b'{"features":[{"geometry":{"coordinates":[5,6],"type":"Point"},"id":"1",'
+    b'"properties":{"no":7},"type":"Feature"}],"type":"FeatureCollection"}\n'
+)
+EMPTY = b'{"features":[],"type":"FeatureCollection"}\n'
+
+
+def reply_text(key: str, serial: int, inserted: int = 0, replaced: int = 0) -> bytes:
+    counts = {"deleted": 0, "inserted": inserted, "key": key, "opened": 0}
+    counts |= {"replaced": replaced, "serial": serial}
+    return json.dumps(counts, separators=(",", ":")).encode() + b"\n"
+
+
+def import_words(file: Path, text: Path, key: str, *more: str, into: str = "lamps") -> list[Word]:
+    return ["import", file, text, "--key", key, "--collection", into, *more]
+
+
+def check_imports(context: Context) -> None:
+    file, text = context.folder / "exchanged.db", text_path(context, "lamps.json", NAMELESS)
+    first = import_words(file, text, "i1")
+    context.run(*first, status=1, code="no_file")
+    context.run("export", file, "--collection", "lamps", status=1, code="no_file")
+    context.check("no file is made", file.exists(), False)
+    context.run("create", file)
+    context.run(*first, status=1, code="no_collection 1")
+    (opened,) = context.pipe(file, batch("b1", [OPEN_LAMPS]))
+    context.check("a collection is opened", opened.status, 200)
+    exported = context.run("export", file, "--collection", "lamps")
+    context.check("an empty collection", exported, EMPTY)
+    reply = reply_text("i1", 2, inserted=1)
+    context.check("an import", context.run(*first), reply)
+    context.check("the import again", context.run(*first), reply)
+    again = context.run(*import_words(file, text, "i2"), status=1, code="feature_exists 1")
+    context.check("a used id", again, b"")
+    context.run(*first, "--replace", status=1, code="key_used")
+    replaced = context.run(*import_words(file, text, "i3", "--replace"))
+    context.check("a replacing import", replaced, reply_text("i3", 3, replaced=1))
+    exported = context.run("export", "--collection=lamps", file)
+    context.check("an export", exported, EXPORTED)
+    context.pipe(file, batch("b2", [open_collection("copy")]))
+    context.run(*import_words(file, text_path(context, "copy.json", exported), "i4", into="copy"))
+    copied = context.run("export", file, "--collection", "copy")
+    context.check("an export of an import of an export", copied, EXPORTED)
+    check_refused_imports(context, file, text)
+    with open("/dev/full", "wb") as full:
+        ended = context.start("export", file, "--collection", "lamps", stdout=full)
+    got = (ended.returncode, ended.stderr)
+    context.check("an export to a full output", got, (3, b"streetmap: write_failed\n"))
+
+
+def check_refused_imports(context: Context, file: Path, text: Path) -> None:
+    """Texts that are refused over a file of two collections, and how they leave it."""
+    before = context.run("check", file)
+    context.check("the counts before", before.startswith(b"ok 2 "), True)
+    short_ring = text_path(context, "short_ring.json", SHORT_RING)
+    refused = "bad_feature 2 short_ring"
+    context.run(*import_words(file, short_ring, "i5"), status=1, code=refused)
+    context.check("the counts behind a refusal", context.run("check", file), before)
+    nothing = context.run("export", file, "--collection", "trees", status=1, code="no_collection")
+    context.check("nothing is written", nothing, b"")
+    none = context.folder / "none.json"
+    context.run(*import_words(file, none, "i6"), status=1, code="no_text")
+    context.run(*import_words(file, none, "i 6"), status=1, code="no_text")
+    context.run(*import_words(file, text, "i 6"), status=1, code="bad_key")
+    context.run(*import_words(file, context.folder, "i6"), status=3, code="read_failed")
+    large = text_path(context, "large.json", NAMELESS.ljust(MOST_BYTES + 1))
+    context.run(*import_words(file, large, "i6"), status=1, code="text_too_large")
+    large.write_bytes(NAMELESS.ljust(MOST_BYTES))
+    context.run(*import_words(file, large, "i6", "--replace"))
+
+
+def check_progress(context: Context) -> None:
+    """Lines on standard error report how far an import and an export are, where they are asked
+    for; all else is as without them."""
+    features = [{"type": "Feature"}] * 2_500
+    many = json.dumps({"type": "FeatureCollection", "features": features})
+    file, text = context.new_file("progress.db"), text_path(context, "many.json", many)
+    context.pipe(file, batch("b1", [OPEN_LAMPS]))
+    lines = b"streetmap: 1000 features\nstreetmap: 2000 features\n"
+    importing = import_words(file, text, "i1")
+    exporting: list[Word] = ["export", file, "--collection"]
+
+    def check(what: str, words: list[Word], wanted: tuple[int, bytes, bytes]) -> None:
+        ended = context.start(*words, "--progress")
+        context.check(what, (ended.returncode, ended.stdout, ended.stderr), wanted)
+
+    check("progress of an import", importing, (0, reply_text("i1", 2, inserted=2_500), lines))
+    exported = context.run(*exporting, "lamps")
+    check("progress of an export", [*exporting, "lamps"], (0, exported, lines))
+    refused = lines + b"streetmap: key_used\n"
+    check("a refusal behind the lines", [*importing, "--replace"], (1, b"", refused))
+    refused = b"streetmap: no_collection\n"
+    check("no progress to report", [*exporting, "trees"], (1, b"", refused))
+    with open("/dev/full", "wb") as full:
+        ended = context.start(*exporting, "lamps", "--progress", stderr=full)
+    got = (ended.returncode, ended.stdout)
+    context.check("an export whose lines cannot be written", got, (0, exported))
+
+
+def run(context: Context) -> None:
+    check_wrong_commands(context)
+    check_faults_of_files(context)
+    check_pipe(context)
+    check_imports(context)
+    check_progress(context)
