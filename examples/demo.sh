@@ -18,9 +18,9 @@ streetmap() {
 
 # Serves the file until it is stopped.
 serve() {
-    echo "\$ streetmap serve town.streetmap --port $port --clients 64 &"
+    echo "\$ streetmap serve town.streetmap --port $port &"
     : > printed
-    "$program" serve town.streetmap --port "$port" --clients 64 >> printed &
+    "$program" serve town.streetmap --port "$port" >> printed &
     server=$!
     until grep -q listening printed; do sleep 0.1; done
     cat printed
@@ -88,3 +88,17 @@ stop
 
 say "The collection as a GeoJSON text (its first 200 characters)."
 streetmap export town.streetmap --collection lamps | cut -c1-200
+
+say "A quarter with streets, lamps, trees and a park is one batch, in a file of its own; and its map."
+streetmap create quarter.streetmap
+"$program" serve quarter.streetmap --port "$port" --clients 64 > out &
+server=$!
+until grep -q listening out; do sleep 0.1; done
+echo "\$ curl -d @examples/quarter.json localhost:$port/batches"
+ask /batches "$(cat "$examples/quarter.json")" | tail -n 1
+stop
+if PATH=$PATH:/usr/sbin command -v nginx > /dev/null && [ -t 1 ]; then
+    python3 "$examples/../deploy/serve_map.py" "$program" quarter.streetmap --port "$port"
+else
+    echo "make map FILE=town.streetmap serves a file and its map, by nginx and libjs-leaflet of Debian."
+fi

@@ -1,0 +1,99 @@
+/**
+ * @file The panel of the basket: what each edit is, and saving.
+ */
+import { takeOutOfBasket } from "./basket.js";
+import { announce, askInDialog, button, element, renew } from "./element.js";
+import { differences } from "./feature.js";
+import { cut, saveBasket, userOf } from "./queue.js";
+import { readSetting, writeSetting } from "./store.js";
+import { counted, editText } from "./texts.js";
+
+/**
+ * @returns {Promise<string | null>} the name that stands in keys; asked once
+ */
+export async function askUser() {
+  const known = await readSetting("user");
+  if (known) return known;
+  const field = element("input", { id: "user", autocomplete: "username", maxlength: 60 });
+  const note =
+    "It stands in the key of each batch, so that the office sees who sent it. " +
+    "Whether you may send is decided by the server.";
+  const name = await askInDialog(
+    "Your name",
+    [
+      element("p", {}, note),
+      element("p", { class: "field" }, element("label", { for: "user" }, "Name"), field),
+    ],
+    [{ text: "Save", value: () => field.value }, { text: "Cancel", value: null }],
+  );
+  const user = name === null ? "" : userOf(name);
+  if (!user) return null;
+  await writeSetting("user", user);
+  return user;
+}
+
+/**
+ * Moves the basket into the queue, after what has to be asked.
+ * @param {import("./basket.js").Edit[]} edits
+ */
+async function save(edits) {
+  let parts;
+  try {
+    parts = cut(edits).length;
+  } catch (fault) {
+    const close = [{ text: "Close", value: true }];
+    return void (await askInDialog("Too large", [element("p", {}, fault.message)], close));
+  }
+  if (parts > 1) {
+    const text =
+      `The basket is too large for one batch. It would go as ${parts} batches: ` +
+      "each is taken as a whole or not at all, but not all of them together.";
+    const answers = [
+      { text: `Save as ${parts} batches`, value: true },
+      { text: "Cancel", value: false },
+    ];
+    if (!(await askInDialog("More than one batch", [element("p", {}, text)], answers))) return;
+  }
+  const user = await askUser();
+  if (!user) return;
+  await saveBasket(user);
+  announce("Saved: it is sent as soon as the server answers.");
+}
+
+/**
+ * @param {HTMLElement} panel
+ * @param {import("./basket.js").Edit[]} edits
+ * @param {{onSelect: (collection: string, id: string) => void, canSave: boolean}} options
+ */
+export function showBasket(panel, edits, { onSelect, canSave }) {
+  const rows = edits.map((edit) =>
+    element(
+      "li", { class: `edit ${edit.op}` },
+      element(
+        "div", {},
+        button(edit.id, () => onSelect(edit.collection, edit.id), { class: "link" }),
+        element("span", { class: "note" }, ` ${edit.collection}`),
+        element("div", {}, editText(edit, differences)),
+      ),
+      button(
+        "Undo",
+        () => takeOutOfBasket(edit),
+        { class: "small", "aria-label": `Undo the edit of ${edit.id}` },
+      ),
+    ),
+  );
+  const text = edits.length
+    ? "These edits are on this device alone until they are saved. They are sent as one batch."
+    : "No edits. Add a feature with the buttons on the map, or choose one and edit it.";
+  const main = button(
+    `Save ${counted(edits.length, "edit", "edits")}`,
+    () => save(edits),
+    { class: "main", id: "save" },
+  );
+  main.disabled = edits.length === 0 || !canSave;
+  renew(
+    panel,
+    element("h2", {}, "Basket"), element("p", { class: "note" }, text),
+    element("ul", { class: "edits" }, ...rows), element("p", { class: "buttons" }, main),
+  );
+}

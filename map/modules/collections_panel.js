@@ -1,0 +1,158 @@
+/**
+ * @file The panel of collections: titles, colours, switches and how much of each is shown; the
+ * filter of days, and the search by id.
+ */
+import { SHOWN_LIMIT } from "./api.js";
+import { button, element } from "./element.js";
+import { MARKS } from "./texts.js";
+
+/**
+ * @param {import("./loader.js").Count | undefined} count
+ * @returns {string}
+ */
+function countText(count) {
+  if (!count) return "";
+  const numbers = [count.shown, count.matched];
+  const [shown, matched] = numbers.map((number) => number.toLocaleString("en"));
+  return count.shown < count.matched ? `${shown} of ${matched}` : shown;
+}
+
+/**
+ * @returns {HTMLElement[]} how edits that are still to come are marked on the map
+ */
+function legend() {
+  return Object.entries(MARKS).map(([mark, text]) =>
+    element("li", {}, element("span", { class: `swatch ring-${mark}` }), text),
+  );
+}
+
+export class CollectionsPanel {
+  #list = element("ul", { class: "collections" });
+  #view;
+
+  /**
+   * @param {HTMLElement} panel
+   * @param {import("./view.js").View} view
+   * @param {{onSwitch: () => void, onFilter: (from: string, to: string) => void, onSearch: (id:
+   *   string) => void}} listener
+   */
+  constructor(panel, view, { onSwitch, onFilter, onSearch }) {
+    this.#view = view;
+    this.#listenSwitch = onSwitch;
+    const [from, to] = ["from", "to"].map((name) =>
+      element("input", { type: "date", id: `filter-${name}` }),
+    );
+    [this.from, this.to] = [from, to];
+    const filter = () => onFilter(from.value, to.value);
+    for (const field of [from, to]) field.addEventListener("change", filter);
+    const clear = button("All times", () => {
+      [from.value, to.value] = ["", ""];
+      filter();
+    });
+    const id = element(
+      "input",
+      { id: "search-id", type: "search", autocomplete: "off", required: true },
+    );
+    const search = (event) => {
+      event.preventDefault();
+      if (id.value) onSearch(id.value);
+    };
+    panel.append(
+      element("h2", {}, "Collections"), this.#list,
+      element(
+        "p",
+        { class: "buttons" },
+        button("Show all", () => view.showAll()),
+        button("Ask again", () => view.refresh()),
+      ),
+      element("ul", { class: "legend", "aria-label": "Edits on the map" }, ...legend()),
+      element("h2", {}, "Time"),
+      element(
+        "div", { class: "field pair" },
+        element("span", {}, element("label", { for: "filter-from" }, "From"), from),
+        element("span", {}, element("label", { for: "filter-to" }, "To"), to),
+      ),
+      element(
+        "p",
+        { class: "note" },
+        "Days in UTC. With a filter, features without a time are not shown.",
+      ),
+      clear,
+      element("h2", {}, "Search"),
+      element(
+        "form", { class: "field search", onsubmit: search },
+        element("label", { for: "search-id" }, "Id"),
+        id,
+        element("button", { type: "submit" }, "Find"),
+      ),
+    );
+  }
+
+  #listenSwitch;
+
+  /** Shows the collections and counts of now. */
+  show() {
+    const { collections, off, counts } = this.#view;
+    this.#list.replaceChildren(
+      ...collections.map(({ id, title }, place) => this.#row(id, title, place, off, counts)),
+    );
+    if (collections.length > 0) return;
+    this.#list.append(element("li", {}, "There is no collection yet."));
+  }
+
+  /** Shows the counts of now. */
+  showCounts() {
+    for (const row of this.#list.querySelectorAll("li[data-id]")) {
+      const count = this.#view.counts.get(row.dataset.id);
+      row.querySelector(".count").textContent = countText(
+        this.#view.off.has(row.dataset.id) ? undefined : count,
+      );
+    }
+  }
+
+  #row(id, title, place, off, counts) {
+    const box = element("input", {
+      type: "checkbox",
+      role: "switch",
+      checked: !off.has(id),
+      onchange: () => {
+        if (box.checked) off.delete(id);
+        else off.add(id);
+        this.#listenSwitch();
+      },
+    });
+    const count = countText(off.has(id) ? undefined : counts.get(id));
+    return element(
+      "li", { "data-id": id },
+      element("label", {}, box, element("span", { class: `swatch collection-${place % 8}` }),
+        element("span", { class: "title" }, title)),
+      element("span", { class: "count" }, count),
+    );
+  }
+}
+
+/**
+ * @param {Map<string, import("./loader.js").Count & {problem: string}>} counts
+ * @param {(moment: number) => string} clock
+ * @returns {{text: string, isProblem: boolean}} what is to be known of the view as a whole
+ */
+export function viewText(counts, clock) {
+  const all = [...counts.values()];
+  const problem = all.find((count) => count.problem)?.problem;
+  const unfiltered = problem && all.some((count) => count.problem && !count.isFiltered);
+  if (problem) {
+    const times = all.flatMap(({ oldest }) => (oldest === null ? [] : [oldest]));
+    const oldest = times.length ? clock(Math.min(...times)) : "";
+    const seen = oldest ? `Shown as of ${oldest}.` : "Nothing was seen here before.";
+    return {
+      text: `${problem} ${seen}${unfiltered ? " The time filter waits." : ""}`,
+      isProblem: true,
+    };
+  }
+  const cut = all.filter(({ shown, matched }) => shown < matched && shown >= SHOWN_LIMIT);
+  if (cut.length === 0) return { text: "", isProblem: false };
+  const [shown, matched] = ["shown", "matched"].map((name) =>
+    cut.reduce((sum, count) => sum + count[name], 0).toLocaleString("en"),
+  );
+  return { text: `${shown} of ${matched} shown: zoom in`, isProblem: false };
+}

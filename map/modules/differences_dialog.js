@@ -1,0 +1,93 @@
+/**
+ * @file The dialog in which the user decides between an edit and what another changed since.
+ */
+import { decided } from "./conflicts.js";
+import { askInDialog, element } from "./element.js";
+import { differences, isSame } from "./feature.js";
+import { changeEdits } from "./queue.js";
+import { sides } from "./texts.js";
+
+/**
+ * @param {import("./basket.js").Edit} edit
+ * @param {import("./feature.js").Feature | null} theirs
+ * @returns {HTMLElement} what was, what is there now and what the edit makes of it
+ */
+function comparison(edit, theirs) {
+  const whats = new Map();
+  const add = (list) => list.forEach(({ what }) => whats.set(what, true));
+  add(differences(edit.base, edit.feature));
+  add(differences(edit.base, theirs));
+  add(differences(edit.feature, theirs));
+  const cell = (feature, what) => {
+    if (!feature) return "not there";
+    if (what === "the feature") return "there";
+    const isMember = what === "geometry" || what === "properties";
+    const value = isMember ? feature[what] : feature.properties?.[what];
+    return sides({ what, one: value, other: value })[0];
+  };
+  const rows = [...whats.keys()].map((what) =>
+    element(
+      "tr", {}, element("th", { scope: "row" }, what),
+      ...[edit.base, edit.feature, theirs].map((feature) => element("td", {}, cell(feature, what))),
+    ),
+  );
+  const titles = ["", "It was", "Mine", "Theirs"];
+  const head = titles.map((text) => element("th", { scope: "col" }, text));
+  return element(
+    "div", { class: "scrolled", tabindex: 0, role: "group", "aria-label": "Comparison" },
+    element(
+      "table",
+      { class: "comparison" },
+      element("thead", {}, element("tr", {}, ...head)),
+      element("tbody", {}, ...rows),
+    ),
+  );
+}
+
+/**
+ * @param {import("./basket.js").Edit} edit
+ * @param {import("./feature.js").Feature | null} theirs
+ * @returns {string} in a sentence
+ */
+function sentence(edit, theirs) {
+  if (!theirs) return `Another has deleted it${edit.op === "delete" ? " already" : ""}.`;
+  if (isSame(edit.feature, theirs)) return "Another has made the same change already.";
+  return `Another has changed ${edit.op === "delete" ? "what you delete" : "it too"}.`;
+}
+
+/**
+ * @param {import("./basket.js").Edit} edit
+ * @param {import("./feature.js").Feature | null} theirs
+ * @returns {{text: string, value: string}[]}
+ */
+function choices(edit, theirs) {
+  const leave = { text: theirs ? "Take theirs" : "Leave it deleted", value: "theirs" };
+  const drop = { text: "Decide later", value: null };
+  if (edit.op === "delete" && !theirs) return [leave, drop];
+  const texts = {
+    delete: "Delete it all the same",
+    replace: theirs ? "Keep mine" : "Put mine back",
+  };
+  return [leave, { text: texts[edit.op], value: "mine" }, drop];
+}
+
+/**
+ * Asks for each difference, and changes the batch by the decisions.
+ * @param {import("./queue.js").Batch} batch
+ */
+export async function resolveDifferences(batch) {
+  const decisions = [];
+  for (const [place, { index, theirs }] of batch.differences.entries()) {
+    const edit = batch.edits[index];
+    const { length } = batch.differences;
+    const count = length > 1 ? ` (${place + 1} of ${length})` : "";
+    const decision = await askInDialog(
+      `${edit.id}${count}`,
+      [element("p", {}, sentence(edit, theirs)), comparison(edit, theirs)],
+      choices(edit, theirs),
+    );
+    if (decision === null) return;
+    decisions.push(decision);
+  }
+  await changeEdits(batch, decided(batch.edits, batch.differences, decisions));
+}

@@ -1,0 +1,102 @@
+/**
+ * @file The panel of a feature: its id, properties, time and geometry as text.
+ */
+import { announce, askInDialog, button, element, renew } from "./element.js";
+import { middleOf } from "./geometry.js";
+import { writeJson } from "./json.js";
+import { degreesInWords } from "./place.js";
+import { geometryText, pendingText, valueText } from "./texts.js";
+import { clock, isTime, timeInWords } from "./time.js";
+
+/**
+ * @param {object | null} properties
+ * @returns {HTMLElement}
+ */
+function propertiesTable(properties) {
+  const rows = Object.entries(properties ?? {}).map(([name, value]) =>
+    element("tr", {}, element("th", { scope: "row" }, name), element("td", {}, valueText(value))),
+  );
+  if (rows.length === 0) return element("p", { class: "note" }, "It has no properties.");
+  return element("table", { class: "shown" }, element("tbody", {}, ...rows));
+}
+
+/**
+ * @param {object | null} properties
+ * @returns {HTMLElement[]} the times among them
+ */
+function times(properties) {
+  const found = Object.entries(properties ?? {}).filter(([, value]) => isTime(value));
+  const lines = found.map(([name, value]) => element("li", {}, `${name}: ${timeInWords(value)}`));
+  if (lines.length === 0) return [];
+  return [element("h3", {}, "Time"), element("ul", { class: "times" }, ...lines)];
+}
+
+/**
+ * Copies a text, or shows it where the browser does not let it be copied.
+ * @param {string} text
+ */
+async function copy(text) {
+  try {
+    await navigator.clipboard.writeText(text);
+    announce("Copied as GeoJSON.");
+  } catch {
+    const area = element("textarea", { rows: 12, readonly: true, "aria-label": "GeoJSON" });
+    area.value = text;
+    await askInDialog("GeoJSON", [area], [{ text: "Close", value: true }]);
+  }
+}
+
+/**
+ * @param {HTMLElement} panel
+ * @param {object} shown
+ * @param {string} shown.title of the collection
+ * @param {number} shown.place of the collection
+ * @param {string} shown.collection
+ * @param {import("./feature.js").Feature} shown.feature
+ * @param {import("./pending.js").Pending} [shown.pending]
+ * @param {number} [shown.seen] when the server showed it
+ * @param {import("./place.js").Place | null} shown.earth
+ * @param {{collection: string, id: string}[]} shown.others features at the same place
+ * @param {{onEdit: () => void, onDelete: () => void, onUndo: () => void, onGo: () => void,
+ *   onSelect: (collection: string, id: string) => void}} listener
+ */
+export function showFeature(panel, shown, listener) {
+  const { title, place, feature, pending, seen, earth, others } = shown;
+  const { id, geometry, properties } = feature;
+  const isGone = pending?.edit.op === "delete";
+  const middle = middleOf(geometry);
+  const degrees = middle && earth?.toDegrees(middle);
+  const alsoHere = others.map((other) =>
+    button(other.id, () => listener.onSelect(other.collection, other.id)),
+  );
+  renew(
+    panel,
+    element("h2", { tabindex: -1 }, id),
+    element(
+      "p",
+      { class: "of" },
+      element("span", { class: `swatch collection-${place % 8}` }),
+      title,
+    ),
+    pending ? element("p", { class: `mark mark-${pending.mark}` }, pendingText(pending)) : "",
+    element(
+      "p", { class: "buttons" },
+      isGone ? null : button("Edit", listener.onEdit, { class: "main" }),
+      isGone ? null : button("Delete", listener.onDelete),
+      pending?.mark === "basket" ? button("Undo", listener.onUndo) : null,
+      button("Show", listener.onGo),
+      button("Copy as GeoJSON", () => copy(writeJson(feature))),
+    ),
+    element("h3", {}, "Properties"), propertiesTable(properties),
+    ...times(properties),
+    element("h3", {}, "Geometry"), element(
+      "pre",
+      { tabindex: 0, role: "group", "aria-label": "Geometry in metres" },
+      geometryText(geometry),
+    ),
+    degrees ? element("p", { class: "note" }, `${degreesInWords(degrees)} (WGS 84)`) : "",
+    seen && !pending ? element("p", { class: "note" }, `As of ${clock(seen)}.`) : "",
+    alsoHere.length ? element("h3", {}, "Also here") : "",
+    alsoHere.length ? element("p", { class: "buttons" }, ...alsoHere) : "",
+  );
+}

@@ -1,0 +1,45 @@
+/**
+ * @file JSON whose whole numbers may have any size. A number that JavaScript cannot hold exactly is
+ * a BigInt, so that a feature that is read and written again keeps its properties.
+ */
+
+const LONG_NUMBER = /\d{16}/;
+const TOKENS = /"(?:[^"\\]|\\.)*"|-?\d+(?:\.\d+)?(?:[eE][+-]?\d+)?/g;
+
+/** It stands before the digits of a BigInt on their way through JSON; nobody can guess it. */
+const MARK = `whole ${crypto.getRandomValues(new Uint32Array(4)).join("-")} `;
+const MARKED = new RegExp(`"${MARK}(-?\\d+)"`, "g");
+
+/**
+ * @param {string} token a string or a number of a JSON text
+ * @returns {boolean} whether JSON.parse keeps it as it is
+ */
+function isKept(token) {
+  return token[0] === '"' || !/^-?\d+$/.test(token) || Number.isSafeInteger(Number(token));
+}
+
+/**
+ * @param {string} text
+ * @returns {any} the value; it throws a SyntaxError as JSON.parse does
+ */
+export function readJson(text) {
+  if (!LONG_NUMBER.test(text)) return JSON.parse(text);
+  const marked = text.replace(TOKENS, (token) => (isKept(token) ? token : `"${MARK}${token}"`));
+  return JSON.parse(marked, (_, value) =>
+    typeof value === "string" && value.startsWith(MARK) ? BigInt(value.slice(MARK.length)) : value,
+  );
+}
+
+/**
+ * @param {any} value
+ * @param {number} [indent] how many spaces stand before each level
+ * @returns {string}
+ */
+export function writeJson(value, indent) {
+  const marked = JSON.stringify(
+    value,
+    (_, inner) => (typeof inner === "bigint" ? MARK + inner : inner),
+    indent,
+  );
+  return marked.replace(MARKED, "$1");
+}

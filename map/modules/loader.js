@@ -1,0 +1,131 @@
+/**
+ * @file The features of the view: asked by pages, dropped when the view moves on, and taken from
+ * what was seen before where the server does not answer.
+ *
+ * @typedef {import("./geometry.js").Box} Box
+ * @typedef {{shown: number, matched: number, oldest: number | null, isFiltered: boolean}} Count
+ */
+import { NoAnswer, Refusal, readPages } from "./api.js";
+import { boxOf } from "./geometry.js";
+
+export class Loader {
+  /** @type {AbortController | null} */
+  #asking = null;
+  #seen;
+  #draw;
+
+  /**
+   * @param {import("./seen.js").Seen} seen
+   * @param {(collection: string, features: import("./feature.js").Feature[]) => void} draw
+   */
+  constructor(seen, draw) {
+    this.#seen = seen;
+    this.#draw = draw;
+  }
+
+  /** Drops what was asked and has not come. */
+  drop() {
+    this.#asking?.abort();
+    this.#asking = null;
+  }
+
+  /**
+   * Asks each collection for the features of a box.
+   * @param {string[]} collections
+   * @param {Box} box
+   * @param {string} datetime an interval, or no text
+   * @returns {Promise<Map<string, Count & {ids: Set<string>, problem: string}> | null>} null where
+   *   it was dropped
+   */
+  async load(collections, box, datetime) {
+    this.drop();
+    const asking = new AbortController();
+    this.#asking = asking;
+    try {
+      const ask = (it) => this.#collection(it, box, datetime, asking.signal);
+      const counts = await Promise.all(collections.map(ask));
+      return new Map(collections.map((collection, place) => [collection, counts[place]]));
+    } catch (fault) {
+      if (fault.name === "AbortError") return null;
+      throw fault;
+    } finally {
+      if (this.#asking === asking) this.#asking = null;
+    }
+  }
+
+  /**
+   * @param {string} collection
+   * @param {Box} box
+   * @param {string} datetime
+   * @param {AbortSignal} signal
+   */
+  async #collection(collection, box, datetime, signal) {
+    const ids = new Set();
+    let [matched, isWhole] = [0, true];
+    try {
+      for await (const page of readPages(collection, box, datetime, signal)) {
+        performance.mark("page came");
+        for (const feature of page.features) ids.add(feature.id);
+        this.#draw(collection, page.features);
+        requestAnimationFrame(() => performance.measure("page drawn", "page came"));
+        this.#seen.put(collection, page.features).catch(console.error);
+        matched = page.numberMatched;
+        isWhole = page.next === null;
+      }
+    } catch (fault) {
+      if (fault instanceof Refusal && fault.status === 404) {
+        return {
+          ids,
+          shown: 0,
+          matched: 0,
+          oldest: null,
+          isFiltered: false,
+          problem: fault.message,
+        };
+      }
+      if (!(fault instanceof NoAnswer) && !(fault instanceof Refusal)) throw fault;
+      return this.#fromSeen(collection, box, datetime, fault.message);
+    }
+    if (isWhole && !datetime) this.#seen.keepOnly(collection, box, ids).catch(console.error);
+    return {
+      ids,
+      shown: ids.size,
+      matched,
+      oldest: null,
+      isFiltered: datetime !== "",
+      problem: "",
+    };
+  }
+
+  /**
+   * @param {string} collection
+   * @param {Box} box
+   * @param {string} datetime
+   * @param {string} problem why the server is not asked
+   */
+  #fromSeen(collection, box, datetime, problem) {
+    const sights = this.#seen.within(collection, box);
+    const ids = new Set(sights.map(({ feature }) => feature.id));
+    this.#draw(collection, sights.map(({ feature }) => feature));
+    const oldest = sights.reduce((least, { seen }) => Math.min(least, seen), Infinity);
+    return {
+      ids,
+      shown: ids.size,
+      matched: ids.size,
+      oldest: Number.isFinite(oldest) ? oldest : null,
+      isFiltered: datetime === "",
+      problem,
+    };
+  }
+}
+
+/**
+ * @param {import("./api.js").Collection[]} collections
+ * @returns {Box | null} the extent of them all
+ */
+export function extentOf(collections) {
+  const corners = collections.flatMap(({ extent }) =>
+    extent ? [[extent.x0, extent.y0], [extent.x1, extent.y1]] : [],
+  );
+  return boxOf(corners.length ? { type: "MultiPoint", coordinates: corners } : null);
+}

@@ -1,0 +1,145 @@
+/**
+ * @file The features last seen: those that the map shows where the server does not answer.
+ *
+ * @typedef {import("./feature.js").Feature} Feature
+ * @typedef {import("./geometry.js").Box} Box
+ * @typedef {{feature: Feature, box: Box | null, seen: number}} Sight
+ */
+import { boxOf, contains, overlaps } from "./geometry.js";
+import { readAnswers } from "./queue.js";
+import { readAll, result, transact } from "./store.js";
+
+/** How many features of a collection are kept; the ones seen longest ago go first. */
+const MOST_KEPT = 20_000;
+
+export class Seen {
+  /** @type {Map<string, Map<string, Sight>>} the sights of each collection, the oldest first */
+  #sights = new Map();
+  /** The last record of an accepted batch that is taken in. */
+  #answer = 0;
+
+  /** @returns {Promise<Seen>} what was seen before */
+  static async open() {
+    const seen = new Seen();
+    const rows = await readAll("features");
+    rows.sort((one, other) => one.seen - other.seen);
+    for (const row of rows) {
+      seen.#of(row.collection).set(row.id, seen.#sight(row.feature, row.seen));
+    }
+    await seen.catchUp();
+    return seen;
+  }
+
+  /** Takes in the batches that were accepted since, by whichever tab. */
+  async catchUp() {
+    for (const { number, outcome, edits, time } of await readAnswers(this.#answer)) {
+      this.#answer = number;
+      if (outcome !== "accepted") continue;
+      for (const { collection, id, feature } of edits) {
+        const known = this.#of(collection).get(id);
+        if (known && known.seen > time) continue;
+        if (feature) this.#of(collection).set(id, this.#sight(feature, time));
+        else this.#of(collection).delete(id);
+      }
+    }
+  }
+
+  /**
+   * @param {string} collection
+   * @returns {Map<string, Sight>}
+   */
+  #of(collection) {
+    if (!this.#sights.has(collection)) this.#sights.set(collection, new Map());
+    return this.#sights.get(collection);
+  }
+
+  /**
+   * @param {Feature} feature
+   * @param {number} seen
+   * @returns {Sight}
+   */
+  #sight(feature, seen) {
+    return { feature, box: boxOf(feature.geometry), seen };
+  }
+
+  /**
+   * Keeps features that the server showed now.
+   * @param {string} collection
+   * @param {Feature[]} features
+   */
+  async put(collection, features) {
+    const [sights, now] = [this.#of(collection), Date.now()];
+    for (const feature of features) {
+      sights.delete(feature.id);
+      sights.set(feature.id, this.#sight(feature, now));
+    }
+    const over = [...sights.keys()].slice(0, Math.max(0, sights.size - MOST_KEPT));
+    for (const id of over) sights.delete(id);
+    await transact(
+      ["features"],
+      "readwrite",
+      (table) => {
+        for (const feature of features) {
+          table.put({ collection, id: feature.id, feature, seen: now });
+        }
+        for (const id of over) table.delete([collection, id]);
+      },
+      "relaxed",
+    );
+  }
+
+  /**
+   * Forgets features that are not there any more.
+   * @param {string} collection
+   * @param {Iterable<string>} ids
+   */
+  async drop(collection, ids) {
+    const gone = [...ids].filter((id) => this.#of(collection).delete(id));
+    if (gone.length === 0) return;
+    const work = (table) => Promise.all(gone.map((id) => result(table.delete([collection, id]))));
+    await transact(["features"], "readwrite", work, "relaxed");
+  }
+
+  /**
+   * Forgets what lies in a box and is not among the features that the server showed of it.
+   * @param {string} collection
+   * @param {Box} box
+   * @param {Set<string>} ids those that it showed
+   */
+  async keepOnly(collection, box, ids) {
+    const gone = [];
+    for (const [id, sight] of this.#of(collection)) {
+      if (sight.box && contains(box, sight.box) && !ids.has(id)) gone.push(id);
+    }
+    await this.drop(collection, gone);
+  }
+
+  /**
+   * @param {string} collection
+   * @param {Box} box
+   * @returns {Sight[]} what was seen whose extent meets the box
+   */
+  within(collection, box) {
+    const sights = [...this.#of(collection).values()];
+    return sights.filter((sight) => sight.box && overlaps(sight.box, box));
+  }
+
+  /**
+   * @param {string} collection
+   * @param {string} id
+   * @returns {Sight | undefined}
+   */
+  find(collection, id) {
+    return this.#of(collection).get(id);
+  }
+}
+
+/**
+ * @param {import("./api.js").Collection[]} collections those that the server told
+ */
+export function keepCollections(collections) {
+  return transact(["collections"], "readwrite", (table) => {
+    table.clear();
+    for (const collection of collections) table.put({ ...collection, seen: Date.now() });
+  });
+}

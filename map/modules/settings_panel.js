@@ -1,0 +1,133 @@
+/**
+ * @file The panel of settings: the name in keys, the image in the background, and what the page is.
+ */
+import { ownAddress } from "./background.js";
+import { button, element } from "./element.js";
+import { metres, readMetres } from "./geometry.js";
+import { userOf } from "./queue.js";
+import { readSetting, writeSetting } from "./store.js";
+
+const CORNERS = { x0: "West", y0: "South", x1: "East", y1: "North" };
+
+/**
+ * @param {string} id
+ * @param {string} label
+ * @param {HTMLElement} field
+ */
+function labelled(id, label, field) {
+  field.id = id;
+  return element("p", { class: "field" }, element("label", { for: id }, label), field);
+}
+
+/**
+ * @returns {Promise<HTMLElement>} the form for the name
+ */
+async function nameForm() {
+  const field = element(
+    "input",
+    { value: (await readSetting("user")) ?? "", autocomplete: "username", maxlength: 60 },
+  );
+  const told = element("p", { class: "note", role: "status" });
+  const save = async (event) => {
+    event.preventDefault();
+    const user = userOf(field.value);
+    if (!user) return void (told.textContent = "A name needs a letter or a digit.");
+    field.value = user;
+    await writeSetting("user", user);
+    told.textContent = "Kept.";
+  };
+  return element(
+    "form", { onsubmit: save }, element("h2", {}, "Your name"),
+    labelled(
+      "setting-user",
+      "Name in the keys of your batches",
+      field,
+    ), element("button", { type: "submit" }, "Keep"), told,
+  );
+}
+
+/**
+ * @param {(background: import("./background.js").Background | null) => void} onBackground
+ * @returns {Promise<HTMLElement>} the form for the image
+ */
+async function imageForm(onBackground) {
+  const known = await readSetting("background");
+  const url = element("input", { value: known?.url ?? "", placeholder: "/images/plan.png" });
+  const file = element("input", { type: "file", accept: "image/*" });
+  const corners = Object.entries(CORNERS).map(([name, text]) => {
+    const value = known ? metres(known.box[name]) : "";
+    return {
+      name,
+      text,
+      field: element("input", { value, inputmode: "decimal", class: "metres" }),
+    };
+  });
+  const told = element("p", { class: "problem", role: "alert" });
+  const show = async (event) => {
+    event.preventDefault();
+    told.textContent = "";
+    const box = Object.fromEntries(
+      corners.map(({ name, field }) => [name, readMetres(field.value)]),
+    );
+    if (Object.values(box).includes(null) || box.x0 >= box.x1 || box.y0 >= box.y1) {
+      return void (told.textContent = "Corners are metres, west below east and south below north.");
+    }
+    const chosen = file.files[0] ?? (url.value ? null : known?.file ?? null);
+    const address = url.value ? ownAddress(url.value) : "";
+    if (address === null) {
+      return void (told.textContent = `The image has to lie on ${location.origin}, or be a file.`);
+    }
+    if (!address && !chosen) return void (told.textContent = "Name an image, or choose a file.");
+    const background = { url: address, file: chosen, box };
+    await writeSetting("background", background);
+    return onBackground(background);
+  };
+  const clear = button("Take it away", async () => {
+    await writeSetting("background", null);
+    onBackground(null);
+  });
+  return element(
+    "form", { onsubmit: show }, element("h2", {}, "Image in the background"),
+    element(
+      "p",
+      { class: "note" },
+      `An image that lies on ${location.origin}, or a file of this device. ` +
+        "Images of other addresses are not asked for.",
+    ),
+    labelled("image-url", "Address", url), labelled("image-file", "or a file", file),
+    element(
+      "div",
+      { class: "field pair" },
+      ...corners.map(({ name, text, field }) => labelled(`image-${name}`, `${text} (m)`, field)),
+    ),
+    element(
+      "p",
+      { class: "buttons" },
+      element("button", { type: "submit" }, "Show it"),
+      clear,
+    ), told,
+  );
+}
+
+/**
+ * @param {HTMLElement} panel
+ * @param {{earth: import("./place.js").Place | null, isKept: boolean,
+ *   onBackground: (background: import("./background.js").Background | null) => void}} options
+ */
+export async function showSettings(panel, { earth, isKept, onBackground }) {
+  const error = earth && Math.max(1, Math.ceil(earth.error * 1000));
+  const facts = [
+    earth
+      ? `The grid is placed by ${earth.system || "the office"}, good to ${error} mm.`
+      : "The office has not placed the grid in WGS 84, so your own position is not shown.",
+    isKept
+      ? "The browser keeps edits and batches until they are sent."
+      : "The browser may clear what waits here if the device runs out of room.",
+    "Photos are not kept.",
+    "Between the look for changes of others and a batch, another may write: the last batch counts.",
+  ];
+  panel.replaceChildren(
+    await nameForm(), await imageForm(onBackground), element("h2", {}, "Good to know"),
+    element("ul", { class: "facts" }, ...facts.map((text) => element("li", {}, text))),
+  );
+}

@@ -1,0 +1,206 @@
+/**
+ * @file The map of the grid: Leaflet with metres for degrees, the features of the view, and what is
+ * still to come of them.
+ *
+ * @typedef {import("./api.js").Collection} Collection
+ * @typedef {import("./geometry.js").Box} Box
+ */
+import * as L from "../leaflet/leaflet.esm.js";
+import { collectionColour } from "./colours.js";
+import { toPosition } from "./draw.js";
+import { nameOf } from "./feature.js";
+import { boxOf, overlaps } from "./geometry.js";
+import { addGrid, addScale } from "./grid.js";
+import { Layers, toPlace } from "./layers.js";
+import { Loader, extentOf } from "./loader.js";
+
+/** A metre is 2^zoom pixels. */
+const ZOOMS = { minZoom: -11, maxZoom: 10 };
+const PAUSE = 80;
+
+export class View {
+  /** @type {Collection[]} */
+  collections = [];
+  /** @type {Set<string>} the collections that are switched off */
+  off = new Set();
+  /** @type {string} an interval, or no text */
+  datetime = "";
+  /** @type {Map<string, import("./pending.js").Pending>} */
+  #pending = new Map();
+  /** @type {Map<string, import("./loader.js").Count>} */
+  counts = new Map();
+  #loader;
+  #seen;
+  #listener;
+  #timer = 0;
+  #drawGrid;
+
+  /**
+   * @param {HTMLElement} container
+   * @param {import("./seen.js").Seen} seen
+   * @param {{onCounts: () => void, onMove: () => void}} listener
+   */
+  constructor(container, seen, listener) {
+    const options = {
+      crs: L.CRS.Simple,
+      attributionControl: false,
+      zoomControl: false,
+      preferCanvas: true,
+      zoomSnap: 0.25,
+      zoomDelta: 0.5,
+    };
+    this.map = L.map(container, { ...options, ...ZOOMS });
+    this.map.setView([0, 0], 0);
+    L.control.zoom({ position: "topright" }).addTo(this.map);
+    this.#drawGrid = addGrid(this.map);
+    addScale(this.map);
+    this.layers = new Layers(this.map, (collection) => this.colourOf(collection));
+    this.#seen = seen;
+    this.#loader = new Loader(seen, (collection, features) => this.#draw(collection, features));
+    this.#listener = listener;
+    this.map.on("moveend", () => this.#moved());
+    this.map.on("zoomend", () => this.#zoomed());
+    new ResizeObserver(() => this.map.invalidateSize({ animate: false })).observe(container);
+  }
+
+  #moved() {
+    this.#listener.onMove();
+    this.#loader.drop();
+    clearTimeout(this.#timer);
+    this.#timer = setTimeout(() => this.refresh(), PAUSE);
+  }
+
+  #size = -1;
+  #zoomed() {
+    const zoom = this.map.getZoom();
+    const size = [0, 1, 2, 2.5, 4].filter((step) => zoom >= step).length;
+    if (size !== this.#size) this.layers.redraw();
+    this.#size = size;
+  }
+
+  /**
+   * @param {string} collection
+   * @returns {string}
+   */
+  colourOf(collection) {
+    const place = this.collections.findIndex(({ id }) => id === collection);
+    return collectionColour(Math.max(0, place));
+  }
+
+  /** @returns {Box} the box of the view, in whole millimetres, rounded outward */
+  get box() {
+    const bounds = this.map.getBounds();
+    return {
+      x0: Math.floor(bounds.getWest() * 1000),
+      y0: Math.floor(bounds.getSouth() * 1000),
+      x1: Math.ceil(bounds.getEast() * 1000),
+      y1: Math.ceil(bounds.getNorth() * 1000),
+    };
+  }
+
+  /** Shows all that there is. */
+  showAll() {
+    this.show(extentOf(this.collections));
+  }
+
+  /**
+   * @param {Box | null} box
+   */
+  show(box) {
+    if (!box) return;
+    const corners = [toPlace([box.x0, box.y0]), toPlace([box.x1, box.y1])];
+    this.map.fitBounds(corners, { padding: [24, 24], maxZoom: 5, animate: false });
+  }
+
+  /** Draws all again, in the colours of now. */
+  redraw() {
+    this.layers.redraw();
+    this.#drawGrid();
+  }
+
+  /**
+   * @param {Map<string, import("./pending.js").Pending>} pending
+   */
+  setPending(pending) {
+    const before = this.#pending;
+    this.#pending = pending;
+    for (const [name, { edit }] of before) {
+      if (pending.has(name)) continue;
+      const sight = this.#seen.find(edit.collection, edit.id);
+      if (!sight) this.layers.remove(name);
+      else this.#put(edit.collection, sight.feature, null);
+    }
+    this.#drawPending();
+  }
+
+  /** Draws the edits that are still to come, wherever they are. */
+  #drawPending() {
+    for (const { edit, mark } of this.#pending.values()) {
+      this.#put(edit.collection, edit.feature ?? edit.base, { mark, op: edit.op });
+    }
+  }
+
+  /**
+   * @param {string} collection
+   * @param {string} id
+   * @returns {import("./pending.js").Pending | undefined}
+   */
+  pendingOf(collection, id) {
+    return this.#pending.get(nameOf(collection, id));
+  }
+
+  /**
+   * @param {string} collection
+   * @param {import("./feature.js").Feature[]} features
+   */
+  #draw(collection, features) {
+    for (const feature of features) {
+      if (!this.#pending.has(nameOf(collection, feature.id))) this.#put(collection, feature, null);
+    }
+  }
+
+  /**
+   * Draws a feature where its collection is switched on.
+   * @param {string} collection
+   * @param {import("./feature.js").Feature} feature
+   * @param {import("./layers.js").Shown["pending"]} pending
+   */
+  #put(collection, feature, pending) {
+    if (!this.off.has(collection)) this.layers.put(collection, feature, pending);
+  }
+
+  /** Asks for the features of the view, and takes away those that are not there any more. */
+  async refresh() {
+    const wanted = this.collections.map(({ id }) => id).filter((id) => !this.off.has(id));
+    const { box } = this;
+    const counts = await this.#loader.load(wanted, box, this.datetime);
+    if (!counts) return;
+    for (const [name, { collection, feature }] of this.layers.shown) {
+      const isPending = this.#pending.has(name) && !this.off.has(collection);
+      if (!isPending && !counts.get(collection)?.ids.has(feature.id)) this.layers.remove(name);
+    }
+    this.#drawPending();
+    this.counts = counts;
+    this.#listener.onCounts();
+  }
+
+  /**
+   * @param {L.LatLng} place
+   * @param {number} pixels
+   * @returns {import("./layers.js").Shown[]} the features within so many pixels
+   */
+  near(place, pixels) {
+    const reach = (pixels / this.map.getZoomScale(this.map.getZoom(), 0)) * 1000;
+    return this.layers.near(toPosition(place), reach);
+  }
+
+  /**
+   * @param {import("./feature.js").Feature} feature
+   */
+  goTo(feature) {
+    const box = boxOf(feature.geometry);
+    if (!box) return;
+    const isSeen = overlaps(box, this.box) && this.map.getZoom() >= 1;
+    if (!isSeen) this.show(box);
+  }
+}

@@ -1,0 +1,112 @@
+"""A relay between nginx and the server, which remembers batches and can lose answers.
+
+nginx sends one request over each connection and closes it, so the relay handles whole connections.
+"""
+
+import json
+import socket
+import threading
+import time
+from collections import deque
+from collections.abc import Callable
+from typing import Any
+
+SECONDS = 60
+
+
+def read_request(stream: socket.socket) -> bytes:
+    """The bytes of one request, head and body; none where the connection ends before."""
+    data = b""
+    while b"\r\n\r\n" not in data:
+        received = stream.recv(65536)
+        if not received:
+            return b""
+        data += received
+    head, _, body = data.partition(b"\r\n\r\n")
+    fields = (line.partition(b":") for line in head.split(b"\r\n")[1:])
+    lengths = [int(value) for name, _, value in fields if name.lower() == b"content-length"]
+    while lengths and len(body) < lengths[0]:
+        received = stream.recv(65536)
+        if not received:
+            return b""
+        body += received
+    return head + b"\r\n\r\n" + body
+
+
+def response(status: str, body: str, kind: str = "application/json", *fields: str) -> bytes:
+    """A whole answer, as the server or nginx might give it."""
+    head = [f"HTTP/1.1 {status}", f"Content-Type: {kind}", f"Content-Length: {len(body)}", *fields]
+    return ("\r\n".join(head) + "\r\n\r\n" + body).encode()
+
+
+class Relay:
+    """Listens on `port` and passes requests on to the port `server`, while that is not None."""
+
+    def __init__(self) -> None:
+        self.listener = socket.create_server(("127.0.0.1", 0))
+        self.port: int = self.listener.getsockname()[1]
+        self.server: int | None = None
+        # The bodies of all batches that came, and each one's answer where it was passed on.
+        self.batches: list[tuple[bytes, bytes]] = []
+        # What is answered to the next batches in the server's place.
+        self.canned: deque[bytes] = deque()
+        # Called with each batch that the server answered; the answer is lost where it returns True.
+        self.loses: Callable[[], bool] = lambda: False
+        # So many seconds each other request waits.
+        self.pause = 0.0
+        threading.Thread(target=self._listen, daemon=True).start()
+
+    def close(self) -> None:
+        self.listener.close()
+
+    def keys(self) -> list[str]:
+        """The keys of the batches that came, in order."""
+        return [json.loads(body)["key"] for body, _ in self.batches]
+
+    def accepted(self) -> list[dict[str, Any]]:
+        """The replies of the batches that the server accepted, in order."""
+        bodies = (answer.partition(b"\r\n\r\n")[2] for _, answer in self.batches)
+        replies = [json.loads(body) for body in bodies if body.startswith(b"{")]
+        return [reply for reply in replies if "serial" in reply]
+
+    def _listen(self) -> None:
+        while True:
+            try:
+                stream, _ = self.listener.accept()
+            except OSError:
+                return
+            threading.Thread(target=self._serve, args=(stream,), daemon=True).start()
+
+    def _serve(self, stream: socket.socket) -> None:
+        with stream:
+            stream.settimeout(SECONDS)
+            try:
+                request = read_request(stream)
+                stream.sendall(self._answer(request) if request else b"")
+            except OSError:
+                return
+
+    def _answer(self, request: bytes) -> bytes:
+        is_batch = request.startswith(b"POST ")
+        body = request.partition(b"\r\n\r\n")[2]
+        if is_batch and self.canned:
+            self.batches.append((body, b""))
+            return self.canned.popleft()
+        if not is_batch:
+            time.sleep(self.pause)
+        answer = self._pass_on(request)
+        if is_batch:
+            self.batches.append((body, answer))
+            if self.loses():
+                return b""
+        return answer
+
+    def _pass_on(self, request: bytes) -> bytes:
+        if self.server is None:
+            return b""
+        with socket.create_connection(("127.0.0.1", self.server), timeout=SECONDS) as server:
+            server.sendall(request)
+            parts = []
+            while received := server.recv(65536):
+                parts.append(received)
+            return b"".join(parts)

@@ -1,0 +1,109 @@
+"""A file that is served, a relay in front of the server, and nginx in front of the relay."""
+
+import contextlib
+import json
+import sys
+import tempfile
+import urllib.request
+from collections.abc import Iterator
+from dataclasses import dataclass
+from pathlib import Path
+from typing import Any
+from urllib.error import HTTPError
+
+from harness import Context, Server, free_port
+
+from browser.relay import Relay
+
+# A large batch takes long on a busy machine.
+SECONDS = 600
+ROOT = Path(__file__).resolve().parents[2]
+sys.path.insert(0, str(ROOT / "deploy"))
+
+import serve_map  # noqa: E402
+
+
+@dataclass
+class Site:
+    """What stands behind one address of the map."""
+
+    context: Context
+    file: Path
+    port: int
+    relay: Relay
+    place: Path | None = None
+    server: Server | None = None
+    _running: contextlib.ExitStack | None = None
+    _nginx: contextlib.ExitStack | None = None
+
+    @property
+    def base(self) -> str:
+        return f"http://localhost:{self.port}"
+
+    @property
+    def address(self) -> str:
+        return f"{self.base}/map/"
+
+    def start(self) -> None:
+        """Serves the file."""
+        self._running = contextlib.ExitStack()
+        words = ("--clients", "64", "--base", f"{self.base}/")
+        self.server = self._running.enter_context(self.context.serve(self.file, *words))
+        self.relay.server = self.server.port
+
+    def stop(self) -> None:
+        """Stops the server hard."""
+        self.relay.server = None
+        if self._running is not None:
+            self._running.close()
+        self._running = None
+
+    def start_nginx(self) -> None:
+        self._nginx = contextlib.ExitStack()
+        folder = self._nginx.enter_context(tempfile.TemporaryDirectory(dir=self.context.folder))
+        front = serve_map.front(Path(folder), self.port, self.relay.port, self.place)
+        self._nginx.enter_context(front)
+
+    def stop_nginx(self) -> None:
+        if self._nginx is not None:
+            self._nginx.close()
+        self._nginx = None
+
+    def ask(self, target: str, body: Any = None) -> Any:
+        """What another client gets: JSON, of an error too."""
+        data = None if body is None else json.dumps(body).encode()
+        server = self.server
+        assert server is not None
+        try:
+            with urllib.request.urlopen(f"{server.url}{target}", data, timeout=SECONDS) as answer:
+                return json.load(answer)
+        except HTTPError as error:
+            return json.load(error)
+
+    def edit(self, key: str, *edits: dict[str, Any]) -> Any:
+        """Another client's batch."""
+        return self.ask("/batches", {"key": key, "edits": edits})
+
+    def exported(self, collection: str) -> dict[str, Any]:
+        """The features that `export` writes, by id; the server is stopped for it."""
+        self.stop()
+        text = self.context.run("export", self.file, "--collection", collection)
+        self.start()
+        return {feature["id"]: feature for feature in json.loads(text)["features"]}
+
+
+@contextlib.contextmanager
+def site(context: Context, name: str, *batches: Any, place: Path | None = None) -> Iterator[Site]:
+    """A new file with batches, served."""
+    file = context.new_file(f"{name}.streetmap")
+    made = Site(context, file, free_port(), Relay(), place)
+    try:
+        made.start()
+        for batch in batches:
+            context.check(f"{name}: batch", "serial" in made.ask("/batches", batch), True)
+        made.start_nginx()
+        yield made
+    finally:
+        made.stop_nginx()
+        made.stop()
+        made.relay.close()
