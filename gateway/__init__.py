@@ -1,0 +1,1 @@
+"""Streetmap's gateway: its collections in real reference systems, for GIS clients as they are."""

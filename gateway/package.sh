@@ -1,0 +1,40 @@
+#!/usr/bin/env bash
+# Makes the Debian package streetmap-gateway by dpkg-deb: bash gateway/package.sh FOLDER
+set -eu
+folder=$(mkdir -p "$1" && realpath "$1")
+root=$(dirname "$(dirname "$(realpath "$0")")")
+version=$(sed -n 's/^VERSION = "\(.*\)"$/\1/p' "$root/gateway/openapi.py")
+tree=$(mktemp -d)
+trap 'rm -rf "$tree"' EXIT
+
+documents=$tree/usr/share/doc/streetmap-gateway
+install -d "$tree/usr/share/streetmap/gateway/static" "$tree/lib/systemd/system"
+install -d "$documents/examples" "$tree/DEBIAN"
+install -m 644 "$root"/gateway/*.py "$tree/usr/share/streetmap/gateway/"
+install -m 644 "$root"/gateway/static/* "$tree/usr/share/streetmap/gateway/static/"
+install -m 644 "$root/deploy/streetmap-gateway.service" "$tree/lib/systemd/system/"
+install -m 644 "$root/gateway/gateway.toml" "$documents/examples/"
+install -m 644 "$root/docs/CLIENTS.md" "$documents/"
+
+# The licence and the changes of the repository, where it has them.
+[ ! -e "$root/LICENSE" ] || install -m 644 "$root/LICENSE" "$documents/copyright"
+[ ! -e "$root/CHANGELOG" ] || gzip -9nc "$root/CHANGELOG" > "$documents/changelog.gz"
+chmod -R u=rwX,go=rX "$tree"
+
+cat > "$tree/DEBIAN/control" <<END
+Package: streetmap-gateway
+Version: $version
+Architecture: all
+Maintainer: Yawlcurrant maintainers <maintainers@users.noreply.yawlcurrant.example>
+Section: web
+Priority: optional
+Depends: python3 (>= 3.11), python3-fastapi, python3-httpx, python3-numpy,
+ python3-pyproj, python3-shapely, python3-uvicorn
+Recommends: nginx, proj-data
+Description: OGC API - Features in real reference systems, in front of Streetmap
+ A gateway for QGIS, GDAL and other GIS clients as they are. It serves the
+ collections of a Streetmap server in CRS84, EPSG:4326, EPSG:3857 and the
+ office's own system, and takes single edits. It holds no data.
+END
+dpkg-deb --root-owner-group --build "$tree" "$folder" > /dev/null
+echo "$folder/streetmap-gateway_${version}_all.deb"

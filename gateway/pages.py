@@ -1,0 +1,90 @@
+"""Pages of features: filled from pages of the server until the limit is reached.
+
+A page of a region takes at most one page of the server and MORE further ones. It may then be
+short, and still has a `next`.
+"""
+
+from dataclasses import dataclass
+from typing import Any
+
+from .boxes import Region
+from .client import ServerClient
+from .meeting import meets
+from .query import MOST, ItemsQuery
+
+MORE = 20
+# Each further page of the server is so many times as long, up to the most.
+GROWTH = 4
+
+
+@dataclass(frozen=True)
+class Filled:
+    """A page: its features on the grid, the id behind which the next begins, and how many match
+    in all, where that is known."""
+
+    features: list[dict[str, Any]]
+    after: str | None
+    matched: int | None
+
+
+async def fill(
+    client: ServerClient, collection: str, query: ItemsQuery, region: Region | None
+) -> Filled:
+    """The page of a query. `region` is that of its box, where it has one."""
+    if region is None or (region.is_exact and region.bounds is not None):
+        return await exact_page(client, collection, query, region)
+    if region.bounds is None:
+        return await empty_page(client, collection, query)
+    return await tested_page(client, collection, query, region)
+
+
+async def exact_page(
+    client: ServerClient, collection: str, query: ItemsQuery, region: Region | None
+) -> Filled:
+    """The page of the server itself."""
+    asked = server_query(query, region, query.limit, query.after)
+    page = await client.page(collection, asked)
+    after = page.features[-1]["id"] if page.goes_on else None
+    return Filled(page.features, after, page.matched)
+
+
+async def empty_page(client: ServerClient, collection: str, query: ItemsQuery) -> Filled:
+    """The page of a box beyond all features; the server judges the rest of the query."""
+    await client.page(collection, server_query(query, None, 1, query.after))
+    return Filled([], None, None)
+
+
+async def tested_page(
+    client: ServerClient, collection: str, query: ItemsQuery, region: Region
+) -> Filled:
+    """The features of the server's pages that meet the region, until there are enough."""
+    found: list[dict[str, Any]] = []
+    after = query.after
+    for number in range(1 + MORE):
+        # Most features of the bounds meet the region, so the first page is mostly enough.
+        size = min(query.limit * GROWTH**number, MOST)
+        page = await client.page(collection, server_query(query, region, size, after))
+        found += [feature for feature in page.features if meets(feature["geometry"], region)]
+        if len(found) > query.limit:
+            shown = found[: query.limit]
+            return Filled(shown, shown[-1]["id"], None)
+        if not page.goes_on:
+            return Filled(found, None, None)
+        after = page.features[-1]["id"]
+        if len(found) == query.limit:
+            break
+    return Filled(found, after, None)
+
+
+def server_query(
+    query: ItemsQuery, region: Region | None, limit: int, after: str | None
+) -> dict[str, str]:
+    """The query for the server: the bounds of the region, and the rest as it was asked."""
+    asked = {"limit": str(limit)}
+    if after is not None:
+        asked["after"] = after
+    if region is not None and region.bounds is not None:
+        asked["bbox"] = ",".join(map(str, region.bounds))
+    if query.datetime is not None:
+        asked["datetime"] = query.datetime
+    return asked

@@ -1,0 +1,86 @@
+"""Refusals as problem details (RFC 9457)."""
+
+import http
+import json
+from collections.abc import Mapping
+
+from fastapi import Request
+from fastapi.responses import Response
+from starlette.exceptions import HTTPException
+from starlette.routing import Match, Route
+
+MEDIA_TYPE = "application/problem+json"
+# After so many seconds a client may ask again where the server was away.
+RETRY_SECONDS = 5
+
+
+class Problem(Exception):
+    """A refusal: a status, a code for programs and a sentence for people."""
+
+    def __init__(
+        self,
+        status: int,
+        code: str,
+        detail: str,
+        cause: str | None = None,
+        headers: Mapping[str, str] | None = None,
+    ) -> None:
+        super().__init__(detail)
+        self.status = status
+        self.code = code
+        self.detail = detail
+        self.cause = cause
+        self.headers = dict(headers or {})
+
+    def response(self) -> Response:
+        members: dict[str, str | int] = {
+            "type": "about:blank",
+            "title": http.HTTPStatus(self.status).phrase,
+            "status": self.status,
+            "detail": self.detail,
+            "code": self.code,
+        }
+        if self.cause is not None:
+            members["cause"] = self.cause
+        content = json.dumps(members, separators=(",", ":"))
+        return Response(content, self.status, self.headers, MEDIA_TYPE)
+
+
+def bad_query(code: str, detail: str) -> Problem:
+    return Problem(400, code, detail)
+
+
+def not_found() -> Problem:
+    return Problem(404, "not_found", "There is nothing at this path.")
+
+
+def server_away(detail: str) -> Problem:
+    return Problem(503, "server_away", detail, headers={"Retry-After": str(RETRY_SECONDS)})
+
+
+async def answer_problem(_request: Request, fault: Exception) -> Response:
+    """The answer to a refusal of the gateway's own."""
+    assert isinstance(fault, Problem)
+    return fault.response()
+
+
+async def answer_http_fault(request: Request, fault: Exception) -> Response:
+    """The answer to a refusal of the framework: an unknown path, a wrong method."""
+    assert isinstance(fault, HTTPException)
+    if fault.status_code == 405:
+        headers = {"Allow": ", ".join(sorted(allowed(request)))}
+        detail = "The method is not allowed here."
+        return Problem(405, "method_not_allowed", detail, headers=headers).response()
+    if fault.status_code == 404:
+        return not_found().response()
+    return Problem(fault.status_code, "bad_request", str(fault.detail)).response()
+
+
+def allowed(request: Request) -> set[str]:
+    """The methods of all routes of a path."""
+    matching = (
+        route
+        for route in request.app.routes
+        if isinstance(route, Route) and route.matches(request.scope)[0] != Match.NONE
+    )
+    return {method for route in matching for method in route.methods or ()}

@@ -1,0 +1,207 @@
+"""The reference systems that clients may ask for: names, axis order, and coordinates as texts.
+
+OGC API - Features Part 2 gives coordinates in the order of the system's own axes: latitude first
+in EPSG:4326, longitude first in CRS84, northing first in systems as EPSG:31467.
+"""
+
+from abc import ABC, abstractmethod
+from collections.abc import Sequence
+from dataclasses import dataclass
+from decimal import Decimal
+
+import numpy
+import pyproj
+from pyproj.enums import TransformDirection
+from pyproj.transformer import Transformer
+
+from .boxes import DegreeBox, DegreeRegions, Region, office_region
+from .grid import PLACES, Grid, fixed_text, nearest_step, rounded_text
+from .operation import Numbers, Operation, choose, read_system
+from .problems import Problem, bad_query
+from .reach import Reach, reach_of
+from .settings import Settings
+
+CRS84 = "http://www.opengis.net/def/crs/OGC/1.3/CRS84"
+EPSG = "http://www.opengis.net/def/crs/EPSG/0/"
+# Decimal places of coordinates that were computed: a tenth of a step, so each reads back.
+DEGREE_PLACES, METRE_PLACES = 9, 4
+
+# A position of the server: x, y and perhaps a height, in steps.
+Position = Sequence[int]
+
+
+class System(ABC):
+    """A reference system. Its coordinates are easting and northing, or longitude and latitude,
+    which stand the other way round where `second_first`."""
+
+    def __init__(self, uri: str, second_first: bool) -> None:
+        self.uri = uri
+        self.second_first = second_first
+
+    @abstractmethod
+    def texts(self, positions: Sequence[Position]) -> list[tuple[str, str]]:
+        """The coordinates of positions, not yet in the order of the axes."""
+
+    @abstractmethod
+    def nearest(self, coordinates: Sequence[tuple[Decimal, Decimal]]) -> list[tuple[int, int]]:
+        """The grid positions that are nearest, half away from zero."""
+
+    @abstractmethod
+    def region(self, box: Sequence[Decimal]) -> Region:
+        """The region of a box: both lower bounds, then both upper ones, not in axis order."""
+
+    def written(self, positions: Sequence[Position]) -> list[str]:
+        """Positions as JSON arrays in the order of the axes, heights behind."""
+        return [
+            f"[{self.ordered(*pair)}{height_text(position)}]"
+            for pair, position in zip(self.texts(positions), positions)
+        ]
+
+    def ordered(self, first: str, second: str) -> str:
+        return f"{second},{first}" if self.second_first else f"{first},{second}"
+
+    def read(self, pairs: Sequence[tuple[Decimal, Decimal]]) -> list[tuple[int, int]]:
+        """The nearest grid positions of pairs in the order of the axes."""
+        return self.nearest([(b, a) for a, b in pairs] if self.second_first else pairs)
+
+    def box(self, bounds: Sequence[Decimal]) -> Region:
+        """The region of a box of a request, whose numbers are in the order of the axes."""
+        a0, b0, a1, b1 = bounds
+        return self.region((b0, a0, b1, a1) if self.second_first else (a0, b0, a1, b1))
+
+
+def height_text(position: Position) -> str:
+    return f",{fixed_text(position[2], PLACES)}" if len(position) == 3 else ""
+
+
+class OfficeSystem(System):
+    """The office's own system, by decimals alone."""
+
+    def __init__(self, uri: str, second_first: bool, grid: Grid) -> None:
+        super().__init__(uri, second_first)
+        self.grid = grid
+
+    def texts(self, positions: Sequence[Position]) -> list[tuple[str, str]]:
+        easting, northing = self.grid.easting_text, self.grid.northing_text
+        return [(easting(position[0]), northing(position[1])) for position in positions]
+
+    def nearest(self, coordinates: Sequence[tuple[Decimal, Decimal]]) -> list[tuple[int, int]]:
+        easting, northing = self.grid.easting_steps, self.grid.northing_steps
+        return [(nearest_step(easting(e)), nearest_step(northing(n))) for e, n in coordinates]
+
+    def region(self, box: Sequence[Decimal]) -> Region:
+        if box[0] > box[2] or box[1] > box[3]:
+            raise bad_query("bad_bbox", "The lower bounds of the box are above the upper ones.")
+        return office_region(self.grid, box)
+
+
+class DegreeSystem(System):
+    """WGS 84: longitude and latitude."""
+
+    places = DEGREE_PLACES
+
+    def __init__(self, uri: str, second_first: bool, regions: DegreeRegions) -> None:
+        super().__init__(uri, second_first)
+        self.regions = regions
+        self.operation = regions.operation
+
+    def texts(self, positions: Sequence[Position]) -> list[tuple[str, str]]:
+        if not positions:
+            return []
+        x = numpy.array([position[0] for position in positions], float)
+        y = numpy.array([position[1] for position in positions], float)
+        first, second = self.of_degrees(*self.operation.degrees(x, y))
+        if not (numpy.isfinite(first).all() and numpy.isfinite(second).all()):
+            detail = "A feature lies where it has no coordinates in the system that was asked."
+            raise Problem(500, "not_placed", detail)
+        pairs = zip(first.tolist(), second.tolist())
+        return [(rounded_text(a, self.places), rounded_text(b, self.places)) for a, b in pairs]
+
+    def nearest(self, coordinates: Sequence[tuple[Decimal, Decimal]]) -> list[tuple[int, int]]:
+        if not coordinates:
+            return []
+        first = numpy.array([float(pair[0]) for pair in coordinates])
+        second = numpy.array([float(pair[1]) for pair in coordinates])
+        x, y = self.operation.steps(*self.to_degrees(first, second))
+        if not (numpy.isfinite(x).all() and numpy.isfinite(y).all()):
+            detail = "A position has no coordinates in the system of the server."
+            raise Problem(400, "not_placed", detail)
+        return [
+            (nearest_step(Decimal(a)), nearest_step(Decimal(b)))
+            for a, b in zip(x.tolist(), y.tolist())
+        ]
+
+    def region(self, box: Sequence[Decimal]) -> Region:
+        first = numpy.array([float(box[0]), float(box[2])])
+        second = numpy.array([float(box[1]), float(box[3])])
+        (west, east), (south, north) = (each.tolist() for each in self.to_degrees(first, second))
+        if south > north:
+            raise bad_query("bad_bbox", "The lower bounds of the box are above the upper ones.")
+        if max(abs(west), abs(east)) > 720:
+            raise bad_query("bad_bbox", "The box is beyond the world.")
+        return self.regions.region(DegreeBox(west, south, east, north))
+
+    def of_degrees(self, longitude: Numbers, latitude: Numbers) -> tuple[Numbers, Numbers]:
+        return longitude, latitude
+
+    def to_degrees(self, first: Numbers, second: Numbers) -> tuple[Numbers, Numbers]:
+        return first, second
+
+
+class MercatorSystem(DegreeSystem):
+    """EPSG:3857. Its lines of constant easting and northing are meridians and parallels, so a box
+    of it is one in degrees."""
+
+    places = METRE_PLACES
+
+    def __init__(self, uri: str, regions: DegreeRegions) -> None:
+        super().__init__(uri, False, regions)
+        self.mercator = Transformer.from_crs("OGC:CRS84", "EPSG:3857", always_xy=True)
+
+    def of_degrees(self, longitude: Numbers, latitude: Numbers) -> tuple[Numbers, Numbers]:
+        first, second = self.mercator.transform(longitude, latitude)
+        return numpy.asarray(first, float), numpy.asarray(second, float)
+
+    def to_degrees(self, first: Numbers, second: Numbers) -> tuple[Numbers, Numbers]:
+        longitude, latitude = self.mercator.transform(
+            first, second, direction=TransformDirection.INVERSE
+        )
+        return numpy.asarray(longitude, float), numpy.asarray(latitude, float)
+
+
+@dataclass(frozen=True)
+class Systems:
+    """All systems that clients may name, by URI, the default first."""
+
+    by_uri: dict[str, System]
+    office: OfficeSystem
+    operation: Operation
+    reach: Reach
+
+    @property
+    def default(self) -> System:
+        return self.by_uri[CRS84]
+
+    def named(self, uri: str, code: str) -> System:
+        """The system of a URI; for another text a refusal of this code."""
+        if uri not in self.by_uri:
+            raise bad_query(code, "The reference system is none of those that are listed.")
+        return self.by_uri[uri]
+
+
+def make_systems(settings: Settings) -> Systems:
+    """The systems of an office, refused where its own cannot be carried to WGS 84."""
+    crs = read_system(settings)
+    grid = Grid.at(settings.easting, settings.northing)
+    operation = Operation(choose(crs, settings.operation), grid)
+    reach = reach_of(operation, crs)
+    regions = DegreeRegions(operation, reach)
+    northing_first = crs.axis_info[0].direction == "north"
+    office = OfficeSystem(f"{EPSG}{crs.to_epsg()}", northing_first, grid)
+    others = [
+        DegreeSystem(CRS84, False, regions),
+        DegreeSystem(f"{EPSG}4326", True, regions),
+        MercatorSystem(f"{EPSG}3857", regions),
+    ]
+    by_uri = {system.uri: system for system in [*others, office]}
+    return Systems(by_uri, office, operation, reach)

@@ -1,0 +1,1 @@
+"""What the group `gateway` is made of."""

@@ -1,0 +1,136 @@
+"""Pages: all of a query page behind page, short pages, and the signed `next`."""
+
+import base64
+import http.server
+import json
+import threading
+import urllib.parse
+from typing import Any
+
+from gateway_tests.answers import check_problem
+from gateway_tests.data import KILOMETRE, collections, feature, shape
+from gateway_tests.service import OFFICE, WRITER, Gateway, gateway, next_link
+from harness import Context
+
+KERBS = "/collections/kerbs/items"
+
+
+def check_pages(context: Context, asked: Gateway) -> None:
+    """Whatever the limit is, the pages of a query hold the same features in the same order."""
+    queries: list[dict[str, Any]] = [
+        {},
+        {"bbox": "9.5,53.3,10.5,53.8"},
+        {"bbox": "9.5,53.3,10.5,53.8", "crs": OFFICE},
+        {"bbox": "560000,5930000,570000.0005,5940000", "bbox_crs": OFFICE},
+    ]
+    for name in collections():
+        for query in queries:
+            whole = asked.all_items(name, limit=1000, **query)
+            for limit in (3, 40):
+                parts = asked.all_items(name, limit=limit, **query)
+                context.check(f"{name} {query} by {limit}", parts, whole)
+    counted = asked.ask(KERBS, limit=5).json()
+    shown = (counted["numberMatched"], counted["numberReturned"], len(counted["features"]))
+    context.check("counts without a box", shown, (60, 5, 5))
+    boxed = asked.ask(KERBS, limit=5, bbox="9.5,53.3,10.5,53.8").json()
+    context.check("counts with a box", "numberMatched" in boxed, False)
+    default = asked.ask(KERBS).json()["numberReturned"]
+    most = asked.ask("/collections/lamps/items", limit=99999).json()["numberReturned"]
+    context.check("limits", (default, most), (10, 300))
+
+
+def check_times(context: Context, asked: Gateway) -> None:
+    """Intervals alone and with a box."""
+    for interval in ("2020-01-01T00:00:00Z/..", "../2004-12-31T00:00:00Z", "2007-05-01T12:00:00Z"):
+        wanted = [each["id"] for each in collections()["lamps"] if is_within(each, interval)]
+        found = asked.ids("lamps", datetime=interval, limit=50)
+        context.check(f"lamps of {interval}", found, wanted)
+        boxed = asked.ids("lamps", datetime=interval, bbox="9,53,10.5,54", limit=50)
+        context.check(f"lamps of {interval} in a box", boxed, wanted)
+
+
+def is_within(lamp: dict[str, Any], interval: str) -> bool:
+    """By the texts of days, which order as their times do."""
+    first, _, last = interval.partition("/")
+    day = lamp["properties"]["set"]
+    if not last:
+        return bool(day == first[:10])
+    return (first == ".." or day >= first[:10]) and (last == ".." or day <= last[:10])
+
+
+def check_next(context: Context, asked: Gateway) -> None:
+    """A `next` that was changed, or is of another collection or gateway, is refused."""
+    link = next_link(asked.ask(KERBS, limit=2, bbox="9,53,10.5,54").json())
+    assert link is not None
+    token = link.partition("next=")[2]
+    signed = base64.urlsafe_b64decode(token + "=" * (-len(token) % 4))
+    members = json.loads(signed[32:])
+    members["limit"] = 1000
+    forged = base64.urlsafe_b64encode(signed[:32] + json.dumps(members).encode()).decode()
+    flipped = token[:-2] + ("A" if token[-2] != "A" else "B") + token[-1]
+    for text in (forged, forged.rstrip("="), flipped, token[:-4], token + "!", token[1:]):
+        check_problem(context, asked.ask(KERBS, next=text), 400, "bad_next")
+    other = asked.ask("/collections/lamps/items", next=token)
+    check_problem(context, other, 400, "bad_next")
+    check_problem(context, asked.ask(KERBS, next=token, limit=3), 400, "bad_next")
+    context.check("the true one", asked.ask(KERBS, next=token).status_code, 200)
+
+
+def check_secret(context: Context, server: str) -> None:
+    """With a secret in the settings a `next` holds for another gateway of the same secret."""
+    kept = '[pages]\nsecret = "of the tests"\n' + WRITER
+    with gateway(context, server, more=kept) as first:
+        link = next_link(first.ask(KERBS, limit=2).json())
+    assert link is not None
+    token = link.partition("next=")[2]
+    with gateway(context, server, more=kept) as again:
+        page = again.ask(KERBS, next=token)
+        context.check(
+            "the same secret", [each["id"] for each in page.json()["features"]], ["K002", "K003"]
+        )
+    with gateway(context, server) as other:
+        check_problem(context, other.ask(KERBS, next=token), 400, "bad_next")
+
+
+class StandIn(http.server.BaseHTTPRequestHandler):
+    """Answers pages as the server would over `COUNT` lines of 100 km, and a point behind them."""
+
+    COUNT = 18_000
+    asked = 0
+
+    def do_GET(self) -> None:
+        query = dict(urllib.parse.parse_qsl(urllib.parse.urlsplit(self.path).query))
+        begin, limit = int(query.get("after", "0")), int(query["limit"])
+        ends = range(begin + 1, min(begin + limit, self.COUNT) + 1)
+        made = [feature(f"{number:05}", LONG if number < self.COUNT else NEAR) for number in ends]
+        links = [{"rel": "next"}] if ends.stop <= self.COUNT else []
+        page = {"features": made, "links": links, "numberMatched": self.COUNT}
+        body = json.dumps(page).encode()
+        self.send_response(200)
+        self.send_header("Content-Length", str(len(body)))
+        self.end_headers()
+        self.wfile.write(body)
+        StandIn.asked += 1
+
+    def log_message(self, *_words: Any) -> None:
+        """Nothing is logged."""
+
+
+LONG = shape("LineString", [[-50 * KILOMETRE, 0], [50 * KILOMETRE, 50 * KILOMETRE]])
+NEAR = shape("Point", [-49 * KILOMETRE, 49 * KILOMETRE])
+
+
+def check_short_pages(context: Context) -> None:
+    """Behind 21 pages of the server without a feature that meets the box comes a short page with
+    a `next`. A stand-in for the server has lines of 100 km around a box in degrees that they
+    miss."""
+    with http.server.ThreadingHTTPServer(("127.0.0.1", 0), StandIn) as server:
+        threading.Thread(target=server.serve_forever, daemon=True).start()
+        with gateway(context, f"http://127.0.0.1:{server.server_port}") as asked:
+            path, box = "/collections/lines/items", "9.2,53.97,9.25,54.0"
+            page = asked.ask(path, bbox=box, limit=1).json()
+            shown = (page["numberReturned"], next_link(page) is not None, StandIn.asked)
+            context.check("a short page", shown, (0, True, 21))
+            found = asked.ids("lines", bbox=box, limit=1)
+            context.check("all pages", found, [f"{StandIn.COUNT:05}"])
+        server.shutdown()

@@ -1,0 +1,119 @@
+"""A gateway that runs beside a served file, and requests to it."""
+
+import contextlib
+import hashlib
+import os
+import select
+import subprocess
+from collections.abc import Iterator
+from dataclasses import dataclass
+from pathlib import Path
+from typing import Any
+
+import httpx
+from harness import Context, free_port
+
+ROOT = Path(__file__).resolve().parents[2]
+PYTHON = "/usr/bin/python3"
+TOKEN = "a token of the tests"
+WRITER = f"""
+[[writers]]
+name = "crew-7"
+token = "sha256:{hashlib.sha256(TOKEN.encode()).hexdigest()}"
+"""
+CRS84 = "http://www.opengis.net/def/crs/OGC/1.3/CRS84"
+EPSG = "http://www.opengis.net/def/crs/EPSG/0/"
+# The office of the tests: Hamburg, in ETRS89 / UTM zone 32N.
+OFFICE = f"{EPSG}25832"
+SYSTEM = 'name = "EPSG:25832"\neasting = 565000.000\nnorthing = 5934000.000'
+READY_SECONDS = 240
+
+
+@dataclass
+class Gateway:
+    """A gateway that answers."""
+
+    url: str
+    process: subprocess.Popen[bytes]
+    client: httpx.Client
+
+    def ask(self, path: str, **parameters: Any) -> httpx.Response:
+        """A GET; in the names of parameters `_` stands for `-`."""
+        named = {name.replace("_", "-"): value for name, value in parameters.items()}
+        return self.client.get(self.url + path, params=named or None)
+
+    def send(self, method: str, path: str, body: Any = None, **fields: str) -> httpx.Response:
+        """An edit by the writer of the tests; in the names of fields `_` stands for `-`."""
+        headers = {"Authorization": f"Bearer {TOKEN}"}
+        headers |= {name.replace("_", "-"): value for name, value in fields.items()}
+        sent = {"content": body} if isinstance(body, bytes) else {"json": body}
+        if body is None:
+            sent = {}
+        return self.client.request(method, self.url + path, headers=headers, **sent)
+
+    def all_items(self, collection: str, **parameters: Any) -> list[dict[str, Any]]:
+        """All features of a query, page behind page."""
+        page = json_of(self.ask(f"/collections/{collection}/items", **parameters))
+        found = list(page["features"])
+        while following := next_link(page):
+            page = json_of(self.client.get(following))
+            found += page["features"]
+        return found
+
+    def ids(self, collection: str, **parameters: Any) -> list[str]:
+        return [feature["id"] for feature in self.all_items(collection, **parameters)]
+
+
+def json_of(answer: httpx.Response) -> Any:
+    """What a request was answered, which has to be 200."""
+    assert answer.status_code == 200, f"{answer.status_code} {answer.text}"
+    return answer.json()
+
+
+def next_link(page: dict[str, Any]) -> str | None:
+    return next((link["href"] for link in page["links"] if link["rel"] == "next"), None)
+
+
+def settings_text(server: str, port: int, system: str = SYSTEM, more: str = WRITER) -> str:
+    """The text of a settings file."""
+    address = f"http://127.0.0.1:{port}"
+    return (
+        f'address = "{address}/"\n[listen]\nport = {port}\n'
+        f'[server]\naddress = "{server}/"\nconnections = 24\n[system]\n{system}\n{more}'
+    )
+
+
+@contextlib.contextmanager
+def gateway(
+    context: Context, server: str, system: str = SYSTEM, more: str = WRITER
+) -> Iterator[Gateway]:
+    """A gateway in front of a server's URL, until the block ends."""
+    port = free_port()
+    file = context.folder / f"gateway-{port}.toml"
+    file.write_text(settings_text(server, port, system, more))
+    log = file.with_suffix(".log")
+    with log.open("wb") as errors:
+        given = [PYTHON, "-m", "gateway", str(file)]
+        process = subprocess.Popen(given, cwd=ROOT, stderr=errors, env=environment())
+    with httpx.Client(timeout=90) as client:
+        try:
+            wait_until_ready(client, f"http://127.0.0.1:{port}")
+            yield Gateway(f"http://127.0.0.1:{port}", process, client)
+        finally:
+            process.kill()
+            process.wait(timeout=READY_SECONDS)
+    context.check("the log of the gateway", log.read_text(), "")
+
+
+def environment() -> dict[str, str]:
+    return os.environ | {"PYTHONDONTWRITEBYTECODE": "1", "PYTHONPATH": str(ROOT)}
+
+
+def wait_until_ready(client: httpx.Client, url: str) -> None:
+    for _ in range(READY_SECONDS * 5):
+        try:
+            client.get(f"{url}/conformance")
+            return
+        except httpx.ConnectError:
+            select.select([], [], [], 0.2)
+    raise TimeoutError("the gateway does not answer")
