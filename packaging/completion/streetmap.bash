@@ -1,0 +1,42 @@
+# Completion of the commands of streetmap(1) for bash.
+
+_streetmap() {
+    local cur prev words cword split
+    _init_completion -s || return
+    local commands="create pipe serve import export check lines"
+
+    if ((cword == 1)); then
+        mapfile -t COMPREPLY < <(compgen -W "$commands" -- "$cur")
+        return
+    fi
+
+    # The values of --port, --key and --collection are not known here.
+    case $prev in
+        --port | --key | --collection | --count) return ;;
+        --clients)
+            mapfile -t COMPREPLY < <(compgen -W "1 64 1024" -- "$cur")
+            return
+            ;;
+        --base)
+            mapfile -t COMPREPLY < <(compgen -W "http:// https://" -- "$cur")
+            compopt -o nospace
+            return
+            ;;
+    esac
+    $split && return
+
+    if [[ $cur == -* ]]; then
+        local options=
+        case ${words[1]} in
+            pipe) options="--base" ;;
+            serve) options="--port --count --clients --log --base" ;;
+            import) options="--key --collection --replace --progress" ;;
+            export) options="--collection --progress" ;;
+        esac
+        mapfile -t COMPREPLY < <(compgen -W "$options" -- "$cur")
+        return
+    fi
+
+    [[ ${words[1]} == lines ]] || _filedir
+} &&
+    complete -F _streetmap streetmap
