@@ -1,0 +1,55 @@
+"""Writes the table of HTTP rows of a proved test from examples/http.jsonl.
+
+    python3 tests/http_table.py [--check]
+
+The test runs the rows over keepers in memory, over tables and with an index. A proved test reads no
+file, so its table is source. With --check nothing is written, and the status is 1 where the table
+is not that of the rows.
+"""
+
+import argparse
+import sys
+from pathlib import Path
+
+ROOT = Path(__file__).resolve().parent.parent
+ROWS = ROOT / "examples" / "http.jsonl"
+TABLE = ROOT / "crates" / "streetmap_store_tests" / "src" / "rows.rt"
+SOURCE = """\
+//! The rows of HTTP, a JSON object a line: what it shows, the batches that are there before, the
+//! bytes of the requests, and all bytes of the answers. `tests/http_table.py` writes this file from
+//! `examples/http.jsonl`: change that one, and write this one again.
+
+/// The number of rows.
+pub(crate) const COUNT: u64 = {count};
+
+pub(crate) const ROWS: &str =
+    r##"{rows}"##;
+"""
+
+
+def table() -> str:
+    """The source of the table, in the layout of `rt fmt`."""
+    rows = ROWS.read_text()
+    if '"##' in rows or not rows.endswith("\n"):
+        raise ValueError("the rows cannot stand in a raw string")
+    return SOURCE.format(count=rows.count("\n"), rows=rows)
+
+
+def is_current() -> bool:
+    return TABLE.read_text() == table()
+
+
+def main() -> int:
+    parser = argparse.ArgumentParser(description=__doc__.partition("\n")[0])
+    parser.add_argument("--check", action="store_true", help="writes nothing, and compares")
+    if parser.parse_args().check:
+        if is_current():
+            return 0
+        print(f"{TABLE} is not the table of {ROWS}: run python3 tests/http_table.py")
+        return 1
+    TABLE.write_text(table())
+    return 0
+
+
+if __name__ == "__main__":
+    sys.exit(main())
