@@ -65,13 +65,13 @@ def sample(context: Context) -> None:
         page.open(made.address)
         page.wait_shown("trees", "72")
         page.tab("collections")
-        park, pond = page.colour_at(165, 165), page.colour_at(190, 130)
+        park, pond = page.colour_at(160, 160), page.colour_at(190, 130)
         paper = page.script(
             "return getComputedStyle(document.documentElement).getPropertyValue('--paper')"
         )
         context.check("the hole of the park", (park != pond, pond), (True, paper.strip()))
         page.one("li[data-id='parks'] input").click()
-        page.wait("no park", lambda: page.colour_at(165, 165) == paper.strip())
+        page.wait("no park", lambda: page.colour_at(160, 160) == paper.strip())
         filtered(page, context)
         copied(page, context)
         address = page.driver.current_url
