@@ -133,7 +133,8 @@ def refused_memory(context: Context) -> None:
     body = batch.text.encode().ljust(2_000_000)
     head = b"POST /batches HTTP/1.1\r\nHost: localhost\r\nContent-Length: %d\r\n\r\n" % len(body)
     look, ledger = Request("GET", "/collections"), Ledger()
-    with context.serve(context.new_file("memory"), "--base", "http://localhost/") as server:
+    words = ("--clients", "1", "--base", "http://localhost/")
+    with context.serve(context.new_file("memory"), *words) as server:
         before = resource.prlimit(server.process.pid, resource.RLIMIT_AS)
         least = address_space(server) + 500_000
         resource.prlimit(server.process.pid, resource.RLIMIT_AS, (least, before[1]))
