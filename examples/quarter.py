@@ -152,7 +152,9 @@ def batch() -> dict:
     small = insert("parks", "P2", "Polygon", [ring(green)], name="Orchard Green", benches=3)
     digging = [(20, 53), (64, 54), (64, 69), (20, 68)]
     during = "2026-10-12T06:00:00Z/2026-12-18T16:00:00Z"
-    works = insert("works", "W1", "Polygon", [ring(digging)], what="water main", during=during)
+    works = insert(
+        "works", "water-main", "Polygon", [ring(digging)], what="water main", during=during
+    )
     edits = [*opened, park, small, works, *streets(), *lamps(chance), *trees(chance)]
     return {"key": "quarter", "edits": edits}
 
