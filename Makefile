@@ -61,7 +61,7 @@ endif
 # The gate: every proof from nothing, each wrong body that must be refused, the tests of the crates
 # and the program; then the groups of tests over the program that it has built.
 test: toolchain
-	RT_JOBS=$(or $(LANES),$(shell nproc)) rt ci
+	RT_JOBS=$(or $(LANES),$(shell nproc)) python3 tools/gate.py
 	python3 tests/run.py $(PROGRAM) $(CHECK)
 
 # The groups of tests alone, over the built program: make check CHECK="load file", or CHECK=--slow

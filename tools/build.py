@@ -15,9 +15,15 @@ import re
 import signal
 import subprocess
 import sys
+import tempfile
 import time
 from collections.abc import Iterator
+from concurrent.futures import FIRST_COMPLETED, ThreadPoolExecutor, wait
 from pathlib import Path
+from types import ModuleType
+from typing import Any, TextIO
+
+import toolchain
 
 ROOT = Path(__file__).resolve().parent.parent
 CRATES = ROOT / "crates"
@@ -102,32 +108,58 @@ def rt(*words: str, stdin: Path = Path("/dev/null")) -> Iterator[subprocess.Pope
             running.terminate()
 
 
-def logged(running: subprocess.Popen[str], mode: str) -> Iterator[str]:
+def prove(crate: Any, jobs: int, log: TextIO) -> bool:
+    """Proves a crate and keeps what those above it read; returns whether it did."""
+    os.makedirs(f"{crate.folder}/out", exist_ok=True)
+    with tempfile.TemporaryFile("a+", errors="replace") as crate.out:
+        status = crate.build_rlib(["--jobs", str(jobs)], anew=False)
+        if status == -signal.SIGKILL:
+            # Most likely for memory: once more, with less of it.
+            status = crate.build_rlib(["--jobs", "1"], anew=False)
+        crate.out.seek(0)
+        log.write(f"== {crate.name}\n{crate.out.read()}")
+        log.flush()
+    return not status
+
+
+def prove_libraries(rt: ModuleType, count: int, names: list[str]) -> list[str]:
+    """Proves the crates below the program, each once those that it uses are proved, the longest
+    chain of crates first, with a line for each that is done. Returns the names of those that
+    failed, with all that stand above them."""
+    crates = [it for it in rt.rtlib.crates_below(str(ROOT)) if it.name in names]
+    held = rt.rtlib.lock(crates)
+    begun, left, running, proved = time.monotonic(), {it.name: it for it in crates}, {}, set()
+    behind = {it.name: sum(it in other.below() for other in crates) for it in crates}
+    with LOG.open("w") as log, ThreadPoolExecutor(count) as pool:
+        while left or running:
+            ready = [it for it in left.values() if {dep.name for dep in it.below()} <= proved]
+            ready.sort(key=lambda it: -behind[it.name])
+            free = count - sum(jobs for _, jobs in running.values())
+            for at, crate in enumerate(ready[: max(free, 0)]):
+                jobs = max(free // (len(ready) - at), 1) if len(ready) <= free else 1
+                free -= jobs
+                del left[crate.name]
+                running[pool.submit(prove, crate, jobs, log)] = crate.name, jobs
+            if not running:
+                break
+            for it in wait(running, return_when=FIRST_COMPLETED).done:
+                name, _ = running.pop(it)
+                if it.result():
+                    proved.add(name)
+                    done = f"{len(proved)} of {len(crates) + 1} crates, {minutes(begun)}"
+                    print(f"{done}: {name}", flush=True)
+    for it in held:
+        os.close(it)
+    return [it.name for it in crates if it.name not in proved]
+
+
+def logged(running: subprocess.Popen[str]) -> Iterator[str]:
     """The lines that rt prints, which are kept too."""
-    with LOG.open(mode) as log:
+    with LOG.open("a") as log:
         for line in running.stdout or ():
             log.write(line)
             log.flush()
             yield line
-
-
-def prove_libraries(count: int, total: int) -> list[str]:
-    """Proves the crates below the program, so many at a time, with a line for each that is done.
-    Returns the lines of rt's summary that name a failure."""
-    begun, done, failed = time.monotonic(), 0, []
-    with rt("all", "check", "--jobs", str(count)) as running:
-        for line in logged(running, "w"):
-            name = re.match(r"== (\w+)\n", line)
-            if name and name[1] != "summary":
-                done += 1
-                print(f"{done} of {total} crates, {minutes(begun)}: {name[1]}", flush=True)
-            if re.match(r"\w+: (failed|not run)", line):
-                failed.append(line.strip())
-            if done == total - 1:
-                # The program alone is left, which rt would check, and then once more to build it.
-                return []
-        status = running.wait()
-    return failed or ["rt stopped"] if status else []
 
 
 def build_program() -> bool:
@@ -135,7 +167,7 @@ def build_program() -> bool:
     print("The program itself is proved and built, which takes some minutes.", flush=True)
     stdin = CRATES / PROGRAM / "stdin"
     with rt("run", "--", "lines", stdin=stdin) as running:
-        for line in logged(running, "a"):
+        for line in logged(running):
             if line.startswith("so far"):
                 print(line, end="", flush=True)
         return running.wait() == 0
@@ -144,9 +176,7 @@ def build_program() -> bool:
 def show_failure(failed: list[str]) -> None:
     """Prints the end of what rt printed of each crate that failed, or of all where none is named."""
     parts = re.split(r"(?m)^== ", LOG.read_text())
-    print("\n".join(failed))
-    names = [line.partition(":")[0] for line in failed]
-    for part in [it for it in parts if it.split("\n")[0] in names] or parts[-1:]:
+    for part in [it for it in parts if it.split("\n")[0] in failed] or parts[-1:]:
         print("".join(part.splitlines(keepends=True)[-30:]), end="")
     print(f"The build failed. All that rt printed is in {LOG.relative_to(ROOT)}.")
 
@@ -159,10 +189,13 @@ def main() -> int:
         return 0
     count = int(sys.argv[1]) if len(sys.argv) > 1 else lanes()
     print(START.format(crates=len(crates), count=count), flush=True)
-    failed = prove_libraries(count, len(crates))
-    if count > 1 and any("failed (-9)" in line for line in failed):
-        print("A check was killed, most likely for memory: once more, one at a time.", flush=True)
-        failed = prove_libraries(1, len(crates))
+    # With a toolchain whose parts have other names, rt proves what is below as it runs the program.
+    rt_command = toolchain.load("rtlib")
+    LOG.write_text("")
+    failed = []
+    if rt_command is not None:
+        rt_command.rtlib.guarded()
+        failed = prove_libraries(rt_command, count, [it for it in crates if it != PROGRAM])
     if failed or not build_program():
         show_failure(failed)
         return 1

@@ -1,0 +1,209 @@
+"""The gate: all that `rt ci` does, with the wrong bodies of a crate tried several at a time.
+
+    python3 tools/gate.py              every proof from nothing, each wrong body, tests, programs
+    python3 tools/gate.py NAME ..      the wrong bodies of these crates alone, as `rt must-fail`
+
+`rt ci` tries each wrong body in a check of its own, most of which is loading what stands below.
+But the proof of a function sees the contracts of others and not their bodies. So wrong bodies of
+different functions are tried in one check, and each must have its own function refused. One whose
+function is refused only because it calls another, or is not refused, is tried again, without the
+others at the end; that last check is `rt ci`'s own. With another toolchain, whose parts have other
+names, this is `rt ci` alone.
+"""
+
+import os
+import re
+import subprocess
+import sys
+import tempfile
+from dataclasses import dataclass
+from pathlib import Path
+from types import ModuleType
+from typing import Any
+
+import toolchain
+
+NEEDED = ("ci", "edits_alone", "must_fail", "must_fail_all", "checked", "unread", "rtlib")
+FUNCTION = re.compile(r"^( *)(?:pub(?:\([\w ]+\))? )?(?:const |unsafe )*fn (\w+)", re.MULTILINE)
+IMPL = re.compile(
+    r"^impl\b(?:<[^{]*?>)? *(?:(?P<trait>\w+)[^{]*? for )?(?P<type>\w+)", re.MULTILINE
+)
+STATUS = re.compile(r"^fn (\S+): (proved|not proved|no proof)(.*)$", re.MULTILINE)
+# What a proof file says where it names what an edit took away, which shows little of a contract.
+LOST_NAME = re.compile(r"has no field|is not in scope|has no `|was not admitted")
+
+
+@dataclass(frozen=True)
+class Function:
+    """A function of a crate by its place in the sources."""
+
+    module: str
+    kind: str  # the type of its `impl`, and the trait, or nothing
+    name: str
+
+    def is_called(self, path: str) -> bool:
+        """Whether the toolchain's name for a function, without its crate, can be this one's."""
+        *before, name = path.split("::")
+        module = [it for it in self.module.split("::") if it]
+        if name != self.name or before[: len(module)] != module:
+            return False
+        return "".join(before[len(module) :]) in (self.kind, self.kind.partition(" ")[0]) or (
+            " " in self.kind and "".join(before[len(module) :]) == self.kind.replace(" ", "")
+        )
+
+
+@dataclass
+class Edit:
+    """A wrong body: its file, its pairs of texts, and the functions whose bodies it changes."""
+
+    path: str
+    pairs: list[tuple[str, str, str]]
+    functions: frozenset[Function] | None
+
+
+def pairs_of(path: str) -> list[tuple[str, str, str]]:
+    """The file, the old and the new text of each pair of an edit."""
+    file, old, found = "", "", []
+    for line in Path(path).read_text(encoding="utf-8").split("\n"):
+        if line.startswith("file: "):
+            file = line.removeprefix("file: ").strip()
+        elif line.startswith("old: "):
+            old = line.removeprefix("old: ")
+        elif line.startswith("new:"):
+            found.append((file, old, line.removeprefix("new:").removeprefix(" ")))
+    return found
+
+
+def function_at(file: str, text: str, start: int, end: int) -> Function | None:
+    """The function within whose body a part of a file's text stands, if it is one."""
+    header = None
+    for header in FUNCTION.finditer(text, 0, start):
+        pass
+    if header is None:
+        return None
+    indent, name = header[1], header[2]
+    opened = re.compile(rf"(?:^{indent}|[^\n]* )\{{$", re.MULTILINE).search(text, header.start())
+    closed = re.compile(rf"^{indent}\}}$", re.MULTILINE).search(text, header.start())
+    if not opened or not closed or not opened.end() <= start <= end <= closed.start():
+        return None
+    kind = ""
+    if indent:
+        for found in IMPL.finditer(text, 0, start):
+            kind = found["type"] + (f" {found['trait']}" if found["trait"] else "")
+    module = file.removeprefix("src/").removesuffix(".rt").replace("/", "::")
+    module = re.sub(r"(^|::)(lib|main|mod)$", "", module)
+    return Function(module, kind, name)
+
+
+def read_edit(folder: str, path: str) -> Edit:
+    found: set[Function] = set()
+    pairs = pairs_of(path)
+    for file, old, _ in pairs:
+        source = Path(folder, file)
+        text = source.read_text(encoding="utf-8") if source.is_file() else ""
+        at = text.find(old) if file.startswith("src/") and text.count(old) == 1 else -1
+        function = function_at(file, text, at, at + len(old)) if at >= 0 else None
+        if function is None:
+            return Edit(path, pairs, None)
+        found.add(function)
+    return Edit(path, pairs, frozenset(found) or None)
+
+
+def applied(folder: str, edit: Edit, texts: dict[str, str]) -> dict[str, str] | None:
+    """The texts of the changed files with an edit too, or None where it can't stand beside them."""
+    made = dict(texts)
+    for file, old, new in edit.pairs:
+        text = made.get(file) or Path(folder, file).read_text(encoding="utf-8")
+        if text.count(old) != 1:
+            return None
+        made[file] = text.replace(old, new)
+    return made
+
+
+def round_of(folder: str, edits: list[Edit]) -> tuple[list[Edit], dict[str, str]]:
+    """The next edits that can be tried together, each in functions of its own."""
+    texts: dict[str, str] = {}
+    taken: list[Edit] = []
+    used: set[Function] = set()
+    for edit in edits:
+        if edit.functions is None or edit.functions & used:
+            continue
+        made = applied(folder, edit, texts)
+        if made is not None:
+            texts, used = made, used | edit.functions
+            taken.append(edit)
+    return taken, texts
+
+
+def refusal(crate: str, edit: Edit, output: str) -> str | None:
+    """The first line that refuses a function of the edit at a goal of its own, if one does."""
+    for path, status, behind in STATUS.findall(output):
+        inside = path.removeprefix(f"{crate}::")
+        if status != "not proved" or "it calls" in behind:
+            continue
+        if not any(it.is_called(inside) for it in edit.functions or ()):
+            continue
+        proofs = f"./proofs/{inside.replace('::', '/')}/"
+        lines = output.splitlines()
+        told = [it for it in lines if it.startswith(proofs) and ": error" in it]
+        files = {file for file, _, _ in edit.pairs}
+        notes = [it for it in lines if any(it.startswith(f"note: {file}:") for file in files)]
+        told = [it for it in told if not LOST_NAME.search(it)] + notes + told
+        return told[0] if told else f"fn {path}: not proved"
+    return None
+
+
+def tried(rt: ModuleType, crate: Any, edits: list[str], flags: list[str]) -> list[tuple[bool, str]]:
+    """What `must_fail_all` of `rt ci` returns: whether each edit is refused, and what to say."""
+    left = [read_edit(crate.folder, it) for it in edits]
+    refused: dict[str, str] = {}
+    rounds = 0
+    with tempfile.TemporaryDirectory(prefix="gate-edits-") as kept:
+        while True:
+            together, texts = round_of(crate.folder, left)
+            if len(together) < 2:
+                break
+            rounds += 1
+            ran = rt.checked(crate, texts, flags, kept)
+            lines = ran.stdout.splitlines()
+            if ran.returncode != 1 or any(rt.unread(it, texts) for it in lines):
+                break
+            found = {it.path: refusal(crate.name, it, ran.stdout) for it in together}
+            new = {path: line for path, line in found.items() if line}
+            refused |= new
+            left = [it for it in left if it.path not in refused]
+            if not new:
+                break
+        alone = {
+            it: rt.must_fail(crate, it, flags, kept if rounds else None)
+            for it in edits
+            if it not in refused
+        }
+        # Over work that checks kept for one another, the crate itself must still be proved.
+        if rounds and rounds + len(alone) > 1 and rt.checked(crate, {}, flags, kept).returncode:
+            refused, alone = {}, dict.fromkeys(edits, (False, ""))
+    for path, (is_refused, _) in alone.items():
+        if not is_refused and rounds:
+            alone[path] = rt.must_fail(crate, path, flags)
+    name = lambda path: f"must-fail {crate.name}/{os.path.basename(path)}"
+    together = {
+        path: (True, f"{name(path)}: refused: {line[:160]}") for path, line in refused.items()
+    }
+    print(
+        f"{crate.name}: {len(together)} wrong bodies in {rounds} checks, {len(alone)} alone",
+        flush=True,
+    )
+    return [(together | alone)[path] for path in edits]
+
+
+def main(names: list[str]) -> int:
+    rt = toolchain.load(*NEEDED)
+    if rt is None:
+        words = ["must-fail", *names] if names else ["ci"]
+        return subprocess.run(["rt", *words], check=False).returncode
+    rt.must_fail_all = lambda crate, edits, flags: tried(rt, crate, edits, flags)
+    return rt.edits_alone(names) if names else rt.ci()
+
+
+if __name__ == "__main__":
+    sys.exit(main(sys.argv[1:]))
