@@ -18,7 +18,7 @@ import sys
 import tempfile
 import time
 from collections.abc import Iterator
-from concurrent.futures import FIRST_COMPLETED, ThreadPoolExecutor, wait
+from concurrent.futures import FIRST_COMPLETED, Future, ThreadPoolExecutor, wait
 from pathlib import Path
 from types import ModuleType
 from typing import Any, TextIO
@@ -128,7 +128,9 @@ def prove_libraries(rt: ModuleType, count: int, names: list[str]) -> list[str]:
     failed, with all that stand above them."""
     crates = [it for it in rt.rtlib.crates_below(str(ROOT)) if it.name in names]
     held = rt.rtlib.lock(crates)
-    begun, left, running, proved = time.monotonic(), {it.name: it for it in crates}, {}, set()
+    begun, left = time.monotonic(), {it.name: it for it in crates}
+    running: dict[Future[bool], tuple[str, int]] = {}
+    proved: set[str] = set()
     behind = {it.name: sum(it in other.below() for other in crates) for it in crates}
     with LOG.open("w") as log, ThreadPoolExecutor(count) as pool:
         while left or running:
@@ -142,9 +144,9 @@ def prove_libraries(rt: ModuleType, count: int, names: list[str]) -> list[str]:
                 running[pool.submit(prove, crate, jobs, log)] = crate.name, jobs
             if not running:
                 break
-            for it in wait(running, return_when=FIRST_COMPLETED).done:
-                name, _ = running.pop(it)
-                if it.result():
+            for ended in wait(running, return_when=FIRST_COMPLETED).done:
+                name, _ = running.pop(ended)
+                if ended.result():
                     proved.add(name)
                     done = f"{len(proved)} of {len(crates) + 1} crates, {minutes(begun)}"
                     print(f"{done}: {name}", flush=True)

@@ -17,6 +17,7 @@ import subprocess
 import sys
 import tempfile
 from dataclasses import dataclass
+from functools import partial
 from pathlib import Path
 from types import ModuleType
 from typing import Any
@@ -37,6 +38,8 @@ LOST_NAME = re.compile(r"has no field|is not in scope|has no `|was not admitted"
 class Function:
     """A function of a crate by its place in the sources."""
 
+    file: str
+    lines: range  # from its name to the end of its body
     module: str
     kind: str  # the type of its `impl`, and the trait, or nothing
     name: str
@@ -92,7 +95,8 @@ def function_at(file: str, text: str, start: int, end: int) -> Function | None:
             kind = found["type"] + (f" {found['trait']}" if found["trait"] else "")
     module = file.removeprefix("src/").removesuffix(".rt").replace("/", "::")
     module = re.sub(r"(^|::)(lib|main|mod)$", "", module)
-    return Function(module, kind, name)
+    lines = range(text.count("\n", 0, header.end()), text.count("\n", 0, closed.end()) + 2)
+    return Function(file, lines, module, kind, name)
 
 
 def read_edit(folder: str, path: str) -> Edit:
@@ -135,65 +139,72 @@ def round_of(folder: str, edits: list[Edit]) -> tuple[list[Edit], dict[str, str]
     return taken, texts
 
 
+def is_of(line: str, path: str, function: Function) -> bool:
+    """Whether a line of a check speaks of a goal of a function, by its proofs or its source."""
+    if line.startswith(f"./proofs/{path.replace('::', '/')}/") and ": error" in line:
+        return True
+    at = re.match(r"note: (\S+?):(\d+):", line)
+    return at is not None and at[1] == function.file and int(at[2]) in function.lines
+
+
 def refusal(crate: str, edit: Edit, output: str) -> str | None:
     """The first line that refuses a function of the edit at a goal of its own, if one does."""
     for path, status, behind in STATUS.findall(output):
         inside = path.removeprefix(f"{crate}::")
-        if status != "not proved" or "it calls" in behind:
+        # A goal of its own is open: an answer is refused, or none is found and none is written.
+        is_own = status == "not proved" or behind.startswith(": expected answers")
+        function = next((it for it in edit.functions or () if it.is_called(inside)), None)
+        if function is None or not is_own or "it calls" in behind:
             continue
-        if not any(it.is_called(inside) for it in edit.functions or ()):
-            continue
-        proofs = f"./proofs/{inside.replace('::', '/')}/"
-        lines = output.splitlines()
-        told = [it for it in lines if it.startswith(proofs) and ": error" in it]
-        files = {file for file, _, _ in edit.pairs}
-        notes = [it for it in lines if any(it.startswith(f"note: {file}:") for file in files)]
-        told = [it for it in told if not LOST_NAME.search(it)] + notes + told
-        return told[0] if told else f"fn {path}: not proved"
+        told = [it for it in output.splitlines() if is_of(it, inside, function)]
+        told.sort(key=lambda it: bool(LOST_NAME.search(it)))
+        return told[0] if told else f"fn {path}: {status}{behind}"
     return None
+
+
+def try_together(
+    rt: ModuleType, crate: Any, edits: list[str], flags: list[str], kept: str
+) -> tuple[dict[str, str], int]:
+    """The edits that are refused in checks of several, each with the line that refuses it, and how
+    many checks there were. It ends where a check refuses no more, or an edit can't be read."""
+    left = [read_edit(crate.folder, it) for it in edits]
+    refused: dict[str, str] = {}
+    checks = 0
+    while True:
+        together, texts = round_of(crate.folder, left)
+        if len(together) < 2:
+            return refused, checks
+        checks += 1
+        ran = rt.checked(crate, texts, flags, kept)
+        if ran.returncode != 1 or any(rt.unread(it, texts) for it in ran.stdout.splitlines()):
+            return refused, checks
+        new = {it.path: refusal(crate.name, it, ran.stdout) for it in together}
+        refused |= {path: line for path, line in new.items() if line}
+        if not any(new.values()):
+            return refused, checks
+        left = [it for it in left if it.path not in refused]
 
 
 def tried(rt: ModuleType, crate: Any, edits: list[str], flags: list[str]) -> list[tuple[bool, str]]:
     """What `must_fail_all` of `rt ci` returns: whether each edit is refused, and what to say."""
-    left = [read_edit(crate.folder, it) for it in edits]
-    refused: dict[str, str] = {}
-    rounds = 0
     with tempfile.TemporaryDirectory(prefix="gate-edits-") as kept:
-        while True:
-            together, texts = round_of(crate.folder, left)
-            if len(together) < 2:
-                break
-            rounds += 1
-            ran = rt.checked(crate, texts, flags, kept)
-            lines = ran.stdout.splitlines()
-            if ran.returncode != 1 or any(rt.unread(it, texts) for it in lines):
-                break
-            found = {it.path: refusal(crate.name, it, ran.stdout) for it in together}
-            new = {path: line for path, line in found.items() if line}
-            refused |= new
-            left = [it for it in left if it.path not in refused]
-            if not new:
-                break
+        refused, checks = try_together(rt, crate, edits, flags, kept)
         alone = {
-            it: rt.must_fail(crate, it, flags, kept if rounds else None)
+            it: rt.must_fail(crate, it, flags, kept if checks else None)
             for it in edits
             if it not in refused
         }
         # Over work that checks kept for one another, the crate itself must still be proved.
-        if rounds and rounds + len(alone) > 1 and rt.checked(crate, {}, flags, kept).returncode:
+        if checks and checks + len(alone) > 1 and rt.checked(crate, {}, flags, kept).returncode:
             refused, alone = {}, dict.fromkeys(edits, (False, ""))
     for path, (is_refused, _) in alone.items():
-        if not is_refused and rounds:
+        if not is_refused and checks:
             alone[path] = rt.must_fail(crate, path, flags)
-    name = lambda path: f"must-fail {crate.name}/{os.path.basename(path)}"
-    together = {
-        path: (True, f"{name(path)}: refused: {line[:160]}") for path, line in refused.items()
-    }
-    print(
-        f"{crate.name}: {len(together)} wrong bodies in {rounds} checks, {len(alone)} alone",
-        flush=True,
-    )
-    return [(together | alone)[path] for path in edits]
+    print(f"{crate.name}: {len(refused)} wrong bodies in {checks} checks, {len(alone)} alone")
+    for path, line in refused.items():
+        label = f"must-fail {crate.name}/{os.path.basename(path)}"
+        alone[path] = True, f"{label}: refused, as it must be: {line[:160]}"
+    return [alone[path] for path in edits]
 
 
 def main(names: list[str]) -> int:
@@ -201,8 +212,8 @@ def main(names: list[str]) -> int:
     if rt is None:
         words = ["must-fail", *names] if names else ["ci"]
         return subprocess.run(["rt", *words], check=False).returncode
-    rt.must_fail_all = lambda crate, edits, flags: tried(rt, crate, edits, flags)
-    return rt.edits_alone(names) if names else rt.ci()
+    setattr(rt, "must_fail_all", partial(tried, rt))
+    return int(rt.edits_alone(names) if names else rt.ci())
 
 
 if __name__ == "__main__":
