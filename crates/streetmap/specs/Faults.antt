@@ -29,7 +29,12 @@ use Rattle.streetmap_connections.specs.declared.serve.ServeFault.TheVariants as 
 use Rattle.streetmap_command.specs.declared.command.CommandFault.{CommandFault}
 use Rattle.streetmap_command.specs.declared.command.CommandFault.TheVariants as command
 use Rattle.streetmap.specs.declared.fault.ProgramFault.{ProgramFault}
-use Rattle.streetmap.specs.declared.fault.ProgramFault.TheVariants.{Usage, BadBase, Exists, NoFile, NotOurs, NewFormat, Taken, NoText, Import, Export, LineTooLong, ReadFailed, WriteFailed, Net, Damaged, Device, Memory}
+use Rattle.streetmap.specs.declared.fault.ProgramFault.TheVariants.{Usage, BadBase, Exists, NoFile}
+use Rattle.streetmap.specs.declared.fault.ProgramFault.TheVariants.{NotOurs, NewFormat, Taken}
+use Rattle.streetmap.specs.declared.fault.ProgramFault.TheVariants.{NoText, Import, Export}
+use Rattle.streetmap.specs.declared.fault.ProgramFault.TheVariants.{LineTooLong, ReadFailed}
+use Rattle.streetmap.specs.declared.fault.ProgramFault.TheVariants.{WriteFailed, Net, Damaged}
+use Rattle.streetmap.specs.declared.fault.ProgramFault.TheVariants.{Device, Memory}
 
 -- the name that is printed
 abbrev pub code_of : ProgramFault → List ℕ
@@ -71,7 +76,8 @@ export_status exporting.NoCollection = 1
 export_status (exporting.Stopped fault) = keeper_status fault
 export_status exporting.WriteFailed = 3
 
--- the exit status: 1 refused, 2 usage, 3 a device, damage, a socket, a read or a write that failed, 4 want of memory
+-- the exit status: 1 refused, 2 usage, 3 a device, damage, a socket, a read or a write that failed,
+-- 4 want of memory
 abbrev pub status_of : ProgramFault → ℕ
 status_of Usage = 2
 status_of BadBase = 1

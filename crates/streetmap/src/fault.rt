@@ -1,7 +1,11 @@
 //! What the program ends with when it is not done.
 ghost use Rattle.std.specs.Prelude.{◌≡◌, ◌≢◌};
 ghost use Rattle.std.specs.IoError.{error_kind};
-ghost use Rattle.streetmap.specs.Faults.{code_of, status_of, keeper_status, import_status, export_status, place_of, cause_of, fault_of_command, fault_of_base, fault_of_create, fault_of_open, fault_of_lines, fault_of_text, end_of_stream, fault_of_serve, fault_of_check};
+ghost use Rattle.streetmap.specs.Faults.{code_of, status_of, keeper_status, import_status};
+ghost use Rattle.streetmap.specs.Faults.{export_status, place_of, cause_of, fault_of_command};
+ghost use Rattle.streetmap.specs.Faults.{fault_of_base, fault_of_create, fault_of_open};
+ghost use Rattle.streetmap.specs.Faults.{fault_of_lines, fault_of_text, end_of_stream};
+ghost use Rattle.streetmap.specs.Faults.{fault_of_serve, fault_of_check};
 
 use std::alloc::AllocError;
 use std::io::{Error, ErrorKind};
@@ -81,8 +85,8 @@ impl ProgramFault {
         }
     }
 
-    /// The exit status: 1 refused, 2 usage, 3 a device, damage, a socket, a read or a write that failed,
-    /// 4 want of memory.
+    /// The exit status: 1 refused, 2 usage, 3 a device, damage, a socket, a read or a write that
+    /// failed, 4 want of memory.
     pub fn status(self) -> u8
         ensures { result ≡ status_of self }
     {
@@ -122,7 +126,8 @@ impl ProgramFault {
 
     /// The fault of words that cannot be had: one of them is no UTF-8, or memory is refused.
     pub(crate) fn of_words(error: &Error) -> ProgramFault
-        ensures memory { error_kind error.now ≡ ErrorKind.OutOfMemory → result ≡ ProgramFault.Memory }
+        ensures memory { error_kind error.now ≡ ErrorKind.OutOfMemory
+            → result ≡ ProgramFault.Memory }
         ensures other { error_kind error.now ≢ ErrorKind.OutOfMemory → result ≡ ProgramFault.Usage }
     {
         if error.kind() == ErrorKind::OutOfMemory {
@@ -132,7 +137,8 @@ impl ProgramFault {
         }
     }
 
-    /// The fault of a text that cannot be had: its file is not there, memory is refused, or a read fails.
+    /// The fault of a text that cannot be had: its file is not there, memory is refused, or a read
+    /// fails.
     pub(crate) fn of_text(error: &Error) -> ProgramFault
         ensures { result ≡ fault_of_text (error_kind error.now) }
     {

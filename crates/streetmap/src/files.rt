@@ -44,8 +44,8 @@ pub(crate) fn run(rt: &HostRuntime, path: &str, task: Task<'_>) -> Result<(), Pr
     }
 }
 
-/// Puts the features of a text into a collection of a file. The text is read, and its batch made, before
-/// the file is opened: a text that is refused writes nothing.
+/// Puts the features of a text into a collection of a file. The text is read, and its batch made,
+/// before the file is opened: a text that is refused writes nothing.
 pub(crate) fn import(rt: &HostRuntime, path: &str, asked: Import<'_>) -> Result<(), ProgramFault> {
     if is_there(rt, path)? {
         let batch = read_batch(rt, asked)?;

@@ -1,9 +1,10 @@
-//! The program `streetmap`: features of a map office, kept in a file, served over HTTP, imported and
-//! exported, or read and changed by lines.
+//! The program `streetmap`: features of a map office, kept in a file, served over HTTP, imported
+//! and exported, or read and changed by lines.
 //!
-//! Modules, in the order of reading: `fault` (what is printed, and the exit status), `tasks` (what the commands do
-//! over the keeper of a file), `files` (that keeper), `texts` (the text that is imported), `progress` (how far an
-//! import or an export is). The command line, and what the commands do in turn, stand in the crates below.
+//! Modules, in the order of reading: `fault` (what is printed, and the exit status), `tasks` (what
+//! the commands do over the keeper of a file), `files` (that keeper), `texts` (the text that is
+//! imported), `progress` (how far an import or an export is). The command line, and what the
+//! commands do in turn, stand in the crates below.
 #![tactic(auto)]
 
 pub mod fault;

@@ -26,7 +26,8 @@ pub(crate) enum Task<'a> {
     Serve(Connections, Base),
     /// The batch that a text was read into is applied, and its reply is printed.
     Import(Batch),
-    /// A collection is written on standard output; with `progress` lines on standard error tell how far it is.
+    /// A collection is written on standard output; with `progress` lines on standard error tell how
+    /// far it is.
     Export { collection: &'a str, progress: bool },
     /// All rows are read, and it is printed how many there are.
     Check,

@@ -6,13 +6,14 @@ use std::alloc::Global;
 use std::fs::File;
 use std::io::Read;
 
-/// The most bytes that are read of a text: one more than `streetmap_exchange::MAX_TEXT`, so that a text
-/// that is too large is seen to be so, and is not read to its end.
+/// The most bytes that are read of a text: one more than `streetmap_exchange::MAX_TEXT`, so that a
+/// text that is too large is seen to be so, and is not read to its end.
 const MOST_READ: u64 = 8_388_609;
 
 /// The bytes of a text, or the first of them where it is too large.
 fn read_first<R: Read + Drop>(alloc: Global, reader: R) -> Result<Vec<u8>, ProgramFault>
-    ensures { IfOk result (λ text. IfSome (R.remaining reader) (λ all. text.items ≡ take 8388609 all)) }
+    ensures { IfOk result (λ text.
+        IfSome (R.remaining reader) (λ all. text.items ≡ take 8388609 all)) }
 {
     let mut first = reader.take(MOST_READ);
     let mut text = Vec::new(alloc);

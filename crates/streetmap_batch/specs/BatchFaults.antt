@@ -1,9 +1,12 @@
--- Why a batch is refused: the names and sentences of the refusals, and what a reader answers beside what it reads.
+-- Why a batch is refused: the names and sentences of the refusals, and what a reader answers beside
+-- what it reads.
 use Rattle.std.specs.Prelude.{◌≡◌, ℕ, codes, Option, None, Some, Result, Ok, Err}
 use Rattle.streetmap_geojson.specs.declared.fault.Fault.{Fault}
 use Rattle.streetmap_batch.specs.Text.{Text}
 use Rattle.streetmap_batch.specs.declared.batch_fault.BatchFault.{BatchFault}
-use Rattle.streetmap_batch.specs.declared.batch_fault.BatchFault.TheVariants.{BadBatch, BadKey, TooManyEdits, BadFeature, Memory}
+use Rattle.streetmap_batch.specs.declared.batch_fault.BatchFault.TheVariants.{BadBatch, BadKey}
+use Rattle.streetmap_batch.specs.declared.batch_fault.BatchFault.TheVariants.{TooManyEdits}
+use Rattle.streetmap_batch.specs.declared.batch_fault.BatchFault.TheVariants.{BadFeature, Memory}
 
 unfoldable pub code_of : BatchFault → Text
 code_of (BadBatch place) = codes "bad_batch"

@@ -1,5 +1,6 @@
 -- "A value is the batch": by cases, with no order of steps.
-use Rattle.std.specs.Prelude.{◌≡◌, ◌≤◌, ℕ, List, [], ◌∷◌, length, codes, Option, None, Some, Ok, IsTrue}
+use Rattle.std.specs.Prelude.{◌≡◌, ◌≤◌, ℕ, List, [], ◌∷◌, length, codes, Option, None, Some, Ok}
+use Rattle.std.specs.Prelude.{IsTrue}
 use Rattle.serde_json.specs.Data.{Data, string}
 use Rattle.serde_json.specs.Find.{get}
 use Rattle.streetmap_geojson.specs.FeatureMeaning.{IsId, ReadsAs}
@@ -40,10 +41,14 @@ HasMember name R d a = (told : Data) × (get name d ≡ Some told) × R told a
 -- a feature is read without a time property: its time is set when the edit acts
 abbrev pub IsEdit : Data → EditValue → Type 0
 IsEdit d (value.«open» collection title time) =
-    IsEditOf formats.Open (codes "open") collection d × IsTitleOf (get (codes "title") d) collection title × IsTimeOf (get (codes "time") d) time
-IsEdit d (value.insert collection f) = IsEditOf formats.Feature (codes "insert") collection d × HasMember (codes "feature") (ReadsAs None) d f
-IsEdit d (value.replace collection f) = IsEditOf formats.Feature (codes "replace") collection d × HasMember (codes "feature") (ReadsAs None) d f
-IsEdit d (value.delete collection id) = IsEditOf formats.Delete (codes "delete") collection d × HasMember (codes "id") IsId d id
+    IsEditOf formats.Open (codes "open") collection d
+    × IsTitleOf (get (codes "title") d) collection title × IsTimeOf (get (codes "time") d) time
+IsEdit d (value.insert collection f) = IsEditOf formats.Feature (codes "insert") collection d
+    × HasMember (codes "feature") (ReadsAs None) d f
+IsEdit d (value.replace collection f) = IsEditOf formats.Feature (codes "replace") collection d
+    × HasMember (codes "feature") (ReadsAs None) d f
+IsEdit d (value.delete collection id) = IsEditOf formats.Delete (codes "delete") collection d
+    × HasMember (codes "id") IsId d id
 
 -- one by one
 abbrev pub AreEdits : List Data → List EditValue → Type 0

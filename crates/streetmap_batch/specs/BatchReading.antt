@@ -1,5 +1,7 @@
 -- The batch that a value is, or its first fault in the order of refusals.
-use Rattle.std.specs.Prelude.{ℕ, ◌+◌, Bool, true, false, ◌&&◌, List, [], ◌∷◌, length, codes, bytes_eq, Option, None, Some, option_map, option_and_then, ok_or, Result, Ok, Err, nat_le, if◌then◌else◌}
+use Rattle.std.specs.Prelude.{ℕ, ◌+◌, Bool, true, false, ◌&&◌, List, [], ◌∷◌, length, codes}
+use Rattle.std.specs.Prelude.{bytes_eq, Option, None, Some, option_map, option_and_then, ok_or}
+use Rattle.std.specs.Prelude.{Result, Ok, Err, nat_le, if◌then◌else◌}
 use Rattle.std.specs.List.{list_any}
 use Rattle.serde_json.specs.Data.{Data, object, Items, no_items, item, Members, no_members, member}
 use Rattle.serde_json.specs.Find.{as_array, as_str, get}
@@ -9,11 +11,14 @@ use Rattle.streetmap_geojson.specs.FeatureReading.{feature}
 use Rattle.streetmap_geojson.specs.Id.{id_from}
 use Rattle.streetmap_geojson.specs.JsonText.{json_of}
 use Rattle.streetmap_batch.specs.Text.{Text}
-use Rattle.streetmap_batch.specs.Names.{is_key, is_collection_id, is_title, is_time_property, passing}
+use Rattle.streetmap_batch.specs.Names.{is_key, is_collection_id, is_title, is_time_property}
+use Rattle.streetmap_batch.specs.Names.{passing}
 use Rattle.streetmap_batch.specs.BatchValue as value
 use Rattle.streetmap_batch.specs.BatchValue.{EditValue, BatchValue}
 use Rattle.streetmap_batch.specs.declared.batch_fault.BatchFault.{BatchFault}
-use Rattle.streetmap_batch.specs.declared.batch_fault.BatchFault.TheVariants.{BadBatch, BadKey, TooManyEdits, BadFeature}
+use Rattle.streetmap_batch.specs.declared.batch_fault.BatchFault.TheVariants.{BadBatch, BadKey}
+use Rattle.streetmap_batch.specs.declared.batch_fault.BatchFault.TheVariants.{TooManyEdits}
+use Rattle.streetmap_batch.specs.declared.batch_fault.BatchFault.TheVariants.{BadFeature}
 use Rattle.streetmap_batch.specs.declared.format.Format.{Format}
 use Rattle.streetmap_batch.specs.declared.format.Format.TheVariants as formats
 use Rattle.streetmap_batch.specs.declared.format.Operation.{Operation}
@@ -21,7 +26,8 @@ use Rattle.streetmap_batch.specs.declared.format.Operation.TheVariants as operat
 
 -- one step after another: the first fault is the fault
 infixl 10 ◌>>=◌
-abbrev pub ◌>>=◌ : {A B : Type 0} → Result A BatchFault → (A → Result B BatchFault) → Result B BatchFault
+abbrev pub ◌>>=◌ : {A B : Type 0} → Result A BatchFault → (A → Result B BatchFault)
+    → Result B BatchFault
 (Ok x) >>= f = f x
 (Err e) >>= f = Err e
 
@@ -35,14 +41,16 @@ unless b fault = if b then Ok true else Err fault
 -- the batch of a key and edits: the key is judged first, then the number of edits
 abbrev pub batch_from : Text → List EditValue → Result BatchValue BatchFault
 batch_from key edits =
-    if is_key key then (if nat_le (length edits) most_edits then Ok (record { key = key; edits = edits }) else Err TooManyEdits) else Err BadKey
+    if is_key key then (if nat_le (length edits) most_edits
+    then Ok (record { key = key; edits = edits }) else Err TooManyEdits) else Err BadKey
 
 -- the collection of an edit that is not read from a batch
 abbrev pub collection_in : Text → Result Text BatchFault
 collection_in collection = ok_or (passing is_collection_id collection) (BadBatch None)
 
 -- the edit of a feature of that collection
-abbrev pub edit_in : (Text → FeatureValue → EditValue) → Text → FeatureValue → Result EditValue BatchFault
+abbrev pub edit_in : (Text → FeatureValue → EditValue) → Text → FeatureValue
+    → Result EditValue BatchFault
 edit_in make collection f = collection_in collection >>= λ c. Ok (make c f)
 
 -- ---- objects
@@ -93,7 +101,8 @@ abbrev pub operation_at : Data → Option Operation
 operation_at d = option_and_then operation_of (text_at (codes "op") d)
 
 abbrev pub collection_at : ℕ → Data → Result Text BatchFault
-collection_at place d = shaped place (option_and_then (passing is_collection_id) (text_at (codes "collection") d))
+collection_at place d = shaped place
+    (option_and_then (passing is_collection_id) (text_at (codes "collection") d))
 
 -- a missing title is the collection id
 abbrev pub title_of : ℕ → Text → Option Data → Result Text BatchFault
@@ -103,7 +112,8 @@ title_of place collection (Some d) = shaped place (option_and_then (passing is_t
 -- a missing time property is none
 abbrev pub time_of : ℕ → Option Data → Result (Option Text) BatchFault
 time_of place None = Ok None
-time_of place (Some d) = shaped place (option_map (λ (t : Text). Some t) (option_and_then (passing is_time_property) (as_str d)))
+time_of place (Some d) = shaped place
+    (option_map (λ (t : Text). Some t) (option_and_then (passing is_time_property) (as_str d)))
 
 -- a value that must be read as in a feature
 abbrev pub as_shape : ℕ → Result Text Fault → Result Text BatchFault
@@ -118,7 +128,8 @@ as_cause place (Err fault) = Err (BadFeature place fault)
 abbrev pub told_feature : ℕ → Option Data → Result FeatureValue BatchFault
 told_feature place told = shaped place told >>= λ d. as_cause place (feature None d)
 
--- the id of the feature to delete, from its member: text that is an id, or a whole number, as in a feature
+-- the id of the feature to delete, from its member: text that is an id, or a whole number, as in a
+-- feature
 abbrev pub told_id : ℕ → Option Data → Result Text BatchFault
 told_id place told = shaped place told >>= λ d. as_shape place (id_from d)
 
@@ -165,7 +176,8 @@ edit_at place d = edit_as (operation_at d) place d
 
 -- ---- the whole
 
-abbrev pub and_more : Result EditValue BatchFault → Result (List EditValue) BatchFault → Result (List EditValue) BatchFault
+abbrev pub and_more : Result EditValue BatchFault → Result (List EditValue) BatchFault
+    → Result (List EditValue) BatchFault
 and_more (Ok e) (Ok es) = Ok (e ∷ es)
 and_more (Ok e) (Err f) = Err f
 and_more (Err f) _ = Err f

@@ -17,22 +17,30 @@ time_member (Some time) rest = member (codes "time") (string time) rest
 -- an edit of a feature
 abbrev pub feature_edit_data : Text → Text → FeatureValue → Data
 feature_edit_data op collection feature =
-    object (member (codes "collection") (string collection) (member (codes "feature") (feature_data feature) (member (codes "op") (string op) no_members)))
+    object (member (codes "collection") (string collection)
+    (member (codes "feature") (feature_data feature)
+    (member (codes "op") (string op) no_members)))
 
 -- an open edit has its title always, a deleted id is text
 unfoldable pub edit_data : EditValue → Data
 edit_data (value.«open» collection title time) =
-    object (member (codes "collection") (string collection) (member (codes "op") (string (codes "open")) (time_member time (member (codes "title") (string title) no_members))))
+    object (member (codes "collection") (string collection)
+    (member (codes "op") (string (codes "open"))
+    (time_member time (member (codes "title") (string title) no_members))))
 edit_data (value.insert collection feature) = feature_edit_data (codes "insert") collection feature
-edit_data (value.replace collection feature) = feature_edit_data (codes "replace") collection feature
+edit_data (value.replace collection feature) = feature_edit_data (codes "replace") collection
+    feature
 edit_data (value.delete collection id) =
-    object (member (codes "collection") (string collection) (member (codes "id") (string id) (member (codes "op") (string (codes "delete")) no_members)))
+    object (member (codes "collection") (string collection)
+    (member (codes "id") (string id)
+    (member (codes "op") (string (codes "delete")) no_members)))
 
 abbrev pub edits_data : List EditValue → Items
 edits_data edits = items_of (map edit_data edits)
 
 unfoldable pub batch_data : BatchValue → Data
-batch_data b = object (member (codes "edits") (array (edits_data b.edits)) (member (codes "key") (string b.key) no_members))
+batch_data b = object (member (codes "edits") (array (edits_data b.edits))
+    (member (codes "key") (string b.key) no_members))
 
 -- the compact text, with the members of each object in byte order of their names
 unfoldable pub batch_text : BatchValue → Text

@@ -1,5 +1,6 @@
 -- What is read of a batch while its tokens are read, for the reader's own clauses.
-use Rattle.std.specs.Prelude.{◌≡◌, List, length, codes, Option, None, Some, MatchOption, option_map, ok_or, Result, Ok, Err, nat_le, Vec}
+use Rattle.std.specs.Prelude.{◌≡◌, List, length, codes, Option, None, Some, MatchOption}
+use Rattle.std.specs.Prelude.{option_map, ok_or, Result, Ok, Err, nat_le, Vec}
 use Rattle.std.specs.declared.alloc.Global.{Global}
 use Rattle.json.specs.Token.{Token}
 use Rattle.serde_json.specs.Data.{Data, object, Items, Members}
@@ -10,17 +11,21 @@ use Rattle.streetmap_json.specs.declared.fault.ParseFault.{ParseFault}
 use Rattle.streetmap_json.specs.declared.fault.ParseFault.TheVariants.{Memory, NotJson}
 use Rattle.streetmap_geojson.specs.declared.fault.Fault.TheVariants as faults
 use Rattle.streetmap_batch.specs.BatchFaults.{Gives}
-use Rattle.streetmap_batch.specs.BatchReading.{◌>>=◌, unless, most_edits, may_have, names_pass, list_of, array_at, edits_after, as_whole, batch}
+use Rattle.streetmap_batch.specs.BatchReading.{◌>>=◌, unless, most_edits, may_have, names_pass}
+use Rattle.streetmap_batch.specs.BatchReading.{list_of, array_at, edits_after, as_whole, batch}
 use Rattle.streetmap_batch.specs.BatchValue.{EditValue, BatchValue}
 use Rattle.streetmap_batch.specs.BatchView.{edit_values}
 use Rattle.streetmap_batch.specs.declared.batch_fault.BatchFault.{BatchFault}
-use Rattle.streetmap_batch.specs.declared.batch_fault.BatchFault.TheVariants.{TooManyEdits, BadBatch}
+use Rattle.streetmap_batch.specs.declared.batch_fault.BatchFault.TheVariants.{TooManyEdits}
+use Rattle.streetmap_batch.specs.declared.batch_fault.BatchFault.TheVariants.{BadBatch}
 use Rattle.streetmap_batch.specs.declared.batch_reading.Parts.{Parts}
 use Rattle.streetmap_batch.specs.declared.edit.Edit.{Edit}
 use Rattle.streetmap_batch.specs.declared.format.Format.TheVariants as formats
 
--- what was answered stands for what is at the front, and these tokens are left, unless memory ran out
-abbrev pub Takes : {X Y : Type 0} → (Y → X → Type 0) → Result X ParseFault → List Token → Option (Y × List Token) → Type 0
+-- what was answered stands for what is at the front, and these tokens are left, unless memory ran
+-- out
+abbrev pub Takes : {X Y : Type 0} → (Y → X → Type 0) → Result X ParseFault → List Token
+    → Option (Y × List Token) → Type 0
 Takes {X} {Y} R (Ok x) left front = (y : Y) × (front ≡ Some (y, left)) × R y x
 Takes R (Err fault) left front = Fails fault front
 
@@ -37,13 +42,16 @@ AreItemsRead ds edits = Gives edits_view edits (few_edits (list_of ds))
 
 -- the edits of an array; none of a value that is no array
 abbrev pub IsArrayRead : Data → Option (Result (Vec Edit Global) BatchFault) → Type 0
-IsArrayRead d told = MatchOption told (as_array d ≡ None) (λ edits. (ds : Items) × (as_array d ≡ Some ds) × AreItemsRead ds edits)
+IsArrayRead d told = MatchOption told (as_array d ≡ None) (λ edits. (ds : Items)
+    × (as_array d ≡ Some ds) × AreItemsRead ds edits)
 
 -- what is kept of these members
 pub record AreRead (ms : Members) (parts : Parts) : Type 0 where
   pub only : parts.only ≡ names_pass (may_have formats.Batch) ms
   pub key : option_map view parts.key ≡ get_member (codes "key") ms
-  pub edits : MatchOption parts.edits (array_at (codes "edits") (object ms) ≡ None) (λ edits. (ds : List Data) × (array_at (codes "edits") (object ms) ≡ Some ds) × Gives edits_view edits (few_edits ds))
+  pub edits : MatchOption parts.edits (array_at (codes "edits") (object ms) ≡ None) (λ edits.
+      (ds : List Data) × (array_at (codes "edits") (object ms) ≡ Some ds)
+      × Gives edits_view edits (few_edits ds))
 
 -- the batch of a text's value, where it has one
 abbrev pub batch_in : Option Data → Result BatchValue BatchFault

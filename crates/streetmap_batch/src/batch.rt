@@ -26,7 +26,8 @@ impl Batch {
 
     /// The batch of a key and edits. It is refused as `BadKey`, then as `TooManyEdits`.
     pub fn new(key: String, edits: Vec<Edit>) -> Result<Batch, BatchFault>
-        ensures { Gives batch_value result (batch_from (string_bytes key) (edit_values edits.items)) }
+        ensures { Gives batch_value result
+            (batch_from (string_bytes key) (edit_values edits.items)) }
     {
         if !is_key(key.as_str()) {
             return Err(BatchFault::BadKey);

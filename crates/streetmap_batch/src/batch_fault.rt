@@ -7,7 +7,8 @@ use streetmap_geojson::Fault;
 /// Why a batch is refused. Places are counted from 1.
 #[derive(Clone, Copy, Debug, PartialEq, Drop)]
 pub enum BatchFault {
-    /// The whole is not as a batch is written, or the edit of that place is not as an edit is written.
+    /// The whole is not as a batch is written, or the edit of that place is not as an edit is
+    /// written.
     BadBatch { place: Option<u64> },
     /// The key is none.
     BadKey,
@@ -20,7 +21,8 @@ pub enum BatchFault {
 }
 
 impl BatchFault {
-    ghost use Rattle.streetmap_batch.specs.BatchFaults.{code_of, description_of, place_of, cause_of};
+    ghost use Rattle.streetmap_batch.specs.BatchFaults.{code_of, description_of, place_of};
+    ghost use Rattle.streetmap_batch.specs.BatchFaults.{cause_of};
 
     /// The name of the refusal.
     #[tactic(auto, unfolding(crate::specs::BatchFaults::code_of))]

@@ -1,5 +1,6 @@
 //! Batches from JSON.
-ghost use Rattle.std.specs.Prelude.{◌≡◌, ◌<◌, Ok, IfOk, OnOk, IsTrue, false, List, length, option_map};
+ghost use Rattle.std.specs.Prelude.{◌≡◌, ◌<◌, Ok, IfOk, OnOk, IsTrue, false, List, length};
+ghost use Rattle.std.specs.Prelude.{option_map};
 ghost use Rattle.json.specs.Json.{value};
 ghost use Rattle.json.specs.Reads.{token_of};
 ghost use Rattle.json.specs.Token.{begin_object};
@@ -11,7 +12,8 @@ ghost use Rattle.streetmap_json.specs.JsonText.{utf8_value};
 ghost use Rattle.streetmap_batch.specs.BatchFaults.{Gives};
 ghost use Rattle.streetmap_batch.specs.BatchMeaning.{IsBatchText};
 ghost use Rattle.streetmap_batch.specs.BatchReading.{batch, batch_of, keyed};
-ghost use Rattle.streetmap_batch.specs.BatchTokens.{Takes, edits_view, AreRead, IsWholeRead, batch_in, few_edits};
+ghost use Rattle.streetmap_batch.specs.BatchTokens.{Takes, edits_view, AreRead, IsWholeRead};
+ghost use Rattle.streetmap_batch.specs.BatchTokens.{batch_in, few_edits};
 ghost use Rattle.streetmap_batch.specs.BatchValue.{BatchValue};
 ghost use Rattle.streetmap_batch.specs.BatchView.{batch_value};
 
@@ -56,7 +58,8 @@ impl Parts {
         reader: &mut Reader<'_>,
     ) -> Result<(), ParseFault>
         ensures takes { (ms : Members) → AreRead ms self.old
-            → Takes (λ d u. AreRead (put name.now d ms) self.new) result reader.new (value_at 126 reader.old) }
+            → Takes (λ d u. AreRead (put name.now d ms) self.new) result reader.new
+            (value_at 126 reader.old) }
         ensures shorter { OnOk result (length reader.new < length reader.old) }
     {
         if name == "edits" {
@@ -109,7 +112,8 @@ fn read_whole(alloc: Global, reader: &mut Reader<'_>) -> Result<Parts, ParseFaul
 /// The batch of a key and edits: the key is judged first, then the edits.
 #[tactic(auto, unfolding(crate::specs::BatchReading::keyed))]
 fn keyed(alloc: Global, told: Option<&str>, edits: Edits) -> Result<Batch, BatchFault>
-    ensures { (ds : List Data) → Gives edits_view edits (few_edits ds) → Gives batch_value result (keyed (option_map (λ t. t.now) told.entry) ds) }
+    ensures { (ds : List Data) → Gives edits_view edits (few_edits ds)
+        → Gives batch_value result (keyed (option_map (λ t. t.now) told.entry) ds) }
 {
     let Some(key) = told else {
         return Err(BatchFault::BadKey);

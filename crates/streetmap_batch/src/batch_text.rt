@@ -2,7 +2,8 @@
 ghost use Rattle.std.specs.Prelude.{◌≡◌, ◌++◌, IfOk, OnOk, Some, false, option_map, string_bytes};
 ghost use Rattle.serde_json.specs.View.{view};
 ghost use Rattle.serde_json.specs.Written.{compact_text, has_float, items_text};
-ghost use Rattle.streetmap_batch.specs.BatchText.{edit_data, edits_data, feature_edit_data, batch_text};
+ghost use Rattle.streetmap_batch.specs.BatchText.{edit_data, edits_data, feature_edit_data};
+ghost use Rattle.streetmap_batch.specs.BatchText.{batch_text};
 ghost use Rattle.streetmap_batch.specs.BatchValue as value;
 ghost use Rattle.streetmap_batch.specs.BatchView.{edit_value, edit_values};
 
@@ -20,7 +21,8 @@ fn write_timed_open(
     title: &Title,
     time: &TimeProperty,
 ) -> Result<Value, AllocError>
-    ensures value { IfOk result (λ v. view v ≡ edit_data (value.«open» collection.now title.now (Some time.now))) }
+    ensures value { IfOk result (λ v. view v
+        ≡ edit_data (value.«open» collection.now title.now (Some time.now))) }
     ensures whole { IfOk result (λ v. has_float (view v) ≡ false) }
 {
     json!(in alloc; {
@@ -36,7 +38,8 @@ fn write_open(
     title: &Title,
     time: Option<&TimeProperty>,
 ) -> Result<Value, AllocError>
-    ensures value { IfOk result (λ v. view v ≡ edit_data (value.«open» collection.now title.now (option_map (λ t. t.now) time.entry))) }
+    ensures value { IfOk result (λ v. view v
+        ≡ edit_data (value.«open» collection.now title.now (option_map (λ t. t.now) time.entry))) }
     ensures whole { IfOk result (λ v. has_float (view v) ≡ false) }
 {
     match time {
@@ -59,7 +62,8 @@ fn write_delete(alloc: Global, collection: &CollectionId, id: &Id) -> Result<Val
 /// Appends the text of a value.
 fn push_value(alloc: Global, out: &mut String, value: &Value) -> Result<(), AllocError>
     requires { has_float (view value.now) ≡ false }
-    ensures { OnOk result (string_bytes out.new ≡ string_bytes out.old ++ compact_text (view value.now)) }
+    ensures { OnOk result (string_bytes out.new
+        ≡ string_bytes out.old ++ compact_text (view value.now)) }
 {
     let text = value.to_string(alloc)?;
     out.push_str(text.as_str())
@@ -73,7 +77,9 @@ fn push_feature_edit(
     collection: &CollectionId,
     feature: &Feature,
 ) -> Result<(), AllocError>
-    ensures { OnOk result (string_bytes out.new ≡ string_bytes out.old ++ compact_text (feature_edit_data op.now collection.now feature.now)) }
+    ensures { OnOk result (string_bytes out.new
+        ≡ string_bytes out.old ++ compact_text
+        (feature_edit_data op.now collection.now feature.now)) }
 {
     out.push_str("{\"collection\":")?;
     push_quoted(alloc, out, collection.as_str())?;
@@ -87,7 +93,8 @@ fn push_feature_edit(
 /// Appends an edit.
 #[tactic(auto, unfolding(crate::specs::BatchText::edit_data))]
 fn push_edit(alloc: Global, out: &mut String, edit: &Edit) -> Result<(), AllocError>
-    ensures { OnOk result (string_bytes out.new ≡ string_bytes out.old ++ compact_text (edit_data (edit_value edit.now))) }
+    ensures { OnOk result (string_bytes out.new
+        ≡ string_bytes out.old ++ compact_text (edit_data (edit_value edit.now))) }
 {
     match edit {
         Edit::Open {
@@ -116,7 +123,8 @@ fn push_edit(alloc: Global, out: &mut String, edit: &Edit) -> Result<(), AllocEr
 impl Edit {
     /// The text of the edit within the text of a batch.
     pub fn text(&self, alloc: Global) -> Result<String, AllocError>
-        ensures { IfOk result (λ text. string_bytes text ≡ compact_text (edit_data (edit_value self.now))) }
+        ensures { IfOk result (λ text. string_bytes text
+            ≡ compact_text (edit_data (edit_value self.now))) }
     {
         let mut text = String::new(alloc);
         push_edit(alloc, &mut text, self)?;
@@ -126,7 +134,8 @@ impl Edit {
 
 /// Appends the edits and the bracket behind them.
 fn push_edits(alloc: Global, out: &mut String, edits: &[Edit]) -> Result<(), AllocError>
-    ensures { OnOk result (string_bytes out.new ≡ string_bytes out.old ++ items_text false (edits_data (edit_values edits.now))) }
+    ensures { OnOk result (string_bytes out.new
+        ≡ string_bytes out.old ++ items_text false (edits_data (edit_values edits.now))) }
 {
     let mut later = false;
     for edit in edits {
@@ -140,7 +149,8 @@ fn push_edits(alloc: Global, out: &mut String, edits: &[Edit]) -> Result<(), All
 /// The text of the batch of a key and edits.
 #[tactic(auto, unfolding(crate::specs::BatchText::batch_text, crate::specs::BatchText::batch_data))]
 pub(crate) fn write_batch(alloc: Global, key: &str, edits: &[Edit]) -> Result<String, AllocError>
-    ensures { IfOk result (λ text. string_bytes text ≡ batch_text (record { key = key.now; edits = edit_values edits.now })) }
+    ensures { IfOk result (λ text. string_bytes text
+        ≡ batch_text (record { key = key.now; edits = edit_values edits.now })) }
 {
     let mut text = String::new(alloc);
     text.push_str("{\"edits\":[")?;

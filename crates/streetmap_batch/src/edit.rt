@@ -1,6 +1,7 @@
 //! Edits, whose types keep the rules of the names in them.
 ghost use Rattle.std.specs.Prelude.{◌≡◌, All, IsTrue, IfOk, string_bytes};
-ghost use Rattle.streetmap_batch.specs.Names.{is_collection_id, is_title, is_time_property, passing};
+ghost use Rattle.streetmap_batch.specs.Names.{is_collection_id, is_title, is_time_property};
+ghost use Rattle.streetmap_batch.specs.Names.{passing};
 ghost use Rattle.streetmap_batch.specs.BatchFacts.{IsSoundEdit};
 ghost use Rattle.streetmap_batch.specs.BatchFaults.{Gives};
 ghost use Rattle.streetmap_batch.specs.BatchReading.{collection_in};
@@ -12,8 +13,8 @@ use std::alloc::{AllocError, Global};
 use std::marker::Model;
 use streetmap_geojson::{Feature, Id};
 
-/// The id of a collection: 1 to 64 bytes, each an ASCII letter, a digit, or one of `.` `_` `-`, the first
-/// a letter or a digit.
+/// The id of a collection: 1 to 64 bytes, each an ASCII letter, a digit, or one of `.` `_` `-`, the
+/// first a letter or a digit.
 #[derive(Drop)]
 pub struct CollectionId {
     id: String,
@@ -136,7 +137,8 @@ impl TimeProperty {
 /// One edit of a batch.
 #[derive(Drop)]
 pub enum Edit {
-    /// A collection is opened. Its features' times are read from the time property, where one is given.
+    /// A collection is opened. Its features' times are read from the time property, where one is
+    /// given.
     Open {
         collection: CollectionId,
         title: Title,
@@ -200,7 +202,8 @@ impl Edit {
         }
     }
 
-    /// The edit that inserts a feature. It is refused as `BadBatch` where the text is no collection id.
+    /// The edit that inserts a feature. It is refused as `BadBatch` where the text is no collection
+    /// id.
     pub fn insert(alloc: Global, collection: &str, feature: Feature) -> Result<Edit, BatchFault>
         ensures { Gives edit_value result (edit_in value.insert collection.now feature) }
     {

@@ -1,6 +1,7 @@
-//! The edits of a batch, gathered from its tokens one at a time, so that only one of them is ever in
-//! memory as a JSON value.
-ghost use Rattle.std.specs.Prelude.{◌≡◌, ◌+◌, ◌∷◌, ◌++◌, ◌<◌, ◌≤◌, [], List, length, false, IsTrue, OnOk};
+//! The edits of a batch, gathered from its tokens one at a time, so that only one of them is ever
+//! in memory as a JSON value.
+ghost use Rattle.std.specs.Prelude.{◌≡◌, ◌+◌, ◌∷◌, ◌++◌, ◌<◌, ◌≤◌, [], List, length, false, IsTrue};
+ghost use Rattle.std.specs.Prelude.{OnOk};
 ghost use Rattle.json.specs.Reads.{token_of};
 ghost use Rattle.json.specs.Token.{begin_array};
 ghost use Rattle.serde_json.specs.Data.{Data};

@@ -6,9 +6,13 @@ ghost use Rattle.streetmap_geojson.specs.FeatureReading.{feature};
 ghost use Rattle.streetmap_geojson.specs.FeatureView.{feature_value};
 ghost use Rattle.streetmap_geojson.specs.Id.{id_from};
 ghost use Rattle.streetmap_geojson.specs.IdView.{id_value};
-ghost use Rattle.streetmap_batch.specs.Names.{is_collection_id, is_title, is_time_property, passing};
+ghost use Rattle.streetmap_batch.specs.Names.{is_collection_id, is_title, is_time_property};
+ghost use Rattle.streetmap_batch.specs.Names.{passing};
 ghost use Rattle.streetmap_batch.specs.BatchFaults.{Gives};
-ghost use Rattle.streetmap_batch.specs.BatchReading.{as_cause, as_shape, shaped, collection_at, title_of, time_of, open_at, feature_at, told_feature, told_id, insert_at, replace_at, delete_at, edit_at};
+ghost use Rattle.streetmap_batch.specs.BatchReading.{as_cause, as_shape, shaped, collection_at};
+ghost use Rattle.streetmap_batch.specs.BatchReading.{title_of, time_of, open_at, feature_at};
+ghost use Rattle.streetmap_batch.specs.BatchReading.{told_feature, told_id, insert_at, replace_at};
+ghost use Rattle.streetmap_batch.specs.BatchReading.{delete_at, edit_at};
 ghost use Rattle.streetmap_batch.specs.BatchView.{edit_value, feature_edit_value};
 
 use crate::batch_fault::BatchFault;
@@ -63,7 +67,8 @@ fn read_title(
     told: Option<&Value>,
     place: u64,
 ) -> Result<Title, BatchFault>
-    ensures { Gives (λ title. title) result (title_of place collection.now (option_map (λ v. view v.now) told.entry)) }
+    ensures { Gives (λ title. title) result
+        (title_of place collection.now (option_map (λ v. view v.now) told.entry)) }
 {
     match told {
         Some(told) => match told.as_str() {
@@ -75,7 +80,8 @@ fn read_title(
 }
 
 fn check_time(alloc: Global, name: &str, place: u64) -> Result<Option<TimeProperty>, BatchFault>
-    ensures { Gives (λ time. time) result (shaped place (option_map (λ t. Some t) (passing is_time_property name.now))) }
+    ensures { Gives (λ time. time) result
+        (shaped place (option_map (λ t. Some t) (passing is_time_property name.now))) }
 {
     let name = String::from_str(alloc, name)?;
     match TimeProperty::new(name) {
@@ -90,7 +96,8 @@ fn read_time(
     told: Option<&Value>,
     place: u64,
 ) -> Result<Option<TimeProperty>, BatchFault>
-    ensures { Gives (λ time. time) result (time_of place (option_map (λ v. view v.now) told.entry)) }
+    ensures { Gives (λ time. time) result
+        (time_of place (option_map (λ v. view v.now) told.entry)) }
 {
     match told {
         Some(told) => match told.as_str() {
@@ -130,7 +137,8 @@ fn check_feature(alloc: Global, told: &Value, place: u64) -> Result<Feature, Bat
 }
 
 fn read_told_feature(alloc: Global, told: Option<&Value>, place: u64) -> Result<Feature, BatchFault>
-    ensures { Gives feature_value result (told_feature place (option_map (λ v. view v.now) told.entry)) }
+    ensures { Gives feature_value result
+        (told_feature place (option_map (λ v. view v.now) told.entry)) }
 {
     match told {
         Some(told) => check_feature(alloc, told, place),

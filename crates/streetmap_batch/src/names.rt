@@ -1,7 +1,9 @@
 //! The names in a batch.
 ghost use Rattle.std.specs.Prelude.{◌≡◌};
 ghost use Rattle.std.specs.List.{list_all};
-ghost use Rattle.streetmap_batch.specs.Names.{is_long, is_id_byte, is_key_byte, is_key, begins_alphanumeric, is_collection_id, is_title, is_time_property};
+ghost use Rattle.streetmap_batch.specs.Names.{is_long, is_id_byte, is_key_byte, is_key};
+ghost use Rattle.streetmap_batch.specs.Names.{begins_alphanumeric, is_collection_id, is_title};
+ghost use Rattle.streetmap_batch.specs.Names.{is_time_property};
 
 use streetmap_geojson::has_no_controls;
 
@@ -35,7 +37,8 @@ fn are_id_bytes(text: &[u8]) -> bool
     text.iter().all(|byte| is_id_byte(*byte))
 }
 
-/// Whether a text may be the key of a batch: 1 to 64 bytes, each an ASCII letter, a digit, or one of `.` `_` `-` `:`.
+/// Whether a text may be the key of a batch: 1 to 64 bytes, each an ASCII letter, a digit, or one
+/// of `.` `_` `-` `:`.
 #[tactic(auto, unfolding(crate::specs::Names::is_key))]
 pub fn is_key(text: &str) -> bool
     ensures { result ≡ is_key text.now }
@@ -52,8 +55,8 @@ fn begins_alphanumeric(text: &[u8]) -> bool
     }
 }
 
-/// Whether a text may be the id of a collection: 1 to 64 bytes, each an ASCII letter, a digit, or one of
-/// `.` `_` `-`, the first a letter or a digit.
+/// Whether a text may be the id of a collection: 1 to 64 bytes, each an ASCII letter, a digit, or
+/// one of `.` `_` `-`, the first a letter or a digit.
 #[tactic(auto, unfolding(crate::specs::Names::is_collection_id))]
 pub fn is_collection_id(text: &str) -> bool
     ensures { result ≡ is_collection_id text.now }

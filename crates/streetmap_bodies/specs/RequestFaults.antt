@@ -16,7 +16,12 @@ use Rattle.streetmap_ledger.specs.declared.reply.Fault.TheVariants as keeper_fau
 use Rattle.serde_json.specs.Data.{Data}
 use Rattle.streetmap_bodies.specs.Errors.{error_data}
 use Rattle.streetmap_bodies.specs.declared.request_fault.RequestFault.{RequestFault}
-use Rattle.streetmap_bodies.specs.declared.request_fault.RequestFault.TheVariants.{Framing, BadTarget, NotFound, MethodNotAllowed, Query, Batch, Refused, Keeper}
+use Rattle.streetmap_bodies.specs.declared.request_fault.RequestFault.TheVariants.{Framing}
+use Rattle.streetmap_bodies.specs.declared.request_fault.RequestFault.TheVariants.{BadTarget}
+use Rattle.streetmap_bodies.specs.declared.request_fault.RequestFault.TheVariants.{NotFound}
+use Rattle.streetmap_bodies.specs.declared.request_fault.RequestFault.TheVariants.{MethodNotAllowed}
+use Rattle.streetmap_bodies.specs.declared.request_fault.RequestFault.TheVariants.{Query, Batch}
+use Rattle.streetmap_bodies.specs.declared.request_fault.RequestFault.TheVariants.{Refused, Keeper}
 
 -- the name in the answer
 unfoldable pub code_of : RequestFault → Text
@@ -84,4 +89,5 @@ allow_of _ = None
 
 -- the body of the answer
 unfoldable pub fault_body : RequestFault → Data
-fault_body fault = error_data (code_of fault) (description_of fault) (place_of fault) (cause_of fault)
+fault_body fault = error_data (code_of fault) (description_of fault) (place_of fault)
+    (cause_of fault)

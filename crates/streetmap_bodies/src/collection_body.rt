@@ -23,7 +23,8 @@ fn extent_value(alloc: Global, area: GridBox) -> Result<Value, AllocError>
 
 /// The member `extent` and a comma, where there is a box.
 fn extent_text(alloc: Global, extent: Option<GridBox>) -> Result<String, AllocError>
-    ensures { IfOk result (λ text. string_bytes text ≡ spec.extent_text (option_map box_value extent)) }
+    ensures { IfOk result (λ text. string_bytes text
+        ≡ spec.extent_text (option_map box_value extent)) }
 {
     let mut out = String::new(alloc);
     if let Some(area) = extent {
@@ -47,7 +48,8 @@ fn links_of_collection(alloc: Global, here: &str, items: &str) -> Result<Value, 
 
 /// Appends the links of a collection.
 fn add_links(alloc: Global, out: &mut String, root: &str, name: &str) -> Result<(), AllocError>
-    ensures { OnOk result (string_bytes out.new ≡ string_bytes out.old ++ compact_text (spec.collection_links root.now name.now)) }
+    ensures { OnOk result (string_bytes out.new
+        ≡ string_bytes out.old ++ compact_text (spec.collection_links root.now name.now)) }
 {
     let here = collection_href(alloc, root, name)?;
     let items = items_href(alloc, root, name)?;
@@ -63,7 +65,9 @@ fn add_collection(
     root: &str,
     summary: &Summary,
 ) -> Result<(), AllocError>
-    ensures { OnOk result (string_bytes out.new ≡ string_bytes out.old ++ compact_text (spec.collection_data root.now (summary_value summary.now))) }
+    ensures { OnOk result (string_bytes out.new
+        ≡ string_bytes out.old ++ compact_text
+        (spec.collection_data root.now (summary_value summary.now))) }
 {
     let extent = extent_text(alloc, summary.extent)?;
     add(
@@ -87,7 +91,8 @@ fn add_collection(
 ///
 /// Want of memory alone.
 pub fn collection_text(alloc: Global, root: &str, summary: &Summary) -> Result<String, AllocError>
-    ensures { IfOk result (λ text. string_bytes text ≡ compact_text (spec.collection_data root.now (summary_value summary.now))) }
+    ensures { IfOk result (λ text. string_bytes text
+        ≡ compact_text (spec.collection_data root.now (summary_value summary.now))) }
 {
     let mut out = String::new(alloc);
     add_collection(alloc, &mut out, root, summary)?;
@@ -101,7 +106,9 @@ fn add_collections(
     root: &str,
     summaries: &[Summary],
 ) -> Result<(), AllocError>
-    ensures { OnOk result (string_bytes out.new ≡ string_bytes out.old ++ compact_text (array_of (spec.collection_data root.now) (summary_values summaries.now))) }
+    ensures { OnOk result (string_bytes out.new
+        ≡ string_bytes out.old ++ compact_text
+        (array_of (spec.collection_data root.now) (summary_values summaries.now))) }
 {
     out.push_str("[")?;
     let mut later = false;
@@ -123,7 +130,9 @@ fn self_link(alloc: Global, here: &str) -> Result<Value, AllocError>
 
 /// Appends the links of the collections.
 fn add_collections_link(alloc: Global, out: &mut String, root: &str) -> Result<(), AllocError>
-    ensures { OnOk result (string_bytes out.new ≡ string_bytes out.old ++ compact_text (spec.self_link (root.now ++ codes "/collections"))) }
+    ensures { OnOk result (string_bytes out.new
+        ≡ string_bytes out.old ++ compact_text
+        (spec.self_link (root.now ++ codes "/collections"))) }
 {
     let here = joined(alloc, root, "/collections")?;
     let links = self_link(alloc, here.as_str())?;
@@ -141,7 +150,8 @@ pub fn collections_text(
     root: &str,
     summaries: &[Summary],
 ) -> Result<String, AllocError>
-    ensures { IfOk result (λ text. string_bytes text ≡ compact_text (spec.collections_data root.now (summary_values summaries.now))) }
+    ensures { IfOk result (λ text. string_bytes text
+        ≡ compact_text (spec.collections_data root.now (summary_values summaries.now))) }
 {
     let mut out = String::new(alloc);
     add(&mut out, "{\"collections\":")?;

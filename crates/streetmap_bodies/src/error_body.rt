@@ -1,5 +1,6 @@
 //! The body of an error.
-ghost use Rattle.std.specs.Prelude.{◌≡◌, ◌≤◌, ◌+◌, ◌++◌, length, option_map, string_bytes, string_len, string_capacity};
+ghost use Rattle.std.specs.Prelude.{◌≡◌, ◌≤◌, ◌+◌, ◌++◌, length, option_map, string_bytes};
+ghost use Rattle.std.specs.Prelude.{string_len, string_capacity};
 ghost use Rattle.std.specs.Option.{ForSome, option_copied};
 ghost use Rattle.serde_json.specs.Written.{compact_text};
 ghost use Rattle.streetmap_bodies.specs.Errors.{error_data, cause_text, place_text};
@@ -11,7 +12,8 @@ use streetmap_http::{push, push_number};
 fn push_cause(out: &mut String, cause: Option<&str>)
     requires room { string_len out.old + 80 ≤ string_capacity out.old }
     requires plain { ForSome (option_copied cause) IsPlain }
-    ensures bytes { string_bytes out.new ≡ string_bytes out.old ++ cause_text (option_copied cause.entry) }
+    ensures bytes { string_bytes out.new
+        ≡ string_bytes out.old ++ cause_text (option_copied cause.entry) }
     ensures len { string_len out.new ≤ string_len out.old + 80 }
     ensures capacity { string_capacity out.old ≤ string_capacity out.new }
 {
@@ -36,8 +38,8 @@ fn push_place(out: &mut String, place: Option<u64>)
 }
 
 /// Appends the body of an error: its code and sentence, the place of the edit or feature at fault
-/// (counted from 1), where there is one, and the name of the fault within that feature, where there is
-/// one. There must be room for 320 bytes, so that no memory is taken.
+/// (counted from 1), where there is one, and the name of the fault within that feature, where there
+/// is one. There must be room for 320 bytes, so that no memory is taken.
 pub fn push_error(
     out: &mut String,
     code: &str,
@@ -49,7 +51,9 @@ pub fn push_error(
     requires plain_code { IsPlain code.now }
     requires plain_description { IsPlain description.now }
     requires plain_cause { ForSome (option_copied cause) IsPlain }
-    ensures bytes { string_bytes out.new ≡ string_bytes out.old ++ compact_text (error_data code.now description.now place (option_copied cause.entry)) }
+    ensures bytes { string_bytes out.new
+        ≡ string_bytes out.old ++ compact_text
+        (error_data code.now description.now place (option_copied cause.entry)) }
     ensures len { string_len out.new ≤ string_len out.old + 320 }
     ensures capacity { string_capacity out.old ≤ string_capacity out.new }
 {

@@ -32,7 +32,8 @@ fn feature_links(alloc: Global, root: &str, name: &str, id: &str) -> Result<Valu
 
 /// The members of a feature with its links.
 fn with_links(alloc: Global, members: Map<String, Value>, links: Value) -> Result<Value, AllocError>
-    ensures { IfOk result (λ v. view v ≡ object (put_member (codes "links") (view links) (members_view members.entries))) }
+    ensures { IfOk result (λ v. view v
+        ≡ object (put_member (codes "links") (view links) (members_view members.entries))) }
 {
     let mut members = members;
     put(&mut members, alloc, "links", links)?;
@@ -47,7 +48,8 @@ fn linked_feature(
     name: &str,
     feature: &Feature,
 ) -> Result<Value, AllocError>
-    ensures { IfOk result (λ v. view v ≡ spec.linked_feature_data root.now name.now (feature_value feature.now)) }
+    ensures { IfOk result (λ v. view v
+        ≡ spec.linked_feature_data root.now name.now (feature_value feature.now)) }
 {
     let links = feature_links(alloc, root, name, feature.id())?;
     match write_feature(alloc, feature)? {
@@ -67,7 +69,8 @@ pub fn feature_text(
     name: &str,
     feature: &Feature,
 ) -> Result<String, AllocError>
-    ensures { IfOk result (λ text. string_bytes text ≡ compact_text (spec.linked_feature_data root.now name.now (feature_value feature.now))) }
+    ensures { IfOk result (λ text. string_bytes text
+        ≡ compact_text (spec.linked_feature_data root.now name.now (feature_value feature.now))) }
 {
     feature.facts();
     let value = linked_feature(alloc, root, name, feature)?;

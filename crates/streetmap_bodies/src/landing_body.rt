@@ -16,7 +16,8 @@ fn landing_links(
     conformance: &str,
     collections: &str,
 ) -> Result<Value, AllocError>
-    ensures { IfOk result (λ v. view v ≡ spec.landing_links here.now api.now conformance.now collections.now) }
+    ensures { IfOk result (λ v. view v
+        ≡ spec.landing_links here.now api.now conformance.now collections.now) }
 {
     let here = link(alloc, here, "self", "application/json")?;
     let api = link(alloc, api, "service-doc", "text/html")?;

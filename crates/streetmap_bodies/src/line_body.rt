@@ -27,7 +27,8 @@ pub fn line_feature_text(alloc: Global, feature: &Feature) -> Result<String, All
 
 /// Appends the member `next`, where there is one.
 fn add_next(alloc: Global, out: &mut String, next: &Option<String>) -> Result<(), AllocError>
-    ensures { OnOk result (string_bytes out.new ≡ string_bytes out.old ++ next_text (option_map string_bytes next.now)) }
+    ensures { OnOk result (string_bytes out.new
+        ≡ string_bytes out.old ++ next_text (option_map string_bytes next.now)) }
 {
     match next {
         Some(id) => {
@@ -38,15 +39,16 @@ fn add_next(alloc: Global, out: &mut String, next: &Option<String>) -> Result<()
     }
 }
 
-/// The text of a page, as a line shows it: its features, the last id shown where more follow, and how
-/// many features are selected and shown.
+/// The text of a page, as a line shows it: its features, the last id shown where more follow, and
+/// how many features are selected and shown.
 ///
 /// # Errors
 ///
 /// Want of memory alone.
 #[tactic(auto, unfolding(crate::specs::Bodies::line_page_data))]
 pub fn line_page_text(alloc: Global, page: &Page) -> Result<String, AllocError>
-    ensures { IfOk result (λ text. string_bytes text ≡ compact_text (line_page_data (page_value page.now))) }
+    ensures { IfOk result (λ text. string_bytes text
+        ≡ compact_text (line_page_data (page_value page.now))) }
 {
     let features = page.features.as_slice();
     let mut out = String::new(alloc);

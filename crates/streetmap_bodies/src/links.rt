@@ -89,7 +89,8 @@ const ENCODED: AsciiSet = percent_encoding::ascii_set!(
 
 /// Appends the id of a feature as it stands in a path.
 fn add_id(out: &mut String, id: &str) -> Result<(), AllocError>
-    ensures { OnOk result (string_bytes out.new ≡ string_bytes out.old ++ percent_encode spec.encoded_bytes id.now) }
+    ensures { OnOk result (string_bytes out.new
+        ≡ string_bytes out.old ++ percent_encode spec.encoded_bytes id.now) }
 {
     utf8_percent_encode(id, ENCODED).append_to(out)
 }

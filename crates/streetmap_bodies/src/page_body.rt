@@ -1,5 +1,6 @@
 //! The body of a page, feature by feature.
-ghost use Rattle.std.specs.Prelude.{◌≡◌, ◌++◌, IfOk, OnOk, IfSome, IsTrue, option_map, string_bytes};
+ghost use Rattle.std.specs.Prelude.{◌≡◌, ◌++◌, IfOk, OnOk, IfSome, IsTrue, option_map};
+ghost use Rattle.std.specs.Prelude.{string_bytes};
 ghost use Rattle.std.specs.Option.{ForSome, option_copied};
 ghost use Rattle.serde_json.specs.View.{view};
 ghost use Rattle.serde_json.specs.Written.{compact_text};
@@ -37,7 +38,8 @@ fn add_links(
     here: &str,
     next: Option<&str>,
 ) -> Result<(), AllocError>
-    ensures { OnOk result (string_bytes out.new ≡ string_bytes out.old ++ compact_text (page_links here.now (option_copied next.entry))) }
+    ensures { OnOk result (string_bytes out.new
+        ≡ string_bytes out.old ++ compact_text (page_links here.now (option_copied next.entry))) }
 {
     let links = links_value(alloc, here, next)?;
     let text = links.to_string(alloc)?;
@@ -46,7 +48,8 @@ fn add_links(
 
 /// The address of a page itself.
 fn self_href(alloc: Global, root: &str, name: &str, query: &Query) -> Result<String, AllocError>
-    ensures { IfOk result (λ text. string_bytes text ≡ spec.self_href root.now name.now (query_value query.now)) }
+    ensures { IfOk result (λ text. string_bytes text
+        ≡ spec.self_href root.now name.now (query_value query.now)) }
 {
     let text = self_query(alloc, query)?;
     page_href(alloc, root, name, text.as_str())
@@ -61,7 +64,8 @@ fn next_href(
     last: &str,
 ) -> Result<String, AllocError>
     requires { IsTrue (is_id last.now) }
-    ensures { IfOk result (λ text. string_bytes text ≡ spec.next_href root.now name.now (query_value query.now) last.now) }
+    ensures { IfOk result (λ text. string_bytes text
+        ≡ spec.next_href root.now name.now (query_value query.now) last.now) }
 {
     let text = next_query(alloc, query, last)?;
     page_href(alloc, root, name, text.as_str())
@@ -77,7 +81,11 @@ fn add_page_links(
     next: &Option<String>,
 ) -> Result<(), AllocError>
     requires { ForSome (option_map string_bytes next.now) (λ id. IsTrue (is_id id)) }
-    ensures { OnOk result (string_bytes out.new ≡ string_bytes out.old ++ compact_text (page_links (spec.self_href root.now name.now (query_value query.now)) (option_map (spec.next_href root.now name.now (query_value query.now)) (option_map string_bytes next.now)))) }
+    ensures { OnOk result (string_bytes out.new
+        ≡ string_bytes out.old ++ compact_text
+        (page_links (spec.self_href root.now name.now (query_value query.now))
+        (option_map (spec.next_href root.now name.now (query_value query.now))
+        (option_map string_bytes next.now)))) }
 {
     let here = self_href(alloc, root, name, query)?;
     match next {
@@ -89,8 +97,9 @@ fn add_page_links(
     }
 }
 
-/// The body of a page (OGC 17-069, section 7.15): its features are appended one by one, with no value
-/// of the whole. `root` is the base of links without its last slash, and `name` the collection.
+/// The body of a page (OGC 17-069, section 7.15): its features are appended one by one, with no
+/// value of the whole. `root` is the base of links without its last slash, and `name` the
+/// collection.
 ///
 /// # Errors
 ///
@@ -103,7 +112,9 @@ pub fn page_text(
     query: &Query,
     page: &Page,
 ) -> Result<String, AllocError>
-    ensures { IfOk result (λ text. string_bytes text ≡ compact_text (page_data root.now name.now (query_value query.now) (page_value page.now))) }
+    ensures { IfOk result (λ text. string_bytes text
+        ≡ compact_text (page_data root.now name.now (query_value query.now)
+        (page_value page.now))) }
 {
     let features = page.features.as_slice();
     let mut out = String::new(alloc);

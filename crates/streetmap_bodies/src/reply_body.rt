@@ -1,5 +1,6 @@
 //! The body of the reply to a batch.
-ghost use Rattle.std.specs.Prelude.{◌≡◌, ◌≤◌, ◌+◌, ◌++◌, length, decimal, string_bytes, string_len, string_capacity};
+ghost use Rattle.std.specs.Prelude.{◌≡◌, ◌≤◌, ◌+◌, ◌++◌, length, decimal, string_bytes, string_len};
+ghost use Rattle.std.specs.Prelude.{string_capacity};
 ghost use Rattle.serde_json.specs.Written.{compact_text};
 ghost use Rattle.streetmap_batch.specs.BatchView.{batch_value};
 ghost use Rattle.streetmap_bodies.specs.Replies.{reply_data, reply_body};
@@ -22,13 +23,14 @@ fn push_count(out: &mut String, name: &str, number: u64)
     push_number(out, number);
 }
 
-/// Appends the body of the reply to an accepted or repeated batch: how many edits of each kind it has,
-/// its key and its serial. There must be room for 320 bytes, so that no memory is taken.
+/// Appends the body of the reply to an accepted or repeated batch: how many edits of each kind it
+/// has, its key and its serial. There must be room for 320 bytes, so that no memory is taken.
 pub fn push_reply(out: &mut String, key: &str, counts: Counts, serial: u64)
     requires room { string_len out.old + 320 ≤ string_capacity out.old }
     requires key { IsEscapeFree key.now }
     requires short { length key.now ≤ 64 }
-    ensures bytes { string_bytes out.new ≡ string_bytes out.old ++ compact_text (reply_data key.now counts serial) }
+    ensures bytes { string_bytes out.new
+        ≡ string_bytes out.old ++ compact_text (reply_data key.now counts serial) }
     ensures len { string_len out.new ≤ string_len out.old + 320 }
     ensures capacity { string_capacity out.old ≤ string_capacity out.new }
 {
@@ -42,12 +44,13 @@ pub fn push_reply(out: &mut String, key: &str, counts: Counts, serial: u64)
     push(out, "}");
 }
 
-/// Appends the body of the reply to a batch: of an accepted or repeated one the reply, of a refused one
-/// the error. There must be room for 320 bytes, so that no memory is taken.
+/// Appends the body of the reply to a batch: of an accepted or repeated one the reply, of a refused
+/// one the error. There must be room for 320 bytes, so that no memory is taken.
 #[tactic(auto, unfolding(crate::specs::Replies::reply_body))]
 pub fn push_reply_body(out: &mut String, batch: &Batch, reply: Reply)
     requires { string_len out.old + 320 ≤ string_capacity out.old }
-    ensures bytes { string_bytes out.new ≡ string_bytes out.old ++ compact_text (reply_body (batch_value batch.now).key reply) }
+    ensures bytes { string_bytes out.new
+        ≡ string_bytes out.old ++ compact_text (reply_body (batch_value batch.now).key reply) }
     ensures capacity { string_capacity out.old ≤ string_capacity out.new }
 {
     match reply {

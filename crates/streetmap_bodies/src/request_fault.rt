@@ -1,5 +1,6 @@
 //! Why a request is answered by an error.
-ghost use Rattle.std.specs.Prelude.{◌≡◌, ◌≤◌, ◌+◌, ◌++◌, option_map, string_bytes, string_len, string_capacity};
+ghost use Rattle.std.specs.Prelude.{◌≡◌, ◌≤◌, ◌+◌, ◌++◌, option_map, string_bytes, string_len};
+ghost use Rattle.std.specs.Prelude.{string_capacity};
 ghost use Rattle.std.specs.Option.{option_copied};
 ghost use Rattle.serde_json.specs.Written.{compact_text};
 ghost use Rattle.streetmap_bodies.specs.RequestFaults as spec;
@@ -125,7 +126,8 @@ impl RequestFault {
 #[tactic(auto, unfolding(crate::specs::RequestFaults::fault_body))]
 pub fn push_fault(out: &mut String, fault: &RequestFault)
     requires room { string_len out.old + 320 ≤ string_capacity out.old }
-    ensures bytes { string_bytes out.new ≡ string_bytes out.old ++ compact_text (fault_body fault.now) }
+    ensures bytes { string_bytes out.new
+        ≡ string_bytes out.old ++ compact_text (fault_body fault.now) }
     ensures capacity { string_capacity out.old ≤ string_capacity out.new }
 {
     let cause = fault.cause();

@@ -1,12 +1,14 @@
 -- What a check of tables answers.
-use Rattle.std.specs.Prelude.{◌≡◌, ◌⊎◌, ◌+◌, ℕ, List, [], ◌∷◌, length, Result, Ok, Err, IsTrue, map, codes, pos}
+use Rattle.std.specs.Prelude.{◌≡◌, ◌⊎◌, ◌+◌, ℕ, List, [], ◌∷◌, length, Result, Ok, Err, IsTrue}
+use Rattle.std.specs.Prelude.{map, codes, pos}
 use Rattle.sqlite.specs.Order.{Row}
 use Rattle.sqlite.specs.declared.types.Value.TheVariants.{Int, Text as Words}
 use Rattle.sqlite_rules.specs.Lists.{Has}
 use Rattle.streetmap_ledger.specs.WellFormed.{IsState}
 use Rattle.streetmap_rows.specs.Rows.{collection_cells, batch_cells}
 use Rattle.streetmap_rows.specs.Statements.{select_collections}
-use Rattle.streetmap_checking.specs.Statements.{select_formats, select_features, select_owners, select_batches}
+use Rattle.streetmap_checking.specs.Statements.{select_formats, select_features, select_owners}
+use Rattle.streetmap_checking.specs.Statements.{select_batches}
 use Rattle.streetmap_checking.specs.Seeing.{Sees}
 use Rattle.streetmap_checking.specs.Good.{feature_view, AreOwnerRows}
 use Rattle.std.specs.FinMap.{len, entries}
@@ -15,10 +17,13 @@ use Rattle.streetmap_batch.specs.Text.{Text}
 use Rattle.streetmap_ledger.specs.State.{State, Collection}
 use Rattle.streetmap_rows.specs.Failing.{IsOfStore, HasReason}
 use Rattle.streetmap_rows.specs.Keeping.{Rests}
-use Rattle.streetmap_checking.specs.Telling.{Known, SeesFormat, SeesHeads, SeesAllFeatures, SeesOwners, SeesBatches, NoFormat, NoHeads, NoFeaturesOfAll, NoOwners, NoBatches}
+use Rattle.streetmap_checking.specs.Telling.{Known, SeesFormat, SeesHeads, SeesAllFeatures}
+use Rattle.streetmap_checking.specs.Telling.{SeesOwners, SeesBatches, NoFormat, NoHeads}
+use Rattle.streetmap_checking.specs.Telling.{NoFeaturesOfAll, NoOwners, NoBatches}
 use Rattle.streetmap_checking.specs.declared.checking.Totals.{Totals}
 use Rattle.streetmap_checking.specs.declared.checking.CheckFault.{CheckFault}
-use Rattle.streetmap_checking.specs.declared.checking.CheckFault.TheVariants.{Damaged, Device, Memory}
+use Rattle.streetmap_checking.specs.declared.checking.CheckFault.TheVariants.{Damaged, Device}
+use Rattle.streetmap_checking.specs.declared.checking.CheckFault.TheVariants.{Memory}
 
 -- the rows that are shown are good, and so many
 pub record ShowsTotals (totals : Totals) (seen : Seen) : Type 0 where
@@ -32,7 +37,9 @@ pub record ShowsTotals (totals : Totals) (seen : Seen) : Type 0 where
 
 -- a statement is refused, or does not show good rows
 abbrev pub IsDamaged : Seen → Type 0
-IsDamaged seen = NoFormat seen ⊎ (NoHeads seen ⊎ (((heads : List Known) × SeesHeads heads seen × (NoFeaturesOfAll heads seen ⊎ NoOwners heads seen)) ⊎ NoBatches seen))
+IsDamaged seen = NoFormat seen
+    ⊎ (NoHeads seen ⊎ (((heads : List Known) × SeesHeads heads seen
+    × (NoFeaturesOfAll heads seen ⊎ NoOwners heads seen)) ⊎ NoBatches seen))
 
 -- how many features there are in these collections
 abbrev pub feature_count : List (Text × Collection) → ℕ
@@ -45,12 +52,18 @@ pub record AreTotals (s : State) (totals : Totals) : Type 0 where
   pub features : totals.features ≡ feature_count (entries s.collections)
   pub batches : totals.batches ≡ len s.keys
 
--- The rows that are shown are those of the state: the format's and no other, its collections in byte order of ids, of each its features in byte order of ids, and its batches in byte order of keys; and each row of a feature names a collection of it.
+-- The rows that are shown are those of the state: the format's and no other, its collections in
+-- byte order of ids, of each its features in byte order of ids, and its batches in byte order of
+-- keys; and each row of a feature names a collection of it.
 pub record ShowsState (s : State) (seen : Seen) : Type 0 where
   pub format : Sees select_formats [] seen ((Words (codes "format") ∷ Int (pos 2) ∷ []) ∷ [])
-  pub collections : Sees select_collections [] seen (map (λ e. collection_cells e.0 e.1) (entries s.collections))
-  pub features : (e : Text × Collection) → Has (entries s.collections) e → Sees select_features (Words e.0 ∷ []) seen (map (λ f. feature_view f.0 f.1) (entries e.1.features))
-  pub owners : (rows : List Row) × Sees select_owners [] seen rows × AreOwnerRows (map (λ e. e.0) (entries s.collections)) rows
+  pub collections : Sees select_collections [] seen
+      (map (λ e. collection_cells e.0 e.1) (entries s.collections))
+  pub features : (e : Text × Collection) → Has (entries s.collections) e
+      → Sees select_features (Words e.0 ∷ []) seen
+      (map (λ f. feature_view f.0 f.1) (entries e.1.features))
+  pub owners : (rows : List Row) × Sees select_owners [] seen rows
+      × AreOwnerRows (map (λ e. e.0) (entries s.collections)) rows
   pub batches : Sees select_batches [] seen (map (λ e. batch_cells e.0 e.1) (entries s.keys))
 
 -- the totals are the numbers of a well-formed state whose rows are shown
@@ -60,7 +73,8 @@ pub record IsOfState (totals : Totals) (seen : Seen) : Type 0 where
   pub shows : ShowsState state seen
   pub numbers : AreTotals state totals
 
--- What is answered is what the looks tell, whatever the tables are; but the store may fail, or memory be refused.
+-- What is answered is what the looks tell, whatever the tables are; but the store may fail, or
+-- memory be refused.
 abbrev pub ChecksBy : Seen → Result Totals CheckFault → Type 0
 ChecksBy seen (Ok totals) = IsOfState totals seen
 ChecksBy seen (Err Damaged) = IsDamaged seen
@@ -73,7 +87,8 @@ ChecksFor old new Damaged = Unit {0}
 ChecksFor old new (Device e) = HasReason old new e
 ChecksFor old new Memory = Unit {0}
 
--- The tables of a state are never damaged: the numbers are its own, and the connection rests at it. But the store may fail, or memory be refused, which changes nothing.
+-- The tables of a state are never damaged: the numbers are its own, and the connection rests at it.
+-- But the store may fail, or memory be refused, which changes nothing.
 abbrev pub Checks : State → Seen → Seen → Result Totals CheckFault → Type 0
 Checks s old new (Ok totals) = AreTotals s totals × Rests new s
 Checks s old new (Err Memory) = Rests new s

@@ -1,5 +1,6 @@
 -- Rows that are those of a state, table by table.
-use Rattle.std.specs.Prelude.{◌≡◌, ◌≢◌, ◌≤◌, ℕ, ℤ, T, List, [], ◌∷◌, map, length, drop, codes, pos, Option, option_map, IsTrue}
+use Rattle.std.specs.Prelude.{◌≡◌, ◌≢◌, ◌≤◌, ℕ, ℤ, T, List, [], ◌∷◌, map, length, drop, codes, pos}
+use Rattle.std.specs.Prelude.{Option, option_map, IsTrue}
 use Rattle.std.specs.List.{AllByRecursion}
 use Rattle.std.specs.FinMap.{is_sorted}
 use Rattle.sqlite.specs.declared.types.Value.TheVariants.{Int, Text as Words}
@@ -19,7 +20,8 @@ use Rattle.streetmap_ledger.specs.WellFormed.{IsPlaced, AreCounts}
 use Rattle.streetmap_rows.specs.Rows.{feature_cells, batch_cells}
 
 -- the rows of entries in byte order of their keys, each of which is fine
-pub record AreRowsOf {V : Type 0} (cells : Text → V → Row) (Fine : Text → V → Type 0) (rows : List Row) : Type 0 where
+pub record AreRowsOf {V : Type 0} (cells : Text → V → Row) (Fine : Text → V
+    → Type 0) (rows : List Row) : Type 0 where
   pub entries : List (Text × V)
   pub are : rows ≡ map (λ e. cells e.0 e.1) entries
   pub rising : T (is_sorted text_cmp entries)
@@ -63,20 +65,25 @@ HasTexts id body row = (column row 0 ≡ Words id) × (column row 1 ≡ Words bo
 -- so do the bounds of an extent, or NULLs
 abbrev pub HasExtent : Option BoxValue → Row → Type 0
 HasExtent e row =
-    (column row 2 ≡ or_null Int (option_map (λ (b : BoxValue). b.x0) e)) × (column row 3 ≡ or_null Int (option_map (λ (b : BoxValue). b.y0) e))
-    × (column row 4 ≡ or_null Int (option_map (λ (b : BoxValue). b.x1) e)) × (column row 5 ≡ or_null Int (option_map (λ (b : BoxValue). b.y1) e))
+    (column row 2 ≡ or_null Int (option_map (λ (b : BoxValue). b.x0) e))
+    × (column row 3 ≡ or_null Int (option_map (λ (b : BoxValue). b.y0) e))
+    × (column row 4 ≡ or_null Int (option_map (λ (b : BoxValue). b.x1) e))
+    × (column row 5 ≡ or_null Int (option_map (λ (b : BoxValue). b.y1) e))
 
 -- so do the seconds of a time
 abbrev pub HasSeconds : Option (ℤ × ℤ) → Row → Type 0
-HasSeconds o row = (column row 6 ≡ or_null Int (option_map (λ (s : ℤ × ℤ). s.0) o)) × (column row 7 ≡ or_null Int (option_map (λ (s : ℤ × ℤ). s.1) o))
+HasSeconds o row = (column row 6 ≡ or_null Int (option_map (λ (s : ℤ × ℤ). s.0) o))
+    × (column row 7 ≡ or_null Int (option_map (λ (s : ℤ × ℤ). s.1) o))
 
--- each stands under its id, with the time that this property tells, and beside it are its extent and its seconds
+-- each stands under its id, with the time that this property tells, and beside it are its extent
+-- and its seconds
 abbrev pub AreFeatureRows : Option Text → List Row → Type 0
 AreFeatureRows property = AreRowsOf feature_view (IsPlaced property)
 
 -- each names one of these collections
 abbrev pub AreOwnerRows : List Text → List Row → Type 0
-AreOwnerRows names rows = AllByRecursion (λ row. (name : Text) × Has names name × (row ≡ Words name ∷ [])) rows
+AreOwnerRows names rows = AllByRecursion (λ row. (name : Text) × Has names name
+    × (row ≡ Words name ∷ [])) rows
 
 -- ---- batches
 
@@ -86,7 +93,8 @@ HasNumber most row at = (n : ℕ) × (column row at ≡ Int (pos n)) × (n ≤ m
 
 -- a text and the counts of a batch stand in a row of a batch
 abbrev pub HasBatch : Row → Type 0
-HasBatch row = ((text : Text) × (column row 1 ≡ Words text)) × HasNumber most_edits row 2 × HasNumber most_edits row 3 × HasNumber most_edits row 4 × HasNumber most_edits row 5
+HasBatch row = ((text : Text) × (column row 1 ≡ Words text)) × HasNumber most_edits row 2
+    × HasNumber most_edits row 3 × HasNumber most_edits row 4 × HasNumber most_edits row 5
 
 -- a key, and the counts of a batch
 pub record IsAccepted (key : Text) (k : AcceptedBatch) : Type 0 where
@@ -104,4 +112,5 @@ abbrev pub serials_of : List (Text × AcceptedBatch) → List ℕ
 serials_of es = map (λ e. e.1.serial) es
 
 abbrev pub AreBatchRows : List Row → Type 0
-AreBatchRows rows = (are : AreRowsOf batch_cells IsAccepted rows) × AreSerials (serials_of are.entries)
+AreBatchRows rows = (are : AreRowsOf batch_cells IsAccepted rows)
+    × AreSerials (serials_of are.entries)

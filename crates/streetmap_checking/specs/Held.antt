@@ -1,11 +1,14 @@
 -- What is held of rows that were taken.
-use Rattle.std.specs.Prelude.{◌≡◌, ◌⊎◌, List, [], ◌∷◌, map, length, Option, None, Some, option_map, string_bytes, Vec}
+use Rattle.std.specs.Prelude.{◌≡◌, ◌⊎◌, List, [], ◌∷◌, map, length, Option, None, Some, option_map}
+use Rattle.std.specs.Prelude.{string_bytes, Vec}
 use Rattle.std.specs.declared.alloc.Global.{Global}
 use Rattle.std.specs.declared.cmp.Ordering.TheVariants.{Less}
 use Rattle.sqlite.specs.Order.{Row}
 use Rattle.streetmap_batch.specs.Text.{Text, text_cmp}
 use Rattle.streetmap_rows.specs.Rows.{batch_cells}
-use Rattle.streetmap_checking.specs.Good.{AreRowsOf, AreFormatRows, AreCollectionRows, AreFeatureRows, AreOwnerRows, IsAccepted, AreBatchRows, serials_of}
+use Rattle.streetmap_checking.specs.Good.{AreRowsOf, AreFormatRows, AreCollectionRows}
+use Rattle.streetmap_checking.specs.Good.{AreFeatureRows, AreOwnerRows, IsAccepted, AreBatchRows}
+use Rattle.streetmap_checking.specs.Good.{serials_of}
 use Rattle.streetmap_checking.specs.declared.formats.FormatRows.{FormatRows}
 use Rattle.streetmap_checking.specs.declared.collections.Head.{Head}
 use Rattle.streetmap_checking.specs.declared.features.FeatureRows.{FeatureRows}
@@ -26,7 +29,8 @@ Follows (Some last) key = text_cmp last key ≡ Less
 -- ---- the format
 
 abbrev pub HoldsFormat : FormatRows → FormatRows → List Row → Type 0
-HoldsFormat start now rows = ((rows ≡ []) × (now.found ≡ 0)) ⊎ (AreFormatRows rows × (now.found ≡ 1))
+HoldsFormat start now rows = ((rows ≡ []) × (now.found ≡ 0))
+    ⊎ (AreFormatRows rows × (now.found ≡ 1))
 
 abbrev pub IsGoodFormat : FormatRows → List Row → Type 0
 IsGoodFormat start rows = AreFormatRows rows
@@ -37,7 +41,8 @@ abbrev pub known : List Head → List (Text × Option Text)
 known heads = map (λ h. (string_bytes h.id, option_map string_bytes h.time)) heads
 
 abbrev pub HoldsHeads : Vec Head Global → Vec Head Global → List Row → Type 0
-HoldsHeads start now rows = (are : AreCollectionRows rows) × (known now.items ≡ map (λ e. (e.0, e.1.time)) are.entries)
+HoldsHeads start now rows = (are : AreCollectionRows rows)
+    × (known now.items ≡ map (λ e. (e.0, e.1.time)) are.entries)
 
 abbrev pub IsGoodHeads : Vec Head Global → List Row → Type 0
 IsGoodHeads start rows = AreCollectionRows rows

@@ -1,5 +1,6 @@
 -- What the looks of a check tell, whatever the tables are.
-use Rattle.std.specs.Prelude.{◌≡◌, ◌⊎◌, ℕ, ◌+◌, List, [], ◌∷◌, ◌++◌, map, length, Option, Result, Ok, Err}
+use Rattle.std.specs.Prelude.{◌≡◌, ◌⊎◌, ℕ, ◌+◌, List, [], ◌∷◌, ◌++◌, map, length, Option, Result}
+use Rattle.std.specs.Prelude.{Ok, Err}
 use Rattle.sqlite.specs.declared.types.Value.TheVariants.{Text as Words}
 use Rattle.sqlite.specs.Order.{Row}
 use Rattle.sqlite.specs.State.{State as Seen, IsUnchanged}
@@ -10,14 +11,18 @@ use Rattle.streetmap_rows.specs.Statements.{select_collections}
 use Rattle.streetmap_reading.specs.declared.fault.ReadFault.{ReadFault}
 use Rattle.streetmap_reading.specs.declared.fault.ReadFault.TheVariants.{Memory, Store, Unread}
 use Rattle.streetmap_opening.specs.Adopting.{IsAsItWas}
-use Rattle.streetmap_checking.specs.Statements.{select_formats, select_features, select_owners, select_batches}
+use Rattle.streetmap_checking.specs.Statements.{select_formats, select_features, select_owners}
+use Rattle.streetmap_checking.specs.Statements.{select_batches}
 use Rattle.streetmap_checking.specs.Seeing.{Sees, SeesFirst, IsUnseen}
-use Rattle.streetmap_checking.specs.Good.{AreFormatRows, AreCollectionRows, AreFeatureRows, AreOwnerRows, AreBatchRows}
+use Rattle.streetmap_checking.specs.Good.{AreFormatRows, AreCollectionRows, AreFeatureRows}
+use Rattle.streetmap_checking.specs.Good.{AreOwnerRows, AreBatchRows}
 
 -- a query is refused, or the rows that it shows, or those that it shows first, are not good
 abbrev pub ShowsNone : List ℕ → Row → (List Row → Type 0) → Seen → Type 0
 ShowsNone sql params Good seen =
-    IsUnseen sql params seen ⊎ (((rows : List Row) × SeesFirst sql params seen rows × ((later : List Row) → Good (rows ++ later) → ⊥)) ⊎ ((rows : List Row) × Sees sql params seen rows × (Good rows → ⊥)))
+    IsUnseen sql params seen ⊎ (((rows : List Row) × SeesFirst sql params seen rows
+    × ((later : List Row) → Good (rows ++ later) → ⊥))
+    ⊎ ((rows : List Row) × Sees sql params seen rows × (Good rows → ⊥)))
 
 -- a look tells why not, or the store failed, or memory was refused
 abbrev pub TellsWhy : Type 0 → Seen → Seen → ReadFault → Type 0
@@ -43,24 +48,30 @@ Known = Text × Option Text
 
 -- these collections are shown
 abbrev pub SeesHeads : List Known → Seen → Type 0
-SeesHeads heads seen = (rows : List Row) × Sees select_collections [] seen rows × (are : AreCollectionRows rows) × (heads ≡ map (λ e. (e.0, e.1.time)) are.entries)
+SeesHeads heads seen = (rows : List Row) × Sees select_collections [] seen rows
+    × (are : AreCollectionRows rows) × (heads ≡ map (λ e. (e.0, e.1.time)) are.entries)
 
 -- so many features of a collection are shown
 abbrev pub SeesFeatures : Known → ℕ → Seen → Type 0
-SeesFeatures head count seen = (rows : List Row) × Sees select_features (Words head.0 ∷ []) seen rows × (are : AreFeatureRows head.1 rows) × (count ≡ length are.entries)
+SeesFeatures head count seen = (rows : List Row)
+    × Sees select_features (Words head.0 ∷ []) seen rows × (are : AreFeatureRows head.1 rows)
+    × (count ≡ length are.entries)
 
 -- so many of all these collections
 abbrev pub SeesAllFeatures : List Known → ℕ → Seen → Type 0
 SeesAllFeatures [] count seen = count ≡ 0
-SeesAllFeatures (head ∷ heads) count seen = (first : ℕ) × (others : ℕ) × SeesFeatures head first seen × SeesAllFeatures heads others seen × (count ≡ first + others)
+SeesAllFeatures (head ∷ heads) count seen = (first : ℕ) × (others : ℕ)
+    × SeesFeatures head first seen × SeesAllFeatures heads others seen × (count ≡ first + others)
 
 -- each feature names one of these collections
 abbrev pub SeesOwners : List Known → Seen → Type 0
-SeesOwners heads seen = (rows : List Row) × Sees select_owners [] seen rows × AreOwnerRows (map (λ h. h.0) heads) rows
+SeesOwners heads seen = (rows : List Row) × Sees select_owners [] seen rows
+    × AreOwnerRows (map (λ h. h.0) heads) rows
 
 -- so many batches are shown
 abbrev pub SeesBatches : ℕ → Seen → Type 0
-SeesBatches count seen = (rows : List Row) × Sees select_batches [] seen rows × (are : AreBatchRows rows) × (count ≡ length are.0.entries)
+SeesBatches count seen = (rows : List Row) × Sees select_batches [] seen rows
+    × (are : AreBatchRows rows) × (count ≡ length are.0.entries)
 
 -- ---- why a look tells nothing
 

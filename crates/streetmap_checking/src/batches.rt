@@ -1,5 +1,6 @@
 //! The rows of accepted batches.
-ghost use Rattle.std.specs.Prelude.{◌≡◌, ◌≤◌, ◌<◌, ◌↔◌, ℕ, pos, length, IsTrue, IfOk, MatchOption, MatchResult, string_bytes};
+ghost use Rattle.std.specs.Prelude.{◌≡◌, ◌≤◌, ◌<◌, ◌↔◌, ℕ, pos, length, IsTrue, IfOk, MatchOption};
+ghost use Rattle.std.specs.Prelude.{MatchResult, string_bytes};
 ghost use Rattle.sqlite.specs.Order.{column};
 ghost use Rattle.sqlite.specs.declared.types.Value.TheVariants.{Int};
 ghost use Rattle.streetmap_batch.specs.Text.{Text};
@@ -38,7 +39,8 @@ struct KeptBatch {
 
 /// The number in a cell, where it is one from 0.
 fn number_at(row: &Row, at: usize) -> Option<u64>
-    ensures { MatchOption result (at < length row.now → (n : ℕ) → column row.now at ≡ Int (pos n) → ⊥) (λ n. (at < length row.now) × (column row.now at ≡ Int (pos n))) }
+    ensures { MatchOption result (at < length row.now → (n : ℕ) → column row.now at ≡ Int (pos n)
+        → ⊥) (λ n. (at < length row.now) × (column row.now at ≡ Int (pos n))) }
 {
     match row.get_ref(at) {
         Ok(ValueRef::Int(number)) => u64::try_from(number).ok(),
@@ -65,9 +67,10 @@ fn has_batch(row: &Row) -> bool
 
 /// What is kept of a batch, from its row.
 fn batch_in(row: &Row) -> Result<KeptBatch, ReadFault>
-    ensures { MatchResult result
-        (λ b. (k : AcceptedBatch) × (row.now ≡ batch_cells (string_bytes b.key) k) × (b.serial ≡ k.serial) × IsAccepted (string_bytes b.key) k)
-        (Refuses ((key : Text) (k : AcceptedBatch) → row.now ≡ batch_cells key k → IsAccepted key k → ⊥)) }
+    ensures { MatchResult result (λ b. (k : AcceptedBatch)
+        × (row.now ≡ batch_cells (string_bytes b.key) k) × (b.serial ≡ k.serial)
+        × IsAccepted (string_bytes b.key) k) (Refuses ((key : Text) (k : AcceptedBatch)
+        → row.now ≡ batch_cells key k → IsAccepted key k → ⊥)) }
 {
     if row.column_count() != 7 {
         return Err(ReadFault::Unread);

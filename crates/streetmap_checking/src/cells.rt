@@ -1,5 +1,7 @@
 //! What stands in the cells of a row, whatever it is.
-ghost use Rattle.std.specs.Prelude.{◌≡◌, ◌↔◌, ◌<◌, ◌+◌, suc, Option, None, Some, length, MatchOption, MatchResult, IfSome, IsTrue, IsUtf8, option_map, string_bytes};
+ghost use Rattle.std.specs.Prelude.{◌≡◌, ◌↔◌, ◌<◌, ◌+◌, suc, Option, None, Some, length};
+ghost use Rattle.std.specs.Prelude.{MatchOption, MatchResult, IfSome, IsTrue, IsUtf8, option_map};
+ghost use Rattle.std.specs.Prelude.{string_bytes};
 ghost use Rattle.std.specs.Option.{option_copied};
 ghost use Rattle.std.specs.declared.cmp.Ordering.TheVariants.{Less};
 ghost use Rattle.sqlite.specs.Order.{column};
@@ -25,7 +27,8 @@ pub fn is_text(row: &Row, at: usize, text: &[u8]) -> bool
 
 /// Whether a cell has a text.
 pub fn has_text(row: &Row, at: usize) -> bool
-    ensures { IsTrue result ↔ (at < length row.now) × ((text : Text) × (column row.now at ≡ Words text)) }
+    ensures { IsTrue result ↔ (at < length row.now)
+        × ((text : Text) × (column row.now at ≡ Words text)) }
 {
     matches!(row.get_ref(at), Ok(ValueRef::Text(_)))
 }
@@ -43,14 +46,19 @@ pub fn is_number(row: &Row, at: usize, number: Option<i64>) -> bool
 
 /// The text in a cell.
 pub fn text_at(row: &Row, at: usize) -> Result<String, ReadFault>
-    ensures { MatchResult result (λ text. (at < length row.now) × (column row.now at ≡ Words (string_bytes text))) (Refuses (at < length row.now → (t : Text) → column row.now at ≡ Words t → IsUtf8 t → ⊥)) }
+    ensures { MatchResult result (λ text. (at < length row.now)
+        × (column row.now at ≡ Words (string_bytes text))) (Refuses (at < length row.now
+        → (t : Text) → column row.now at ≡ Words t → IsUtf8 t → ⊥)) }
 {
     row.get::<String>(at).map_err(|error| unread(error))
 }
 
 /// The text in a cell, or none where it is NULL.
 pub fn text_if_at(row: &Row, at: usize) -> Result<Option<String>, ReadFault>
-    ensures { MatchResult result (λ text. (at < length row.now) × (column row.now at ≡ or_null Words (option_map string_bytes text))) (Refuses (at < length row.now → (t : Option Text) → column row.now at ≡ or_null Words t → IfSome t IsUtf8 → ⊥)) }
+    ensures { MatchResult result (λ text. (at < length row.now)
+        × (column row.now at ≡ or_null Words (option_map string_bytes text)))
+        (Refuses (at < length row.now → (t : Option Text) → column row.now at ≡ or_null Words t
+        → IfSome t IsUtf8 → ⊥)) }
 {
     row.get::<Option<String>>(at).map_err(|error| unread(error))
 }

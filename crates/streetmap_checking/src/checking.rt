@@ -7,7 +7,8 @@ ghost use Rattle.streetmap_ledger.specs.WellFormed.{IsState};
 ghost use Rattle.streetmap_rows.specs.Keeping.{Rests};
 ghost use Rattle.streetmap_opening.specs.Adopting.{IsAsItWas};
 ghost use Rattle.streetmap_checking.specs.Telling.{Looks};
-ghost use Rattle.streetmap_checking.specs.Checking.{ShowsState, ShowsTotals, IsDamaged, ChecksBy, ChecksFor};
+ghost use Rattle.streetmap_checking.specs.Checking.{ShowsState, ShowsTotals, IsDamaged, ChecksBy};
+ghost use Rattle.streetmap_checking.specs.Checking.{ChecksFor};
 ghost use Rattle.streetmap_checking.specs.Checking.{Checks};
 
 use crate::looks::{
@@ -40,7 +41,10 @@ pub enum CheckFault {
 
 /// The totals, or why there are none.
 fn look_at_all<S: Alter>(alloc: Global, conn: &mut Connection<S>) -> Result<Totals, ReadFault>
-    ensures looks { HasCleanDisk (state S.Store conn.new) → Looks (λ totals. ShowsTotals totals (state S.Store conn.old)) (IsDamaged (state S.Store conn.old)) (state S.Store conn.old) (state S.Store conn.new) result }
+    ensures looks { HasCleanDisk (state S.Store conn.new)
+        → Looks (λ totals. ShowsTotals totals (state S.Store conn.old))
+        (IsDamaged (state S.Store conn.old)) (state S.Store conn.old) (state S.Store conn.new)
+        result }
     ensures mode { conn.old.in_transaction ≡ false → conn.new.in_transaction ≡ false }
     ensures survives { Survives (state S.Store conn.old) (state S.Store conn.new) (λ _. ⊥) }
 {
@@ -65,18 +69,22 @@ fn look_at_all<S: Alter>(alloc: Global, conn: &mut Connection<S>) -> Result<Tota
 ///
 /// # Errors
 ///
-/// `Damaged` where a statement is refused or shows rows that are those of no ledger; `Memory` where memory
-/// was refused and the connection is open; `Device` where the store fails, by its error, or where memory
-/// is refused again while the connection is looked at.
+/// `Damaged` where a statement is refused or shows rows that are those of no ledger; `Memory` where
+/// memory was refused and the connection is open; `Device` where the store fails, by its error, or
+/// where memory is refused again while the connection is looked at.
 pub fn check_tables<S: Alter>(alloc: Global, conn: &mut Connection<S>) -> Result<Totals, CheckFault>
     requires { conn.old.in_transaction ≡ false }
     ensures idle { conn.new.in_transaction ≡ false }
     ensures survives { Survives (state S.Store conn.old) (state S.Store conn.new) (λ _. ⊥) }
-    ensures same { HasCleanDisk (state S.Store conn.new) → IsAsItWas (state S.Store conn.old) (state S.Store conn.new) }
+    ensures same { HasCleanDisk (state S.Store conn.new)
+        → IsAsItWas (state S.Store conn.old) (state S.Store conn.new) }
     ensures reason { HasCleanDisk (state S.Store conn.new) →
         IfErr result (ChecksFor (state S.Store conn.old) (state S.Store conn.new)) }
-    ensures tells { HasCleanDisk (state S.Store conn.new) → ChecksBy (state S.Store conn.old) result }
-    ensures checks { HasCleanDisk (state S.Store conn.new) → (s : State) → Rests (state S.Store conn.old) s → Checks s (state S.Store conn.old) (state S.Store conn.new) result }
+    ensures tells { HasCleanDisk (state S.Store conn.new)
+        → ChecksBy (state S.Store conn.old) result }
+    ensures checks { HasCleanDisk (state S.Store conn.new) → (s : State)
+        → Rests (state S.Store conn.old) s
+        → Checks s (state S.Store conn.old) (state S.Store conn.new) result }
 {
     match look_at_all(alloc, conn) {
         Ok(totals) => Ok(totals),
@@ -90,8 +98,8 @@ pub fn check_tables<S: Alter>(alloc: Global, conn: &mut Connection<S>) -> Result
     }
 }
 
-/// A well-formed state whose rows are shown, as those of the state whose numbers a check reports, is the
-/// state that the tables hold, where they hold one.
+/// A well-formed state whose rows are shown, as those of the state whose numbers a check reports,
+/// is the state that the tables hold, where they hold one.
 pub fn shown_state_is_kept<S: Alter>(conn: &Connection<S>)
     ensures { (s t : State) → IsState s → ShowsState s (state S.Store conn.now) →
         Rests (state S.Store conn.now) t → s ≡ t }

@@ -25,7 +25,8 @@ pub struct Head {
 
 /// A copy of a text, where there is one.
 fn copy_if(text: &Option<String>) -> Result<Option<String>, AllocError>
-    ensures { IfOk result (λ copy. option_map string_bytes copy ≡ option_map string_bytes text.now) }
+    ensures { IfOk result (λ copy. option_map string_bytes copy
+        ≡ option_map string_bytes text.now) }
 {
     match text {
         Some(text) => Ok(Some(text.clone()?)),
@@ -54,9 +55,13 @@ fn is_property(time: &Option<String>) -> bool
 
 /// What is kept of the collection of a row.
 fn head_in(row: &Row) -> Result<Head, ReadFault>
-    ensures { MatchResult result
-        (λ head. (title : Text) × (row.now ≡ head_cells (string_bytes head.id) (record { title = title; time = option_map string_bytes head.time })) × IsHead (string_bytes head.id) (record { title = title; time = option_map string_bytes head.time }))
-        (Refuses ((name : Text) (h : HeadValue) → row.now ≡ head_cells name h → IsHead name h → ⊥)) }
+    ensures { MatchResult result (λ head. (title : Text)
+        × (row.now ≡ head_cells (string_bytes head.id)
+        (record { title = title; time = option_map string_bytes head.time }))
+        × IsHead (string_bytes head.id)
+        (record { title = title; time = option_map string_bytes head.time }))
+        (Refuses ((name : Text) (h : HeadValue) → row.now ≡ head_cells name h → IsHead name h
+        → ⊥)) }
 {
     if row.column_count() != 3 {
         return Err(ReadFault::Unread);

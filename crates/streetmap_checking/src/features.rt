@@ -1,5 +1,6 @@
 //! The rows of a collection's features.
-ghost use Rattle.std.specs.Prelude.{◌≡◌, ◌↔◌, IsTrue, IfOk, MatchResult, length, option_map, string_bytes};
+ghost use Rattle.std.specs.Prelude.{◌≡◌, ◌↔◌, IsTrue, IfOk, MatchResult, length, option_map};
+ghost use Rattle.std.specs.Prelude.{string_bytes};
 ghost use Rattle.std.specs.Option.{option_copied};
 ghost use Rattle.streetmap_batch.specs.Text.{Text};
 ghost use Rattle.streetmap_geojson.specs.FeatureValue.{FeatureValue};
@@ -36,7 +37,10 @@ pub struct FeatureRows {
 
 /// The feature that a text reads as, under a collection's time property.
 fn read_body(alloc: Global, body: &[u8], property: Option<&str>) -> Result<Feature, ReadFault>
-    ensures { MatchResult result (λ f. IsStored (option_copied property.entry) f × ((g : FeatureValue) → body.now ≡ feature_text g → IsStored (option_copied property.entry) g → f ≡ g)) (Refuses ((g : FeatureValue) → body.now ≡ feature_text g → IsStored (option_copied property.entry) g → ⊥)) }
+    ensures { MatchResult result (λ f. IsStored (option_copied property.entry) f
+        × ((g : FeatureValue) → body.now ≡ feature_text g
+        → IsStored (option_copied property.entry) g → f ≡ g)) (Refuses ((g : FeatureValue)
+        → body.now ≡ feature_text g → IsStored (option_copied property.entry) g → ⊥)) }
 {
     let value = match read_json(alloc, body) {
         Ok(value) => value,
@@ -65,7 +69,8 @@ fn text_of(alloc: Global, feature: &Feature) -> Result<String, AllocError>
 
 /// Whether the bounds in a row of eight cells are those of an extent, or NULLs where there is none.
 fn has_extent(row: &Row, extent: Option<GridBox>) -> bool
-    ensures { length row.now ≡ 8 → (IsTrue result ↔ HasExtent (option_map box_value extent) row.now) }
+    ensures { length row.now ≡ 8 → (IsTrue result ↔ HasExtent (option_map box_value extent)
+        row.now) }
 {
     match extent {
         Some(extent) => {
@@ -85,7 +90,8 @@ fn has_extent(row: &Row, extent: Option<GridBox>) -> bool
 
 /// Whether the seconds in a row of eight cells are these, or NULLs where there are none.
 fn has_seconds(row: &Row, time: Option<Interval>) -> bool
-    ensures { length row.now ≡ 8 → (IsTrue result ↔ HasSeconds (option_map (λ i. seconds_of (interval_value i)) time) row.now) }
+    ensures { length row.now ≡ 8 → (IsTrue result ↔ HasSeconds
+        (option_map (λ i. seconds_of (interval_value i)) time) row.now) }
 {
     match time {
         Some(time) => {
@@ -106,7 +112,8 @@ fn has_texts(row: &Row, id: &str, body: &str) -> bool
 /// Whether the cells of a row of eight are those of a feature, by its text.
 #[tactic(auto, unfolding(streetmap_rows::specs::Rows::extent_in, streetmap_rows::specs::Rows::seconds_in))]
 fn has_cells(row: &Row, feature: &Feature, body: &str) -> bool
-    ensures { length row.now ≡ 8 → (IsTrue result ↔ HasTexts feature.now.id body.now row.now × HasExtent (extent_in feature.now) row.now × HasSeconds (seconds_in feature.now) row.now) }
+    ensures { length row.now ≡ 8 → (IsTrue result ↔ HasTexts feature.now.id body.now row.now
+        × HasExtent (extent_in feature.now) row.now × HasSeconds (seconds_in feature.now) row.now) }
 {
     has_texts(row, feature.id(), body)
         && has_extent(row, feature.extent())
@@ -115,7 +122,8 @@ fn has_cells(row: &Row, feature: &Feature, body: &str) -> bool
 
 /// Whether a row is that of a feature.
 fn is_row_of(alloc: Global, row: &Row, feature: &Feature) -> Result<bool, AllocError>
-    ensures { IfOk result (λ same. IsTrue same ↔ row.now ≡ feature_view feature.now.id feature.now) }
+    ensures { IfOk result (λ same. IsTrue same ↔ row.now
+        ≡ feature_view feature.now.id feature.now) }
 {
     if row.column_count() != 8 {
         return Ok(false);
@@ -126,9 +134,10 @@ fn is_row_of(alloc: Global, row: &Row, feature: &Feature) -> Result<bool, AllocE
 
 /// The feature of a row of a collection.
 fn feature_in(alloc: Global, row: &Row, head: &Head) -> Result<Feature, ReadFault>
-    ensures { MatchResult result
-        (λ f. (row.now ≡ feature_view f.id f) × IsPlaced (option_map string_bytes head.now.time) f.id f)
-        (Refuses ((id : Text) (f : FeatureValue) → row.now ≡ feature_view id f → IsPlaced (option_map string_bytes head.now.time) id f → ⊥)) }
+    ensures { MatchResult result (λ f. (row.now ≡ feature_view f.id f)
+        × IsPlaced (option_map string_bytes head.now.time) f.id f)
+        (Refuses ((id : Text) (f : FeatureValue) → row.now ≡ feature_view id f
+        → IsPlaced (option_map string_bytes head.now.time) id f → ⊥)) }
 {
     let Ok(ValueRef::Text(body)) = row.get_ref(1) else {
         return Err(ReadFault::Unread);

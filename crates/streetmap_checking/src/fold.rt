@@ -19,7 +19,8 @@ pub trait RowCheck {
     /// Rows that are good for one that begins so.
     ghost is_good: { Self → List Cells → Type 0 };
 
-    /// Takes the row that comes next; `Unread` where no good rows begin with it behind those before.
+    /// Takes the row that comes next; `Unread` where no good rows begin with it behind those
+    /// before.
     fn take(&mut self, row: &Row) -> Result<(), ReadFault>
         ensures { TakesRow holds is_good row.now self.old self.new result };
 }
@@ -27,9 +28,13 @@ pub trait RowCheck {
 /// Takes the next row, if there is one.
 fn take_next<S: Alter, F: RowCheck>(rows: &mut Rows<'_, S>, fold: &mut F) -> Result<bool, ReadFault>
     ensures same_reference { rows.new.conn.ghost_name ≡ rows.old.conn.ghost_name }
-    ensures takes { HasCleanDisk (state S.Store rows.new.conn.now) → TakesNext F.holds F.is_good S.Store rows.old.conn.now rows.new.conn.now fold.old fold.new result }
-    ensures mode { rows.old.conn.now.in_transaction ≡ false → rows.new.conn.now.in_transaction ≡ false }
-    ensures survives { Survives (state S.Store rows.old.conn.now) (state S.Store rows.new.conn.now) (λ _. ⊥) }
+    ensures takes { HasCleanDisk (state S.Store rows.new.conn.now)
+        → TakesNext F.holds F.is_good S.Store rows.old.conn.now rows.new.conn.now fold.old fold.new
+        result }
+    ensures mode { rows.old.conn.now.in_transaction ≡ false
+        → rows.new.conn.now.in_transaction ≡ false }
+    ensures survives { Survives (state S.Store rows.old.conn.now) (state S.Store rows.new.conn.now)
+        (λ _. ⊥) }
 {
     match rows.advance() {
         Ok(()) => {}
@@ -45,9 +50,13 @@ fn take_next<S: Alter, F: RowCheck>(rows: &mut Rows<'_, S>, fold: &mut F) -> Res
 /// Takes the rows of a query that has begun, up to the last.
 fn take_rest<S: Alter, F: RowCheck>(rows: &mut Rows<'_, S>, fold: &mut F) -> Result<(), ReadFault>
     ensures same_reference { rows.new.conn.ghost_name ≡ rows.old.conn.ghost_name }
-    ensures takes { HasCleanDisk (state S.Store rows.new.conn.now) → TakesRest F.holds F.is_good S.Store rows.old.conn.now rows.new.conn.now fold.old fold.new result }
-    ensures mode { rows.old.conn.now.in_transaction ≡ false → rows.new.conn.now.in_transaction ≡ false }
-    ensures survives { Survives (state S.Store rows.old.conn.now) (state S.Store rows.new.conn.now) (λ _. ⊥) }
+    ensures takes { HasCleanDisk (state S.Store rows.new.conn.now)
+        → TakesRest F.holds F.is_good S.Store rows.old.conn.now rows.new.conn.now fold.old fold.new
+        result }
+    ensures mode { rows.old.conn.now.in_transaction ≡ false
+        → rows.new.conn.now.in_transaction ≡ false }
+    ensures survives { Survives (state S.Store rows.old.conn.now) (state S.Store rows.new.conn.now)
+        (λ _. ⊥) }
 {
     'rows: for _ in 0..u64::MAX {
         let took = take_next(rows, fold)?;
@@ -65,9 +74,12 @@ pub fn fold_rows<S: Alter, F: RowCheck>(
     params: &[ValueRef<'_>],
     fold: &mut F,
 ) -> Result<(), ReadFault>
-    ensures takes { HasCleanDisk (state S.Store conn.new) → TakesAll F.holds F.is_good sql.now (bound params.now) (state S.Store conn.old) (state S.Store conn.new) fold.old fold.new result }
+    ensures takes { HasCleanDisk (state S.Store conn.new)
+        → TakesAll F.holds F.is_good sql.now (bound params.now) (state S.Store conn.old)
+        (state S.Store conn.new) fold.old fold.new result }
     ensures mode { conn.old.in_transaction ≡ false → conn.new.in_transaction ≡ false }
-    ensures survives { IsSimple sql.now → Survives (state S.Store conn.old) (state S.Store conn.new) (λ _. ⊥) }
+    ensures survives { IsSimple sql.now
+        → Survives (state S.Store conn.old) (state S.Store conn.new) (λ _. ⊥) }
 {
     match conn.query(sql, params) {
         Ok(mut rows) => take_rest(&mut rows, fold),

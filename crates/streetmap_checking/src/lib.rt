@@ -1,13 +1,13 @@
 //! A check of the tables of a ledger in a connection.
 //!
 //! `check_tables` reads all rows of the four tables, one after the other, and tells how many
-//! collections, features and batches they hold, where the rows are those of a ledger; else `Damaged`.
-//! A feature is read from its text, written again, and compared with it, and so are its stored extent
-//! and seconds. It writes nothing.
+//! collections, features and batches they hold, where the rows are those of a ledger; else
+//! `Damaged`. A feature is read from its text, written again, and compared with it, and so are its
+//! stored extent and seconds. It writes nothing.
 //!
-//! In the order of reading: `fold` (rows of a query, one after the other), `cells` (what stands in a
-//! row), `formats`, `collections`, `features`, `owners`, `batches` (the rows of each table), `looks`
-//! (one statement after the other), `checking`.
+//! In the order of reading: `fold` (rows of a query, one after the other), `cells` (what stands in
+//! a row), `formats`, `collections`, `features`, `owners`, `batches` (the rows of each table),
+//! `looks` (one statement after the other), `checking`.
 #![tactic(auto)]
 
 mod batches;

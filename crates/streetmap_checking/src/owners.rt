@@ -18,7 +18,8 @@ pub struct OwnerRows {
 
 /// Whether a row names one of these collections.
 fn names_one(row: &Row, heads: &[Head]) -> bool
-    ensures { IsTrue result ↔ ((name : Text) × Has (map (λ h. string_bytes h.id) heads.now) name × (row.now ≡ Words name ∷ [])) }
+    ensures { IsTrue result ↔ ((name : Text) × Has (map (λ h. string_bytes h.id) heads.now) name
+        × (row.now ≡ Words name ∷ [])) }
 {
     if row.column_count() != 1 {
         return false;

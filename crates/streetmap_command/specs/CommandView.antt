@@ -1,8 +1,12 @@
 -- A command as a value.
 use Rattle.std.specs.Prelude.{string_bytes}
 use Rattle.streetmap_command.specs.declared.command.Command.{Command}
-use Rattle.streetmap_command.specs.declared.command.Command.TheVariants.{Lines, Create, Pipe, Serve, Import, Export, Check}
-use Rattle.streetmap_command.specs.Program.{CommandValue, lines_command, create_command, pipe_command, serve_command, import_command, export_command, check_command}
+use Rattle.streetmap_command.specs.declared.command.Command.TheVariants.{Lines, Create, Pipe}
+use Rattle.streetmap_command.specs.declared.command.Command.TheVariants.{Serve, Import, Export}
+use Rattle.streetmap_command.specs.declared.command.Command.TheVariants.{Check}
+use Rattle.streetmap_command.specs.Program.{CommandValue, lines_command, create_command}
+use Rattle.streetmap_command.specs.Program.{pipe_command, serve_command, import_command}
+use Rattle.streetmap_command.specs.Program.{export_command, check_command}
 
 abbrev pub command_value : Command → CommandValue
 command_value Lines = lines_command

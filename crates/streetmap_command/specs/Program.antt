@@ -1,8 +1,11 @@
 -- The command line, as `clap` reads it.
-use Rattle.std.specs.Prelude.{ℕ, Bool, false, codes, decimal, List, Option, Some, None, length, unwrap_or, option_map, option_and_then, if◌then◌else◌, nat_lt, nat_le, true, ◌&&◌, ◌++◌}
+use Rattle.std.specs.Prelude.{ℕ, Bool, false, codes, decimal, List, Option, Some, None, length}
+use Rattle.std.specs.Prelude.{unwrap_or, option_map, option_and_then, if◌then◌else◌, nat_lt}
+use Rattle.std.specs.Prelude.{nat_le, true, ◌&&◌, ◌++◌}
 use Rattle.std.specs.Str.{bytes_eq, all_ascii_digits}
 use Rattle.std.specs.Str.Parse.{digits_value}
-use Rattle.clap.specs.Words.{App, Rule, Row, Text, new_app, new_rule, with_rule, with_subcommand, first_of, takes, subcommand_of}
+use Rattle.clap.specs.Words.{App, Rule, Row, Text, new_app, new_rule, with_rule, with_subcommand}
+use Rattle.clap.specs.Words.{first_of, takes, subcommand_of}
 use Rattle.clap.specs.declared.builder.action.ArgAction.TheVariants.{Set, SetTrue}
 
 -- a value that has to be given, by its place alone
@@ -33,28 +36,40 @@ abbrev pub pipe : App
 pipe = with_rule (with_rule (new_app (codes "pipe")) file) (option (codes "base"))
 
 abbrev pub serve : App
-serve = with_rule (with_rule (with_rule (with_rule (with_rule (with_rule (new_app (codes "serve")) file) (required_option (codes "port"))) (option (codes "count"))) (option (codes "clients"))) (flag (codes "log"))) (option (codes "base"))
+serve = with_rule (with_rule (with_rule
+    (with_rule (with_rule (with_rule (new_app (codes "serve")) file)
+    (required_option (codes "port"))) (option (codes "count"))) (option (codes "clients")))
+    (flag (codes "log"))) (option (codes "base"))
 
--- FILE, TEXT, the key, the collection, whether features are replaced, and whether it is told how far the import is
+-- FILE, TEXT, the key, the collection, whether features are replaced, and whether it is told how
+-- far the import is
 abbrev pub import : App
-import = with_rule (with_rule (with_rule (with_rule (with_rule (with_rule (new_app (codes "import")) file) (positional (codes "text"))) (required_option (codes "key"))) (required_option (codes "collection"))) (flag (codes "replace"))) (flag (codes "progress"))
+import = with_rule (with_rule (with_rule
+    (with_rule (with_rule (with_rule (new_app (codes "import")) file) (positional (codes "text")))
+    (required_option (codes "key"))) (required_option (codes "collection")))
+    (flag (codes "replace"))) (flag (codes "progress"))
 
 abbrev pub export : App
-export = with_rule (with_rule (with_rule (new_app (codes "export")) file) (required_option (codes "collection"))) (flag (codes "progress"))
+export = with_rule (with_rule (with_rule (new_app (codes "export")) file)
+    (required_option (codes "collection"))) (flag (codes "progress"))
 
 abbrev pub check : App
 check = with_rule (new_app (codes "check")) file
 
 -- the program with its subcommands
 abbrev pub program : App
-program = with_subcommand (with_subcommand (with_subcommand (with_subcommand (with_subcommand (with_subcommand (with_subcommand (new_app (codes "streetmap")) lines.top) create.top) pipe.top) serve.top) import.top) export.top) check.top
+program = with_subcommand (with_subcommand
+    (with_subcommand (with_subcommand
+    (with_subcommand (with_subcommand (with_subcommand (new_app (codes "streetmap")) lines.top)
+    create.top) pipe.top) serve.top) import.top) export.top) check.top
 
 -- what a command line asks for
 pub data CommandValue : Type 0 where
   lines_command : CommandValue
   create_command : (file : Text) → CommandValue
   pipe_command : (file base : Text) → CommandValue
-  serve_command : (file : Text) (port : ℕ) (count : Option ℕ) (clients : ℕ) (log : Bool) (base : Text) → CommandValue
+  serve_command : (file : Text) (port : ℕ) (count : Option ℕ) (clients : ℕ) (log : Bool)
+      (base : Text) → CommandValue
   import_command : (file text key collection : Text) (replace progress : Bool) → CommandValue
   export_command : (file collection : Text) (progress : Bool) → CommandValue
   check_command : (file : Text) → CommandValue
@@ -62,7 +77,8 @@ pub data CommandValue : Type 0 where
 -- decimal digits that write a number from 1 to `most`
 abbrev pub number_up_to : ℕ → Text → Option ℕ
 number_up_to most text =
-    if nat_lt 0 (length text) && all_ascii_digits text && nat_lt 0 (digits_value 10 text) && nat_le (digits_value 10 text) most
+    if nat_lt 0 (length text) && all_ascii_digits text && nat_lt 0 (digits_value 10 text)
+    && nat_le (digits_value 10 text) most
     then Some (digits_value 10 text) else None
 
 -- the base of links, where none is given
@@ -81,7 +97,8 @@ abbrev pub count_given : Option Text → Option (Option ℕ)
 count_given None = Some None
 count_given (Some text) = option_map Some (number_up_to 4294967295 text)
 
--- 1 to 1,024 clients at once; where none is given, one after the other if a count is, else 64 at once
+-- 1 to 1,024 clients at once; where none is given, one after the other if a count is, else 64 at
+-- once
 abbrev pub clients_given : (count : Option ℕ) → Option Text → Option ℕ
 clients_given None None = Some 64
 clients_given (Some n) None = Some 1
@@ -91,7 +108,9 @@ abbrev pub create_by : List Row → Option CommandValue
 create_by rows = option_map create_command (first_of (codes "file") rows)
 
 abbrev pub pipe_by : List Row → Option CommandValue
-pipe_by rows = option_map (λ f. pipe_command f (unwrap_or (first_of (codes "base") rows) plain_base)) (first_of (codes "file") rows)
+pipe_by rows = option_map (λ f.
+    pipe_command f (unwrap_or (first_of (codes "base") rows) plain_base))
+    (first_of (codes "file") rows)
 
 -- a flag is set: `clap` gives it the value `true` where it stands among the words, else `false`
 abbrev pub is_set : Option Text → Bool
@@ -101,25 +120,37 @@ is_set (Some value) = bytes_eq value (codes "true")
 -- what serves, of what is given for its file, port, count, clients, flag and base
 abbrev pub serve_given : (file port count clients log base : Option Text) → Option CommandValue
 serve_given file port count clients log base =
-    option_and_then (λ f. option_and_then (λ p. option_and_then (λ n. option_map (λ c. serve_command f p n c (is_set log) (unwrap_or base (base_at p))) (clients_given n clients)) (count_given count)) (port_given port)) file
+    option_and_then (λ f. option_and_then (λ p.
+    option_and_then (λ n. option_map (λ c.
+    serve_command f p n c (is_set log) (unwrap_or base (base_at p))) (clients_given n clients))
+    (count_given count)) (port_given port)) file
 
 abbrev pub serve_by : List Row → Option CommandValue
-serve_by rows = serve_given (first_of (codes "file") rows) (first_of (codes "port") rows) (first_of (codes "count") rows) (first_of (codes "clients") rows) (first_of (codes "log") rows) (first_of (codes "base") rows)
+serve_by rows = serve_given (first_of (codes "file") rows) (first_of (codes "port") rows)
+    (first_of (codes "count") rows) (first_of (codes "clients") rows) (first_of (codes "log") rows)
+    (first_of (codes "base") rows)
 
 -- what imports, of what is given for its file, text, key, collection and flags
-abbrev pub import_given : (file text key collection replace progress : Option Text) → Option CommandValue
+abbrev pub import_given : (file text key collection replace progress : Option Text)
+    → Option CommandValue
 import_given file text key collection replace progress =
-    option_and_then (λ f. option_and_then (λ t. option_and_then (λ k. option_map (λ c. import_command f t k c (is_set replace) (is_set progress)) collection) key) text) file
+    option_and_then (λ f. option_and_then (λ t.
+    option_and_then (λ k. option_map (λ c.
+    import_command f t k c (is_set replace) (is_set progress)) collection) key) text) file
 
 abbrev pub import_by : List Row → Option CommandValue
-import_by rows = import_given (first_of (codes "file") rows) (first_of (codes "text") rows) (first_of (codes "key") rows) (first_of (codes "collection") rows) (first_of (codes "replace") rows) (first_of (codes "progress") rows)
+import_by rows = import_given (first_of (codes "file") rows) (first_of (codes "text") rows)
+    (first_of (codes "key") rows) (first_of (codes "collection") rows)
+    (first_of (codes "replace") rows) (first_of (codes "progress") rows)
 
 -- what exports, of what is given for its file, collection and flag
 abbrev pub export_given : (file collection progress : Option Text) → Option CommandValue
-export_given file collection progress = option_and_then (λ f. option_map (λ c. export_command f c (is_set progress)) collection) file
+export_given file collection progress = option_and_then (λ f.
+    option_map (λ c. export_command f c (is_set progress)) collection) file
 
 abbrev pub export_by : List Row → Option CommandValue
-export_by rows = export_given (first_of (codes "file") rows) (first_of (codes "collection") rows) (first_of (codes "progress") rows)
+export_by rows = export_given (first_of (codes "file") rows) (first_of (codes "collection") rows)
+    (first_of (codes "progress") rows)
 
 abbrev pub check_by : List Row → Option CommandValue
 check_by rows = option_map check_command (first_of (codes "file") rows)
@@ -138,6 +169,7 @@ command_named name rows =
 abbrev pub command_by : Option (Text × List Row) → Option CommandValue
 command_by found = option_and_then (λ p. command_named p.0 p.1) found
 
--- what the words ask for, of which the first is the program's name: nothing where `clap` does not take them, or where they name no command
+-- what the words ask for, of which the first is the program's name: nothing where `clap` does not
+-- take them, or where they name no command
 abbrev pub asked_by : List Text → Option CommandValue
 asked_by words = if takes program words then command_by (subcommand_of program words) else None

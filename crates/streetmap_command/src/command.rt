@@ -1,9 +1,14 @@
 //! The command line.
-ghost use Rattle.std.specs.Prelude.{◌≡◌, ◌≢◌, [], map, IfOk, IfErr, Some, string_bytes, IsSome, IfSome, ◌≤◌, unwrap_or, option_map};
-ghost use Rattle.clap.specs.Words.{fault_of as fault_of_words, subcommand_of, subcommand_rows_of, kind_of, rows_of, found_of, first_of};
+ghost use Rattle.std.specs.Prelude.{◌≡◌, ◌≢◌, [], map, IfOk, IfErr, Some, string_bytes, IsSome};
+ghost use Rattle.std.specs.Prelude.{IfSome, ◌≤◌, unwrap_or, option_map};
+ghost use Rattle.clap.specs.Words.{fault_of as fault_of_words, subcommand_of, subcommand_rows_of};
+ghost use Rattle.clap.specs.Words.{kind_of, rows_of, found_of, first_of};
 ghost use Rattle.std.specs.List.{list_all};
 ghost use Rattle.std.specs.Char.{is_ascii_digit};
-ghost use Rattle.streetmap_command.specs.Program.{program, command_by, create_by, pipe_by, serve_by, import_by, export_by, check_by, number_up_to, port_given, count_given, clients_given, is_set, asked_by};
+ghost use Rattle.streetmap_command.specs.Program.{program, command_by, create_by, pipe_by};
+ghost use Rattle.streetmap_command.specs.Program.{serve_by, import_by, export_by, check_by};
+ghost use Rattle.streetmap_command.specs.Program.{number_up_to, port_given, count_given};
+ghost use Rattle.streetmap_command.specs.Program.{clients_given, is_set, asked_by};
 ghost use Rattle.streetmap_command.specs.CommandView.{command_value};
 
 use crate::parser::make_parser;
@@ -21,8 +26,8 @@ pub struct Connections {
     pub port: u16,
     /// How many are served in all: any number where none is given.
     pub count: Option<u32>,
-    /// How many are served at once, 1 to 1,024: 64 where no number is given, and one after the other
-    /// where a count alone is.
+    /// How many are served at once, 1 to 1,024: 64 where no number is given, and one after the
+    /// other where a count alone is.
     pub clients: u32,
     /// Whether each answer has a line on standard error.
     pub log: bool,
@@ -76,7 +81,8 @@ pub enum Command<'a> {
         collection: &'a str,
         progress: bool,
     },
-    /// `streetmap check FILE`: tell whether the rows of a file are those of a state, and how many there are.
+    /// `streetmap check FILE`: tell whether the rows of a file are those of a state, and how many
+    /// there are.
     Check {
         file: &'a str,
     },
@@ -140,7 +146,8 @@ fn has_flag(found: &ArgMatches<'_>, name: &str) -> bool
 
 /// The base that is given, or else `other`.
 fn read_base(alloc: Global, given: Option<&str>, other: &str) -> Result<String, AllocError>
-    ensures { IfOk result (λ base. string_bytes base ≡ unwrap_or (option_map (λ s. s.now) given.entry) other.now) }
+    ensures { IfOk result (λ base. string_bytes base
+        ≡ unwrap_or (option_map (λ s. s.now) given.entry) other.now) }
 {
     match given {
         Some(base) => String::from_str(alloc, base),
@@ -177,8 +184,10 @@ fn read_clients(given: Option<&str>, count: Option<u32>) -> Option<u32>
 
 /// The command `serve`, of what is given with it.
 fn read_serve<'a>(alloc: Global, found: &ArgMatches<'a>) -> Result<Command<'a>, CommandFault>
-    ensures found { IfOk result (λ c. Some (command_value c) ≡ serve_by (rows_of (found_of found.now))) }
-    ensures refused { IfErr result (λ e. IsSome (serve_by (rows_of (found_of found.now))) → e ≡ CommandFault.Memory) }
+    ensures found { IfOk result (λ c. Some (command_value c)
+        ≡ serve_by (rows_of (found_of found.now))) }
+    ensures refused { IfErr result (λ e. IsSome (serve_by (rows_of (found_of found.now)))
+        → e ≡ CommandFault.Memory) }
 {
     let file = value_of(found, "file").ok_or(CommandFault::Usage)?;
     let port = read_port(value_of(found, "port")).ok_or(CommandFault::Usage)?;
@@ -201,8 +210,10 @@ fn read_serve<'a>(alloc: Global, found: &ArgMatches<'a>) -> Result<Command<'a>, 
 
 /// The command `create`, of what is given with it.
 fn read_create<'a>(found: &ArgMatches<'a>) -> Result<Command<'a>, CommandFault>
-    ensures found { IfOk result (λ c. Some (command_value c) ≡ create_by (rows_of (found_of found.now))) }
-    ensures refused { IfErr result (λ e. IsSome (create_by (rows_of (found_of found.now))) → e ≡ CommandFault.Memory) }
+    ensures found { IfOk result (λ c. Some (command_value c)
+        ≡ create_by (rows_of (found_of found.now))) }
+    ensures refused { IfErr result (λ e. IsSome (create_by (rows_of (found_of found.now)))
+        → e ≡ CommandFault.Memory) }
 {
     let file = value_of(found, "file").ok_or(CommandFault::Usage)?;
     Ok(Command::Create { file })
@@ -210,8 +221,10 @@ fn read_create<'a>(found: &ArgMatches<'a>) -> Result<Command<'a>, CommandFault>
 
 /// The command `pipe`, of what is given with it.
 fn read_pipe<'a>(alloc: Global, found: &ArgMatches<'a>) -> Result<Command<'a>, CommandFault>
-    ensures found { IfOk result (λ c. Some (command_value c) ≡ pipe_by (rows_of (found_of found.now))) }
-    ensures refused { IfErr result (λ e. IsSome (pipe_by (rows_of (found_of found.now))) → e ≡ CommandFault.Memory) }
+    ensures found { IfOk result (λ c. Some (command_value c)
+        ≡ pipe_by (rows_of (found_of found.now))) }
+    ensures refused { IfErr result (λ e. IsSome (pipe_by (rows_of (found_of found.now)))
+        → e ≡ CommandFault.Memory) }
 {
     let file = value_of(found, "file").ok_or(CommandFault::Usage)?;
     let base = read_base(alloc, value_of(found, "base"), "http://localhost/")?;
@@ -220,8 +233,10 @@ fn read_pipe<'a>(alloc: Global, found: &ArgMatches<'a>) -> Result<Command<'a>, C
 
 /// The command `import`, of what is given with it.
 fn read_import<'a>(found: &ArgMatches<'a>) -> Result<Command<'a>, CommandFault>
-    ensures found { IfOk result (λ c. Some (command_value c) ≡ import_by (rows_of (found_of found.now))) }
-    ensures refused { IfErr result (λ e. IsSome (import_by (rows_of (found_of found.now))) → e ≡ CommandFault.Memory) }
+    ensures found { IfOk result (λ c. Some (command_value c)
+        ≡ import_by (rows_of (found_of found.now))) }
+    ensures refused { IfErr result (λ e. IsSome (import_by (rows_of (found_of found.now)))
+        → e ≡ CommandFault.Memory) }
 {
     let file = value_of(found, "file").ok_or(CommandFault::Usage)?;
     let text = value_of(found, "text").ok_or(CommandFault::Usage)?;
@@ -239,8 +254,10 @@ fn read_import<'a>(found: &ArgMatches<'a>) -> Result<Command<'a>, CommandFault>
 
 /// The command `export`, of what is given with it.
 fn read_export<'a>(found: &ArgMatches<'a>) -> Result<Command<'a>, CommandFault>
-    ensures found { IfOk result (λ c. Some (command_value c) ≡ export_by (rows_of (found_of found.now))) }
-    ensures refused { IfErr result (λ e. IsSome (export_by (rows_of (found_of found.now))) → e ≡ CommandFault.Memory) }
+    ensures found { IfOk result (λ c. Some (command_value c)
+        ≡ export_by (rows_of (found_of found.now))) }
+    ensures refused { IfErr result (λ e. IsSome (export_by (rows_of (found_of found.now)))
+        → e ≡ CommandFault.Memory) }
 {
     let file = value_of(found, "file").ok_or(CommandFault::Usage)?;
     let collection = value_of(found, "collection").ok_or(CommandFault::Usage)?;
@@ -254,8 +271,10 @@ fn read_export<'a>(found: &ArgMatches<'a>) -> Result<Command<'a>, CommandFault>
 
 /// The command `check`, of what is given with it.
 fn read_check<'a>(found: &ArgMatches<'a>) -> Result<Command<'a>, CommandFault>
-    ensures found { IfOk result (λ c. Some (command_value c) ≡ check_by (rows_of (found_of found.now))) }
-    ensures refused { IfErr result (λ e. IsSome (check_by (rows_of (found_of found.now))) → e ≡ CommandFault.Memory) }
+    ensures found { IfOk result (λ c. Some (command_value c)
+        ≡ check_by (rows_of (found_of found.now))) }
+    ensures refused { IfErr result (λ e. IsSome (check_by (rows_of (found_of found.now)))
+        → e ≡ CommandFault.Memory) }
 {
     let file = value_of(found, "file").ok_or(CommandFault::Usage)?;
     Ok(Command::Check { file })
@@ -263,8 +282,10 @@ fn read_check<'a>(found: &ArgMatches<'a>) -> Result<Command<'a>, CommandFault>
 
 /// The command that was found, by its name and what is given with it.
 fn command_of<'a>(alloc: Global, matches: &ArgMatches<'a>) -> Result<Command<'a>, CommandFault>
-    ensures found { IfOk result (λ c. Some (command_value c) ≡ command_by (subcommand_rows_of matches.now)) }
-    ensures refused { IfErr result (λ e. IsSome (command_by (subcommand_rows_of matches.now)) → e ≡ CommandFault.Memory) }
+    ensures found { IfOk result (λ c. Some (command_value c)
+        ≡ command_by (subcommand_rows_of matches.now)) }
+    ensures refused { IfErr result (λ e. IsSome (command_by (subcommand_rows_of matches.now))
+        → e ≡ CommandFault.Memory) }
 {
     let Some((name, found)) = matches.subcommand() else {
         return Err(CommandFault::Usage);
@@ -296,14 +317,17 @@ fn fault_of(error: &Error) -> CommandFault
 ///
 /// # Errors
 ///
-/// `Usage` where `clap` does not take the words or a port or a count is out of its range, and `Memory`
-/// where memory was refused.
+/// `Usage` where `clap` does not take the words or a port or a count is out of its range, and
+/// `Memory` where memory was refused.
 pub fn read_command<'a>(alloc: Global, words: &'a [String]) -> Result<Command<'a>, CommandFault>
     // What is read is what the words ask for, and `clap` finds no fault in them.
-    ensures found { IfOk result (λ c. Some (command_value c) ≡ command_by (subcommand_of program (map string_bytes words.entry.now))) }
-    ensures faultless { IfOk result (λ _. fault_of_words program (map string_bytes words.entry.now) ≡ []) }
+    ensures found { IfOk result (λ c. Some (command_value c)
+        ≡ command_by (subcommand_of program (map string_bytes words.entry.now))) }
+    ensures faultless { IfOk result (λ _. fault_of_words program (map string_bytes words.entry.now)
+        ≡ []) }
     // Words that ask for a command are refused for memory alone.
-    ensures asked { IfErr result (λ e. IsSome (asked_by (map string_bytes words.entry.now)) → e ≡ CommandFault.Memory) }
+    ensures asked { IfErr result (λ e. IsSome (asked_by (map string_bytes words.entry.now))
+        → e ≡ CommandFault.Memory) }
 {
     let parser = match make_parser(alloc) {
         Ok(parser) => parser,

@@ -2,7 +2,8 @@
 ghost use Rattle.std.specs.Prelude.{◌≡◌, IfOk, false};
 ghost use Rattle.clap.specs.Words.{App, Rule, app_of, rule_of, with_rule, with_subcommand};
 ghost use Rattle.clap.specs.declared.builder.command.Command.TheViews.{out-Command as fields_of};
-ghost use Rattle.streetmap_command.specs.Program.{program, positional, option, required_option, flag, create, pipe, serve, import, export, check};
+ghost use Rattle.streetmap_command.specs.Program.{program, positional, option, required_option};
+ghost use Rattle.streetmap_command.specs.Program.{flag, create, pipe, serve, import, export, check};
 
 use clap::{Arg, ArgAction, Command};
 use std::alloc::{AllocError, Global};
@@ -44,8 +45,11 @@ fn with_argument<'a>(
     command: Result<Command<'a>, AllocError>,
     argument: Arg<'a>,
 ) -> Result<Command<'a>, AllocError>
-    ensures app { (a : App) (r : Rule) → IfOk command.entry (λ c. app_of c ≡ a) → rule_of argument.entry ≡ r → argument.entry.global ≡ false → IfOk result (λ c. app_of c ≡ with_rule a r) }
-    ensures local { IfOk command.entry (λ c. (fields_of c).has_globals ≡ false) → argument.entry.global ≡ false → IfOk result (λ c. (fields_of c).has_globals ≡ false) }
+    ensures app { (a : App) (r : Rule) → IfOk command.entry (λ c. app_of c ≡ a)
+        → rule_of argument.entry ≡ r → argument.entry.global ≡ false
+        → IfOk result (λ c. app_of c ≡ with_rule a r) }
+    ensures local { IfOk command.entry (λ c. (fields_of c).has_globals ≡ false)
+        → argument.entry.global ≡ false → IfOk result (λ c. (fields_of c).has_globals ≡ false) }
 {
     command?.arg(argument)
 }
@@ -55,7 +59,9 @@ fn with_subcommand<'a>(
     command: Result<Command<'a>, AllocError>,
     subcommand: Result<Command<'a>, AllocError>,
 ) -> Result<Command<'a>, AllocError>
-    ensures { (a b : App) → IfOk command.entry (λ c. app_of c ≡ a) → IfOk subcommand.entry (λ c. app_of c ≡ b) → IfOk subcommand.entry (λ c. (fields_of c).has_globals ≡ false)
+    ensures { (a b : App) → IfOk command.entry (λ c. app_of c ≡ a)
+        → IfOk subcommand.entry (λ c. app_of c ≡ b)
+        → IfOk subcommand.entry (λ c. (fields_of c).has_globals ≡ false)
         → IfOk result (λ c. app_of c ≡ with_subcommand a b.top) }
 {
     command?.subcommand(subcommand?)

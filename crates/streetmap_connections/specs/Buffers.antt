@@ -7,7 +7,12 @@ use Rattle.streetmap_connections.specs.History.{Exchange, History}
 use Rattle.streetmap_connections.specs.Outgoings.{unsent_of}
 
 abbrev pub exchange_of : List ℕ → Turn → Exchange
-exchange_of input t = record { request = take t.len input; text = answer_text t.answer; closes = t.closes }
+exchange_of input t = record {
+  request = take t.len input;
+  text = answer_text t.answer;
+  closes
+      = t.closes;
+}
 
 abbrev pub history_of : Buffers → History
 history_of b = record {

@@ -1,5 +1,6 @@
 -- What a contract sees of a client.
-use Rattle.std.specs.Prelude.{◌≡◌, ◌⊎◌, ◌-◌, ◌<◌, ◌||◌, ℕ, Bool, false, List, [], Option, if◌then◌else◌}
+use Rattle.std.specs.Prelude.{◌≡◌, ◌⊎◌, ◌-◌, ◌<◌, ◌||◌, ℕ, Bool, false, List, [], Option}
+use Rattle.std.specs.Prelude.{if◌then◌else◌}
 use Rattle.streetmap_connections.specs.declared.client.Client.{Client}
 use Rattle.streetmap_connections.specs.declared.client.TheConstants.{LAST_PATIENCE}
 use Rattle.streetmap_connections.specs.Connections.{history}
@@ -32,7 +33,11 @@ module _ {S : Type 0} where
 
   -- its stream became ready
   abbrev pub woken : Bool → Bool → Client S → Client S
-  woken readable writable c = record c { readable = c.readable || readable; writable = c.writable || writable }
+  woken readable writable c = record c {
+    readable = c.readable || readable;
+    writable = c.writable
+        || writable;
+  }
 
   -- the time from which its patience is counted is now, or the one before
   abbrev pub IsTimed : ℕ → Client S → Client S → Type 0

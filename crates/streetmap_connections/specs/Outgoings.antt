@@ -13,4 +13,5 @@ unsent_of o = drop o.head_sent (head_bytes o.answer) ++ drop o.body_sent (body_b
 
 -- what is sent next: the rest of the head, or else of the body
 abbrev pub next_of : Outgoing → List ℕ
-next_of o = first_of (drop o.head_sent (head_bytes o.answer)) (drop o.body_sent (body_bytes o.answer))
+next_of o = first_of (drop o.head_sent (head_bytes o.answer))
+    (drop o.body_sent (body_bytes o.answer))

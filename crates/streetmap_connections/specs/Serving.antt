@@ -9,29 +9,38 @@ use Rattle.streetmap_connections.specs.Interleaving.{GoesOnAs}
 use Rattle.streetmap_connections.specs.Moves.{Moves}
 use Rattle.streetmap_connections.specs.Leads.{Answering, Leads, Calls}
 
--- One list of exchanges leads the service from one state to the other, each answered in the state that the one before
+-- One list of exchanges leads the service from one state to the other, each answered in the state
+-- that the one before
 -- left. It is an interleaving of the clients' own lists, and each client's connection is in order.
-pub record Serves {V S : Type 0} (answers : Answering V) (old new : V) (before after : List (Client S)) : Type 0 where
+pub record Serves {V S : Type 0} (answers : Answering V) (old new : V)
+    (before after : List (Client S)) : Type 0 where
   pub exchanges : List Exchange
   pub leads : Leads answers old exchanges new
   pub interleaved : GoesOnAs (map exchanges_of before) exchanges (map exchanges_of after)
   pub in_order : All IsOrderly after
 
 -- the last of the clients had its turn
-pub record LastServed {V S : Type 0} (remaining contents : S → Option (List ℕ)) (answers : Answering V) (old new : V) (before after : List (Client S)) : Type 0 where
+pub record LastServed {V S : Type 0} (remaining contents : S
+    → Option (List ℕ)) (answers : Answering V) (old new : V) (before after : List (Client S)) : Type
+    0 where
   pub others : List (Client S)
   pub client : Client S
   pub served : Client S
   pub was : before ≡ others ++ client ∷ []
   pub is : after ≡ others ++ served ∷ []
-  pub moves : Moves MOST_INPUT (place_of remaining contents client) (place_of remaining contents served)
+  pub moves : Moves MOST_INPUT (place_of remaining contents client)
+      (place_of remaining contents served)
   pub calls : Calls answers old new (exchanges_of client) (exchanges_of served)
 
 -- the last of the clients had its turn, or nothing was done
-abbrev pub TakesTurn : {V S : Type 0} → (S → Option (List ℕ)) → (S → Option (List ℕ)) → Answering V → V → V → List (Client S) → List (Client S) → Type 0
-TakesTurn remaining contents answers old new before after = LastServed remaining contents answers old new before after ⊎ ((after ≡ before) × (new ≡ old))
+abbrev pub TakesTurn : {V S : Type 0} → (S → Option (List ℕ)) → (S → Option (List ℕ)) → Answering V
+    → V → V → List (Client S) → List (Client S) → Type 0
+TakesTurn remaining contents answers old new before after = LastServed remaining contents answers
+    old new before after ⊎ ((after ≡ before) × (new ≡ old))
 
 -- each client received what its own stream gave, and was sent what was written to it; none was read
 -- while as much of its input waited as the longest request has
-abbrev pub EachMoves : {S : Type 0} → (S → Option (List ℕ)) → (S → Option (List ℕ)) → List (Client S) → List (Client S) → Type 0
-EachMoves remaining contents before after = AllZip (λ c d. Moves MOST_INPUT (place_of remaining contents c) (place_of remaining contents d)) before after
+abbrev pub EachMoves : {S : Type 0} → (S → Option (List ℕ)) → (S → Option (List ℕ))
+    → List (Client S) → List (Client S) → Type 0
+EachMoves remaining contents before after = AllZip (λ c d.
+    Moves MOST_INPUT (place_of remaining contents c) (place_of remaining contents d)) before after

@@ -1,5 +1,6 @@
 -- The clients of slots, those that ended first.
-use Rattle.std.specs.Prelude.{◌≡◌, ◌≤◌, ◌-◌, ℕ, Bool, List, [], ◌∷◌, ◌++◌, map, flat_map, Option, Some, None, option_map, IsSome, All, slice_get}
+use Rattle.std.specs.Prelude.{◌≡◌, ◌≤◌, ◌-◌, ℕ, Bool, List, [], ◌∷◌, ◌++◌, map, flat_map, Option}
+use Rattle.std.specs.Prelude.{Some, None, option_map, IsSome, All, slice_get}
 use Rattle.streetmap_connections.specs.declared.client.Client.{Client}
 use Rattle.streetmap_connections.specs.declared.slot.Slot.{Slot}
 use Rattle.streetmap_connections.specs.Clients.{IsAtRest, IsIdle, IsLate, woken}
@@ -41,11 +42,13 @@ module _ {S : Type 0} where
 
   -- the client at this place is idle, and none is idle for longer
   abbrev pub IsLongestIdleAt : ℕ → List (Slot S) → ℕ → Type 0
-  IsLongestIdleAt now slots place = (s : Slot S) × (slice_get slots place ≡ Some s) × (n : ℕ) × IdlesFor now s n × NoneIdlesBeyond now n slots
+  IsLongestIdleAt now slots place = (s : Slot S) × (slice_get slots place ≡ Some s) × (n : ℕ)
+      × IdlesFor now s n × NoneIdlesBeyond now n slots
 
   -- the client at this place came at this time
   abbrev pub CameAt : ℕ → List (Slot S) → ℕ → Type 0
-  CameAt now slots place = (s : Slot S) × (slice_get slots place ≡ Some s) × (c : Client S) × (s.client ≡ Some c) × (c.since ≡ now)
+  CameAt now slots place = (s : Slot S) × (slice_get slots place ≡ Some s) × (c : Client S)
+      × (s.client ≡ Some c) × (c.since ≡ now)
 
   -- the stream of its client became ready
   abbrev pub woken_in : Bool → Bool → Slot S → Slot S
@@ -53,7 +56,8 @@ module _ {S : Type 0} where
 
   -- a late client of the slot has ended as it was, the last one there, and the slot is free
   abbrev pub EndsLate : ℕ → ℕ → Slot S → Slot S → Type 0
-  EndsLate now patience old new = All (λ c. IsLate now patience c → (new.client ≡ None) × (past_of new ≡ past_of old ++ c ∷ [])) (present old.client)
+  EndsLate now patience old new = All (λ c. IsLate now patience c → (new.client ≡ None)
+      × (past_of new ≡ past_of old ++ c ∷ [])) (present old.client)
 
   -- those that ended, over all slots
   abbrev pub ended_in : List (Slot S) → List (Client S)

@@ -48,7 +48,8 @@ pub(crate) struct Buffers {
 impl Buffers {
     ghost use Rattle.streetmap_connections.specs.Buffers.{history_of};
     ghost use Rattle.streetmap_connections.specs.Cuts.{HasNone, HasNoneBefore};
-    ghost use Rattle.streetmap_connections.specs.History.{Exchange, MayFollow, new_history, after_receive, after_answer, after_send};
+    ghost use Rattle.streetmap_connections.specs.History.{Exchange, MayFollow, new_history};
+    ghost use Rattle.streetmap_connections.specs.History.{after_receive, after_answer, after_send};
 
     /// Nothing, which takes no memory.
     pub(crate) fn new(alloc: Global) -> Buffers
@@ -90,13 +91,16 @@ impl Buffers {
     pub(crate) fn answer<V: Service>(&mut self, service: &mut V) -> bool
         requires sent { (history_of self.old).unsent ≡ [] }
         requires stays { (history_of self.old).closes ≡ false }
-        ensures answered { OnTrue result ((e : Exchange) × MayFollow V.is_request (history_of self.old) e
+        ensures answered { OnTrue result ((e : Exchange)
+            × MayFollow V.is_request (history_of self.old) e
             × V.answers service.old e.request e.text e.closes service.new
             × (history_of self.new ≡ after_answer (history_of self.old) e)) }
-        ensures waits { OnFalse result ((history_of self.new ≡ history_of self.old) × (service.new ≡ service.old)) }
+        ensures waits { OnFalse result ((history_of self.new ≡ history_of self.old)
+            × (service.new ≡ service.old)) }
         ensures begins { OnTrue result (self.new.needs ≡ 1) }
         ensures none { OnFalse result (HasNone V.is_request (history_of self.old).unread) }
-        ensures awaits { OnFalse result ((length (history_of self.old).unread < self.new.needs) × HasNoneBefore V.is_request (history_of self.old).unread self.new.needs) }
+        ensures awaits { OnFalse result ((length (history_of self.old).unread < self.new.needs)
+            × HasNoneBefore V.is_request (history_of self.old).unread self.new.needs) }
     {
         match service.cut(self.input.as_slice()) {
             Cut::Waits(needs) => {
@@ -136,7 +140,8 @@ impl Buffers {
     /// Writes once. An answer that was sent is let go.
     pub(crate) fn send_to<S: Stream>(&mut self, stream: &mut S) -> io::Result<usize>
         ensures ok { IfOk result (λ n. (history_of self.new ≡ after_send (history_of self.old) n)
-            × Appends (S.contents stream.old) (S.contents stream.new) (take n (history_of self.old).unsent)) }
+            × Appends (S.contents stream.old) (S.contents stream.new)
+            (take n (history_of self.old).unsent)) }
         ensures err { OnErr result ((history_of self.new ≡ history_of self.old)
             × Keeps (S.contents stream.old) (S.contents stream.new)) }
         ensures kept { S.remaining stream.new ≡ S.remaining stream.old }

@@ -43,14 +43,20 @@ pub struct Client<S> {
 
 impl<S: Stream> Client<S> {
     ghost use Rattle.streetmap_connections.specs.History.{new_history};
-    ghost use Rattle.streetmap_connections.specs.Clients.{place_of, exchanges_of, woken, IsIdle, IsLate, IsTimed};
+    ghost use Rattle.streetmap_connections.specs.Clients.{place_of, exchanges_of, woken, IsIdle};
+    ghost use Rattle.streetmap_connections.specs.Clients.{IsLate, IsTimed};
 
     /// A client of this stream, from this time on, in milliseconds.
     pub fn new(alloc: Global, stream: S, now: u64) -> Client<S>
         ensures ready { (result.readable ≡ true) × (result.writable ≡ true) }
         ensures since { result.since ≡ now }
         ensures place { place_of S.remaining S.contents result
-            ≡ record { history = new_history; left = S.remaining stream; held = S.contents stream; finishes = false } }
+            ≡ record {
+              history = new_history;
+              left = S.remaining stream;
+              held = S.contents stream;
+              finishes = false;
+            } }
     {
         Client {
             stream,
@@ -78,8 +84,8 @@ impl<S: Stream> Client<S> {
         self.writable = self.writable || writable;
     }
 
-    /// Whether it took longer than `patience`, in milliseconds, to send a whole request or to take a byte of an answer;
-    /// or longer than a second to end its side once all was sent.
+    /// Whether it took longer than `patience`, in milliseconds, to send a whole request or to take
+    /// a byte of an answer; or longer than a second to end its side once all was sent.
     pub fn is_late(&self, now: u64, patience: u64) -> bool
         ensures { IsTrue result ↔ IsLate now patience self.now }
     {
@@ -91,7 +97,8 @@ impl<S: Stream> Client<S> {
         now.saturating_sub(self.since) > patience
     }
 
-    /// Whether nothing of a request came, nothing is to be sent, and its stream had nothing more to read.
+    /// Whether nothing of a request came, nothing is to be sent, and its stream had nothing more to
+    /// read.
     pub fn is_idle(&self) -> bool
         ensures { IsTrue result ↔ IsIdle self.now }
     {
@@ -114,8 +121,10 @@ impl<S: Stream> Client<S> {
 
     /// Takes some steps. No more is read once so many bytes of its input wait as `most_input`.
     pub fn work<V: Service>(&mut self, service: &mut V, now: u64, most_input: usize) -> Work
-        ensures moves { Moves most_input (place_of S.remaining S.contents self.old) (place_of S.remaining S.contents self.new) }
-        ensures calls { Calls V.answers service.old service.new (exchanges_of self.old) (exchanges_of self.new) }
+        ensures moves { Moves most_input (place_of S.remaining S.contents self.old)
+            (place_of S.remaining S.contents self.new) }
+        ensures calls { Calls V.answers service.old service.new (exchanges_of self.old)
+            (exchanges_of self.new) }
         ensures timed { IsTimed now self.old self.new }
     {
         for _step in 0..STEPS {
@@ -128,8 +137,10 @@ impl<S: Stream> Client<S> {
     }
 
     fn step<V: Service>(&mut self, service: &mut V, now: u64, most_input: usize) -> Work
-        ensures moves { Moves most_input (place_of S.remaining S.contents self.old) (place_of S.remaining S.contents self.new) }
-        ensures calls { Calls V.answers service.old service.new (exchanges_of self.old) (exchanges_of self.new) }
+        ensures moves { Moves most_input (place_of S.remaining S.contents self.old)
+            (place_of S.remaining S.contents self.new) }
+        ensures calls { Calls V.answers service.old service.new (exchanges_of self.old)
+            (exchanges_of self.new) }
         ensures timed { IsTimed now self.old self.new }
     {
         if self.finishes {
@@ -148,7 +159,8 @@ impl<S: Stream> Client<S> {
     }
 
     fn send(&mut self, now: u64) -> Work
-        ensures moves { Moves 0 (place_of S.remaining S.contents self.old) (place_of S.remaining S.contents self.new) }
+        ensures moves { Moves 0 (place_of S.remaining S.contents self.old)
+            (place_of S.remaining S.contents self.new) }
         ensures unanswered { exchanges_of self.new ≡ exchanges_of self.old }
         ensures timed { IsTimed now self.old self.new }
     {
@@ -160,7 +172,8 @@ impl<S: Stream> Client<S> {
     }
 
     fn note_sent(&mut self, sent: io::Result<usize>, now: u64) -> Work
-        ensures same { place_of S.remaining S.contents self.new ≡ place_of S.remaining S.contents self.old }
+        ensures same { place_of S.remaining S.contents self.new
+            ≡ place_of S.remaining S.contents self.old }
         ensures timed { IsTimed now self.old self.new }
     {
         match sent {
@@ -179,8 +192,10 @@ impl<S: Stream> Client<S> {
     fn answer<V: Service>(&mut self, service: &mut V, now: u64) -> Work
         requires sent { (history self.old.connection).unsent ≡ [] }
         requires stays { (history self.old.connection).closes ≡ false }
-        ensures moves { Moves 0 (place_of S.remaining S.contents self.old) (place_of S.remaining S.contents self.new) }
-        ensures calls { Calls V.answers service.old service.new (exchanges_of self.old) (exchanges_of self.new) }
+        ensures moves { Moves 0 (place_of S.remaining S.contents self.old)
+            (place_of S.remaining S.contents self.new) }
+        ensures calls { Calls V.answers service.old service.new (exchanges_of self.old)
+            (exchanges_of self.new) }
         ensures timed { IsTimed now self.old self.new }
     {
         let answered = self.connection.answer(service);
@@ -188,7 +203,8 @@ impl<S: Stream> Client<S> {
     }
 
     fn note_answered(&mut self, answered: bool, now: u64) -> Work
-        ensures same { place_of S.remaining S.contents self.new ≡ place_of S.remaining S.contents self.old }
+        ensures same { place_of S.remaining S.contents self.new
+            ≡ place_of S.remaining S.contents self.old }
         ensures timed { IsTimed now self.old self.new }
     {
         if answered {
@@ -200,9 +216,11 @@ impl<S: Stream> Client<S> {
     /// Reads once, where less than so much of the input waits.
     fn receive(&mut self, most_input: usize) -> Work
         requires { (history self.old.connection).unsent ≡ [] }
-        ensures moves { Moves most_input (place_of S.remaining S.contents self.old) (place_of S.remaining S.contents self.new) }
+        ensures moves { Moves most_input (place_of S.remaining S.contents self.old)
+            (place_of S.remaining S.contents self.new) }
         ensures unanswered { exchanges_of self.new ≡ exchanges_of self.old }
-        ensures limit { most_input ≤ length (history self.old.connection).unread → history self.new.connection ≡ history self.old.connection }
+        ensures limit { most_input ≤ length (history self.old.connection).unread
+            → history self.new.connection ≡ history self.old.connection }
         ensures since { self.new.since ≡ self.old.since }
     {
         if !self.readable || self.connection.waiting() >= most_input {
@@ -213,7 +231,8 @@ impl<S: Stream> Client<S> {
     }
 
     fn note_received(&mut self, received: io::Result<usize>) -> Work
-        ensures same { place_of S.remaining S.contents self.new ≡ place_of S.remaining S.contents self.old }
+        ensures same { place_of S.remaining S.contents self.new
+            ≡ place_of S.remaining S.contents self.old }
         ensures since { self.new.since ≡ self.old.since }
     {
         match received {
@@ -225,10 +244,11 @@ impl<S: Stream> Client<S> {
         }
     }
 
-    /// Says that nothing more is sent. What the other side still sends is read and dropped, since an unread byte could
-    /// cost it the last answer.
+    /// Says that nothing more is sent. What the other side still sends is read and dropped, since
+    /// an unread byte could cost it the last answer.
     fn finish(&mut self, now: u64) -> Work
-        ensures moves { Moves 0 (place_of S.remaining S.contents self.old) (place_of S.remaining S.contents self.new) }
+        ensures moves { Moves 0 (place_of S.remaining S.contents self.old)
+            (place_of S.remaining S.contents self.new) }
         ensures unanswered { exchanges_of self.new ≡ exchanges_of self.old }
         ensures timed { IsTimed now self.old self.new }
     {
@@ -243,7 +263,8 @@ impl<S: Stream> Client<S> {
 
     fn await_end(&mut self) -> Work
         requires { self.old.finishes ≡ true }
-        ensures moves { Moves 0 (place_of S.remaining S.contents self.old) (place_of S.remaining S.contents self.new) }
+        ensures moves { Moves 0 (place_of S.remaining S.contents self.old)
+            (place_of S.remaining S.contents self.new) }
         ensures unanswered { exchanges_of self.new ≡ exchanges_of self.old }
         ensures since { self.new.since ≡ self.old.since }
     {
@@ -265,7 +286,8 @@ fn is_blocked(e: &io::Error) -> bool {
     e.kind() == ErrorKind::WouldBlock
 }
 
-/// A stream that is not ready is waited for, an interrupted call is made again, and any other error ends it.
+/// A stream that is not ready is waited for, an interrupted call is made again, and any other error
+/// ends it.
 fn after_error(e: &io::Error) -> Work {
     match e.kind() {
         ErrorKind::WouldBlock => Work::Rests,

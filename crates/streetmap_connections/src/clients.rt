@@ -1,5 +1,6 @@
 //! The clients of a server.
-ghost use Rattle.std.specs.Prelude.{◌≡◌, ◌⊎◌, ◌+◌, [], Some, map, flat_map, length, vec_len, slice_get, All, IfOk, IfSome, IfNone};
+ghost use Rattle.std.specs.Prelude.{◌≡◌, ◌⊎◌, ◌+◌, [], Some, map, flat_map, length, vec_len};
+ghost use Rattle.std.specs.Prelude.{slice_get, All, IfOk, IfSome, IfNone};
 ghost use Rattle.std.specs.List.{AllZip};
 ghost use Rattle.streetmap_connections.specs.Counts.{count_of, CountsOn};
 ghost use Rattle.streetmap_connections.specs.Slots.{clients_in, past_of, ended_in, EndsLate};
@@ -40,9 +41,11 @@ impl Round {
 
     /// The client of the slot takes its turn, and leaves where it is over.
     fn give_turn<S: Stream + Drop, V: Service>(&mut self, slot: &mut Slot<S>, service: &mut V)
-        ensures turn { TakesTurn S.remaining S.contents V.answers service.old service.new (clients_in slot.old) (clients_in slot.new) }
+        ensures turn { TakesTurn S.remaining S.contents V.answers service.old service.new
+            (clients_in slot.old) (clients_in slot.new) }
         ensures late { EndsLate self.old.now self.old.limits.patience slot.old slot.new }
-        ensures counted { CountsOn self.old.ended self.new.ended (past_of slot.old) (past_of slot.new) }
+        ensures counted { CountsOn self.old.ended self.new.ended (past_of slot.old)
+            (past_of slot.new) }
         ensures same { (self.new.now ≡ self.old.now) × (self.new.limits ≡ self.old.limits) }
     {
         let others = self.waiting.saturating_sub(slot.waiting());
@@ -61,10 +64,13 @@ impl Round {
 
     /// The client of each slot takes its turn.
     fn give_turns<S: Stream + Drop, V: Service>(&mut self, slots: &mut [Slot<S>], service: &mut V)
-        ensures serves { Serves V.answers service.old service.new (flat_map clients_in slots.old) (flat_map clients_in slots.new) }
-        ensures moves { EachMoves S.remaining S.contents (flat_map clients_in slots.old) (flat_map clients_in slots.new) }
+        ensures serves { Serves V.answers service.old service.new (flat_map clients_in slots.old)
+            (flat_map clients_in slots.new) }
+        ensures moves { EachMoves S.remaining S.contents (flat_map clients_in slots.old)
+            (flat_map clients_in slots.new) }
         ensures late { AllZip (EndsLate self.old.now self.old.limits.patience) slots.old slots.new }
-        ensures counted { CountsOn self.old.ended self.new.ended (ended_in slots.old) (ended_in slots.new) }
+        ensures counted { CountsOn self.old.ended self.new.ended (ended_in slots.old)
+            (ended_in slots.new) }
     {
         for slot in slots.iter_mut() {
             self.give_turn(slot, service);
@@ -77,13 +83,15 @@ impl<S: Stream + Drop> Clients<S> {
     ghost use Rattle.streetmap_connections.specs.Interleaving.{GoesOnAs};
     ghost use Rattle.streetmap_connections.specs.Serving.{EachMoves, Serves};
     ghost use Rattle.streetmap_connections.specs.Served.{clients_of, ended_of};
-    ghost use Rattle.streetmap_connections.specs.Slots.{woken_in, CameAt, GivesWayAt, IsFreeAt, IsLongestIdleAt, IsTaken, NoneIdlesBeyond};
+    ghost use Rattle.streetmap_connections.specs.Slots.{woken_in, CameAt, GivesWayAt, IsFreeAt};
+    ghost use Rattle.streetmap_connections.specs.Slots.{IsLongestIdleAt, IsTaken, NoneIdlesBeyond};
     ghost use Rattle.streetmap_connections.specs.declared.slot.Slot.{Slot};
 
     /// No client, and room for as many as the limits allow.
     pub fn new(alloc: Global, limits: Limits) -> Result<Clients<S>, AllocError>
         ensures none { IfOk result (λ clients. clients_of clients ≡ []) }
-        ensures room { IfOk result (λ clients. (vec_len clients.slots ≡ limits.clients) × (clients.limits ≡ limits)) }
+        ensures room { IfOk result (λ clients. (vec_len clients.slots ≡ limits.clients)
+            × (clients.limits ≡ limits)) }
     {
         let mut slots = Vec::with_capacity(alloc, limits.clients)?;
         for _place in 0..limits.clients {
@@ -119,12 +127,14 @@ impl<S: Stream + Drop> Clients<S> {
         self.ended
     }
 
-    /// The place for the next client: one that is free, or that of the client that is idle the longest, for more than
-    /// a second.
+    /// The place for the next client: one that is free, or that of the client that is idle the
+    /// longest, for more than a second.
     pub fn place_for_next(&self, now: u64) -> Option<usize>
         ensures gives_way { IfSome result (λ place. GivesWayAt self.now.slots.items place) }
-        ensures free_first { IfSome result (λ place. IsFreeAt self.now.slots.items place ⊎ All IsTaken self.now.slots.items) }
-        ensures longest { IfSome result (λ place. IsFreeAt self.now.slots.items place ⊎ IsLongestIdleAt now self.now.slots.items place) }
+        ensures free_first { IfSome result (λ place. IsFreeAt self.now.slots.items place
+            ⊎ All IsTaken self.now.slots.items) }
+        ensures longest { IfSome result (λ place. IsFreeAt self.now.slots.items place
+            ⊎ IsLongestIdleAt now self.now.slots.items place) }
         ensures full { IfNone result (All IsTaken self.now.slots.items) }
         ensures none_idle { IfNone result (NoneIdlesBeyond now LEAST_IDLE self.now.slots.items) }
     {
@@ -171,7 +181,8 @@ impl<S: Stream + Drop> Clients<S> {
     /// Lets a client in at a place that gives way: the client that is there ends.
     pub fn let_in(&mut self, place: usize, stream: S, now: u64)
         requires { GivesWayAt self.old.slots.items place }
-        ensures unanswered { GoesOnAs (map exchanges_of (clients_of self.old)) [] (map exchanges_of (clients_of self.new)) }
+        ensures unanswered { GoesOnAs (map exchanges_of (clients_of self.old)) []
+            (map exchanges_of (clients_of self.new)) }
         ensures one_more { length (clients_of self.new) ≡ length (clients_of self.old) + 1 }
         ensures here { CameAt now self.new.slots.items place }
     {
@@ -184,8 +195,10 @@ impl<S: Stream + Drop> Clients<S> {
 
     /// Notes that the stream of the client at a place became ready.
     pub fn wake(&mut self, place: usize, readable: bool, writable: bool)
-        ensures same { map exchanges_of (clients_of self.new) ≡ map exchanges_of (clients_of self.old) }
-        ensures woken { (s : Slot S) → slice_get self.old.slots.items place ≡ Some s → slice_get self.new.slots.items place ≡ Some (woken_in readable writable s) }
+        ensures same { map exchanges_of (clients_of self.new)
+            ≡ map exchanges_of (clients_of self.old) }
+        ensures woken { (s : Slot S) → slice_get self.old.slots.items place ≡ Some s
+            → slice_get self.new.slots.items place ≡ Some (woken_in readable writable s) }
     {
         if place < self.slots.len() {
             self.slots[place].wake(readable, writable);
@@ -201,11 +214,15 @@ impl<S: Stream + Drop> Clients<S> {
         waiting
     }
 
-    /// Each client takes its turn, and those that are late, or over, leave. Whether one can go on at once.
+    /// Each client takes its turn, and those that are late, or over, leave. Whether one can go on
+    /// at once.
     pub fn work<V: Service>(&mut self, service: &mut V, now: u64) -> bool
-        ensures serves { Serves V.answers service.old service.new (clients_of self.old) (clients_of self.new) }
-        ensures moves { EachMoves S.remaining S.contents (clients_of self.old) (clients_of self.new) }
-        ensures late { AllZip (EndsLate now self.old.limits.patience) self.old.slots.items self.new.slots.items }
+        ensures serves { Serves V.answers service.old service.new (clients_of self.old)
+            (clients_of self.new) }
+        ensures moves { EachMoves S.remaining S.contents (clients_of self.old)
+            (clients_of self.new) }
+        ensures late { AllZip (EndsLate now self.old.limits.patience) self.old.slots.items
+            self.new.slots.items }
     {
         let mut round = Round {
             limits: self.limits,

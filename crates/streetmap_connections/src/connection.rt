@@ -1,9 +1,11 @@
 //! One connection, with no input or output of its own.
-ghost use Rattle.std.specs.Prelude.{◌≡◌, ◌≢◌, ◌<◌, ◌↔◌, ℕ, List, [], length, take, false, IfOk, OnErr, IsTrue};
+ghost use Rattle.std.specs.Prelude.{◌≡◌, ◌≢◌, ◌<◌, ◌↔◌, ℕ, List, [], length, take, false, IfOk};
+ghost use Rattle.std.specs.Prelude.{OnErr, IsTrue};
 ghost use Rattle.std.specs.Bool.{OnTrue, OnFalse};
 ghost use Rattle.std.specs.Io.KnownBytes.{Appends, Consumes, Keeps};
 ghost use Rattle.streetmap_connections.specs.Buffers.{history_of};
-ghost use Rattle.streetmap_connections.specs.History.{Exchange, IsInOrder, MayFollow, new_history, after_receive, after_answer, after_send};
+ghost use Rattle.streetmap_connections.specs.History.{Exchange, IsInOrder, MayFollow, new_history};
+ghost use Rattle.streetmap_connections.specs.History.{after_receive, after_answer, after_send};
 
 use crate::buffers::Buffers;
 use crate::limits::MOST_INPUT;
@@ -12,8 +14,8 @@ use crate::stream::Stream;
 use std::alloc::Global;
 use std::io;
 
-/// What was received and not yet answered, and what was answered and not yet sent. One request is answered at a time,
-/// and the next once that answer was sent.
+/// What was received and not yet answered, and what was answered and not yet sent. One request is
+/// answered at a time, and the next once that answer was sent.
 #[derive(Drop)]
 pub struct Connection {
     buffers: Buffers,
@@ -49,8 +51,8 @@ impl Connection {
         !self.wants_send() && !self.buffers.closes && self.buffers.needs <= self.buffers.input.len()
     }
 
-    /// Whether nothing more can be answered: the last answer closes the connection, or no more input can come to what
-    /// is no whole request.
+    /// Whether nothing more can be answered: the last answer closes the connection, or no more
+    /// input can come to what is no whole request.
     pub fn is_over(&self) -> bool
         ensures { IsTrue result ↔ IsOver self.now }
     {
@@ -61,7 +63,8 @@ impl Connection {
 
     /// Whether nothing of a request came, and nothing is to be sent.
     pub fn is_idle(&self) -> bool
-        ensures { IsTrue result ↔ ((history self.now).unread ≡ []) × ((history self.now).unsent ≡ []) }
+        ensures { IsTrue result ↔ ((history self.now).unread ≡ [])
+            × ((history self.now).unsent ≡ []) }
     {
         !self.wants_send() && self.buffers.input.is_empty()
     }
@@ -98,18 +101,21 @@ impl Connection {
         self.buffers.receive_from(stream)
     }
 
-    /// Has the service answer the first request of the input, where the answer before was sent and did not close the
-    /// connection. Whether it did: else the request is not whole.
+    /// Has the service answer the first request of the input, where the answer before was sent and
+    /// did not close the connection. Whether it did: else the request is not whole.
     pub fn answer<V: Service>(&mut self, service: &mut V) -> bool
         requires sent { (history self.old).unsent ≡ [] }
         requires stays { (history self.old).closes ≡ false }
-        ensures answered { OnTrue result ((e : Exchange) × MayFollow V.is_request (history self.old) e
+        ensures answered { OnTrue result ((e : Exchange)
+            × MayFollow V.is_request (history self.old) e
             × V.answers service.old e.request e.text e.closes service.new
             × (history self.new ≡ after_answer (history self.old) e)) }
-        ensures waits { OnFalse result ((history self.new ≡ history self.old) × (service.new ≡ service.old)) }
+        ensures waits { OnFalse result ((history self.new ≡ history self.old)
+            × (service.new ≡ service.old)) }
         // What came is then no request, and none before there are as many bytes as are awaited.
         ensures none { OnFalse result (HasNone V.is_request (history self.old).unread) }
-        ensures awaits { OnFalse result ((length (history self.old).unread < awaited self.new) × HasNoneBefore V.is_request (history self.old).unread (awaited self.new)) }
+        ensures awaits { OnFalse result ((length (history self.old).unread < awaited self.new)
+            × HasNoneBefore V.is_request (history self.old).unread (awaited self.new)) }
         ensures begins { OnTrue result (awaited self.new ≡ 1) }
     {
         self.buffers.answer(service)
@@ -122,7 +128,8 @@ impl Connection {
     /// As the stream's; nothing is sent then.
     pub fn send_to<S: Stream>(&mut self, stream: &mut S) -> io::Result<usize>
         ensures ok { IfOk result (λ n. (history self.new ≡ after_send (history self.old) n)
-            × Appends (S.contents stream.old) (S.contents stream.new) (take n (history self.old).unsent)) }
+            × Appends (S.contents stream.old) (S.contents stream.new)
+            (take n (history self.old).unsent)) }
         ensures err { OnErr result ((history self.new ≡ history self.old)
             × Keeps (S.contents stream.old) (S.contents stream.new)) }
         ensures kept { S.remaining stream.new ≡ S.remaining stream.old }

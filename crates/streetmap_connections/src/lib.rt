@@ -1,8 +1,9 @@
 //! Many HTTP clients at once, in one thread.
 //!
-//! A `Connection` has no input or output of its own: it holds what was received and not yet answered, and what was
-//! answered and not yet sent. A `Client` is a connection and its stream, and `Clients` are the clients of a server.
-//! `serve_connections` waits for their sockets and lets each client take its turn.
+//! A `Connection` has no input or output of its own: it holds what was received and not yet
+//! answered, and what was answered and not yet sent. A `Client` is a connection and its stream, and
+//! `Clients` are the clients of a server. `serve_connections` waits for their sockets and lets each
+//! client take its turn.
 #![tactic(auto)]
 
 mod buffers;

@@ -1,10 +1,12 @@
 //! What clients may take.
 ghost use Rattle.std.specs.Prelude.{◌≡◌, ◌≤◌};
 
-/// The bytes of the longest request: a head and a body. No more of a client's input is read than these and one read.
+/// The bytes of the longest request: a head and a body. No more of a client's input is read than
+/// these and one read.
 pub const MOST_INPUT: usize = 16_384 + 8_388_608;
 
-/// The bytes of the longest head. So much of a client's input is read whatever the other clients sent.
+/// The bytes of the longest head. So much of a client's input is read whatever the other clients
+/// sent.
 pub(crate) const MOST_HEAD: usize = 16_384;
 
 /// The milliseconds for which a client is idle at least before another is let in in its place.
@@ -15,17 +17,23 @@ pub const LEAST_IDLE: u64 = 1_000;
 pub struct Limits {
     /// How many are served at once; with none nobody is let in.
     pub clients: usize,
-    /// The milliseconds that a client may take to send a whole request, or to take a byte of an answer.
+    /// The milliseconds that a client may take to send a whole request, or to take a byte of an
+    /// answer.
     pub patience: u64,
-    /// The bytes of input that wait for an answer, over all clients: where there are more, a client's input is read
-    /// only up to the length of a head.
+    /// The bytes of input that wait for an answer, over all clients: where there are more, a
+    /// client's input is read only up to the length of a head.
     pub most_waiting: usize,
 }
 
 impl Limits {
     /// So many clients, half a minute, and 64 MiB.
     pub fn of(clients: usize) -> Limits
-        ensures { result ≡ record { clients = clients; patience = 30_000; most_waiting = 67_108_864 } }
+        ensures { result ≡ record {
+          clients = clients;
+          patience = 30_000;
+          most_waiting
+              = 67_108_864;
+        } }
     {
         Limits {
             clients,

@@ -108,7 +108,8 @@ impl Acceptor {
         clients: &mut Clients<TcpStream>,
         longest: u64,
     ) -> Result<(), ServeFault>
-        ensures { map exchanges_of (clients_of clients.new) ≡ map exchanges_of (clients_of clients.old) }
+        ensures { map exchanges_of (clients_of clients.new)
+            ≡ map exchanges_of (clients_of clients.old) }
     {
         self.poll
             .poll(events, Some(Duration::from_millis(longest)))?;
@@ -128,7 +129,8 @@ impl Acceptor {
 
     /// Lets in the clients that wait, as far as there are places.
     fn let_in(&mut self, clients: &mut Clients<TcpStream>, now: u64) -> Result<(), ServeFault>
-        ensures { GoesOnAs (map exchanges_of (clients_of clients.old)) [] (map exchanges_of (clients_of clients.new)) }
+        ensures { GoesOnAs (map exchanges_of (clients_of clients.old)) []
+            (map exchanges_of (clients_of clients.new)) }
     {
         for _attempt in 0..self.token {
             if !self.pending || clients.begun() >= self.count {
@@ -152,7 +154,8 @@ impl Acceptor {
         now: u64,
     ) -> Result<bool, ServeFault>
         requires { GivesWayAt clients.old.slots.items place }
-        ensures { GoesOnAs (map exchanges_of (clients_of clients.old)) [] (map exchanges_of (clients_of clients.new)) }
+        ensures { GoesOnAs (map exchanges_of (clients_of clients.old)) []
+            (map exchanges_of (clients_of clients.new)) }
     {
         match self.accept(place) {
             Ok(Accepted::Client(stream)) => {
@@ -193,14 +196,16 @@ impl Acceptor {
         }
     }
 
-    /// Lets in the clients that wait, and each client takes its turn. Whether one can go on at once.
+    /// Lets in the clients that wait, and each client takes its turn. Whether one can go on at
+    /// once.
     fn round<V: Service>(
         &mut self,
         clients: &mut Clients<TcpStream>,
         service: &mut V,
         now: u64,
     ) -> Result<bool, ServeFault>
-        ensures { Serves V.answers service.old service.new (clients_of clients.old) (clients_of clients.new) }
+        ensures { Serves V.answers service.old service.new (clients_of clients.old)
+            (clients_of clients.new) }
     {
         self.let_in(clients, now)?;
         Ok(clients.work(service, now))
@@ -215,7 +220,8 @@ impl Acceptor {
         clients: &mut Clients<TcpStream>,
         service: &mut V,
     ) -> Result<(), ServeFault>
-        ensures serves { Serves V.answers service.old service.new (clients_of clients.old) (clients_of clients.new) }
+        ensures serves { Serves V.answers service.old service.new (clients_of clients.old)
+            (clients_of clients.new) }
         ensures counted { IsOk result → count ≤ length (ended_of clients.new) }
     {
         let start = Instant::now(rt)?;
@@ -231,15 +237,15 @@ impl Acceptor {
     }
 }
 
-/// Serves clients of a listener, many at once, until so many ended that were let in. A client that fails, is late, or
-/// has no memory for its input ends alone.
+/// Serves clients of a listener, many at once, until so many ended that were let in. A client that
+/// fails, is late, or has no memory for its input ends alone.
 ///
 /// From here on a call of `accept` on the listener does not wait.
 ///
 /// # Errors
 ///
-/// `Net` where no client can be accepted while there is none, or the sockets cannot be waited for, and `Memory` where
-/// there is no room for what is waited for.
+/// `Net` where no client can be accepted while there is none, or the sockets cannot be waited for,
+/// and `Memory` where there is no room for what is waited for.
 pub fn serve_connections<R: Net + Clock, V: Service>(
     rt: &R,
     listener: &TcpListener,
@@ -247,9 +253,11 @@ pub fn serve_connections<R: Net + Clock, V: Service>(
     clients: &mut Clients<TcpStream>,
     service: &mut V,
 ) -> Result<(), ServeFault>
-    // There is one list of exchanges along which the service was led, each answered in the state that the one before
-    // left; it goes on from any interleaving of the clients' own lists before as one of their lists after.
-    ensures serves { Serves V.answers service.old service.new (clients_of clients.old) (clients_of clients.new) }
+    // There is one list of exchanges along which the service was led, each answered in the state
+    // that the one before left; it goes on from any interleaving of the clients' own lists before
+    // as one of their lists after.
+    ensures serves { Serves V.answers service.old service.new (clients_of clients.old)
+        (clients_of clients.new) }
     ensures counted { IsOk result → count ≤ length (ended_of clients.new) }
 {
     let mut events = Events::with_capacity(clients.alloc, MOST_EVENTS)?;

@@ -40,7 +40,8 @@ impl Answer {
 pub enum Cut {
     /// So many bytes are a request.
     Whole(usize),
-    /// No front of the bytes is a whole request, whatever comes behind them, before there are so many.
+    /// No front of the bytes is a whole request, whatever comes behind them, before there are so
+    /// many.
     Waits(usize),
 }
 
@@ -51,8 +52,8 @@ pub trait Service {
     // These bytes are a request, or are refused as none.
     ghost is_request: { List ℕ → Type 0 };
 
-    // From the first state the bytes of a request are answered by a text, which closes the connection or not, and
-    // the second state is left.
+    // From the first state the bytes of a request are answered by a text, which closes the
+    // connection or not, and the second state is left.
     ghost answers: { Self → List ℕ → List ℕ → Bool → Self → Type 0 };
 
     /// Finds the first request of `input`.

@@ -18,7 +18,8 @@ pub(crate) struct Slot<S> {
 
 impl<S: Stream + Drop> Slot<S> {
     ghost use Rattle.streetmap_connections.specs.Clients.{exchanges_of, IsLate};
-    ghost use Rattle.streetmap_connections.specs.Slots.{clients_in, past_of, present, woken_in, GivesWay, IdlesFor, IsTaken};
+    ghost use Rattle.streetmap_connections.specs.Slots.{clients_in, past_of, present, woken_in};
+    ghost use Rattle.streetmap_connections.specs.Slots.{GivesWay, IdlesFor, IsTaken};
     ghost use Rattle.streetmap_connections.specs.Serving.{TakesTurn};
 
     pub(crate) fn vacant() -> Slot<S>
@@ -68,7 +69,8 @@ impl<S: Stream + Drop> Slot<S> {
 
     /// Notes that the client's stream became ready.
     pub(crate) fn wake(&mut self, readable: bool, writable: bool)
-        ensures same { map exchanges_of (clients_in self.new) ≡ map exchanges_of (clients_in self.old) }
+        ensures same { map exchanges_of (clients_in self.new)
+            ≡ map exchanges_of (clients_in self.old) }
         ensures past { past_of self.new ≡ past_of self.old }
         ensures woken { self.new ≡ woken_in readable writable self.old }
     {
@@ -108,10 +110,12 @@ impl<S: Stream + Drop> Slot<S> {
         most_input: usize,
     ) -> Work
         requires { most_input ≤ MOST_INPUT }
-        ensures turn { TakesTurn S.remaining S.contents V.answers service.old service.new (clients_in self.old) (clients_in self.new) }
+        ensures turn { TakesTurn S.remaining S.contents V.answers service.old service.new
+            (clients_in self.old) (clients_in self.new) }
         ensures past { past_of self.new ≡ past_of self.old }
         ensures ends { result ≡ Work.Ends → IsTaken self.new }
-        ensures late { All (λ c. IsLate now patience c → (result ≡ Work.Ends) × (self.new ≡ self.old) × (service.new ≡ service.old)) (present self.old.client) }
+        ensures late { All (λ c. IsLate now patience c → (result ≡ Work.Ends)
+            × (self.new ≡ self.old) × (service.new ≡ service.old)) (present self.old.client) }
     {
         match &mut self.client {
             None => Work::Rests,

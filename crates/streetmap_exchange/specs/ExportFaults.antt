@@ -6,7 +6,8 @@ use Rattle.streetmap_ledger.specs.Refusals.{fault_code}
 use Rattle.streetmap_ledger.specs.declared.reply.Cause.{Cause}
 use Rattle.streetmap_ledger.specs.declared.reply.Fault.TheVariants.{Memory}
 use Rattle.streetmap_exchange.specs.declared.fault.ExportFault.{ExportFault}
-use Rattle.streetmap_exchange.specs.declared.fault.ExportFault.TheVariants.{NoCollection, Stopped, WriteFailed}
+use Rattle.streetmap_exchange.specs.declared.fault.ExportFault.TheVariants.{NoCollection, Stopped}
+use Rattle.streetmap_exchange.specs.declared.fault.ExportFault.TheVariants.{WriteFailed}
 
 unfoldable pub export_code_of : ExportFault → Text
 export_code_of NoCollection = codes "no_collection"

@@ -1,5 +1,6 @@
 -- What an export of a collection writes.
-use Rattle.std.specs.Prelude.{◌≡◌, ℕ, Bool, true, List, [], ◌∷◌, ◌++◌, Option, None, Some, Result, Ok, Err, IsSomeAnd}
+use Rattle.std.specs.Prelude.{◌≡◌, ℕ, Bool, true, List, [], ◌∷◌, ◌++◌, Option, None, Some, Result}
+use Rattle.std.specs.Prelude.{Ok, Err, IsSomeAnd}
 use Rattle.std.specs.Option.{option_map}
 use Rattle.std.specs.FinMap.{get, values}
 use Rattle.std.specs.Io.{StartsWith}
@@ -15,7 +16,8 @@ use Rattle.streetmap_ledger.specs.PageView.{page_value}
 use Rattle.streetmap_ledger.specs.declared.page.Page.{Page}
 use Rattle.streetmap_ledger.specs.declared.reply.Fault.TheVariants.{Memory, Device, Damaged, Reopen}
 use Rattle.streetmap_exchange.specs.declared.fault.ExportFault.{ExportFault}
-use Rattle.streetmap_exchange.specs.declared.fault.ExportFault.TheVariants.{NoCollection, Stopped, WriteFailed}
+use Rattle.streetmap_exchange.specs.declared.fault.ExportFault.TheVariants.{NoCollection, Stopped}
+use Rattle.streetmap_exchange.specs.declared.fault.ExportFault.TheVariants.{WriteFailed}
 
 -- the compact text of the FeatureCollection, and a line feed
 abbrev pub export_text : List FeatureValue → List ℕ
@@ -43,11 +45,14 @@ WritesSomeIf None old new = Keeps old new
 WritesSomeIf (Some fs) old new = AppendsFirst old new (export_text fs)
 
 -- an export from a keeper that stood for this state: what was written, and the state stays
-abbrev pub Exports : {T : Type 0} → State → Text → Result T ExportFault → Option (List ℕ) → Option (List ℕ) → (State → Type 0) → Type 0
+abbrev pub Exports : {T : Type 0} → State → Text → Result T ExportFault → Option (List ℕ)
+    → Option (List ℕ) → (State → Type 0) → Type 0
 Exports s name (Ok done) old new stands = WritesAll (features_in s name) old new × stands s
-Exports s name (Err NoCollection) old new stands = (features_in s name ≡ None) × Keeps old new × stands s
+Exports s name (Err NoCollection) old new stands = (features_in s name ≡ None) × Keeps old new
+    × stands s
 Exports s name (Err WriteFailed) old new stands = WritesSome (features_in s name) old new × stands s
-Exports s name (Err (Stopped Memory)) old new stands = WritesSomeIf (features_in s name) old new × stands s
+Exports s name (Err (Stopped Memory)) old new stands = WritesSomeIf (features_in s name) old new
+    × stands s
 Exports s name (Err (Stopped Device)) old new stands = WritesSomeIf (features_in s name) old new
 Exports s name (Err (Stopped Damaged)) old new stands = ⊥
 Exports s name (Err (Stopped Reopen)) old new stands = ⊥
@@ -59,9 +64,12 @@ abbrev pub part_query : Option Text → QueryValue
 part_query after = record { bbox = None; datetime = None; limit = 1000; after = after }
 
 -- a look at that page in this state
-abbrev pub ShowsPart : State → Text → Option Text → Result Page ExportFault → (State → Type 0) → Type 0
-ShowsPart s name after (Ok page) stands = (page_in s name (part_query after) ≡ Some (page_value page)) × stands s
-ShowsPart s name after (Err NoCollection) stands = (page_in s name (part_query after) ≡ None) × stands s
+abbrev pub ShowsPart : State → Text → Option Text → Result Page ExportFault → (State → Type 0)
+    → Type 0
+ShowsPart s name after (Ok page) stands = (page_in s name (part_query after)
+    ≡ Some (page_value page)) × stands s
+ShowsPart s name after (Err NoCollection) stands = (page_in s name (part_query after) ≡ None)
+    × stands s
 ShowsPart s name after (Err WriteFailed) stands = ⊥
 ShowsPart s name after (Err (Stopped Memory)) stands = stands s
 ShowsPart s name after (Err (Stopped Device)) stands = Unit {0}
@@ -70,7 +78,8 @@ ShowsPart s name after (Err (Stopped Reopen)) stands = ⊥
 
 -- ---- its text in parts
 
--- features as they stand in an array, each behind a comma; before the first there is one where others stand before
+-- features as they stand in an array, each behind a comma; before the first there is one where
+-- others stand before
 abbrev pub part_text : Bool → List FeatureValue → List ℕ
 part_text later [] = []
 part_text later (f ∷ fs) = comma_if later ++ (compact_text (feature_data f) ++ part_text true fs)

@@ -1,11 +1,15 @@
--- Why a text is not read into a batch: the names of the refusals, and what a reader answers beside what it reads.
+-- Why a text is not read into a batch: the names of the refusals, and what a reader answers beside
+-- what it reads.
 use Rattle.std.specs.Prelude.{◌≡◌, ℕ, codes, Option, None, Some, Result, Ok, Err}
 use Rattle.streetmap_geojson.specs.declared.fault.Fault.{Fault}
 use Rattle.streetmap_batch.specs.Text.{Text}
 use Rattle.streetmap_batch.specs.declared.batch_fault.BatchFault.{BatchFault}
 use Rattle.streetmap_batch.specs.declared.batch_fault.BatchFault.TheVariants as batch
 use Rattle.streetmap_exchange.specs.declared.fault.ImportFault.{ImportFault}
-use Rattle.streetmap_exchange.specs.declared.fault.ImportFault.TheVariants.{BadKey, BadBatch, TextTooLarge, NotJson, WrongType, BadFeature, TooManyEdits, Memory}
+use Rattle.streetmap_exchange.specs.declared.fault.ImportFault.TheVariants.{BadKey, BadBatch}
+use Rattle.streetmap_exchange.specs.declared.fault.ImportFault.TheVariants.{TextTooLarge, NotJson}
+use Rattle.streetmap_exchange.specs.declared.fault.ImportFault.TheVariants.{WrongType, BadFeature}
+use Rattle.streetmap_exchange.specs.declared.fault.ImportFault.TheVariants.{TooManyEdits, Memory}
 
 unfoldable pub code_of : ImportFault → Text
 code_of BadKey = codes "bad_key"

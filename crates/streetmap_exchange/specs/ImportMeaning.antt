@@ -10,8 +10,10 @@ use Rattle.streetmap_batch.specs.BatchReading.{most_edits}
 use Rattle.streetmap_batch.specs.BatchValue.{BatchValue}
 use Rattle.streetmap_exchange.specs.Imports.{most_bytes, batch_of_features}
 
--- the text is JSON of a FeatureCollection, and the batch puts each of its features into the collection, in their order
-pub record IsImport (replace : Bool) (key collection : Text) (text : List ℕ) (b : BatchValue) : Type 0 where
+-- the text is JSON of a FeatureCollection, and the batch puts each of its features into the
+-- collection, in their order
+pub record IsImport (replace : Bool) (key collection : Text) (text : List ℕ) (b : BatchValue) : Type
+    0 where
   pub keyed : IsTrue (is_key key)
   pub placed : IsTrue (is_collection_id collection)
   pub short : length text ≤ most_bytes

@@ -5,7 +5,8 @@ use Rattle.streetmap_batch.specs.Text.{Text}
 use Rattle.streetmap_ledger.specs.Refusals.{code_of as refusal_code, fault_code}
 use Rattle.streetmap_exchange.specs.ImportFaults.{code_of, place_of, cause_of}
 use Rattle.streetmap_exchange.specs.declared.fault.ImportStop.{ImportStop}
-use Rattle.streetmap_exchange.specs.declared.fault.ImportStop.TheVariants.{NotRead, Refused, Stopped}
+use Rattle.streetmap_exchange.specs.declared.fault.ImportStop.TheVariants.{NotRead, Refused}
+use Rattle.streetmap_exchange.specs.declared.fault.ImportStop.TheVariants.{Stopped}
 
 unfoldable pub stop_code_of : ImportStop → Text
 stop_code_of (NotRead fault) = code_of fault

@@ -1,5 +1,6 @@
 -- What an import into a keeper does.
-use Rattle.std.specs.Prelude.{◌≡◌, Option, None, Some, Result, Ok, Err, String, string_bytes, IsOkAnd}
+use Rattle.std.specs.Prelude.{◌≡◌, Option, None, Some, Result, Ok, Err, String, string_bytes}
+use Rattle.std.specs.Prelude.{IsOkAnd}
 use Rattle.std.specs.declared.alloc.Global.{Global}
 use Rattle.serde_json.specs.Written.{compact_text}
 use Rattle.streetmap_batch.specs.Text.{Text}
@@ -15,32 +16,41 @@ use Rattle.streetmap_bodies.specs.Replies.{reply_body}
 use Rattle.streetmap_exchange.specs.ImportFaults.{Fails}
 use Rattle.streetmap_exchange.specs.declared.fault.ImportFault.{ImportFault}
 use Rattle.streetmap_exchange.specs.declared.fault.ImportStop.{ImportStop}
-use Rattle.streetmap_exchange.specs.declared.fault.ImportStop.TheVariants.{NotRead, Refused, Stopped}
+use Rattle.streetmap_exchange.specs.declared.fault.ImportStop.TheVariants.{NotRead, Refused}
+use Rattle.streetmap_exchange.specs.declared.fault.ImportStop.TheVariants.{Stopped}
 
--- of an accepted or repeated batch of this key the body of its reply is told, of a refused one the refusal
+-- of an accepted or repeated batch of this key the body of its reply is told, of a refused one the
+-- refusal
 abbrev pub IsTold : (key : Text) → Reply → Result (String Global) ImportStop → Type 0
 IsTold key (replies.Refused why place) told = told ≡ Err (Refused why place)
-IsTold key reply told = IsOkAnd told (λ body. string_bytes body ≡ compact_text (reply_body key reply))
+IsTold key reply told = IsOkAnd told (λ body. string_bytes body
+    ≡ compact_text (reply_body key reply))
 
--- a batch on a keeper that stood for this state: its reply is told, and it stands for the state after it
-abbrev pub BatchTells : State → BatchValue → Result (String Global) ImportStop → (State → Type 0) → Type 0
+-- a batch on a keeper that stood for this state: its reply is told, and it stands for the state
+-- after it
+abbrev pub BatchTells : State → BatchValue → Result (String Global) ImportStop → (State → Type 0)
+    → Type 0
 BatchTells s b (Err (NotRead fault)) stands = ⊥
 BatchTells s b (Err (Stopped fault)) stands = Acts s b (Err fault) stands
 BatchTells s b told stands = IsTold b.key (act s b).reply told × stands (act s b).state
 
 -- what a stop may leave then
-abbrev pub BatchLeaves : State → BatchValue → Result (String Global) ImportStop → (Option State → Type 0) → Type 0
+abbrev pub BatchLeaves : State → BatchValue → Result (String Global) ImportStop
+    → (Option State → Type 0) → Type 0
 BatchLeaves s b (Err (NotRead fault)) left = ⊥
 BatchLeaves s b (Err (Stopped fault)) left = ApplyLeaves s b (Err fault) left
 BatchLeaves s b told left = LeavesOnly left (Some (act s b).state)
 
--- of a text that reads so: its batch does what a batch does, or its fault is told and the state stays
-abbrev pub Imports : State → Result BatchValue ImportFault → Result (String Global) ImportStop → (State → Type 0) → Type 0
+-- of a text that reads so: its batch does what a batch does, or its fault is told and the state
+-- stays
+abbrev pub Imports : State → Result BatchValue ImportFault → Result (String Global) ImportStop
+    → (State → Type 0) → Type 0
 Imports s read (Err (NotRead fault)) stands = Fails fault read × stands s
 Imports s read told stands = (b : BatchValue) × (read ≡ Ok b) × BatchTells s b told stands
 
 -- what a stop may leave then
-abbrev pub ImportLeaves : State → Result BatchValue ImportFault → Result (String Global) ImportStop → (Option State → Type 0) → Type 0
+abbrev pub ImportLeaves : State → Result BatchValue ImportFault → Result (String Global) ImportStop
+    → (Option State → Type 0) → Type 0
 ImportLeaves s read (Err (NotRead fault)) left = LeavesOnly left (Some s)
 ImportLeaves s read told left = (b : BatchValue) × (read ≡ Ok b) × BatchLeaves s b told left
 

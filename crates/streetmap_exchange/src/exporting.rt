@@ -27,9 +27,13 @@ fn write_pages<K: Keeper, W: Write, P: Progress>(
     requires { K.cause keeper.old ≡ None }
     ensures began_clean { K.is_clean keeper.new → K.is_clean keeper.old }
     ensures faults { ExportShuts result (K.cause keeper.old) (K.cause keeper.new) }
-    ensures exports { K.is_clean keeper.new → (s : State) → K.stands keeper.old s → page_in s collection.now (part_query None) ≡ Some (page_value first)
-        → Exports s collection.now result (W.contents writer.old) (W.contents writer.new) (K.stands keeper.new) }
-    ensures leaves { K.is_clean keeper.new → (s : State) → K.stands keeper.old s → LeavesOnly (K.may_leave keeper.old) (Some s) → LeavesOnly (K.may_leave keeper.new) (Some s) }
+    ensures exports { K.is_clean keeper.new → (s : State) → K.stands keeper.old s
+        → page_in s collection.now (part_query None) ≡ Some (page_value first)
+        → Exports s collection.now result (W.contents writer.old) (W.contents writer.new)
+        (K.stands keeper.new) }
+    ensures leaves { K.is_clean keeper.new → (s : State) → K.stands keeper.old s
+        → LeavesOnly (K.may_leave keeper.old) (Some s)
+        → LeavesOnly (K.may_leave keeper.new) (Some s) }
 {
     write_bytes(writer, b"{\"features\":[")?;
     let mut page = first;
@@ -48,15 +52,15 @@ fn write_pages<K: Keeper, W: Write, P: Progress>(
     Err(ExportFault::WriteFailed)
 }
 
-/// Writes the FeatureCollection (RFC 7946, section 3.3) of all features of a collection, in byte order of
-/// their ids, as compact JSON text with a line feed behind it. It asks the keeper for pages of a
-/// thousand features, and tells `progress` how many are written.
+/// Writes the FeatureCollection (RFC 7946, section 3.3) of all features of a collection, in byte
+/// order of their ids, as compact JSON text with a line feed behind it. It asks the keeper for
+/// pages of a thousand features, and tells `progress` how many are written.
 ///
 /// # Errors
 ///
-/// `NoCollection` where the collection is not there, and then nothing is written; a fault of the keeper, want of
-/// memory, or a write that failed, and then a beginning of the text is. After 2^64 - 1 pages it ends as
-/// after a failed write.
+/// `NoCollection` where the collection is not there, and then nothing is written; a fault of the
+/// keeper, want of memory, or a write that failed, and then a beginning of the text is. After 2^64
+/// - 1 pages it ends as after a failed write.
 pub fn export<K: Keeper, W: Write, P: Progress>(
     alloc: Global,
     keeper: &mut K,
@@ -69,10 +73,15 @@ pub fn export<K: Keeper, W: Write, P: Progress>(
     ensures faults { ExportShuts result (K.cause keeper.old) (K.cause keeper.new) }
     // What is written is the text of the collection, or a beginning of it, and the state stays.
     ensures exports { K.is_clean keeper.new → (s : State) → K.stands keeper.old s
-        → Exports s collection.now result (W.contents writer.old) (W.contents writer.new) (K.stands keeper.new) }
+        → Exports s collection.now result (W.contents writer.old) (W.contents writer.new)
+        (K.stands keeper.new) }
     // A stop may leave the same state alone.
-    ensures leaves { K.is_clean keeper.new → (s : State) → K.stands keeper.old s → LeavesOnly (K.may_leave keeper.old) (Some s) → LeavesOnly (K.may_leave keeper.new) (Some s) }
-    ensures reopen { IsErrOf result (ExportFault.Stopped Reopen) → AsBefore (K.stands keeper.old) (K.stands keeper.new) (K.may_leave keeper.old) (K.may_leave keeper.new) }
+    ensures leaves { K.is_clean keeper.new → (s : State) → K.stands keeper.old s
+        → LeavesOnly (K.may_leave keeper.old) (Some s)
+        → LeavesOnly (K.may_leave keeper.new) (Some s) }
+    ensures reopen { IsErrOf result (ExportFault.Stopped Reopen)
+        → AsBefore (K.stands keeper.old) (K.stands keeper.new) (K.may_leave keeper.old)
+        (K.may_leave keeper.new) }
 {
     let first = page_behind(keeper, collection, None)?;
     write_pages(alloc, keeper, collection, writer, first, progress)

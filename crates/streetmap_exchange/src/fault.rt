@@ -107,15 +107,16 @@ impl<T: Drop> From<AllocFailed<T>> for ImportFault {
 pub enum ImportStop {
     /// The text is not read into a batch, or memory was refused: the keeper was not asked.
     NotRead(ImportFault),
-    /// The batch is refused, and nothing changed; with the place of the feature at fault, counted from 1,
-    /// where there is one.
+    /// The batch is refused, and nothing changed; with the place of the feature at fault, counted
+    /// from 1, where there is one.
     Refused(Refusal, Option<u64>),
     /// The keeper did not answer.
     Stopped(KeeperFault),
 }
 
 impl ImportStop {
-    ghost use Rattle.streetmap_exchange.specs.ImportStops.{stop_code_of, stop_place_of, stop_cause_of};
+    ghost use Rattle.streetmap_exchange.specs.ImportStops.{stop_code_of, stop_place_of};
+    ghost use Rattle.streetmap_exchange.specs.ImportStops.{stop_cause_of};
 
     /// Its name.
     #[tactic(auto, unfolding(crate::specs::ImportStops::stop_code_of))]

@@ -45,7 +45,8 @@ fn make_edit(
     feature: Feature,
 ) -> Result<Edit, ImportFault>
     requires { IsTrue (is_collection_id collection.now) }
-    ensures { Gives edit_value result (Ok (edit_of replace collection.now (feature_value feature))) }
+    ensures { Gives edit_value result
+        (Ok (edit_of replace collection.now (feature_value feature))) }
 {
     let made = if replace {
         Edit::replace(alloc, collection, feature)
@@ -67,7 +68,8 @@ fn make_edits<P: Progress>(
     progress: &mut P,
 ) -> Result<Vec<Edit>, ImportFault>
     requires { IsTrue (is_collection_id collection.now) }
-    ensures { Gives (λ edits. edit_values edits.items) result (Ok (map (edit_of replace collection.now) (map feature_value features.items))) }
+    ensures { Gives (λ edits. edit_values edits.items) result
+        (Ok (map (edit_of replace collection.now) (map feature_value features.items))) }
 {
     let mut edits = Vec::with_capacity(alloc, features.len())?;
     for feature in features {
@@ -81,7 +83,8 @@ fn make_edits<P: Progress>(
 fn make_batch(alloc: Global, key: &str, edits: Vec<Edit>) -> Result<Batch, ImportFault>
     requires keyed { IsTrue (is_key key.now) }
     requires few { length edits.items ≤ 10000 }
-    ensures { Gives batch_value result (Ok (record { key = key.now; edits = edit_values edits.items })) }
+    ensures { Gives batch_value result
+        (Ok (record { key = key.now; edits = edit_values edits.items })) }
 {
     match Batch::new(String::from_str(alloc, key)?, edits) {
         Ok(batch) => Ok(batch),
@@ -135,15 +138,16 @@ fn read_import<P: Progress>(
 }
 
 /// The batch that inserts each feature of a FeatureCollection text (RFC 7946, section 3.3) into the
-/// collection, in the order of the text, or with `replace` puts each in the place of the one with its id.
-/// A feature without `id` takes its place in the text, counted from 1, as id. The features are read
-/// without a time property: their times are set when the batch acts. `progress` is told how many are read.
+/// collection, in the order of the text, or with `replace` puts each in the place of the one with
+/// its id. A feature without `id` takes its place in the text, counted from 1, as id. The features
+/// are read without a time property: their times are set when the batch acts. `progress` is told
+/// how many are read.
 ///
 /// # Errors
 ///
-/// The first in this order: `BadKey`, `BadBatch` where `collection` is no collection id, `TextTooLarge`
-/// above 8,388,608 bytes, `NotJson`, `WrongType`, `BadFeature` at the first feature at fault,
-/// `TooManyEdits` above 10,000 features. `Memory` may come in place of any.
+/// The first in this order: `BadKey`, `BadBatch` where `collection` is no collection id,
+/// `TextTooLarge` above 8,388,608 bytes, `NotJson`, `WrongType`, `BadFeature` at the first feature
+/// at fault, `TooManyEdits` above 10,000 features. `Memory` may come in place of any.
 pub fn import_batch<P: Progress>(
     alloc: Global,
     text: &[u8],
@@ -153,9 +157,11 @@ pub fn import_batch<P: Progress>(
     progress: &mut P,
 ) -> Result<Batch, ImportFault>
     // The batch is the one that the text is imported by.
-    ensures found { IfOk result (λ b. IsImport replace key.now collection.now text.now (batch_value b)) }
+    ensures found { IfOk result (λ b.
+        IsImport replace key.now collection.now text.now (batch_value b)) }
     // What a text is imported by is made, unless memory runs out.
-    ensures only { (b : BatchValue) → IsImport replace key.now collection.now text.now b → Gives batch_value result (Ok b) }
+    ensures only { (b : BatchValue) → IsImport replace key.now collection.now text.now b
+        → Gives batch_value result (Ok b) }
     // Which refusal it is, and where.
     ensures exact { Gives batch_value result (import_of replace key.now collection.now text.now) }
 {

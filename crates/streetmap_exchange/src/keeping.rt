@@ -71,14 +71,14 @@ fn apply<K: Keeper>(keeper: &mut K, batch: &Batch, body: String) -> Result<Strin
     }
 }
 
-/// Applies the batch that a text was imported by (`import_batch`) to a keeper, and returns the body of
-/// its reply, as compact JSON text. The room for it is taken before the keeper is asked, so a batch
-/// that acted is answered.
+/// Applies the batch that a text was imported by (`import_batch`) to a keeper, and returns the body
+/// of its reply, as compact JSON text. The room for it is taken before the keeper is asked, so a
+/// batch that acted is answered.
 ///
 /// # Errors
 ///
-/// `NotRead` with `Memory` where there is no room, and then the keeper was not asked; `Refused` where
-/// the batch is, which changed nothing either; `Stopped` with the fault of the keeper.
+/// `NotRead` with `Memory` where there is no room, and then the keeper was not asked; `Refused`
+/// where the batch is, which changed nothing either; `Stopped` with the fault of the keeper.
 pub fn apply_import<K: Keeper>(
     alloc: Global,
     keeper: &mut K,
@@ -89,7 +89,8 @@ pub fn apply_import<K: Keeper>(
         (λ r. K.applies keeper.old (batch_value batch.now) r keeper.new)
         (keeper.new ≡ keeper.old) result }
     ensures began_clean { K.is_clean keeper.new → K.is_clean keeper.old }
-    // A shut keeper that is asked answers `Reopen` and no other does; `Device` and `Damaged` shut it.
+    // A shut keeper that is asked answers `Reopen` and no other does; `Device` and `Damaged` shut
+    // it.
     ensures faults { ImportShuts result (K.cause keeper.old) (K.cause keeper.new) }
     // What is returned, and the state afterwards, are those of the batch.
     ensures imports { K.is_clean keeper.new → (s : State) → K.stands keeper.old s →
@@ -106,13 +107,13 @@ pub fn apply_import<K: Keeper>(
     apply(keeper, batch, body)
 }
 
-/// Puts the features of a FeatureCollection text into a collection by one batch: `import_batch`, and
-/// then `apply_import`. `progress` is told how many features are read.
+/// Puts the features of a FeatureCollection text into a collection by one batch: `import_batch`,
+/// and then `apply_import`. `progress` is told how many features are read.
 ///
 /// # Errors
 ///
-/// `NotRead` with the first refusal of `import_batch`, and then nothing changed; `Refused` where the
-/// batch is, which changed nothing either; `Stopped` with the fault of the keeper.
+/// `NotRead` with the first refusal of `import_batch`, and then nothing changed; `Refused` where
+/// the batch is, which changed nothing either; `Stopped` with the fault of the keeper.
 pub fn import<K: Keeper, P: Progress>(
     alloc: Global,
     keeper: &mut K,
@@ -124,11 +125,12 @@ pub fn import<K: Keeper, P: Progress>(
 ) -> Result<String, ImportStop>
     // The keeper was never asked and is as it was, or what is returned is what it replied to the
     // batch that the text is.
-    ensures told { (b : BatchValue) →
-        import_of replace key.now collection.now text.now ≡ Ok b →
-        IsOfReply b.key (λ r. K.applies keeper.old b r keeper.new) (keeper.new ≡ keeper.old) result }
+    ensures told { (b : BatchValue) → import_of replace key.now collection.now text.now ≡ Ok b
+        → IsOfReply b.key (λ r. K.applies keeper.old b r keeper.new) (keeper.new
+        ≡ keeper.old) result }
     ensures began_clean { K.is_clean keeper.new → K.is_clean keeper.old }
-    // A shut keeper that is asked answers `Reopen` and no other does; `Device` and `Damaged` shut it.
+    // A shut keeper that is asked answers `Reopen` and no other does; `Device` and `Damaged` shut
+    // it.
     ensures faults { ImportShuts result (K.cause keeper.old) (K.cause keeper.new) }
     // What is returned, and the state afterwards, are those of the batch that the text is.
     ensures imports { K.is_clean keeper.new → (s : State) → K.stands keeper.old s →

@@ -1,5 +1,6 @@
 //! Parts of an export: its pages, and their texts.
-ghost use Rattle.std.specs.Prelude.{◌≡◌, ◌++◌, OnOk, OnErr, IfErr, IsErrOf, map, string_bytes, codes};
+ghost use Rattle.std.specs.Prelude.{◌≡◌, ◌++◌, OnOk, OnErr, IfErr, IsErrOf, map, string_bytes};
+ghost use Rattle.std.specs.Prelude.{codes};
 ghost use Rattle.std.specs.Io.KnownBytes.{Appends};
 ghost use Rattle.streetmap_geojson.specs.FeatureView.{feature_value};
 ghost use Rattle.streetmap_ledger.specs.Keep.{LeavesOnly, AsBefore};
@@ -25,9 +26,14 @@ pub(crate) fn page_behind<K: Keeper>(
 ) -> Result<Page, ExportFault>
     ensures began_clean { K.is_clean keeper.new → K.is_clean keeper.old }
     ensures faults { ExportShuts result (K.cause keeper.old) (K.cause keeper.new) }
-    ensures shows { K.is_clean keeper.new → (s : State) → K.stands keeper.old s → ShowsPart s collection.now after result (K.stands keeper.new) }
-    ensures leaves { K.is_clean keeper.new → (s : State) → K.stands keeper.old s → LeavesOnly (K.may_leave keeper.old) (Some s) → LeavesOnly (K.may_leave keeper.new) (Some s) }
-    ensures reopen { IsErrOf result (ExportFault.Stopped Reopen) → AsBefore (K.stands keeper.old) (K.stands keeper.new) (K.may_leave keeper.old) (K.may_leave keeper.new) }
+    ensures shows { K.is_clean keeper.new → (s : State) → K.stands keeper.old s
+        → ShowsPart s collection.now after result (K.stands keeper.new) }
+    ensures leaves { K.is_clean keeper.new → (s : State) → K.stands keeper.old s
+        → LeavesOnly (K.may_leave keeper.old) (Some s)
+        → LeavesOnly (K.may_leave keeper.new) (Some s) }
+    ensures reopen { IsErrOf result (ExportFault.Stopped Reopen)
+        → AsBefore (K.stands keeper.old) (K.stands keeper.new) (K.may_leave keeper.old)
+        (K.may_leave keeper.new) }
 {
     let query = Query {
         bbox: None,
@@ -64,7 +70,8 @@ fn push_part(
     features: &[Feature],
     later: bool,
 ) -> Result<(), AllocError>
-    ensures { OnOk result (string_bytes out.new ≡ string_bytes out.old ++ part_text later (map feature_value features.now)) }
+    ensures { OnOk result (string_bytes out.new
+        ≡ string_bytes out.old ++ part_text later (map feature_value features.now)) }
 {
     let mut behind = later;
     for feature in features {
@@ -78,7 +85,8 @@ fn push_part(
 /// Writes bytes, as often as the writer takes some of them.
 pub(crate) fn write_bytes<W: Write>(writer: &mut W, bytes: &[u8]) -> Result<(), ExportFault>
     ensures ok { OnOk result (Appends (W.contents writer.old) (W.contents writer.new) bytes.now) }
-    ensures err { OnErr result (AppendsFirst (W.contents writer.old) (W.contents writer.new) bytes.now) }
+    ensures err { OnErr result (AppendsFirst (W.contents writer.old) (W.contents writer.new)
+        bytes.now) }
     ensures fault { IfErr result IsWriteFault }
 {
     let mut rest = bytes;
@@ -103,8 +111,10 @@ pub(crate) fn write_part<W: Write>(
     features: &[Feature],
     later: bool,
 ) -> Result<(), ExportFault>
-    ensures ok { OnOk result (Appends (W.contents writer.old) (W.contents writer.new) (part_text later (map feature_value features.now))) }
-    ensures err { OnErr result (AppendsFirst (W.contents writer.old) (W.contents writer.new) (part_text later (map feature_value features.now))) }
+    ensures ok { OnOk result (Appends (W.contents writer.old) (W.contents writer.new)
+        (part_text later (map feature_value features.now))) }
+    ensures err { OnErr result (AppendsFirst (W.contents writer.old) (W.contents writer.new)
+        (part_text later (map feature_value features.now))) }
     ensures fault { IfErr result IsWriteFault }
 {
     let mut text = String::new(alloc);

@@ -3,9 +3,11 @@
 /// After so many features it is told again.
 const STEP: u64 = 1_000;
 
-/// What is told how far an import or an export is. It changes nothing of what is imported or written.
+/// What is told how far an import or an export is. It changes nothing of what is imported or
+/// written.
 pub trait Progress {
-    /// So many features were read of the text, or written of the collection: 1,000, 2,000 and so on.
+    /// So many features were read of the text, or written of the collection: 1,000, 2,000 and so
+    /// on.
     fn reached(&mut self, features: u64);
 }
 

@@ -4,7 +4,8 @@ use Rattle.streetmap_moment.specs.IntervalValue.{IntervalValue}
 
 -- the moment so many nanoseconds into a second; where a second has not so many, none
 abbrev pub end_at : ℤ → ℕ → Option ℤ
-end_at second nanoseconds = if nat_lt nanoseconds 1_000_000_000 then Some (second *ℤ pos 1_000_000_000 +ℤ pos nanoseconds) else None
+end_at second nanoseconds = if nat_lt nanoseconds 1_000_000_000
+    then Some (second *ℤ pos 1_000_000_000 +ℤ pos nanoseconds) else None
 
 -- the time between two ends; where there is neither, none
 abbrev pub time_between : Option ℤ → Option ℤ → Option IntervalValue

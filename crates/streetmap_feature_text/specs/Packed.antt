@@ -1,5 +1,6 @@
 -- A feature that is kept as its text, with its extent and its time beside it.
-use Rattle.std.specs.Prelude.{◌≡◌, ℕ, ◌≤◌, List, [], length, slice_range, IfSome, Option, None, option_map, Result, Ok, Err}
+use Rattle.std.specs.Prelude.{◌≡◌, ℕ, ◌≤◌, List, [], length, slice_range, IfSome, Option, None}
+use Rattle.std.specs.Prelude.{option_map, Result, Ok, Err}
 use Rattle.serde_json.specs.Data.{null}
 use Rattle.serde_json.specs.Written.{compact_text}
 use Rattle.streetmap_grid.specs.Values.{BoxValue}

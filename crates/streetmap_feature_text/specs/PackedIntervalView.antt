@@ -5,4 +5,5 @@ use Rattle.streetmap_feature_text.specs.declared.packed_interval.PackedInterval.
 
 -- a span is seen as its time
 abbrev pub packed_interval_value : PackedInterval → Option IntervalValue
-packed_interval_value s = time_between (end_at s.start s.start_nanoseconds) (end_at s.end s.end_nanoseconds)
+packed_interval_value s = time_between (end_at s.start s.start_nanoseconds)
+    (end_at s.end s.end_nanoseconds)

@@ -1,4 +1,5 @@
--- What is written for a feature. RFC 7946 3; the members of each object stand in byte order of their names.
+-- What is written for a feature. RFC 7946 3; the members of each object stand in byte order of
+-- their names.
 use Rattle.std.specs.Prelude.{ℤ, ℕ, List, [], ◌∷◌, Option, None, Some, map, codes}
 use Rattle.serde_json.specs.Data.{Data, null, number, string, array, object, no_members, member}
 use Rattle.serde_json.specs.Find.{of_integer}
@@ -50,21 +51,27 @@ name_of (values.polygon rs) = codes "Polygon"
 name_of (values.multi_polygon ps) = codes "MultiPolygon"
 
 abbrev pub typed_data : List ℕ → List Data → Data
-typed_data name ds = object (member (codes "coordinates") (array (items_of ds)) (member (codes "type") (string name) no_members))
+typed_data name ds = object (member (codes "coordinates") (array (items_of ds))
+    (member (codes "type") (string name) no_members))
 
 abbrev pub simple_data : SimpleValue → Data
 simple_data s = typed_data (name_of s) (coordinates_of s)
 
 abbrev pub geometry_data : GeometryValue → Data
 geometry_data (values.simple s) = simple_data s
-geometry_data (values.collection ss) = object (member (codes "geometries") (array_of simple_data ss) (member (codes "type") (string (codes "GeometryCollection")) no_members))
+geometry_data (values.collection ss) = object
+    (member (codes "geometries") (array_of simple_data ss)
+    (member (codes "type") (string (codes "GeometryCollection")) no_members))
 
 abbrev pub geometry_member : Option GeometryValue → Data
 geometry_member None = null
 geometry_member (Some g) = geometry_data g
 
 abbrev pub feature_data : FeatureValue → Data
-feature_data f = object (member (codes "geometry") (geometry_member f.geometry) (member (codes "id") (string f.id) (member (codes "properties") f.properties (member (codes "type") (string (codes "Feature")) no_members))))
+feature_data f = object (member (codes "geometry") (geometry_member f.geometry)
+    (member (codes "id") (string f.id)
+    (member (codes "properties") f.properties
+    (member (codes "type") (string (codes "Feature")) no_members))))
 
 -- the array `coordinates`
 abbrev pub coordinates_data : SimpleValue → Data
@@ -77,4 +84,5 @@ height_text (Some z) = 44 ∷ compact_text (number_data z)
 
 -- RFC 7946 3.3
 abbrev pub collection_data : List FeatureValue → Data
-collection_data fs = object (member (codes "features") (array_of feature_data fs) (member (codes "type") (string (codes "FeatureCollection")) no_members))
+collection_data fs = object (member (codes "features") (array_of feature_data fs)
+    (member (codes "type") (string (codes "FeatureCollection")) no_members))

@@ -30,7 +30,8 @@ pub fn feature_text_reads_again()
 /// What is written for a list of features reads as them, their times left out, and its compact
 /// text is read as its value.
 pub fn collection_reads_again()
-    ensures again { (fs : List FeatureValue) → All IsFeature fs → AreFeatures None (collection_data fs) (map untimed fs) }
+    ensures again { (fs : List FeatureValue) → All IsFeature fs
+        → AreFeatures None (collection_data fs) (map untimed fs) }
     ensures json { (fs : List FeatureValue) → All IsFeature fs
         → json_of (compact_text (collection_data fs)) ≡ Ok (collection_data fs) }
 {}

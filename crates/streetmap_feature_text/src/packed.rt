@@ -39,9 +39,9 @@ struct Packing {
     id: Option<Part>,
 }
 
-/// A feature that is kept as its compact text, with its extent and its time beside it: a fraction of
-/// the memory of a [`Feature`], and none of its own for the text where that is a part of a shared one.
-/// Clauses see it as a `FeatureValue`.
+/// A feature that is kept as its compact text, with its extent and its time beside it: a fraction
+/// of the memory of a [`Feature`], and none of its own for the text where that is a part of a
+/// shared one. Clauses see it as a `FeatureValue`.
 #[derive(Drop)]
 pub struct PackedFeature {
     kept: Box<Packing>,
@@ -92,7 +92,8 @@ fn read_text(alloc: Global, text: &[u8]) -> Result<Feature, JsonFault>
 }
 
 impl PackedFeature {
-    /// Packs a feature whose compact text this is, as [`crate::push_feature`] writes it, with this time.
+    /// Packs a feature whose compact text this is, as [`crate::push_feature`] writes it, with this
+    /// time.
     pub fn new(
         alloc: Global,
         text: Bytes,
@@ -145,8 +146,8 @@ impl PackedFeature {
         }
     }
 
-    /// The bytes of the id, which stand so in the text. None where they do not, since one of them is
-    /// written as an escape: the feature has then to be read.
+    /// The bytes of the id, which stand so in the text. None where they do not, since one of them
+    /// is written as an escape: the feature has then to be read.
     pub fn unescaped_id(&self) -> Option<&[u8]>
         ensures { IfSome result (λ id. id.now ≡ self.now.id) }
     {

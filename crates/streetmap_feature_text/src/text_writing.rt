@@ -4,9 +4,16 @@ ghost use Rattle.serde_json.specs.Data.{string};
 ghost use Rattle.serde_json.specs.View.{view};
 ghost use Rattle.serde_json.specs.Written.{comma_if, compact_text};
 ghost use Rattle.streetmap_grid.specs.Values as values;
-ghost use Rattle.streetmap_grid.specs.Views.{position_value, positions_value, line_value, lines_value, ring_value, rings_value, polygon_value, polygons_value, simple_value, simples_value, geometry_value};
+ghost use Rattle.streetmap_grid.specs.Views.{position_value, positions_value, line_value};
+ghost use Rattle.streetmap_grid.specs.Views.{lines_value, ring_value, rings_value, polygon_value};
+ghost use Rattle.streetmap_grid.specs.Views.{polygons_value, simple_value, simples_value};
+ghost use Rattle.streetmap_grid.specs.Views.{geometry_value};
 ghost use Rattle.streetmap_geojson.specs.FeatureView.{feature_value};
-ghost use Rattle.streetmap_feature_text.specs.Written.{number_data, height_text, name_of, coordinates_data, position_data, line_data, polygon_data, array_of, simple_data, geometry_data, geometry_member, feature_data, collection_data};
+ghost use Rattle.streetmap_feature_text.specs.Written.{number_data, height_text, name_of};
+ghost use Rattle.streetmap_feature_text.specs.Written.{coordinates_data, position_data, line_data};
+ghost use Rattle.streetmap_feature_text.specs.Written.{polygon_data, array_of, simple_data};
+ghost use Rattle.streetmap_feature_text.specs.Written.{geometry_data, geometry_member};
+ghost use Rattle.streetmap_feature_text.specs.Written.{feature_data, collection_data};
 
 use crate::value_writing::kind_name;
 use serde_json::Value;
@@ -23,10 +30,11 @@ pub fn push_comma(out: &mut String, later: bool) -> Result<(), AllocError>
     if later { out.push_str(",") } else { Ok(()) }
 }
 
-/// Appends a text as a JSON string, in quotes and with its escapes (RFC 8259, section 7). Where memory
-/// is refused, nothing is appended.
+/// Appends a text as a JSON string, in quotes and with its escapes (RFC 8259, section 7). Where
+/// memory is refused, nothing is appended.
 pub fn push_quoted(alloc: Global, out: &mut String, text: &str) -> Result<(), AllocError>
-    ensures bytes { OnOk result (string_bytes out.new ≡ string_bytes out.old ++ compact_text (string text.now)) }
+    ensures bytes { OnOk result (string_bytes out.new
+        ≡ string_bytes out.old ++ compact_text (string text.now)) }
     ensures kept { OnErr result (string_bytes out.new ≡ string_bytes out.old) }
 {
     let value = Value::String(String::from_str(alloc, text)?);
@@ -36,7 +44,8 @@ pub fn push_quoted(alloc: Global, out: &mut String, text: &str) -> Result<(), Al
 
 /// Appends a whole number in decimal digits.
 fn push_number(out: &mut String, number: i64) -> Result<(), AllocError>
-    ensures { OnOk result (string_bytes out.new ≡ string_bytes out.old ++ compact_text (number_data number)) }
+    ensures { OnOk result (string_bytes out.new
+        ≡ string_bytes out.old ++ compact_text (number_data number)) }
 {
     let mut digits = itoa::Buffer::new();
     out.push_str(digits.format(number))
@@ -57,7 +66,8 @@ fn push_height(out: &mut String, height: Option<i64>) -> Result<(), AllocError>
 
 #[tactic(auto, unfolding(crate::specs::Written::position_data))]
 fn push_position(out: &mut String, position: &Position) -> Result<(), AllocError>
-    ensures { OnOk result (string_bytes out.new ≡ string_bytes out.old ++ compact_text (position_data (position_value position.now))) }
+    ensures { OnOk result (string_bytes out.new
+        ≡ string_bytes out.old ++ compact_text (position_data (position_value position.now))) }
 {
     out.push_str("[")?;
     push_number(out, position.x)?;
@@ -68,7 +78,8 @@ fn push_position(out: &mut String, position: &Position) -> Result<(), AllocError
 }
 
 fn push_positions(out: &mut String, positions: &[Position]) -> Result<(), AllocError>
-    ensures { OnOk result (string_bytes out.new ≡ string_bytes out.old ++ compact_text (line_data (positions_value positions.now))) }
+    ensures { OnOk result (string_bytes out.new
+        ≡ string_bytes out.old ++ compact_text (line_data (positions_value positions.now))) }
 {
     out.push_str("[")?;
     let mut later = false;
@@ -81,7 +92,8 @@ fn push_positions(out: &mut String, positions: &[Position]) -> Result<(), AllocE
 }
 
 fn push_lines(out: &mut String, lines: &[Line]) -> Result<(), AllocError>
-    ensures { OnOk result (string_bytes out.new ≡ string_bytes out.old ++ compact_text (array_of line_data (lines_value lines.now))) }
+    ensures { OnOk result (string_bytes out.new
+        ≡ string_bytes out.old ++ compact_text (array_of line_data (lines_value lines.now))) }
 {
     out.push_str("[")?;
     let mut later = false;
@@ -94,7 +106,8 @@ fn push_lines(out: &mut String, lines: &[Line]) -> Result<(), AllocError>
 }
 
 fn push_rings(out: &mut String, rings: &[Ring]) -> Result<(), AllocError>
-    ensures { OnOk result (string_bytes out.new ≡ string_bytes out.old ++ compact_text (polygon_data (rings_value rings.now))) }
+    ensures { OnOk result (string_bytes out.new
+        ≡ string_bytes out.old ++ compact_text (polygon_data (rings_value rings.now))) }
 {
     out.push_str("[")?;
     let mut later = false;
@@ -107,7 +120,9 @@ fn push_rings(out: &mut String, rings: &[Ring]) -> Result<(), AllocError>
 }
 
 fn push_polygons(out: &mut String, polygons: &[Polygon]) -> Result<(), AllocError>
-    ensures { OnOk result (string_bytes out.new ≡ string_bytes out.old ++ compact_text (array_of polygon_data (polygons_value polygons.now))) }
+    ensures { OnOk result (string_bytes out.new
+        ≡ string_bytes out.old ++ compact_text
+        (array_of polygon_data (polygons_value polygons.now))) }
 {
     out.push_str("[")?;
     let mut later = false;
@@ -122,7 +137,8 @@ fn push_polygons(out: &mut String, polygons: &[Polygon]) -> Result<(), AllocErro
 /// Appends the array of a geometry's `coordinates`.
 #[tactic(auto, unfolding(crate::specs::Written::position_data))]
 fn push_coordinates(out: &mut String, geometry: &SimpleGeometry) -> Result<(), AllocError>
-    ensures { OnOk result (string_bytes out.new ≡ string_bytes out.old ++ compact_text (coordinates_data (simple_value geometry.now))) }
+    ensures { OnOk result (string_bytes out.new
+        ≡ string_bytes out.old ++ compact_text (coordinates_data (simple_value geometry.now))) }
 {
     match geometry {
         SimpleGeometry::Point(position) => push_position(out, position),
@@ -136,13 +152,15 @@ fn push_coordinates(out: &mut String, geometry: &SimpleGeometry) -> Result<(), A
 
 /// Appends the name of a geometry's kind.
 fn push_name(out: &mut String, geometry: &SimpleGeometry) -> Result<(), AllocError>
-    ensures { OnOk result (string_bytes out.new ≡ string_bytes out.old ++ name_of (simple_value geometry.now)) }
+    ensures { OnOk result (string_bytes out.new
+        ≡ string_bytes out.old ++ name_of (simple_value geometry.now)) }
 {
     out.push_str(kind_name(geometry))
 }
 
 fn push_simple(out: &mut String, geometry: &SimpleGeometry) -> Result<(), AllocError>
-    ensures { OnOk result (string_bytes out.new ≡ string_bytes out.old ++ compact_text (simple_data (simple_value geometry.now))) }
+    ensures { OnOk result (string_bytes out.new
+        ≡ string_bytes out.old ++ compact_text (simple_data (simple_value geometry.now))) }
 {
     out.push_str("{\"coordinates\":")?;
     push_coordinates(out, geometry)?;
@@ -152,7 +170,9 @@ fn push_simple(out: &mut String, geometry: &SimpleGeometry) -> Result<(), AllocE
 }
 
 fn push_simples(out: &mut String, geometries: &[SimpleGeometry]) -> Result<(), AllocError>
-    ensures { OnOk result (string_bytes out.new ≡ string_bytes out.old ++ compact_text (array_of simple_data (simples_value geometries.now))) }
+    ensures { OnOk result (string_bytes out.new
+        ≡ string_bytes out.old ++ compact_text
+        (array_of simple_data (simples_value geometries.now))) }
 {
     out.push_str("[")?;
     let mut later = false;
@@ -166,7 +186,9 @@ fn push_simples(out: &mut String, geometries: &[SimpleGeometry]) -> Result<(), A
 
 /// Appends a GeometryCollection of these members.
 fn push_collection(out: &mut String, members: &[SimpleGeometry]) -> Result<(), AllocError>
-    ensures { OnOk result (string_bytes out.new ≡ string_bytes out.old ++ compact_text (geometry_data (values.collection (simples_value members.now)))) }
+    ensures { OnOk result (string_bytes out.new
+        ≡ string_bytes out.old ++ compact_text
+        (geometry_data (values.collection (simples_value members.now)))) }
 {
     out.push_str("{\"geometries\":")?;
     push_simples(out, members)?;
@@ -175,7 +197,9 @@ fn push_collection(out: &mut String, members: &[SimpleGeometry]) -> Result<(), A
 
 /// Appends a geometry, or null.
 fn push_geometry(out: &mut String, geometry: Option<&Geometry>) -> Result<(), AllocError>
-    ensures { OnOk result (string_bytes out.new ≡ string_bytes out.old ++ compact_text (geometry_member (option_map (λ g. geometry_value g.now) geometry.entry))) }
+    ensures { OnOk result (string_bytes out.new
+        ≡ string_bytes out.old ++ compact_text
+        (geometry_member (option_map (λ g. geometry_value g.now) geometry.entry))) }
 {
     match geometry {
         None => out.push_str("null"),
@@ -186,17 +210,19 @@ fn push_geometry(out: &mut String, geometry: Option<&Geometry>) -> Result<(), Al
 
 /// Appends the properties.
 fn push_properties(alloc: Global, out: &mut String, feature: &Feature) -> Result<(), AllocError>
-    ensures { OnOk result (string_bytes out.new ≡ string_bytes out.old ++ compact_text (feature_value feature.now).properties) }
+    ensures { OnOk result (string_bytes out.new
+        ≡ string_bytes out.old ++ compact_text (feature_value feature.now).properties) }
 {
     feature.facts();
     let text = feature.properties().to_string(alloc)?;
     out.push_str(text.as_str())
 }
 
-/// Appends the compact JSON text of a feature, as `write_feature` writes its value: without its time.
-/// Where memory is refused, a beginning of it may be appended.
+/// Appends the compact JSON text of a feature, as `write_feature` writes its value: without its
+/// time. Where memory is refused, a beginning of it may be appended.
 pub fn push_feature(alloc: Global, out: &mut String, feature: &Feature) -> Result<(), AllocError>
-    ensures { OnOk result (string_bytes out.new ≡ string_bytes out.old ++ compact_text (feature_data (feature_value feature.now))) }
+    ensures { OnOk result (string_bytes out.new
+        ≡ string_bytes out.old ++ compact_text (feature_data (feature_value feature.now))) }
 {
     out.push_str("{\"geometry\":")?;
     push_geometry(out, feature.geometry())?;
@@ -214,7 +240,9 @@ pub fn push_features(
     out: &mut String,
     features: &[Feature],
 ) -> Result<(), AllocError>
-    ensures { OnOk result (string_bytes out.new ≡ string_bytes out.old ++ compact_text (array_of feature_data (map feature_value features.now))) }
+    ensures { OnOk result (string_bytes out.new
+        ≡ string_bytes out.old ++ compact_text
+        (array_of feature_data (map feature_value features.now))) }
 {
     out.push_str("[")?;
     let mut later = false;
@@ -228,7 +256,8 @@ pub fn push_features(
 
 /// The compact JSON text of a collection, as `write_collection` writes its value.
 pub fn collection_text(alloc: Global, features: &[Feature]) -> Result<String, AllocError>
-    ensures { IfOk result (λ text. string_bytes text ≡ compact_text (collection_data (map feature_value features.now))) }
+    ensures { IfOk result (λ text. string_bytes text
+        ≡ compact_text (collection_data (map feature_value features.now))) }
 {
     let mut out = String::new(alloc);
     out.push_str("{\"features\":")?;

@@ -3,14 +3,20 @@ ghost use Rattle.std.specs.Prelude.{◌≡◌, All, IfOk, None, Ok, option_map, 
 ghost use Rattle.serde_json.specs.Data.{string, object, no_members, member};
 ghost use Rattle.serde_json.specs.View.{view};
 ghost use Rattle.serde_json.specs.Written.{compact_text};
-ghost use Rattle.streetmap_grid.specs.Views.{position_value, positions_value, line_value, lines_value, ring_value, rings_value, polygon_value, polygons_value, simple_value, simples_value, geometry_value};
+ghost use Rattle.streetmap_grid.specs.Views.{position_value, positions_value, line_value};
+ghost use Rattle.streetmap_grid.specs.Views.{lines_value, ring_value, rings_value, polygon_value};
+ghost use Rattle.streetmap_grid.specs.Views.{polygons_value, simple_value, simples_value};
+ghost use Rattle.streetmap_grid.specs.Views.{geometry_value};
 ghost use Rattle.streetmap_geojson.specs.FeatureValue.{untimed};
 ghost use Rattle.streetmap_geojson.specs.FeatureView.{feature_value};
 ghost use Rattle.streetmap_geojson.specs.FeatureMeaning.{ReadsAs};
 ghost use Rattle.streetmap_geojson.specs.FeatureInvariant.{IsFeature};
 ghost use Rattle.streetmap_geojson.specs.Collection.{AreFeatures};
 ghost use Rattle.streetmap_geojson.specs.JsonText.{json_of};
-ghost use Rattle.streetmap_feature_text.specs.Written.{name_of, coordinates_data, position_data, line_data, polygon_data, array_of, simple_data, geometry_data, geometry_member, feature_data, collection_data};
+ghost use Rattle.streetmap_feature_text.specs.Written.{name_of, coordinates_data, position_data};
+ghost use Rattle.streetmap_feature_text.specs.Written.{line_data, polygon_data, array_of};
+ghost use Rattle.streetmap_feature_text.specs.Written.{simple_data, geometry_data, geometry_member};
+ghost use Rattle.streetmap_feature_text.specs.Written.{feature_data, collection_data};
 
 use serde_json::{Value, json};
 use std::alloc::{AllocError, Global};
@@ -147,7 +153,8 @@ fn write_geometry(alloc: Global, geometry: &Geometry) -> Result<Value, AllocErro
 }
 
 fn write_geometry_member(alloc: Global, geometry: Option<&Geometry>) -> Result<Value, AllocError>
-    ensures { IfOk result (λ v. view v ≡ geometry_member (option_map (λ g. geometry_value g.now) geometry.entry)) }
+    ensures { IfOk result (λ v. view v
+        ≡ geometry_member (option_map (λ g. geometry_value g.now) geometry.entry)) }
 {
     match geometry {
         Some(geometry) => write_geometry(alloc, geometry),
@@ -162,7 +169,11 @@ fn feature_object(
     id: &str,
     properties: Value,
 ) -> Result<Value, AllocError>
-    ensures { IfOk result (λ v. view v ≡ object (member (codes "geometry") (view geometry) (member (codes "id") (string id.now) (member (codes "properties") (view properties) (member (codes "type") (string (codes "Feature")) no_members))))) }
+    ensures { IfOk result (λ v. view v
+        ≡ object (member (codes "geometry") (view geometry)
+        (member (codes "id") (string id.now)
+        (member (codes "properties") (view properties)
+        (member (codes "type") (string (codes "Feature")) no_members))))) }
 {
     json!(in alloc; {"geometry": geometry, "id": id, "properties": properties, "type": "Feature"})
 }
@@ -180,7 +191,8 @@ fn write_members(alloc: Global, feature: &Feature) -> Result<Value, AllocError>
 pub fn write_feature(alloc: Global, feature: &Feature) -> Result<Value, AllocError>
     ensures value { IfOk result (λ v. view v ≡ feature_data (feature_value feature.now)) }
     // What is written reads as that feature, its time left out.
-    ensures reads_again { IfOk result (λ v. ReadsAs None (view v) (untimed (feature_value feature.now))) }
+    ensures reads_again { IfOk result (λ v.
+        ReadsAs None (view v) (untimed (feature_value feature.now))) }
     // Its compact text is read as the same value.
     ensures text { IfOk result (λ v. json_of (compact_text (view v)) ≡ Ok (view v)) }
 {
@@ -219,7 +231,8 @@ fn write_whole(alloc: Global, features: &[Feature]) -> Result<Value, AllocError>
 pub fn write_collection(alloc: Global, features: &[Feature]) -> Result<Value, AllocError>
     ensures value { IfOk result (λ v. view v ≡ collection_data (map feature_value features.now)) }
     // What is written reads as those features, their times left out.
-    ensures reads_again { IfOk result (λ v. AreFeatures None (view v) (map untimed (map feature_value features.now))) }
+    ensures reads_again { IfOk result (λ v.
+        AreFeatures None (view v) (map untimed (map feature_value features.now))) }
     // Its compact text is read as the same value.
     ensures text { IfOk result (λ v. json_of (compact_text (view v)) ≡ Ok (view v)) }
 {

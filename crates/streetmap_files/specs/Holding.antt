@@ -15,8 +15,10 @@ use Rattle.streetmap_rows.specs.Keeping.{Tells}
 use Rattle.streetmap_opening.specs.Making.{HasRoom}
 use Rattle.streetmap_opening.specs.Old.{KeepsOld}
 
--- a connection that was just opened on files: while they return what was written, it is open and shows the database that they held
-pub record IsJustOpenedOn {D : Type 0} {g : disk.Ghosts D} (image : Image) (c : Held (FileStore D g)) : Type 0 where
+-- a connection that was just opened on files: while they return what was written, it is open and
+-- shows the database that they held
+pub record IsJustOpenedOn {D : Type 0} {g : disk.Ghosts D} (image : Image)
+    (c : Held (FileStore D g)) : Type 0 where
   pub fresh : IsNew c
   pub opened : HasCleanDisk (file_state c) → IsOpened c
   pub found : HasCleanDisk (file_state c) → FindsIn image (file_state c)
@@ -27,8 +29,10 @@ HoldsState image s = (db : Trees) × HoldsDatabase image db × Tells db (Some s)
 
 -- the files hold a database with the tables of a state in format 1
 abbrev pub HoldsOldState : Image → State → Type 0
-HoldsOldState image s = (db : Trees) × HoldsDatabase image db × ((schema : Schema) × KeepsOld s (record { schema = schema; trees = db }))
+HoldsOldState image s = (db : Trees) × HoldsDatabase image db
+    × ((schema : Schema) × KeepsOld s (record { schema = schema; trees = db }))
 
 -- the tables of whatever database the files are read as, if any, leave room for ours
 abbrev pub LeavesRoom : Image → Type 0
-LeavesRoom image = (db : Trees) (schema : Schema) → AreFoundIn image db → IsSound schema db → HasRoom schema
+LeavesRoom image = (db : Trees) (schema : Schema) → AreFoundIn image db → IsSound schema db
+    → HasRoom schema

@@ -31,13 +31,16 @@ abbrev pub open_description : OpenFault → List ℕ
 open_description opened.NotOurs = codes "The file is none of this product."
 open_description opened.Damaged = codes "The file has a row that this product does not write."
 open_description opened.NewFormat = codes "The file has a format above 2."
-open_description (opened.Device e) = codes "The file cannot be opened, is in use, or its device failed."
+open_description (opened.Device e) = codes
+    "The file cannot be opened, is in use, or its device failed."
 open_description opened.Memory = codes "Memory was refused; the call may be made again."
 
 abbrev pub create_description : CreateFault → List ℕ
 create_description created.NotOurs = codes "The file is no database of SQLite."
-create_description created.Taken = codes "A table, an index or a view of the file has one of the names of the tables."
-create_description (created.Device e) = codes "The file cannot be opened, is in use, or its device failed."
+create_description created.Taken = codes
+    "A table, an index or a view of the file has one of the names of the tables."
+create_description (created.Device e) = codes
+    "The file cannot be opened, is in use, or its device failed."
 create_description created.Memory = codes "Memory was refused; the call may be made again."
 
 -- files that a connection is refused for: no database, want of memory, or a failure of the device

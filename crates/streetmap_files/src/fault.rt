@@ -1,6 +1,8 @@
 //! Why a file is not made or opened, and what is left of it.
 ghost use Rattle.std.specs.Prelude.{◌≡◌};
-ghost use Rattle.streetmap_files.specs.Refusing.{open_code, create_code, open_description, create_description, refused_to_open, refused_to_create, not_adopted, not_made};
+ghost use Rattle.streetmap_files.specs.Refusing.{open_code, create_code, open_description};
+ghost use Rattle.streetmap_files.specs.Refusing.{create_description, refused_to_open};
+ghost use Rattle.streetmap_files.specs.Refusing.{refused_to_create, not_adopted, not_made};
 
 use sqlite::{Error, ErrorCode};
 use streetmap_opening::{MakeFault, TablesFault};
@@ -33,7 +35,8 @@ pub enum CreateFault {
     Memory,
 }
 
-/// What is left of files that were refused. They are closed when it is dropped, and locked until then.
+/// What is left of files that were refused. They are closed when it is dropped, and locked until
+/// then.
 #[derive(Drop)]
 pub enum Left<F, C> {
     /// Nothing: they were not opened.

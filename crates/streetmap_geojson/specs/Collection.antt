@@ -1,5 +1,7 @@
 -- What a FeatureCollection reads as. RFC 7946 3.3.
-use Rattle.std.specs.Prelude.{◌≡◌, ℕ, ◌+◌, Bool, false, List, [], ◌∷◌, codes, Option, None, Some, option_map, option_and_then, unwrap_or, Result, Ok, Err, if◌then◌else◌, bytes_eq, IsTrue}
+use Rattle.std.specs.Prelude.{◌≡◌, ℕ, ◌+◌, Bool, false, List, [], ◌∷◌, codes, Option, None, Some}
+use Rattle.std.specs.Prelude.{option_map, option_and_then, unwrap_or, Result, Ok, Err}
+use Rattle.std.specs.Prelude.{if◌then◌else◌, bytes_eq, IsTrue}
 use Rattle.serde_json.specs.Data.{Data}
 use Rattle.serde_json.specs.Find.{as_str, as_array, get}
 use Rattle.streetmap_geojson.specs.declared.fault.Fault.{Fault}
@@ -17,35 +19,48 @@ abbrev pub at_place : ℕ → Result FeatureValue Fault → Result FeatureValue 
 at_place n (Ok f) = Ok f
 at_place n (Err fault) = Err (faults.At n fault)
 
-abbrev pub and_more : Result FeatureValue CollectionFault → Result (List FeatureValue) CollectionFault → Result (List FeatureValue) CollectionFault
+abbrev pub and_more : Result FeatureValue CollectionFault
+    → Result (List FeatureValue) CollectionFault → Result (List FeatureValue) CollectionFault
 and_more (Ok f) (Ok fs) = Ok (f ∷ fs)
 and_more (Ok f) (Err fault) = Err fault
 and_more (Err fault) _ = Err fault
 
--- the features behind the n-th, from left to right; one without an id takes its place, counted from 1, as id
-unfoldable pub features_after : ℕ → (time_property : Option (List ℕ)) → List Data → Result (List FeatureValue) CollectionFault
+-- the features behind the n-th, from left to right; one without an id takes its place, counted from
+-- 1, as id
+unfoldable pub features_after : ℕ → (time_property : Option (List ℕ)) → List Data
+    → Result (List FeatureValue) CollectionFault
 features_after n time_property [] = Ok []
-features_after n time_property (d ∷ ds) = and_more (at_place (n + 1) (feature_at (Some (n + 1)) time_property d)) (features_after (n + 1) time_property ds)
+features_after n time_property (d ∷ ds) = and_more
+    (at_place (n + 1) (feature_at (Some (n + 1)) time_property d))
+    (features_after (n + 1) time_property ds)
 
 abbrev pub is_collection : Data → Bool
-is_collection d = unwrap_or (option_map (λ s. bytes_eq s (codes "FeatureCollection")) (option_and_then as_str (get (codes "type") d))) false
+is_collection d = unwrap_or (option_map (λ s. bytes_eq s (codes "FeatureCollection"))
+    (option_and_then as_str (get (codes "type") d))) false
 
-abbrev pub features_in : (time_property : Option (List ℕ)) → Option (List Data) → Result (List FeatureValue) CollectionFault
+abbrev pub features_in : (time_property : Option (List ℕ)) → Option (List Data)
+    → Result (List FeatureValue) CollectionFault
 features_in time_property None = Err (faults.Fault WrongType)
 features_in time_property (Some ds) = features_after 0 time_property ds
 
-abbrev pub features : (time_property : Option (List ℕ)) → Data → Result (List FeatureValue) CollectionFault
-features time_property d = if is_collection d then features_in time_property (option_map list_of (option_and_then as_array (get (codes "features") d))) else Err (faults.Fault WrongType)
+abbrev pub features : (time_property : Option (List ℕ)) → Data
+    → Result (List FeatureValue) CollectionFault
+features time_property d = if is_collection d
+    then features_in time_property
+    (option_map list_of (option_and_then as_array (get (codes "features") d)))
+    else Err (faults.Fault WrongType)
 
 -- ---- "reads as"
 
 abbrev pub AreAfter : ℕ → (time_property : Option (List ℕ)) → List Data → List FeatureValue → Type 0
 AreAfter n time_property [] [] = Unit {0}
-AreAfter n time_property (d ∷ ds) (f ∷ fs) = ReadsAt (Some (n + 1)) time_property d f × AreAfter (n + 1) time_property ds fs
+AreAfter n time_property (d ∷ ds) (f ∷ fs) = ReadsAt (Some (n + 1)) time_property d f
+    × AreAfter (n + 1) time_property ds fs
 AreAfter n time_property _ _ = ⊥
 
 abbrev pub AreFeatures : (time_property : Option (List ℕ)) → Data → List FeatureValue → Type 0
-AreFeatures time_property d fs = IsTrue (is_collection d) × ((ds : List Data) × IsArrayAt (codes "features") d ds × AreAfter 0 time_property ds fs)
+AreFeatures time_property d fs = IsTrue (is_collection d)
+    × ((ds : List Data) × IsArrayAt (codes "features") d ds × AreAfter 0 time_property ds fs)
 
 -- ---- what a reader answers
 
@@ -55,6 +70,7 @@ FailsAt (faults.Fault f) read = read ≡ Err (faults.Fault f)
 FailsAt (faults.At n f) read = read ≡ Err (faults.At n f)
 
 -- what was answered, seen by view, is the reading, unless memory ran out
-abbrev pub GivesAt : {X Y : Type 0} → (X → Y) → Result X CollectionFault → Result Y CollectionFault → Type 0
+abbrev pub GivesAt : {X Y : Type 0} → (X → Y) → Result X CollectionFault → Result Y CollectionFault
+    → Type 0
 GivesAt view (Ok x) read = read ≡ Ok (view x)
 GivesAt view (Err e) read = FailsAt e read

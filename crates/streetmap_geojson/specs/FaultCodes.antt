@@ -43,6 +43,7 @@ collection_fault_code (collection.Fault f) = fault_code f
 collection_fault_code (collection.At n f) = fault_code f
 
 abbrev pub collection_fault_description : CollectionFault → List ℕ
-collection_fault_description collection.Memory = codes "Memory was refused; the call may be made again."
+collection_fault_description collection.Memory = codes
+    "Memory was refused; the call may be made again."
 collection_fault_description (collection.Fault f) = fault_description f
 collection_fault_description (collection.At n f) = fault_description f

@@ -1,5 +1,7 @@
--- "A value reads as a feature, under a time property": by cases over RFC 7946 3.2, with no order of steps.
-use Rattle.std.specs.Prelude.{◌≡◌, ◌≤◌, ℕ, ℤ, List, codes, Option, None, Some, false, IsTrue, decimal}
+-- "A value reads as a feature, under a time property": by cases over RFC 7946 3.2, with no order of
+-- steps.
+use Rattle.std.specs.Prelude.{◌≡◌, ◌≤◌, ℕ, ℤ, List, codes, Option, None, Some, false, IsTrue}
+use Rattle.std.specs.Prelude.{decimal}
 use Rattle.std.specs.Fmt.{signed_decimal}
 use Rattle.serde_json.specs.Data.{Data, number, string, depth}
 use Rattle.serde_json.specs.Find.{as_integer, get}
@@ -22,7 +24,8 @@ abbrev pub IsIdOf : (place : Option ℕ) → Option Data → List ℕ → Type 0
 IsIdOf place None id = (n : ℕ) × (place ≡ Some n) × (id ≡ decimal n)
 IsIdOf place (Some d) id = IsId d id
 
-pub record ReadsAt (place : Option ℕ) (time_property : Option (List ℕ)) (d : Data) (f : FeatureValue) : Type 0 where
+pub record ReadsAt (place : Option ℕ) (time_property : Option (List ℕ)) (d : Data)
+    (f : FeatureValue) : Type 0 where
   pub typed : IsTrue (is_feature d)
   pub flat : depth d ≤ max_levels
   pub named : IsIdOf place (get (codes "id") d) f.id

@@ -1,10 +1,14 @@
--- What a feature reads as, or its first fault: the lines of `feature_at` stand in the reading order. RFC 7946 3.2.
-use Rattle.std.specs.Prelude.{ℕ, Bool, true, false, ◌||◌, List, codes, Option, None, is_some, option_map, option_and_then, unwrap_or, Result, Ok, Err, nat_le, if◌then◌else◌, bytes_eq}
+-- What a feature reads as, or its first fault: the lines of `feature_at` stand in the reading
+-- order. RFC 7946 3.2.
+use Rattle.std.specs.Prelude.{ℕ, Bool, true, false, ◌||◌, List, codes, Option, None, is_some}
+use Rattle.std.specs.Prelude.{option_map, option_and_then, unwrap_or, Result, Ok, Err, nat_le}
+use Rattle.std.specs.Prelude.{if◌then◌else◌, bytes_eq}
 use Rattle.serde_json.specs.Data.{Data, null, depth}
 use Rattle.serde_json.specs.Find.{as_null, as_str, as_object, get}
 use Rattle.serde_json.specs.Written.{has_float}
 use Rattle.streetmap_geojson.specs.declared.fault.Fault.{Fault}
-use Rattle.streetmap_geojson.specs.declared.fault.Fault.TheVariants.{WrongType, TooDeep, BadProperties, Fraction}
+use Rattle.streetmap_geojson.specs.declared.fault.Fault.TheVariants.{WrongType, TooDeep}
+use Rattle.streetmap_geojson.specs.declared.fault.Fault.TheVariants.{BadProperties, Fraction}
 use Rattle.streetmap_geojson.specs.FeatureValue.{FeatureValue}
 use Rattle.streetmap_geojson.specs.Fault.{◌>>=◌}
 use Rattle.streetmap_geojson.specs.Id.{id_of}
@@ -19,7 +23,8 @@ abbrev pub max_levels : ℕ
 max_levels = 64
 
 abbrev pub is_feature : Data → Bool
-is_feature d = unwrap_or (option_map (λ s. bytes_eq s (codes "Feature")) (option_and_then as_str (get (codes "type") d))) false
+is_feature d = unwrap_or (option_map (λ s. bytes_eq s (codes "Feature"))
+    (option_and_then as_str (get (codes "type") d))) false
 
 -- an object or null
 abbrev pub is_properties : Data → Bool
@@ -27,13 +32,15 @@ is_properties d = is_some (as_null d) || is_some (as_object d)
 
 -- its numbers are whole, at any depth
 abbrev pub properties_of : Data → Result Data Fault
-properties_of d = if is_properties d then (if has_float d then Err Fraction else Ok d) else Err BadProperties
+properties_of d = if is_properties d then (if has_float d then Err Fraction else Ok d)
+    else Err BadProperties
 
 -- a missing member is null
 abbrev pub member_of : List ℕ → Data → Data
 member_of name d = unwrap_or (get name d) null
 
-unfoldable pub feature_at : (place : Option ℕ) (time_property : Option (List ℕ)) → Data → Result FeatureValue Fault
+unfoldable pub feature_at : (place : Option ℕ) (time_property : Option (List ℕ)) → Data
+    → Result FeatureValue Fault
 feature_at place time_property d = do
   typed ← unless (is_feature d) WrongType
   flat ← unless (nat_le (depth d) max_levels) TooDeep

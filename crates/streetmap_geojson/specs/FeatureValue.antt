@@ -1,4 +1,5 @@
--- What a feature says. RFC 7946 3.2: its id, its geometry or none, its properties (an object or null), and its time, where it has one.
+-- What a feature says. RFC 7946 3.2: its id, its geometry or none, its properties (an object or
+-- null), and its time, where it has one.
 use Rattle.std.specs.Prelude.{ℕ, List, Option, None}
 use Rattle.serde_json.specs.Data.{Data}
 use Rattle.streetmap_grid.specs.Values.{GeometryValue}

@@ -1,5 +1,7 @@
--- Ids of features: texts, and whole numbers as their decimal texts. RFC 7946 3.2: an id is text or a number.
-use Rattle.std.specs.Prelude.{ℕ, ℤ, Bool, ◌&&◌, List, length, Option, None, Some, Result, Ok, Err, nat_le, nat_lt, not, if◌then◌else◌, decimal}
+-- Ids of features: texts, and whole numbers as their decimal texts. RFC 7946 3.2: an id is text or
+-- a number.
+use Rattle.std.specs.Prelude.{ℕ, ℤ, Bool, ◌&&◌, List, length, Option, None, Some, Result, Ok, Err}
+use Rattle.std.specs.Prelude.{nat_le, nat_lt, not, if◌then◌else◌, decimal}
 use Rattle.std.specs.Char.{is_control}
 use Rattle.std.specs.Fmt.{signed_decimal}
 use Rattle.std.specs.List.{list_all}
@@ -31,7 +33,8 @@ id_from (string s) = text_id s
 id_from (number n) = number_id (as_integer n)
 id_from _ = Err BadId
 
--- the place of a feature in a collection, counted from 1, is its id where it has none; alone it has no place
+-- the place of a feature in a collection, counted from 1, is its id where it has none; alone it has
+-- no place
 abbrev pub place_id : (place : Option ℕ) → Result (List ℕ) Fault
 place_id None = Err BadId
 place_id (Some n) = Ok (decimal n)

@@ -1,4 +1,5 @@
--- The names of the kinds. RFC 7946 1.4: the six geometry types that have coordinates, and GeometryCollection.
+-- The names of the kinds. RFC 7946 1.4: the six geometry types that have coordinates, and
+-- GeometryCollection.
 use Rattle.std.specs.Prelude.{ℕ, List, codes, Option, None, Some, if◌then◌else◌, bytes_eq}
 use Rattle.streetmap_geojson.specs.declared.kind.Kind.{Kind}
 use Rattle.streetmap_geojson.specs.declared.kind.Kind.TheVariants.{Simple, Collection}

@@ -1,5 +1,7 @@
--- "A value reads as a geometry": by cases over RFC 7946 3.1, of whole values, with no order and no count.
-use Rattle.std.specs.Prelude.{◌≡◌, ◌+◌, ◌≤◌, ◌⊎◌, ℕ, ℤ, List, [], ◌∷◌, length, codes, Option, None, Some, is_some, option_map, option_and_then, IsTrue}
+-- "A value reads as a geometry": by cases over RFC 7946 3.1, of whole values, with no order and no
+-- count.
+use Rattle.std.specs.Prelude.{◌≡◌, ◌+◌, ◌≤◌, ◌⊎◌, ℕ, ℤ, List, [], ◌∷◌, length, codes, Option, None}
+use Rattle.std.specs.Prelude.{Some, is_some, option_map, option_and_then, IsTrue}
 use Rattle.serde_json.specs.Data.{Data, number, array}
 use Rattle.serde_json.specs.Find.{as_integer, as_null, as_array, get}
 use Rattle.streetmap_grid.specs.Values as values
@@ -19,7 +21,8 @@ ReadsAsCoordinate _ z = ⊥
 -- RFC 7946 3.1.1: two coordinates, or three
 abbrev pub ArePosition : List Data → PositionValue → Type 0
 ArePosition (a ∷ b ∷ []) p = ReadsAsCoordinate a p.x × ReadsAsCoordinate b p.y × (p.z ≡ None)
-ArePosition (a ∷ b ∷ c ∷ []) p = ReadsAsCoordinate a p.x × ReadsAsCoordinate b p.y × ((z : ℤ) × ReadsAsCoordinate c z × (p.z ≡ Some z))
+ArePosition (a ∷ b ∷ c ∷ []) p = ReadsAsCoordinate a p.x × ReadsAsCoordinate b p.y
+    × ((z : ℤ) × ReadsAsCoordinate c z × (p.z ≡ Some z))
 ArePosition _ p = ⊥
 
 -- an array of which the elements are as R says
@@ -52,7 +55,8 @@ AreRings ds rs = AreEach (IsArray AreRing) ds rs
 
 -- RFC 7946 3.1.6: one ring or more, each as it stands, or reversed where its sign is wrong
 abbrev pub ArePolygon : List Data → List (List PositionValue) → Type 0
-ArePolygon ds rs = (qs : List (List PositionValue)) × AreRings ds qs × (1 ≤ length qs) × (rs ≡ oriented qs)
+ArePolygon ds rs = (qs : List (List PositionValue)) × AreRings ds qs × (1 ≤ length qs)
+    × (rs ≡ oriented qs)
 
 abbrev pub ArePolygons : List Data → List (List (List PositionValue)) → Type 0
 ArePolygons ds ps = AreEach (IsArray ArePolygon) ds ps
@@ -78,25 +82,31 @@ IsArrayAt name d ds = option_map list_of (option_and_then as_array (get name d))
 
 -- a geometry of that kind, or none
 abbrev pub ReadsAsSimple : SimpleKind → Data → Option SimpleValue → Type 0
-ReadsAsSimple k d o = (ds : List Data) × IsArrayAt (codes "coordinates") d ds × AreCoordinates k ds o
+ReadsAsSimple k d o = (ds : List Data) × IsArrayAt (codes "coordinates") d ds
+    × AreCoordinates k ds o
 
 abbrev pub IsNull : Data → Type 0
 IsNull d = IsTrue (is_some (as_null d))
 
 -- a member of `geometries`
 abbrev pub ReadsAsMember : Data → Option SimpleValue → Type 0
-ReadsAsMember d o = (IsNull d × (o ≡ None)) ⊎ ((k : SimpleKind) × (kind_at d ≡ Some (Simple k)) × ReadsAsSimple k d o)
+ReadsAsMember d o = (IsNull d × (o ≡ None))
+    ⊎ ((k : SimpleKind) × (kind_at d ≡ Some (Simple k)) × ReadsAsSimple k d o)
 
 -- RFC 7946 3.1.8: the members that are not null, or none
 abbrev pub ReadsAsCollection : Data → Option GeometryValue → Type 0
-ReadsAsCollection d o = (ds : List Data) × IsArrayAt (codes "geometries") d ds × ((os : List (Option SimpleValue)) × AreEach ReadsAsMember ds os × (o ≡ collection_of (somes os)))
+ReadsAsCollection d o = (ds : List Data) × IsArrayAt (codes "geometries") d ds
+    × ((os : List (Option SimpleValue)) × AreEach ReadsAsMember ds os
+    × (o ≡ collection_of (somes os)))
 
 abbrev pub ReadsAsSingle : Data → Option GeometryValue → Type 0
-ReadsAsSingle d o = (k : SimpleKind) × (kind_at d ≡ Some (Simple k)) × ((s : Option SimpleValue) × ReadsAsSimple k d s × (o ≡ single_of s))
+ReadsAsSingle d o = (k : SimpleKind) × (kind_at d ≡ Some (Simple k))
+    × ((s : Option SimpleValue) × ReadsAsSimple k d s × (o ≡ single_of s))
 
 -- RFC 7946 3.2: a geometry, or null
 abbrev pub ReadsAsGeometry : Data → Option GeometryValue → Type 0
-ReadsAsGeometry d o = (IsNull d × (o ≡ None)) ⊎ (ReadsAsSingle d o ⊎ ((kind_at d ≡ Some Collection) × ReadsAsCollection d o))
+ReadsAsGeometry d o = (IsNull d × (o ≡ None))
+    ⊎ (ReadsAsSingle d o ⊎ ((kind_at d ≡ Some Collection) × ReadsAsCollection d o))
 
 -- ---- the number of positions
 

@@ -1,6 +1,9 @@
 -- What a geometry reads as, or its first fault, in the reading order. RFC 7946 3.1.
--- A number beside a value counts the feature's positions: n before it is read, and with it those of the value.
-use Rattle.std.specs.Prelude.{ℕ, ◌+◌, ℤ, List, [], ◌∷◌, length, codes, Option, None, Some, is_some, option_map, option_and_then, ok_or, Result, Ok, Err, nat_lt, if◌then◌else◌}
+-- A number beside a value counts the feature's positions: n before it is read, and with it those of
+-- the value.
+use Rattle.std.specs.Prelude.{ℕ, ◌+◌, ℤ, List, [], ◌∷◌, length, codes, Option, None, Some, is_some}
+use Rattle.std.specs.Prelude.{option_map, option_and_then, ok_or, Result, Ok, Err, nat_lt}
+use Rattle.std.specs.Prelude.{if◌then◌else◌}
 use Rattle.serde_json.specs.Data.{Data, number, Items, no_items, item}
 use Rattle.serde_json.specs.Find.{as_integer, as_null, as_str, as_array, get}
 use Rattle.streetmap_grid.specs.Values as values
@@ -8,7 +11,11 @@ use Rattle.streetmap_grid.specs.Values.{PositionValue, SimpleValue, GeometryValu
 use Rattle.streetmap_grid.specs.Range.{is_coordinate}
 use Rattle.streetmap_grid.specs.Ring.{is_closed, oriented}
 use Rattle.streetmap_geojson.specs.declared.fault.Fault.{Fault}
-use Rattle.streetmap_geojson.specs.declared.fault.Fault.TheVariants.{BadGeometry, NestedCollection, BadPosition, Fraction, OutOfGrid, TooManyPositions, ShortLine, ShortRing, OpenRing}
+use Rattle.streetmap_geojson.specs.declared.fault.Fault.TheVariants.{BadGeometry, NestedCollection}
+use Rattle.streetmap_geojson.specs.declared.fault.Fault.TheVariants.{BadPosition, Fraction}
+use Rattle.streetmap_geojson.specs.declared.fault.Fault.TheVariants.{OutOfGrid, TooManyPositions}
+use Rattle.streetmap_geojson.specs.declared.fault.Fault.TheVariants.{ShortLine, ShortRing}
+use Rattle.streetmap_geojson.specs.declared.fault.Fault.TheVariants.{OpenRing}
 use Rattle.streetmap_geojson.specs.declared.kind.Kind.{Kind}
 use Rattle.streetmap_geojson.specs.declared.kind.Kind.TheVariants.{Simple, Collection}
 use Rattle.streetmap_geojson.specs.declared.kind.SimpleKind.{SimpleKind}
@@ -94,9 +101,11 @@ line ds n = do
   ps ← positions ds n
   if nat_lt (length ps.0) 2 then Err ShortLine else Ok ps
 
--- RFC 7946 3.1.6: a linear ring is its positions, then at least four of them, then the first and the last identical
+-- RFC 7946 3.1.6: a linear ring is its positions, then at least four of them, then the first and
+-- the last identical
 abbrev pub ends_of : List PositionValue → Result (List PositionValue) Fault
-ends_of ps = if nat_lt (length ps) 4 then Err ShortRing else (if is_closed ps then Ok ps else Err OpenRing)
+ends_of ps = if nat_lt (length ps) 4 then Err ShortRing
+    else (if is_closed ps then Ok ps else Err OpenRing)
 
 unfoldable pub ring : List Data → ℕ → Read (List PositionValue)
 ring ds n = do

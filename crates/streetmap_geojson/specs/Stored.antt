@@ -1,11 +1,16 @@
--- How the logic stores a feature: a code, by which a `Model` may have a feature, or a map of features, as its value.
--- A value is stored as the list of its constructors from the left; a list is read back from its end, with a stack.
-use Rattle.std.specs.Prelude.{◌≡◌, ℕ, ℤ, pos, List, [], ◌∷◌, Bool, true, false, cond, ◌==◌, Option, None, refl}
+-- How the logic stores a feature: a code, by which a `Model` may have a feature, or a map of
+-- features, as its value.
+-- A value is stored as the list of its constructors from the left; a list is read back from its
+-- end, with a stack.
+use Rattle.std.specs.Prelude.{◌≡◌, ℕ, ℤ, pos, List, [], ◌∷◌, Bool, true, false, cond, ◌==◌, Option}
+use Rattle.std.specs.Prelude.{None, refl}
 use Rattle.std.specs.Float.{Float, nan}
 use Rattle.std.specs.Coded.{Coded, code_by, coded×, coded_ℕ, coded_ℤ, coded_list, coded_option}
 use base.Stored.{coded_float}
 use mathlib.Core.Path.{ap, ◌∙◌}
-use Rattle.serde_json.specs.Data.{Num, unsigned, negative, float, Data, null, boolean, number, string, array, object, Items, no_items, item, Members, no_members, member}
+use Rattle.serde_json.specs.Data.{Num, unsigned, negative, float, Data, null, boolean, number}
+use Rattle.serde_json.specs.Data.{string, array, object, Items, no_items, item, Members}
+use Rattle.serde_json.specs.Data.{no_members, member}
 use Rattle.streetmap_grid.specs.Values as values
 use Rattle.streetmap_grid.specs.Values.{PositionValue, SimpleValue, GeometryValue}
 use Rattle.streetmap_moment.specs.IntervalValue.{IntervalValue, coded_interval}
@@ -35,7 +40,8 @@ abbrev mutual
 
   members_parts : Members → List Part → List Part
   members_parts no_members rest = (10, (0, (pos 0, (nan, [])))) ∷ rest
-  members_parts (member k d ms) rest = (11, (0, (pos 0, (nan, k)))) ∷ data_parts d (members_parts ms rest)
+  members_parts (member k d ms) rest = (11, (0, (pos 0, (nan, k))))
+      ∷ data_parts d (members_parts ms rest)
 
 -- what stands on the stack: a value, or items, or members
 abbrev Node : Type 0
@@ -53,14 +59,18 @@ of_members ms = (null, (no_items, ms))
 -- a constructor of nothing, of one node, of two
 abbrev leaf : Part → Node
 leaf p =
-    cond (p.0 == 1) (of_data (boolean (p.1.0 == 1))) (cond (p.0 == 2) (of_data (number (unsigned p.1.0))) (cond (p.0 == 3) (of_data (number (negative p.1.1.0)))
-    (cond (p.0 == 4) (of_data (number (float p.1.1.1.0))) (cond (p.0 == 5) (of_data (string p.1.1.1.1)) (of_data null)))))
+    cond (p.0 == 1) (of_data (boolean (p.1.0 == 1)))
+    (cond (p.0 == 2) (of_data (number (unsigned p.1.0)))
+    (cond (p.0 == 3) (of_data (number (negative p.1.1.0)))
+    (cond (p.0 == 4) (of_data (number (float p.1.1.1.0)))
+    (cond (p.0 == 5) (of_data (string p.1.1.1.1)) (of_data null)))))
 
 abbrev onto_one : Part → Node → Node
 onto_one p a = cond (p.0 == 6) (of_data (array a.1.0)) (of_data (object a.1.1))
 
 abbrev onto_two : Part → Node → Node → Node
-onto_two p a b = cond (p.0 == 9) (of_items (item a.0 b.1.0)) (of_members (member p.1.1.1.1 a.0 b.1.1))
+onto_two p a b = cond (p.0 == 9) (of_items (item a.0 b.1.0))
+    (of_members (member p.1.1.1.1 a.0 b.1.1))
 
 abbrev step_one : Part → List Node → List Node
 step_one p [] = []
@@ -78,14 +88,16 @@ abbrev is_two : ℕ → Bool
 is_two n = cond (n == 9) true (n == 11)
 
 abbrev step : Part → List Node → List Node
-step p nodes = cond (is_one p.0) (step_one p nodes) (cond (is_two p.0) (step_two p nodes) (leaf p ∷ nodes))
+step p nodes = cond (is_one p.0) (step_one p nodes)
+    (cond (is_two p.0) (step_two p nodes) (leaf p ∷ nodes))
 
 abbrev nodes_of : List Part → List Node
 nodes_of [] = []
 nodes_of (p ∷ ps) = step p (nodes_of ps)
 
 mutual
-  data_back : (d : Data) (rest : List Part) → nodes_of (data_parts d rest) ≡ of_data d ∷ nodes_of rest
+  data_back : (d : Data) (rest : List Part)
+      → nodes_of (data_parts d rest) ≡ of_data d ∷ nodes_of rest
   data_back null rest = refl
   data_back (boolean true) rest = refl
   data_back (boolean false) rest = refl
@@ -96,13 +108,19 @@ mutual
   data_back (array ds) rest = ap (step (6, (0, (pos 0, (nan, []))))) (items_back ds rest)
   data_back (object ms) rest = ap (step (7, (0, (pos 0, (nan, []))))) (members_back ms rest)
 
-  items_back : (ds : Items) (rest : List Part) → nodes_of (items_parts ds rest) ≡ of_items ds ∷ nodes_of rest
+  items_back : (ds : Items) (rest : List Part)
+      → nodes_of (items_parts ds rest) ≡ of_items ds ∷ nodes_of rest
   items_back no_items rest = refl
-  items_back (item d ds) rest = ap (step (9, (0, (pos 0, (nan, []))))) (data_back d (items_parts ds rest) ∙ ap (λ (w : List Node). of_data d ∷ w) (items_back ds rest))
+  items_back (item d ds) rest = ap (step (9, (0, (pos 0, (nan, [])))))
+      (data_back d (items_parts ds rest) ∙ ap (λ (w : List Node).
+      of_data d ∷ w) (items_back ds rest))
 
-  members_back : (ms : Members) (rest : List Part) → nodes_of (members_parts ms rest) ≡ of_members ms ∷ nodes_of rest
+  members_back : (ms : Members) (rest : List Part)
+      → nodes_of (members_parts ms rest) ≡ of_members ms ∷ nodes_of rest
   members_back no_members rest = refl
-  members_back (member k d ms) rest = ap (step (11, (0, (pos 0, (nan, k))))) (data_back d (members_parts ms rest) ∙ ap (λ (w : List Node). of_data d ∷ w) (members_back ms rest))
+  members_back (member k d ms) rest = ap (step (11, (0, (pos 0, (nan, k)))))
+      (data_back d (members_parts ms rest) ∙ ap (λ (w : List Node).
+      of_data d ∷ w) (members_back ms rest))
 
 abbrev top : List Node → Data
 top [] = null
@@ -112,15 +130,19 @@ pub data_again : (d : Data) → top (nodes_of (data_parts d [])) ≡ d
 data_again d = ap top (data_back d [])
 
 abbrev pub coded_part : Coded Part
-coded_part = coded× coded_ℕ (coded× coded_ℕ (coded× coded_ℤ (coded× coded_float (coded_list coded_ℕ))))
+coded_part = coded× coded_ℕ (coded× coded_ℕ
+    (coded× coded_ℤ (coded× coded_float (coded_list coded_ℕ))))
 
 abbrev pub coded_data : Coded Data
-coded_data = code_by (List Part) (coded_list coded_part) (λ d. data_parts d []) (λ ps. top (nodes_of ps)) data_again
+coded_data = code_by (List Part) (coded_list coded_part) (λ d. data_parts d []) (λ ps.
+    top (nodes_of ps)) data_again
 
 -- ---- positions, geometries, features
 
 abbrev pub coded_position : Coded PositionValue
-coded_position = code_by (ℤ × (ℤ × Option ℤ)) (coded× coded_ℤ (coded× coded_ℤ (coded_option coded_ℤ))) (λ p. (p.x, (p.y, p.z))) (λ c. record { x = c.0; y = c.1.0; z = c.1.1 }) (λ _. refl)
+coded_position = code_by (ℤ × (ℤ
+    × Option ℤ)) (coded× coded_ℤ (coded× coded_ℤ (coded_option coded_ℤ))) (λ p.
+    (p.x, (p.y, p.z))) (λ c. record { x = c.0; y = c.1.0; z = c.1.1 }) (λ _. refl)
 
 -- lists of positions, one or more levels deep
 abbrev Lists : Type 0
@@ -152,8 +174,10 @@ first_or (p ∷ ps) = p
 
 abbrev simple_from : ℕ × Lists → SimpleValue
 simple_from c =
-    cond (c.0 == 0) (values.point (first_or (first_list (first_polygon c.1)))) (cond (c.0 == 1) (values.multi_point (first_list (first_polygon c.1)))
-    (cond (c.0 == 2) (values.line_string (first_list (first_polygon c.1))) (cond (c.0 == 3) (values.multi_line_string (first_polygon c.1))
+    cond (c.0 == 0) (values.point (first_or (first_list (first_polygon c.1))))
+    (cond (c.0 == 1) (values.multi_point (first_list (first_polygon c.1)))
+    (cond (c.0 == 2) (values.line_string (first_list (first_polygon c.1)))
+    (cond (c.0 == 3) (values.multi_line_string (first_polygon c.1))
     (cond (c.0 == 4) (values.polygon (first_polygon c.1)) (values.multi_polygon c.1)))))
 
 pub simple_back : (s : SimpleValue) → simple_from (simple_parts s) ≡ s
@@ -165,7 +189,9 @@ simple_back (values.polygon rs) = refl
 simple_back (values.multi_polygon ps) = refl
 
 abbrev pub coded_simple : Coded SimpleValue
-coded_simple = code_by (ℕ × Lists) (coded× coded_ℕ (coded_list (coded_list (coded_list coded_position)))) simple_parts simple_from simple_back
+coded_simple = code_by (ℕ × Lists)
+    (coded× coded_ℕ (coded_list (coded_list (coded_list coded_position)))) simple_parts simple_from
+    simple_back
 
 abbrev geometry_parts : GeometryValue → ℕ × List SimpleValue
 geometry_parts (values.simple s) = (0, s ∷ [])
@@ -183,9 +209,12 @@ geometry_back (values.simple s) = refl
 geometry_back (values.collection ss) = refl
 
 abbrev pub coded_geometry : Coded GeometryValue
-coded_geometry = code_by (ℕ × List SimpleValue) (coded× coded_ℕ (coded_list coded_simple)) geometry_parts geometry_from geometry_back
+coded_geometry = code_by (ℕ × List SimpleValue) (coded× coded_ℕ (coded_list coded_simple))
+    geometry_parts geometry_from geometry_back
 
 abbrev pub coded_feature : Coded FeatureValue
 coded_feature = code_by (List ℕ × (Option GeometryValue × (Data × Option IntervalValue)))
-    (coded× (coded_list coded_ℕ) (coded× (coded_option coded_geometry) (coded× coded_data (coded_option coded_interval))))
-    (λ f. (f.id, (f.geometry, (f.properties, f.time)))) (λ c. record { id = c.0; geometry = c.1.0; properties = c.1.1.0; time = c.1.1.1 }) (λ _. refl)
+    (coded× (coded_list coded_ℕ) (coded× (coded_option coded_geometry)
+    (coded× coded_data (coded_option coded_interval))))
+    (λ f. (f.id, (f.geometry, (f.properties, f.time)))) (λ c.
+    record { id = c.0; geometry = c.1.0; properties = c.1.1.0; time = c.1.1.1 }) (λ _. refl)

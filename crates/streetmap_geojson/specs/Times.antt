@@ -16,7 +16,8 @@ abbrev pub there : Result IntervalValue TimeFault → Result (Option IntervalVal
 there (Ok i) = Ok (Some i)
 there (Err f) = Err f
 
--- an absent or null property gives no time, a text the interval or the day that it reads as; any other value is refused
+-- an absent or null property gives no time, a text the interval or the day that it reads as; any
+-- other value is refused
 abbrev pub time_from : Option Data → Result (Option IntervalValue) TimeFault
 time_from None = Ok None
 time_from (Some null) = Ok None
@@ -24,13 +25,16 @@ time_from (Some (string s)) = there (property_of s)
 time_from (Some _) = Err times.BadTime
 
 -- the time under the property of that name; without a name there is none
-abbrev pub time_of : (time_property : Option (List ℕ)) → (properties : Data) → Result (Option IntervalValue) TimeFault
+abbrev pub time_of : (time_property : Option (List ℕ)) → (properties : Data)
+    → Result (Option IntervalValue) TimeFault
 time_of None properties = Ok None
 time_of (Some name) properties = time_from (get name properties)
 
 -- the feature with its time set, or why it can't be
-abbrev pub with_time : FeatureValue → Result (Option IntervalValue) TimeFault → Result FeatureValue TimeFault
-with_time f (Ok t) = Ok (record { id = f.id; geometry = f.geometry; properties = f.properties; time = t })
+abbrev pub with_time : FeatureValue → Result (Option IntervalValue) TimeFault
+    → Result FeatureValue TimeFault
+with_time f (Ok t) = Ok (record
+    { id = f.id; geometry = f.geometry; properties = f.properties; time = t })
 with_time f (Err e) = Err e
 
 abbrev pub timed : (time_property : Option (List ℕ)) → FeatureValue → Result FeatureValue TimeFault
@@ -51,10 +55,12 @@ as_fault (Err f) = Err (time_fault f)
 abbrev pub IsTimeFrom : Option Data → Option IntervalValue → Type 0
 IsTimeFrom None time = time ≡ None
 IsTimeFrom (Some null) time = time ≡ None
-IsTimeFrom (Some (string s)) time = (i : IntervalValue) × IsPropertyText s i × IsInOrder i.start i.end × (time ≡ Some i)
+IsTimeFrom (Some (string s)) time = (i : IntervalValue) × IsPropertyText s i
+    × IsInOrder i.start i.end × (time ≡ Some i)
 IsTimeFrom (Some _) time = ⊥
 
 -- the time under the property of that name
-abbrev pub IsTimeOf : (time_property : Option (List ℕ)) → (properties : Data) → Option IntervalValue → Type 0
+abbrev pub IsTimeOf : (time_property : Option (List ℕ)) → (properties : Data) → Option IntervalValue
+    → Type 0
 IsTimeOf None properties time = time ≡ None
 IsTimeOf (Some name) properties time = IsTimeFrom (get name properties) time

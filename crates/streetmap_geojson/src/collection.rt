@@ -1,12 +1,15 @@
 //! Collections of features (RFC 7946, section 3.3).
-ghost use Rattle.std.specs.Prelude.{◌≡◌, ◌<◌, ◌^◌, ◌+◌, List, Ok, Some, IfOk, map, option_map, option_and_then, codes};
+ghost use Rattle.std.specs.Prelude.{◌≡◌, ◌<◌, ◌^◌, ◌+◌, List, Ok, Some, IfOk, map, option_map};
+ghost use Rattle.std.specs.Prelude.{option_and_then, codes};
 ghost use Rattle.serde_json.specs.View.{view, items_view};
 ghost use Rattle.serde_json.specs.Find.{as_array, get};
 ghost use Rattle.streetmap_geojson.specs.Reading.{list_of};
 ghost use Rattle.streetmap_geojson.specs.FeatureValue.{FeatureValue};
 ghost use Rattle.streetmap_geojson.specs.FeatureView.{feature_value};
 ghost use Rattle.streetmap_geojson.specs.FeatureReading.{feature_at};
-ghost use Rattle.streetmap_geojson.specs.Collection.{GivesAt, at_place, features_after, features_in, features, is_collection, AreFeatures};
+ghost use Rattle.streetmap_geojson.specs.Collection.{GivesAt, at_place, features_after};
+ghost use Rattle.streetmap_geojson.specs.Collection.{features_in, features, is_collection};
+ghost use Rattle.streetmap_geojson.specs.Collection.{AreFeatures};
 
 use crate::fault::{CollectionFault, Fault, JsonFault};
 use crate::feature::Feature;
@@ -22,7 +25,8 @@ fn read_placed(
     time_property: Option<&str>,
 ) -> Result<Feature, CollectionFault>
     ensures { GivesAt feature_value result
-        (at_place place (feature_at (Some place) (option_map (λ s. s.now) time_property.entry) (view value.now))) }
+        (at_place place (feature_at (Some place) (option_map (λ s. s.now) time_property.entry)
+        (view value.now))) }
 {
     match read_at(alloc, value, Some(place), time_property) {
         Ok(feature) => Ok(feature),
@@ -61,7 +65,8 @@ fn read_members(
     time_property: Option<&str>,
 ) -> Result<Vec<Feature>, CollectionFault>
     ensures { GivesAt (λ v. map feature_value v.items) result
-        (features_in (option_map (λ s. s.now) time_property.entry) (option_map list_of (option_and_then as_array (get (codes "features") (view value.now))))) }
+        (features_in (option_map (λ s. s.now) time_property.entry)
+        (option_map list_of (option_and_then as_array (get (codes "features") (view value.now))))) }
 {
     match array_in(value, "features") {
         Some(items) => read_features(alloc, items, time_property),
@@ -94,10 +99,12 @@ pub fn read_collection(
     time_property: Option<&str>,
 ) -> Result<Vec<Feature>, CollectionFault>
     // What is read is what the value reads as.
-    ensures found { IfOk result
-        (λ v. AreFeatures (option_map (λ s. s.now) time_property.entry) (view value.now) (map feature_value v.items)) }
+    ensures found { IfOk result (λ v.
+        AreFeatures (option_map (λ s. s.now) time_property.entry) (view value.now)
+        (map feature_value v.items)) }
     // What the value reads as is read, unless memory runs out.
-    ensures only { (fs : List FeatureValue) → AreFeatures (option_map (λ s. s.now) time_property.entry) (view value.now) fs
+    ensures only { (fs : List FeatureValue)
+        → AreFeatures (option_map (λ s. s.now) time_property.entry) (view value.now) fs
         → GivesAt (λ v. map feature_value v.items) result (Ok fs) }
     // Which fault it is, and where.
     ensures exact { GivesAt (λ v. map feature_value v.items) result

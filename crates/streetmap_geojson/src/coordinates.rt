@@ -2,10 +2,16 @@
 ghost use Rattle.std.specs.Prelude.{◌≡◌, ◌≤◌, IfOk, length, map};
 ghost use Rattle.serde_json.specs.View.{view};
 ghost use Rattle.streetmap_grid.specs.Range.{IsCoordinate};
-ghost use Rattle.streetmap_grid.specs.Views.{position_value, positions_value, line_value, lines_value, ring_value, rings_value, polygon_value, polygons_value, items_of};
+ghost use Rattle.streetmap_grid.specs.Views.{position_value, positions_value, line_value};
+ghost use Rattle.streetmap_grid.specs.Views.{lines_value, ring_value, rings_value, polygon_value};
+ghost use Rattle.streetmap_grid.specs.Views.{polygons_value, items_of};
 ghost use Rattle.streetmap_geojson.specs.Fault.{Gives};
-ghost use Rattle.streetmap_geojson.specs.declared.fault.Fault.TheVariants.{BadPosition, BadGeometry};
-ghost use Rattle.streetmap_geojson.specs.Reading.{ends_of, some_rings, coordinate, position_of, elements_of, position, positions, line, lines, ring, rings, polygon, polygons, inside, max_positions};
+ghost use Rattle.streetmap_geojson.specs.declared.fault.Fault.TheVariants.{BadPosition};
+ghost use Rattle.streetmap_geojson.specs.declared.fault.Fault.TheVariants.{BadGeometry};
+ghost use Rattle.streetmap_geojson.specs.Reading.{ends_of, some_rings, coordinate, position_of};
+ghost use Rattle.streetmap_geojson.specs.Reading.{elements_of, position, positions, line, lines};
+ghost use Rattle.streetmap_geojson.specs.Reading.{ring, rings, polygon, polygons, inside};
+ghost use Rattle.streetmap_geojson.specs.Reading.{max_positions};
 
 use crate::fault::{Fault, JsonFault};
 use serde_json::Value;

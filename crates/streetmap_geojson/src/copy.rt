@@ -1,6 +1,9 @@
 //! Copies of geometries.
 ghost use Rattle.std.specs.Prelude.{◌≡◌, map, option_map, IfOk};
-ghost use Rattle.streetmap_grid.specs.Views.{position_value, positions_value, line_value, lines_value, ring_value, rings_value, polygon_value, polygons_value, items_of, simple_value, simples_value, geometry_value};
+ghost use Rattle.streetmap_grid.specs.Views.{position_value, positions_value, line_value};
+ghost use Rattle.streetmap_grid.specs.Views.{lines_value, ring_value, rings_value, polygon_value};
+ghost use Rattle.streetmap_grid.specs.Views.{polygons_value, items_of, simple_value, simples_value};
+ghost use Rattle.streetmap_grid.specs.Views.{geometry_value};
 
 use std::alloc::{AllocError, Global};
 use streetmap_grid::{Geometry, Line, NonEmpty, Polygon, Position, Ring, SimpleGeometry};
@@ -15,7 +18,8 @@ fn copy_some_positions(
     alloc: Global,
     positions: &NonEmpty<Position>,
 ) -> Result<NonEmpty<Position>, AllocError>
-    ensures { IfOk result (λ v. positions_value (items_of v) ≡ positions_value (items_of positions.now)) }
+    ensures { IfOk result (λ v. positions_value (items_of v)
+        ≡ positions_value (items_of positions.now)) }
 {
     let copies = copy_positions(alloc, positions.items())?;
     Ok(NonEmpty::new(copies))
@@ -89,7 +93,8 @@ fn copy_some_polygons(
     alloc: Global,
     polygons: &NonEmpty<Polygon>,
 ) -> Result<NonEmpty<Polygon>, AllocError>
-    ensures { IfOk result (λ v. polygons_value (items_of v) ≡ polygons_value (items_of polygons.now)) }
+    ensures { IfOk result (λ v. polygons_value (items_of v)
+        ≡ polygons_value (items_of polygons.now)) }
 {
     let copies = copy_polygons(alloc, polygons.items())?;
     Ok(NonEmpty::new(copies))
@@ -133,7 +138,8 @@ fn copy_some_simples(
     alloc: Global,
     geometries: &NonEmpty<SimpleGeometry>,
 ) -> Result<NonEmpty<SimpleGeometry>, AllocError>
-    ensures { IfOk result (λ v. simples_value (items_of v) ≡ simples_value (items_of geometries.now)) }
+    ensures { IfOk result (λ v. simples_value (items_of v)
+        ≡ simples_value (items_of geometries.now)) }
 {
     let copies = copy_simples(alloc, geometries.items())?;
     Ok(NonEmpty::new(copies))
@@ -155,7 +161,8 @@ pub(crate) fn copy_geometry_member(
     alloc: Global,
     geometry: &Option<Geometry>,
 ) -> Result<Option<Geometry>, AllocError>
-    ensures { IfOk result (λ o. option_map geometry_value o ≡ option_map geometry_value geometry.now) }
+    ensures { IfOk result (λ o. option_map geometry_value o
+        ≡ option_map geometry_value geometry.now) }
 {
     match geometry {
         Some(geometry) => Ok(Some(copy_geometry(alloc, geometry)?)),

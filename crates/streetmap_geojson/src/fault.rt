@@ -159,7 +159,8 @@ pub enum CollectionFault {
 }
 
 impl CollectionFault {
-    ghost use Rattle.streetmap_geojson.specs.FaultCodes.{collection_fault_code, collection_fault_description};
+    ghost use Rattle.streetmap_geojson.specs.FaultCodes.{collection_fault_code};
+    ghost use Rattle.streetmap_geojson.specs.FaultCodes.{collection_fault_description};
 
     /// The name of the fault in answers.
     pub fn code(&self) -> &'static str

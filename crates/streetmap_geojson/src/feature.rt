@@ -128,8 +128,11 @@ impl Feature {
     /// What the property of that name says of the time; none without a name. Refused where the
     /// property is neither absent nor null nor a readable text.
     pub fn time_under(&self, time_property: Option<&str>) -> Result<Option<Interval>, TimeFault>
-        ensures told { IfOk result (λ t. time_of (option_map (λ s. s.now) time_property.entry) self.now.properties ≡ Ok (option_map interval_value t)) }
-        ensures refused { IfErr result (λ e. time_of (option_map (λ s. s.now) time_property.entry) self.now.properties ≡ Err e) }
+        ensures told { IfOk result (λ t.
+            time_of (option_map (λ s. s.now) time_property.entry) self.now.properties
+            ≡ Ok (option_map interval_value t)) }
+        ensures refused { IfErr result (λ e.
+            time_of (option_map (λ s. s.now) time_property.entry) self.now.properties ≡ Err e) }
     {
         read_time(&self.properties, time_property)
     }
@@ -138,8 +141,10 @@ impl Feature {
     /// where the property is neither absent nor null nor a readable text; the feature is then
     /// unchanged.
     pub fn timed(&mut self, time_property: Option<&str>) -> Result<(), TimeFault>
-        ensures set { IfOk result (λ _. timed (option_map (λ s. s.now) time_property.entry) self.old ≡ Ok self.new) }
-        ensures refused { IfErr result (λ e. timed (option_map (λ s. s.now) time_property.entry) self.old ≡ Err e) }
+        ensures set { IfOk result (λ _. timed (option_map (λ s. s.now) time_property.entry) self.old
+            ≡ Ok self.new) }
+        ensures refused { IfErr result (λ e.
+            timed (option_map (λ s. s.now) time_property.entry) self.old ≡ Err e) }
         ensures unchanged { OnErr result (self.new ≡ self.old) }
     {
         match read_time(&self.properties, time_property) {

@@ -15,7 +15,8 @@ ghost use Rattle.streetmap_geojson.specs.IdView.{id_value};
 ghost use Rattle.streetmap_geojson.specs.Times.{time_of, as_fault};
 ghost use Rattle.streetmap_geojson.specs.FeatureValue.{FeatureValue};
 ghost use Rattle.streetmap_geojson.specs.FeatureView.{feature_value};
-ghost use Rattle.streetmap_geojson.specs.FeatureReading.{feature, feature_at, is_feature, is_properties, properties_of, member_of};
+ghost use Rattle.streetmap_geojson.specs.FeatureReading.{feature, feature_at, is_feature};
+ghost use Rattle.streetmap_geojson.specs.FeatureReading.{is_properties, properties_of, member_of};
 ghost use Rattle.streetmap_json.specs.ExactData.{is_exact};
 ghost use Rattle.streetmap_geojson.specs.FeatureMeaning.{ReadsAs};
 
@@ -49,7 +50,8 @@ fn read_id_at(alloc: Global, value: &Value, place: Option<u64>) -> Result<Id, Js
 fn read_counted(alloc: Global, member: &Value) -> Result<Option<Geometry>, JsonFault>
     ensures reads { Gives (λ o. option_map geometry_value o) result
         (value_of (geometry (view member.now) 0)) }
-    ensures few { IfOk result (λ o. count_if position_count (option_map geometry_value o) ≤ max_positions) }
+    ensures few { IfOk result (λ o. count_if position_count (option_map geometry_value o)
+        ≤ max_positions) }
     ensures oriented { IfOk result (λ o. IsTrue (is_oriented_if (option_map geometry_value o))) }
 {
     let mut seen = 0;
@@ -60,7 +62,8 @@ fn read_counted(alloc: Global, member: &Value) -> Result<Option<Geometry>, JsonF
 fn read_geometry_member(alloc: Global, value: &Value) -> Result<Option<Geometry>, JsonFault>
     ensures reads { Gives (λ o. option_map geometry_value o) result
         (value_of (geometry (member_of (codes "geometry") (view value.now)) 0)) }
-    ensures few { IfOk result (λ o. count_if position_count (option_map geometry_value o) ≤ max_positions) }
+    ensures few { IfOk result (λ o. count_if position_count (option_map geometry_value o)
+        ≤ max_positions) }
     ensures oriented { IfOk result (λ o. IsTrue (is_oriented_if (option_map geometry_value o))) }
 {
     match value.get("geometry") {
@@ -157,10 +160,11 @@ pub fn read_feature(
     time_property: Option<&str>,
 ) -> Result<Feature, JsonFault>
     // What is read is what the value reads as.
-    ensures found { IfOk result
-        (λ f. ReadsAs (option_map (λ s. s.now) time_property.entry) (view value.now) (feature_value f)) }
+    ensures found { IfOk result (λ f.
+        ReadsAs (option_map (λ s. s.now) time_property.entry) (view value.now) (feature_value f)) }
     // What the value reads as is read, unless memory runs out.
-    ensures only { (f : FeatureValue) → ReadsAs (option_map (λ s. s.now) time_property.entry) (view value.now) f
+    ensures only { (f : FeatureValue)
+        → ReadsAs (option_map (λ s. s.now) time_property.entry) (view value.now) f
         → Gives feature_value result (Ok f) }
     // Which fault it is.
     ensures exact { Gives feature_value result

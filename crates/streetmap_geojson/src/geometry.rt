@@ -4,7 +4,9 @@ ghost use Rattle.serde_json.specs.Find.{as_array, get};
 ghost use Rattle.serde_json.specs.View.{view, items_view};
 ghost use Rattle.streetmap_grid.specs.Views.{simple_value, simples_value, geometry_value};
 ghost use Rattle.streetmap_geojson.specs.Fault.{Gives};
-ghost use Rattle.streetmap_geojson.specs.Reading.{coordinates_as, simple_as, array_at, kind_at, member_of_collection, members, collection, geometry, max_positions};
+ghost use Rattle.streetmap_geojson.specs.Reading.{coordinates_as, simple_as, array_at, kind_at};
+ghost use Rattle.streetmap_geojson.specs.Reading.{member_of_collection, members, collection};
+ghost use Rattle.streetmap_geojson.specs.Reading.{geometry, max_positions};
 
 use crate::coordinates::{
     read_line, read_polygon, read_position, read_some_lines, read_some_polygons,

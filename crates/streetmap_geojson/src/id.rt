@@ -1,5 +1,6 @@
 //! Ids: texts, and whole numbers as their decimal texts (RFC 7946, section 3.2).
-ghost use Rattle.std.specs.Prelude.{◌≡◌, ◌↔◌, IfOk, IfErr, IsOk, IsTrue, ℤ, string_bytes, codes, option_map};
+ghost use Rattle.std.specs.Prelude.{◌≡◌, ◌↔◌, IfOk, IfErr, IsOk, IsTrue, ℤ, string_bytes, codes};
+ghost use Rattle.std.specs.Prelude.{option_map};
 ghost use Rattle.std.specs.Fmt.{signed_decimal};
 ghost use Rattle.std.specs.Str.{is_utf8};
 ghost use Rattle.serde_json.specs.View.{view};
@@ -149,7 +150,8 @@ pub(crate) fn read_member_id(
     member: Option<&Value>,
     place: Option<u64>,
 ) -> Result<Id, JsonFault>
-    ensures reads { Gives id_value result (ids.id_of place (option_map (λ v. view v.now) member.entry)) }
+    ensures reads { Gives id_value result
+        (ids.id_of place (option_map (λ v. view v.now) member.entry)) }
     ensures named { IfOk result (λ i. IsTrue (ids.is_id (id_value i))) }
 {
     match member {

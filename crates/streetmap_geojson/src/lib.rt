@@ -7,8 +7,8 @@
 //! aside, only where it is the first fault. How features are written is the matter of
 //! `streetmap_feature_text`.
 //!
-//! The value of JSON bytes is the matter of `streetmap_json`; `read_json` here reads it with the faults of
-//! this crate.
+//! The value of JSON bytes is the matter of `streetmap_json`; `read_json` here reads it with the
+//! faults of this crate.
 //!
 //! Modules, in the order of reading: `fault`, `json_text`, `id`, `kind`, `feature`, `times`,
 //! `coordinates`, `geometry`, `nesting`, `exact_numbers`, `feature_reading`, `collection`, `copy`.

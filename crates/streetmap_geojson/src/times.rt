@@ -9,8 +9,10 @@ use streetmap_moment::{Interval, TimeFault, read_property};
 
 // The time that a property says.
 fn read_time_from(property: Option<&Value>) -> Result<Option<Interval>, TimeFault>
-    ensures ok { IfOk result (λ t. time_from (option_map (λ v. view v.now) property.entry) ≡ Ok (option_map interval_value t)) }
-    ensures err { IfErr result (λ e. time_from (option_map (λ v. view v.now) property.entry) ≡ Err e) }
+    ensures ok { IfOk result (λ t. time_from (option_map (λ v. view v.now) property.entry)
+        ≡ Ok (option_map interval_value t)) }
+    ensures err { IfErr result (λ e. time_from (option_map (λ v. view v.now) property.entry)
+        ≡ Err e) }
 {
     match property {
         None | Some(Value::Null) => Ok(None),
@@ -24,8 +26,11 @@ pub(crate) fn read_time(
     properties: &Value,
     time_property: Option<&str>,
 ) -> Result<Option<Interval>, TimeFault>
-    ensures ok { IfOk result (λ t. time_of (option_map (λ s. s.now) time_property.entry) (view properties.now) ≡ Ok (option_map interval_value t)) }
-    ensures err { IfErr result (λ e. time_of (option_map (λ s. s.now) time_property.entry) (view properties.now) ≡ Err e) }
+    ensures ok { IfOk result (λ t.
+        time_of (option_map (λ s. s.now) time_property.entry) (view properties.now)
+        ≡ Ok (option_map interval_value t)) }
+    ensures err { IfErr result (λ e.
+        time_of (option_map (λ s. s.now) time_property.entry) (view properties.now) ≡ Err e) }
 {
     match time_property {
         Some(name) => read_time_from(properties.get(name)),

@@ -2,7 +2,9 @@
 use Rattle.std.specs.Prelude.{ℤ, pos, int_le, ◌≡◌, Bool, ◌&&◌, List, [], ◌∷◌, map, All}
 use Rattle.std.specs.List.{flat_map, fold}
 use Rattle.std.specs.Int.{int_max, int_min}
-use Rattle.streetmap_grid.specs.Values.{PositionValue, BoxValue, SimpleValue, GeometryValue, point, multi_point, line_string, multi_line_string, polygon, multi_polygon, simple, collection}
+use Rattle.streetmap_grid.specs.Values.{PositionValue, BoxValue, SimpleValue, GeometryValue, point}
+use Rattle.streetmap_grid.specs.Values.{multi_point, line_string, multi_line_string, polygon}
+use Rattle.streetmap_grid.specs.Values.{multi_polygon, simple, collection}
 use Rattle.streetmap_grid.specs.Some.{SomeOf}
 use Rattle.streetmap_grid.specs.Meeting.{Holds}
 
@@ -49,7 +51,13 @@ extent_of v = positions_extent (vertices v)
 
 -- the least box that holds both
 abbrev pub union : BoxValue → BoxValue → BoxValue
-union a b = record { x0 = int_min a.x0 b.x0; y0 = int_min a.y0 b.y0; x1 = int_max a.x1 b.x1; y1 = int_max a.y1 b.y1 }
+union a b = record {
+  x0 = int_min a.x0 b.x0;
+  y0 = int_min a.y0 b.y0;
+  x1 = int_max a.x1 b.x1;
+  y1
+      = int_max a.y1 b.y1;
+}
 
 -- two closed boxes have a point in common
 abbrev pub Overlaps : BoxValue → BoxValue → Type 0

@@ -1,8 +1,11 @@
 -- What meets a box: a relation by fractions of edges, and a test by signs.
-use Rattle.std.specs.Prelude.{ℤ, pos, ◌+ℤ◌, ◌-ℤ◌, ◌*ℤ◌, ◌≤ℤ◌, int_le, Bool, ◌&&◌, ◌||◌, ◌⊎◌, List, [], ◌∷◌}
+use Rattle.std.specs.Prelude.{ℤ, pos, ◌+ℤ◌, ◌-ℤ◌, ◌*ℤ◌, ◌≤ℤ◌, int_le, Bool, ◌&&◌, ◌||◌, ◌⊎◌, List}
+use Rattle.std.specs.Prelude.{[], ◌∷◌}
 use Rattle.std.specs.List.{list_any}
 use Rattle.std.specs.Int.{int_max, int_min}
-use Rattle.streetmap_grid.specs.Values.{PositionValue, BoxValue, SimpleValue, GeometryValue, point, multi_point, line_string, multi_line_string, polygon, multi_polygon, simple, collection}
+use Rattle.streetmap_grid.specs.Values.{PositionValue, BoxValue, SimpleValue, GeometryValue, point}
+use Rattle.streetmap_grid.specs.Values.{multi_point, line_string, multi_line_string, polygon}
+use Rattle.streetmap_grid.specs.Values.{multi_polygon, simple, collection}
 use Rattle.streetmap_grid.specs.Edges.{edges}
 use Rattle.streetmap_grid.specs.Some.{SomeOf}
 use Rattle.streetmap_grid.specs.Crossing.{side, IsInside, is_inside}
@@ -23,7 +26,8 @@ IsWithinAt p q a b low high =
     ((q *ℤ low) ≤ℤ ((q -ℤ p) *ℤ a +ℤ p *ℤ b))
     × (((q -ℤ p) *ℤ a +ℤ p *ℤ b) ≤ℤ (q *ℤ high))
 
--- a segment meets a box where the point p/q of the way from its one end to its other lies in it, for some fraction p/q from 0 to 1
+-- a segment meets a box where the point p/q of the way from its one end to its other lies in it,
+-- for some fraction p/q from 0 to 1
 abbrev pub SegmentMeets : (a b : PositionValue) → BoxValue → Type 0
 SegmentMeets a b g =
     (p : ℤ)
@@ -38,7 +42,8 @@ SegmentMeets a b g =
 abbrev pub LineMeets : List PositionValue → BoxValue → Type 0
 LineMeets ps g = SomeOf (λ e. SegmentMeets e.0 e.1 g) (edges ps)
 
--- a polygon meets a box where an edge of any of its rings does, or where the box's south-western corner is inside
+-- a polygon meets a box where an edge of any of its rings does, or where the box's south-western
+-- corner is inside
 abbrev pub PolygonMeets : List (List PositionValue) → BoxValue → Type 0
 PolygonMeets rings g = SomeOf (λ r. LineMeets r g) rings ⊎ IsInside g.x0 g.y0 rings
 

@@ -5,7 +5,8 @@ use Rattle.std.specs.Prelude.{ℤ, pos, ◌*ℤ◌, ◌≤ℤ◌}
 abbrev pub IsReachedAt : (p q near far along : ℤ) → Type 0
 IsReachedAt p q near far along = ((q *ℤ near) ≤ℤ (p *ℤ along)) × ((p *ℤ along) ≤ℤ (q *ℤ far))
 
--- on each axis the box begins before the segment ends and ends after it begins, and two corners of the box lie on the two sides of the line
+-- on each axis the box begins before the segment ends and ends after it begins, and two corners of
+-- the box lie on the two sides of the line
 abbrev pub AreBothReached : (near far along near' far' along' : ℤ) → Type 0
 AreBothReached near far along near' far' along' =
     (pos 0 ≤ℤ far)

@@ -14,7 +14,8 @@ pub record BoxValue : Type 0 where
   pub x1 : ℤ
   pub y1 : ℤ
 
--- RFC 7946 3.1.2 to 3.1.7: the six kinds that are no collection; a polygon is its rings, the exterior one first
+-- RFC 7946 3.1.2 to 3.1.7: the six kinds that are no collection; a polygon is its rings, the
+-- exterior one first
 pub data SimpleValue : Type 0 where
   point : PositionValue → SimpleValue
   multi_point : List PositionValue → SimpleValue

@@ -10,7 +10,9 @@ use Rattle.streetmap_grid.specs.declared.geometry.SimpleGeometry.TheVariants as 
 use Rattle.streetmap_grid.specs.declared.geometry.Geometry.{Geometry}
 use Rattle.streetmap_grid.specs.declared.geometry.Geometry.TheVariants.{Simple, Collection}
 pub use Rattle.streetmap_grid.specs.PositionViews.{position_value, positions_value}
-use Rattle.streetmap_grid.specs.Values.{PositionValue, BoxValue, SimpleValue, GeometryValue, point, multi_point, line_string, multi_line_string, polygon, multi_polygon, simple, collection}
+use Rattle.streetmap_grid.specs.Values.{PositionValue, BoxValue, SimpleValue, GeometryValue, point}
+use Rattle.streetmap_grid.specs.Values.{multi_point, line_string, multi_line_string, polygon}
+use Rattle.streetmap_grid.specs.Values.{multi_polygon, simple, collection}
 
 -- a box
 abbrev pub box_value : GridBox → BoxValue

@@ -1,7 +1,9 @@
 -- What is known of every value that Rust's types hold.
 use Rattle.std.specs.Prelude.{◌≤◌, ◌≤ℤ◌, Bool, true, List, length, All, IfSome, IsTrue}
 use Rattle.std.specs.List.{list_all}
-use Rattle.streetmap_grid.specs.Values.{PositionValue, BoxValue, SimpleValue, GeometryValue, point, multi_point, line_string, multi_line_string, polygon, multi_polygon, simple, collection}
+use Rattle.streetmap_grid.specs.Values.{PositionValue, BoxValue, SimpleValue, GeometryValue, point}
+use Rattle.streetmap_grid.specs.Values.{multi_point, line_string, multi_line_string, polygon}
+use Rattle.streetmap_grid.specs.Values.{multi_polygon, simple, collection}
 use Rattle.streetmap_grid.specs.Range.{IsCoordinate, IsBound}
 use Rattle.streetmap_grid.specs.Ring.{is_closed, is_oriented_polygon}
 
@@ -11,7 +13,8 @@ IsInGrid p = IsCoordinate p.x × IsCoordinate p.y × IfSome p.z IsCoordinate
 
 -- bounds in range, west not east of east, south not north of north
 abbrev pub IsBox : BoxValue → Type 0
-IsBox g = IsBound g.x0 × IsBound g.y0 × IsBound g.x1 × IsBound g.y1 × (g.x0 ≤ℤ g.x1) × (g.y0 ≤ℤ g.y1)
+IsBox g = IsBound g.x0 × IsBound g.y0 × IsBound g.x1 × IsBound g.y1 × (g.x0 ≤ℤ g.x1)
+    × (g.y0 ≤ℤ g.y1)
 
 -- RFC 7946 3.1.4: two or more positions
 abbrev pub IsLine : List PositionValue → Type 0

@@ -14,7 +14,8 @@ fn lies_left(x: i64, y: i64, lower: &Position, upper: &Position) -> bool
     requires y_in { IsBound y }
     requires from_below { lower.now.y ≤ℤ y }
     requires to_above { y <ℤ upper.now.y }
-    ensures { result ≡ int_lt (pos 0) (side (position_value lower.now) (position_value upper.now) x y) }
+    ensures { result ≡ int_lt (pos 0)
+        (side (position_value lower.now) (position_value upper.now) x y) }
 {
     let east = x - lower.x;
     let rise = upper.y - lower.y;

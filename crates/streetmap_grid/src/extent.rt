@@ -1,8 +1,11 @@
 ghost use Rattle.std.specs.Prelude.{◌≡◌, List, [], ◌∷◌, ◌++◌, Some, IfSome};
 ghost use Rattle.std.specs.List.{flat_map};
 ghost use Rattle.streetmap_grid.specs.Values.{PositionValue};
-ghost use Rattle.streetmap_grid.specs.Views.{position_value, positions_value, lines_value, rings_value, polygons_value, simple_value, simples_value, geometry_value, box_value};
-ghost use Rattle.streetmap_grid.specs.Extent.{IsExtent, polygon_vertices, simple_vertices, vertices, extent_of};
+ghost use Rattle.streetmap_grid.specs.Views.{position_value, positions_value, lines_value};
+ghost use Rattle.streetmap_grid.specs.Views.{rings_value, polygons_value, simple_value};
+ghost use Rattle.streetmap_grid.specs.Views.{simples_value, geometry_value, box_value};
+ghost use Rattle.streetmap_grid.specs.Extent.{IsExtent, polygon_vertices, simple_vertices};
+ghost use Rattle.streetmap_grid.specs.Extent.{vertices, extent_of};
 ghost use Rattle.streetmap_grid.specs.Bounds.{AreBounds};
 
 use crate::geometry::{Geometry, SimpleGeometry};
@@ -26,7 +29,8 @@ fn extent_at(p: &Position) -> GridBox
 
 /// The bounds so far, with one more position.
 fn grown(bounds: Option<GridBox>, p: &Position) -> Option<GridBox>
-    ensures { (ps : List PositionValue) → AreBounds ps bounds → AreBounds (ps ++ position_value p.now ∷ []) result }
+    ensures { (ps : List PositionValue) → AreBounds ps bounds
+        → AreBounds (ps ++ position_value p.now ∷ []) result }
 {
     match bounds {
         Some(b) => Some(b.union(&extent_at(p))),
@@ -36,7 +40,8 @@ fn grown(bounds: Option<GridBox>, p: &Position) -> Option<GridBox>
 
 /// The bounds so far, with more positions.
 fn with_positions(bounds: Option<GridBox>, positions: &[Position]) -> Option<GridBox>
-    ensures { (ps : List PositionValue) → AreBounds ps bounds → AreBounds (ps ++ positions_value positions.now) result }
+    ensures { (ps : List PositionValue) → AreBounds ps bounds
+        → AreBounds (ps ++ positions_value positions.now) result }
 {
     let mut grows = bounds;
     for p in positions {
@@ -47,7 +52,8 @@ fn with_positions(bounds: Option<GridBox>, positions: &[Position]) -> Option<Gri
 
 /// The bounds so far, with the positions of lines.
 fn with_lines(bounds: Option<GridBox>, lines: &[Line]) -> Option<GridBox>
-    ensures { (ps : List PositionValue) → AreBounds ps bounds → AreBounds (ps ++ flat_map (λ line. line) (lines_value lines.now)) result }
+    ensures { (ps : List PositionValue) → AreBounds ps bounds
+        → AreBounds (ps ++ flat_map (λ line. line) (lines_value lines.now)) result }
 {
     let mut grows = bounds;
     for line in lines {
@@ -58,7 +64,8 @@ fn with_lines(bounds: Option<GridBox>, lines: &[Line]) -> Option<GridBox>
 
 /// The bounds so far, with the positions of rings.
 fn with_rings(bounds: Option<GridBox>, rings: &[Ring]) -> Option<GridBox>
-    ensures { (ps : List PositionValue) → AreBounds ps bounds → AreBounds (ps ++ polygon_vertices (rings_value rings.now)) result }
+    ensures { (ps : List PositionValue) → AreBounds ps bounds
+        → AreBounds (ps ++ polygon_vertices (rings_value rings.now)) result }
 {
     let mut grows = bounds;
     for ring in rings {
@@ -69,7 +76,8 @@ fn with_rings(bounds: Option<GridBox>, rings: &[Ring]) -> Option<GridBox>
 
 /// The bounds so far, with the positions of polygons.
 fn with_polygons(bounds: Option<GridBox>, polygons: &[Polygon]) -> Option<GridBox>
-    ensures { (ps : List PositionValue) → AreBounds ps bounds → AreBounds (ps ++ flat_map polygon_vertices (polygons_value polygons.now)) result }
+    ensures { (ps : List PositionValue) → AreBounds ps bounds
+        → AreBounds (ps ++ flat_map polygon_vertices (polygons_value polygons.now)) result }
 {
     let mut grows = bounds;
     for polygon in polygons {
@@ -80,7 +88,8 @@ fn with_polygons(bounds: Option<GridBox>, polygons: &[Polygon]) -> Option<GridBo
 
 /// The bounds so far, with the positions of a geometry that is no collection.
 fn with_simple(bounds: Option<GridBox>, geometry: &SimpleGeometry) -> Option<GridBox>
-    ensures { (ps : List PositionValue) → AreBounds ps bounds → AreBounds (ps ++ simple_vertices (simple_value geometry.now)) result }
+    ensures { (ps : List PositionValue) → AreBounds ps bounds
+        → AreBounds (ps ++ simple_vertices (simple_value geometry.now)) result }
 {
     match geometry {
         SimpleGeometry::Point(p) => grown(bounds, p),
@@ -94,7 +103,8 @@ fn with_simple(bounds: Option<GridBox>, geometry: &SimpleGeometry) -> Option<Gri
 
 /// The bounds so far, with the positions of the members of a collection.
 fn with_members(bounds: Option<GridBox>, members: &[SimpleGeometry]) -> Option<GridBox>
-    ensures { (ps : List PositionValue) → AreBounds ps bounds → AreBounds (ps ++ flat_map simple_vertices (simples_value members.now)) result }
+    ensures { (ps : List PositionValue) → AreBounds ps bounds
+        → AreBounds (ps ++ flat_map simple_vertices (simples_value members.now)) result }
 {
     let mut grows = bounds;
     for member in members {

@@ -47,7 +47,8 @@ impl Geometry {
     ghost use Rattle.streetmap_grid.specs.Views.{geometry_value, box_value};
     ghost use Rattle.streetmap_grid.specs.WellFormed.{IsGeometry};
     ghost use Rattle.streetmap_grid.specs.Meeting as meeting;
-    ghost use Rattle.streetmap_grid.specs.Extent.{IsExtent, extent_of, vertices, Overlaps, is_within};
+    ghost use Rattle.streetmap_grid.specs.Extent.{IsExtent, extent_of, vertices, Overlaps};
+    ghost use Rattle.streetmap_grid.specs.Extent.{is_within};
 
     /// What is known of every geometry: its coordinates are in range, its lines and rings are long
     /// enough, its rings are closed and its lists are not empty.
@@ -68,14 +69,18 @@ impl Geometry {
     /// lies in it, a line of which a segment has a point in it, a polygon of which an edge of any
     /// ring has one or in which the box's south-western corner lies, a list of which a member does.
     pub fn meets(&self, area: &GridBox) -> bool
-        ensures meets { IsTrue result ↔ meeting.GeometryMeets (geometry_value self.now) (box_value area.now) }
-        ensures test { result ≡ meeting.geometry_meets (geometry_value self.now) (box_value area.now) }
+        ensures meets { IsTrue result ↔ meeting.GeometryMeets (geometry_value self.now)
+            (box_value area.now) }
+        ensures test { result ≡ meeting.geometry_meets (geometry_value self.now)
+            (box_value area.now) }
 
         // What meets a box has an extent that overlaps it.
-        ensures overlaps { OnTrue result (Overlaps (extent_of (geometry_value self.now)) (box_value area.now)) }
+        ensures overlaps { OnTrue result
+            (Overlaps (extent_of (geometry_value self.now)) (box_value area.now)) }
 
         // What has an extent within the box meets it.
-        ensures within { IsTrue (is_within (extent_of (geometry_value self.now)) (box_value area.now)) → IsTrue result }
+        ensures within { IsTrue (is_within (extent_of (geometry_value self.now))
+            (box_value area.now)) → IsTrue result }
     {
         geometry_meets(self, area)
     }

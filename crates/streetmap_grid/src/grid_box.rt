@@ -1,4 +1,5 @@
-ghost use Rattle.std.specs.Prelude.{◌≡◌, ◌≤ℤ◌, ◌↔◌, ◌&&◌, ◌++◌, int_le, IsTrue, List, None, Some, IfOk, IfErr, OnOk};
+ghost use Rattle.std.specs.Prelude.{◌≡◌, ◌≤ℤ◌, ◌↔◌, ◌&&◌, ◌++◌, int_le, IsTrue, List, None, Some};
+ghost use Rattle.std.specs.Prelude.{IfOk, IfErr, OnOk};
 ghost use Rattle.streetmap_grid.specs.Range.{IsBound};
 
 use crate::fault::GridFault;
@@ -41,14 +42,18 @@ impl GridBox {
     ghost use Rattle.streetmap_grid.specs.Values.{PositionValue};
     ghost use Rattle.streetmap_grid.specs.Views.{box_value};
     ghost use Rattle.streetmap_grid.specs.Faults.{box_fault};
-    ghost use Rattle.streetmap_grid.specs.Extent.{IsExtent, union, Overlaps, overlaps, IsWithin, is_within};
+    ghost use Rattle.streetmap_grid.specs.Extent.{IsExtent, union, Overlaps, overlaps, IsWithin};
+    ghost use Rattle.streetmap_grid.specs.Extent.{is_within};
 
     /// The box of four bounds, in millimetres. Refused as `BadBox` where a bound is below
     /// -2,000,000,000 or above 2,000,000,000, or `x0` above `x1`, or `y0` above `y1`.
     pub fn new(x0: i64, y0: i64, x1: i64, y1: i64) -> Result<GridBox, GridFault>
-        ensures value { IfOk result (λ g. box_value g ≡ record { x0 = x0; y0 = y0; x1 = x1; y1 = y1 }) }
-        ensures accepted { OnOk result (box_fault (record { x0 = x0; y0 = y0; x1 = x1; y1 = y1 }) ≡ None) }
-        ensures refused { IfErr result (λ f. box_fault (record { x0 = x0; y0 = y0; x1 = x1; y1 = y1 }) ≡ Some f) }
+        ensures value { IfOk result (λ g. box_value g
+            ≡ record { x0 = x0; y0 = y0; x1 = x1; y1 = y1 }) }
+        ensures accepted { OnOk result (box_fault (record { x0 = x0; y0 = y0; x1 = x1; y1 = y1 })
+            ≡ None) }
+        ensures refused { IfErr result (λ f.
+            box_fault (record { x0 = x0; y0 = y0; x1 = x1; y1 = y1 }) ≡ Some f) }
     {
         if !is_bound(x0) || !is_bound(y0) || !is_bound(x1) || !is_bound(y1) {
             return Err(GridFault::BadBox);
@@ -60,10 +65,12 @@ impl GridBox {
         }
     }
 
-    /// The least box that holds both: of the extents of two lists of positions, that of all of them.
+    /// The least box that holds both: of the extents of two lists of positions, that of all of
+    /// them.
     pub fn union(&self, other: &GridBox) -> GridBox
         ensures value { box_value result ≡ union (box_value self.now) (box_value other.now) }
-        ensures extent { (ps qs : List PositionValue) → IsExtent ps (box_value self.now) → IsExtent qs (box_value other.now) → IsExtent (ps ++ qs) (box_value result) }
+        ensures extent { (ps qs : List PositionValue) → IsExtent ps (box_value self.now)
+            → IsExtent qs (box_value other.now) → IsExtent (ps ++ qs) (box_value result) }
     {
         GridBox {
             x0: self.x0.min(other.x0),

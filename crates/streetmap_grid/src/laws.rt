@@ -1,6 +1,10 @@
 //! What holds of the definitions of this crate, for all plain values. Each law is the contract of a
 //! function that does nothing.
-ghost use Rattle.streetmap_grid.specs.Laws.{MeetingTestIsRelation, OverlapTestIsRelation, WhatMeetsOverlaps, WithinTestIsRelation, WhatLiesWithinMeets, ExtentIsOneBox, ClosedRingsAreEven, NoneIsInsideOutside, OrientedIsRight, RightIsUnchanged};
+ghost use Rattle.streetmap_grid.specs.Laws.{MeetingTestIsRelation, OverlapTestIsRelation};
+ghost use Rattle.streetmap_grid.specs.Laws.{WhatMeetsOverlaps, WithinTestIsRelation};
+ghost use Rattle.streetmap_grid.specs.Laws.{WhatLiesWithinMeets, ExtentIsOneBox};
+ghost use Rattle.streetmap_grid.specs.Laws.{ClosedRingsAreEven, NoneIsInsideOutside};
+ghost use Rattle.streetmap_grid.specs.Laws.{OrientedIsRight, RightIsUnchanged};
 
 /// The test of a geometry against a box is true exactly where the relation by fractions holds.
 pub fn meeting_test_is_relation()

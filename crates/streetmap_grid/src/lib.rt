@@ -5,9 +5,10 @@
 //!
 //! What is promised: the constructors answer what they are handed, and refuse exactly by
 //! `specs/Faults`; what every held value is stands in `specs/WellFormed`. `Geometry::meets` is true
-//! exactly where some fraction of some edge lies in the box, or its corner is inside by the even-odd
-//! rule (`specs/Meeting`), and what meets a box has an extent that overlaps it. All clauses speak of
-//! plain values (`specs/Values`), to which one view leads from each type (`specs/Views`).
+//! exactly where some fraction of some edge lies in the box, or its corner is inside by the
+//! even-odd rule (`specs/Meeting`), and what meets a box has an extent that overlaps it. All
+//! clauses speak of plain values (`specs/Values`), to which one view leads from each type
+//! (`specs/Views`).
 //!
 //! No call takes memory: vectors are handed in.
 //!

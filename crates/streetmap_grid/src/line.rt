@@ -19,7 +19,8 @@ impl Line {
     pub fn new(positions: Vec<Position>) -> Result<Line, GridFault>
         ensures value { IfOk result (λ l. line_value l ≡ positions_value positions.items) }
         ensures accepted { OnOk result (line_fault (positions_value positions.items) ≡ None) }
-        ensures refused { IfErr result (λ f. line_fault (positions_value positions.items) ≡ Some f) }
+        ensures refused { IfErr result (λ f. line_fault (positions_value positions.items)
+            ≡ Some f) }
     {
         if positions.len() < 2 {
             return Err(GridFault::ShortLine);

@@ -1,7 +1,11 @@
 ghost use Rattle.std.specs.Prelude.{◌↔◌, IsTrue};
-ghost use Rattle.streetmap_grid.specs.Views.{position_value, positions_value, lines_value, rings_value, polygon_value, polygons_value, simple_value, simples_value, geometry_value, box_value};
+ghost use Rattle.streetmap_grid.specs.Views.{position_value, positions_value, lines_value};
+ghost use Rattle.streetmap_grid.specs.Views.{rings_value, polygon_value, polygons_value};
+ghost use Rattle.streetmap_grid.specs.Views.{simple_value, simples_value, geometry_value};
+ghost use Rattle.streetmap_grid.specs.Views.{box_value};
 ghost use Rattle.streetmap_grid.specs.Some.{SomeOf};
-ghost use Rattle.streetmap_grid.specs.Meeting.{PointMeets, LineMeets, PolygonMeets, SimpleMeets, GeometryMeets};
+ghost use Rattle.streetmap_grid.specs.Meeting.{PointMeets, LineMeets, PolygonMeets, SimpleMeets};
+ghost use Rattle.streetmap_grid.specs.Meeting.{GeometryMeets};
 
 use crate::crossing::holds_corner;
 use crate::geometry::{Geometry, SimpleGeometry};
@@ -27,7 +31,8 @@ fn point_meets(p: &Position, area: &GridBox) -> bool
 
 /// Whether some position lies in the box.
 fn some_point_meets(positions: &[Position], area: &GridBox) -> bool
-    ensures { IsTrue result ↔ SomeOf (λ p. PointMeets p (box_value area.now)) (positions_value positions.now) }
+    ensures { IsTrue result ↔ SomeOf (λ p. PointMeets p (box_value area.now))
+        (positions_value positions.now) }
 {
     for p in positions {
         if point_meets(p, area) {
@@ -51,7 +56,8 @@ fn line_meets(positions: &[Position], area: &GridBox) -> bool
 
 /// Whether some line meets the box.
 fn some_line_meets(lines: &[Line], area: &GridBox) -> bool
-    ensures { IsTrue result ↔ SomeOf (λ l. LineMeets l (box_value area.now)) (lines_value lines.now) }
+    ensures { IsTrue result ↔ SomeOf (λ l. LineMeets l (box_value area.now))
+        (lines_value lines.now) }
 {
     for line in lines {
         if line_meets(line.positions(), area) {
@@ -63,7 +69,8 @@ fn some_line_meets(lines: &[Line], area: &GridBox) -> bool
 
 /// Whether some edge of some ring meets the box.
 fn some_ring_meets(rings: &[Ring], area: &GridBox) -> bool
-    ensures { IsTrue result ↔ SomeOf (λ r. LineMeets r (box_value area.now)) (rings_value rings.now) }
+    ensures { IsTrue result ↔ SomeOf (λ r. LineMeets r (box_value area.now))
+        (rings_value rings.now) }
 {
     for ring in rings {
         if line_meets(ring.positions(), area) {
@@ -83,7 +90,8 @@ fn polygon_meets(polygon: &Polygon, area: &GridBox) -> bool
 
 /// Whether some polygon meets the box.
 fn some_polygon_meets(polygons: &[Polygon], area: &GridBox) -> bool
-    ensures { IsTrue result ↔ SomeOf (λ p. PolygonMeets p (box_value area.now)) (polygons_value polygons.now) }
+    ensures { IsTrue result ↔ SomeOf (λ p. PolygonMeets p (box_value area.now))
+        (polygons_value polygons.now) }
 {
     for polygon in polygons {
         if polygon_meets(polygon, area) {
@@ -109,7 +117,8 @@ fn simple_meets(geometry: &SimpleGeometry, area: &GridBox) -> bool
 
 /// Whether some member meets the box.
 fn some_member_meets(members: &[SimpleGeometry], area: &GridBox) -> bool
-    ensures { IsTrue result ↔ SomeOf (λ s. SimpleMeets s (box_value area.now)) (simples_value members.now) }
+    ensures { IsTrue result ↔ SomeOf (λ s. SimpleMeets s (box_value area.now))
+        (simples_value members.now) }
 {
     for member in members {
         if simple_meets(member, area) {

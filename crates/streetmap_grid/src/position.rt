@@ -29,7 +29,8 @@ impl Position {
     pub fn new(x: i64, y: i64, z: Option<i64>) -> Result<Position, GridFault>
         ensures value { IfOk result (λ p. position_value p ≡ record { x = x; y = y; z = z }) }
         ensures accepted { OnOk result (position_fault (record { x = x; y = y; z = z }) ≡ None) }
-        ensures refused { IfErr result (λ f. position_fault (record { x = x; y = y; z = z }) ≡ Some f) }
+        ensures refused { IfErr result (λ f. position_fault (record { x = x; y = y; z = z })
+            ≡ Some f) }
     {
         if !is_coordinate(x) || !is_coordinate(y) || !is_height(z) {
             return Err(GridFault::OutOfGrid);

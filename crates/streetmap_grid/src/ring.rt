@@ -34,7 +34,8 @@ impl Ring {
     pub fn new(positions: Vec<Position>) -> Result<Ring, GridFault>
         ensures value { IfOk result (λ r. ring_value r ≡ positions_value positions.items) }
         ensures accepted { OnOk result (ring_fault (positions_value positions.items) ≡ None) }
-        ensures refused { IfErr result (λ f. ring_fault (positions_value positions.items) ≡ Some f) }
+        ensures refused { IfErr result (λ f. ring_fault (positions_value positions.items)
+            ≡ Some f) }
     {
         let n = positions.len();
         if n < 4 {

@@ -28,8 +28,10 @@ fn slab_of(from: i64, to: i64, low: i64, high: i64) -> Slab
     requires low_in { IsBound low }
     requires high_in { IsBound high }
     requires order { low ≤ℤ high }
-    ensures reached { (p q : ℤ) → IsWithinAt p q from to low high → IsReachedAt p q result.near result.far result.along }
-    ensures within { (p q : ℤ) → IsReachedAt p q result.near result.far result.along → IsWithinAt p q from to low high }
+    ensures reached { (p q : ℤ) → IsWithinAt p q from to low high
+        → IsReachedAt p q result.near result.far result.along }
+    ensures within { (p q : ℤ) → IsReachedAt p q result.near result.far result.along
+        → IsWithinAt p q from to low high }
 {
     if from <= to {
         return Slab {
@@ -72,7 +74,8 @@ fn are_both_reached(a: Slab, b: Slab) -> bool
 
 /// Whether some point of the segment from `a` to `b` lies in the box.
 pub fn segment_meets(a: &Position, b: &Position, area: &GridBox) -> bool
-    ensures { IsTrue result ↔ SegmentMeets (position_value a.now) (position_value b.now) (box_value area.now) }
+    ensures { IsTrue result ↔ SegmentMeets (position_value a.now) (position_value b.now)
+        (box_value area.now) }
 {
     let across = slab_of(a.x, b.x, area.x0, area.x1);
     let up = slab_of(a.y, b.y, area.y0, area.y1);

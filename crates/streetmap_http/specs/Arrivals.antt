@@ -1,4 +1,5 @@
--- What bytes that came hold of a request, and how far they were looked through for the end of its head.
+-- What bytes that came hold of a request, and how far they were looked through for the end of its
+-- head.
 use Rattle.std.specs.Prelude.{◌≡◌, ◌≢◌, ◌⊎◌, ℕ, ◌<◌, ◌≤◌, List, [], length, take, Bool}
 use Rattle.streetmap_http.specs.Head.{HasNoHead}
 use Rattle.streetmap_http.specs.Progress.{StandsAt}
@@ -13,9 +14,11 @@ use Rattle.streetmap_http.specs.declared.arrival.Arrival.TheVariants.{Request, H
 
 -- bytes that are answered as one: a whole request, or what breaks a rule of framing
 abbrev pub IsAnswered : List ℕ → Type 0
-IsAnswered bytes = ((h : HeadValue) × (body : List ℕ) × IsRequest bytes h body) ⊎ ((bare : Bool) × (fault : FramingFault) × Breaks bytes bare fault)
+IsAnswered bytes = ((h : HeadValue) × (body : List ℕ) × IsRequest bytes h body)
+    ⊎ ((bare : Bool) × (fault : FramingFault) × Breaks bytes bare fault)
 
--- the first n bytes are answered as one; or no head ends in the bytes, and may yet; or so many bytes of the body are missing
+-- the first n bytes are answered as one; or no head ends in the bytes, and may yet; or so many
+-- bytes of the body are missing
 abbrev pub HoldsOf : Arrival → List ℕ → Type 0
 HoldsOf (Request n) bytes = (n ≤ length bytes) × IsAnswered (take n bytes)
 HoldsOf Head bytes = (length bytes < HEAD_LIMIT) × HasNoHead bytes

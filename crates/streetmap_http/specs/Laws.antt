@@ -1,11 +1,13 @@
 -- What holds of heads and streams, whatever the code does.
-use Rattle.std.specs.Prelude.{◌≡◌, Bool, false, Option, Some, None, IfSome, take, ℕ, ◌+◌, ◌-◌, ◌<◌, ◌≤◌, List, ◌++◌, length, ◌⊎◌}
+use Rattle.std.specs.Prelude.{◌≡◌, Bool, false, Option, Some, None, IfSome, take, ℕ, ◌+◌, ◌-◌, ◌<◌}
+use Rattle.std.specs.Prelude.{◌≤◌, List, ◌++◌, length, ◌⊎◌}
 use Rattle.streetmap_http.specs.Head.{IsLinesOfHead, IsHead, HeadSays}
 use Rattle.streetmap_http.specs.Lines.{field_lines}
 use Rattle.streetmap_http.specs.Framing.{HeadValue, Framing, Frames, sized}
 use Rattle.streetmap_http.specs.Body.{BodySays}
 use Rattle.streetmap_http.specs.Streams as streams
-use Rattle.streetmap_http.specs.Streams.{StreamEnd, refused, ended, truncated, EndsAs, Front, request, stops, IsFront, BeginsWithAll, IsCut}
+use Rattle.streetmap_http.specs.Streams.{StreamEnd, refused, ended, truncated, EndsAs, Front}
+use Rattle.streetmap_http.specs.Streams.{request, stops, IsFront, BeginsWithAll, IsCut}
 use Rattle.streetmap_http.specs.Arrivals.{HasScanned, HoldsOf}
 use Rattle.streetmap_http.specs.declared.arrival.HeadScan.{HeadScan}
 use Rattle.streetmap_http.specs.declared.arrival.Arrival.{Arrival}
@@ -13,13 +15,15 @@ use Rattle.streetmap_http.specs.declared.arrival.Arrival.TheVariants.{Request, H
 use Rattle.streetmap_http.specs.declared.fault.FramingFault.{FramingFault}
 use Rattle.streetmap_http.specs.declared.fault.FramingFault.TheVariants.{HeadTooLarge}
 use Rattle.streetmap_http.specs.declared.head.HeadEnd.{HeadEnd}
-use Rattle.streetmap_http.specs.declared.head.HeadEnd.TheVariants.{Whole, TooLarge, Ended, Truncated, Failed}
+use Rattle.streetmap_http.specs.declared.head.HeadEnd.TheVariants.{Whole, TooLarge, Ended}
+use Rattle.streetmap_http.specs.declared.head.HeadEnd.TheVariants.{Truncated, Failed}
 use Rattle.streetmap_http.specs.declared.body.BodyEnd.{BodyEnd}
 use Rattle.streetmap_http.specs.declared.body.BodyEnd.TheVariants as bodies
 
 -- the field lines of a head are its lines but the request line
 abbrev pub FieldLinesAreLines : Type 0
-FieldLinesAreLines = (bytes : List ℕ) (lines : List (List ℕ)) → IsLinesOfHead bytes lines → length lines ≡ 1 + field_lines bytes
+FieldLinesAreLines = (bytes : List ℕ) (lines : List (List ℕ)) → IsLinesOfHead bytes lines
+    → length lines ≡ 1 + field_lines bytes
 
 -- a stream begins with at most one head, whatever follows
 abbrev pub BeginsWithOneHead : Type 0
@@ -33,30 +37,38 @@ SaysOneThing = (head : List ℕ) (f g : Framing) → Frames head f → Frames he
 abbrev pub HasOneFront : Type 0
 HasOneFront = (stream : List ℕ) (f g : Front) → IsFront stream f → IsFront stream g → f ≡ g
 
--- of two lists of requests that a stream begins with, one begins the other, and the rest begins with what it has more
+-- of two lists of requests that a stream begins with, one begins the other, and the rest begins
+-- with what it has more
 abbrev pub BeginningsAgree : Type 0
 BeginningsAgree =
-    (stream : List ℕ) (one other : List streams.Request) (x y : List ℕ) → BeginsWithAll stream one x → BeginsWithAll stream other y →
-    ((more : List streams.Request) × (other ≡ one ++ more) × BeginsWithAll x more y) ⊎ ((more : List streams.Request) × (one ≡ other ++ more) × BeginsWithAll y more x)
+    (stream : List ℕ) (one other : List streams.Request) (x y : List ℕ) → BeginsWithAll stream one x
+    → BeginsWithAll stream other y →
+    ((more : List streams.Request) × (other ≡ one ++ more) × BeginsWithAll x more y)
+    ⊎ ((more : List streams.Request) × (one ≡ other ++ more) × BeginsWithAll y more x)
 
 -- a stream is cut in one way into requests and what stands behind them
 abbrev pub HasOneCut : Type 0
 HasOneCut =
-    (stream : List ℕ) (one other : List streams.Request) (e f : StreamEnd) → IsCut stream one e → IsCut stream other f → (one ≡ other) × (e ≡ f)
+    (stream : List ℕ) (one other : List streams.Request) (e f : StreamEnd) → IsCut stream one e
+    → IsCut stream other f → (one ≡ other) × (e ≡ f)
 
 -- what was looked through stays so when more bytes come behind it
 abbrev pub ScansGoOn : Type 0
-ScansGoOn = (scan : HeadScan) (bytes more : List ℕ) → HasScanned scan bytes → HasScanned scan (bytes ++ more)
+ScansGoOn = (scan : HeadScan) (bytes more : List ℕ) → HasScanned scan bytes
+    → HasScanned scan (bytes ++ more)
 
 -- a request that came stays one, whatever comes behind it
 abbrev pub RequestsStay : Type 0
-RequestsStay = (bytes more : List ℕ) (n : ℕ) → HoldsOf (Request n) bytes → HoldsOf (Request n) (bytes ++ more)
+RequestsStay = (bytes more : List ℕ) (n : ℕ) → HoldsOf (Request n) bytes
+    → HoldsOf (Request n) (bytes ++ more)
 
--- a body that came but for some bytes lacks as many fewer as come behind it, and is a whole request with the last of them
+-- a body that came but for some bytes lacks as many fewer as come behind it, and is a whole request
+-- with the last of them
 abbrev pub BodiesFill : Type 0
 BodiesFill =
     (bytes more : List ℕ) (missing : ℕ) → HoldsOf (Body missing) bytes →
-    (length more < missing → HoldsOf (Body (missing - length more)) (bytes ++ more)) × (missing ≤ length more → HoldsOf (Request (length bytes + missing)) (bytes ++ more))
+    (length more < missing → HoldsOf (Body (missing - length more)) (bytes ++ more))
+    × (missing ≤ length more → HoldsOf (Request (length bytes + missing)) (bytes ++ more))
 
 -- how a stream goes on by how the reading of a head ended that took these bytes, where that tells
 abbrev pub end_by : HeadEnd → List ℕ → Option StreamEnd
@@ -69,27 +81,34 @@ end_by Failed bytes = None
 -- a reading that ends without a head tells how the stream goes on
 abbrev pub HeadsReadAreFronts : Type 0
 HeadsReadAreFronts =
-    (stream bytes left : List ℕ) (end : HeadEnd) → stream ≡ bytes ++ left → HeadSays end bytes (Some left) → IfSome (end_by end bytes) (EndsAs stream)
+    (stream bytes left : List ℕ) (end : HeadEnd) → stream ≡ bytes ++ left
+    → HeadSays end bytes (Some left) → IfSome (end_by end bytes) (EndsAs stream)
 
 -- the front of a stream by how the reading of a body ended
 abbrev pub front_by : BodyEnd → HeadValue → List ℕ → List ℕ → Option Front
-front_by bodies.Whole h head body = Some (request (record { bytes = head ++ body; head = h; body = body }))
+front_by bodies.Whole h head body = Some
+    (request (record { bytes = head ++ body; head = h; body = body }))
 front_by bodies.Truncated h head body = Some (stops truncated)
 front_by bodies.Failed h head body = None
 
--- a head and then a reading of its body tell the front of the stream: the request, or one without its end
+-- a head and then a reading of its body tell the front of the stream: the request, or one without
+-- its end
 abbrev pub BodiesReadAreFronts : Type 0
 BodiesReadAreFronts =
-    (stream head came left : List ℕ) (h : HeadValue) (end : BodyEnd) → stream ≡ head ++ (came ++ left) → IsHead head → Frames head (sized h) →
-    BodySays end (length came) h.len (Some left) → IfSome (front_by end h head came) (IsFront stream)
+    (stream head came left : List ℕ) (h : HeadValue) (end : BodyEnd)
+    → stream ≡ head ++ (came ++ left) → IsHead head → Frames head (sized h) →
+    BodySays end (length came) h.len (Some left)
+    → IfSome (front_by end h head came) (IsFront stream)
 
 -- the front is what came: the first n bytes, or an end where more may come
 abbrev pub IsOfArrival : Arrival → List ℕ → Front → Type 0
 IsOfArrival (Request n) bytes (request r) = r.bytes ≡ take n bytes
-IsOfArrival (Request n) bytes (stops end) = (bare : Bool) × (fault : FramingFault) × (end ≡ refused (take n bytes) bare fault)
+IsOfArrival (Request n) bytes (stops end) = (bare : Bool) × (fault : FramingFault)
+    × (end ≡ refused (take n bytes) bare fault)
 IsOfArrival Head bytes front = (front ≡ stops ended) ⊎ (front ≡ stops truncated)
 IsOfArrival (Body missing) bytes front = front ≡ stops truncated
 
 -- what came is the front that a reader finds of the same bytes
 abbrev pub ArrivalsAreFronts : Type 0
-ArrivalsAreFronts = (bytes : List ℕ) (arrival : Arrival) → HoldsOf arrival bytes → (front : Front) × IsFront bytes front × IsOfArrival arrival bytes front
+ArrivalsAreFronts = (bytes : List ℕ) (arrival : Arrival) → HoldsOf arrival bytes → (front : Front)
+    × IsFront bytes front × IsOfArrival arrival bytes front

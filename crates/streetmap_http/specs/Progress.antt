@@ -1,8 +1,10 @@
 -- How far a head has come, by its lines, and with one more byte.
 use Rattle.std.specs.Prelude.{◌≡◌, ℕ, ◌<◌, List, [], ◌∷◌, ◌++◌, length, All, ◌==◌, if◌then◌else◌}
-use Rattle.streetmap_http.specs.Head.{IsEmptyText, IsLineText, lines_of, AreEmptyLines, IsLinesOfHead}
+use Rattle.streetmap_http.specs.Head.{IsEmptyText, IsLineText, lines_of, AreEmptyLines}
+use Rattle.streetmap_http.specs.Head.{IsLinesOfHead}
 use Rattle.streetmap_http.specs.declared.head.HeadProgress.{HeadProgress}
-use Rattle.streetmap_http.specs.declared.head.HeadProgress.TheVariants.{Blank, BlankCr, Text, Start, StartCr, Done}
+use Rattle.streetmap_http.specs.declared.head.HeadProgress.TheVariants.{Blank, BlankCr, Text}
+use Rattle.streetmap_http.specs.declared.head.HeadProgress.TheVariants.{Start, StartCr, Done}
 
 -- empty lines, and then one or more lines that are not
 pub record BeginsHead (bytes : List ℕ) : Type 0 where
@@ -29,7 +31,8 @@ BehindReturn P bytes = (front : List ℕ) × P front × (bytes ≡ front ++ 13 �
 
 -- the lines of a head, and any bytes
 abbrev pub BehindHead : List ℕ → Type 0
-BehindHead bytes = (head : List ℕ) × (rest : List ℕ) × (lines : List (List ℕ)) × IsLinesOfHead head lines × (bytes ≡ head ++ rest)
+BehindHead bytes = (head : List ℕ) × (rest : List ℕ) × (lines : List (List ℕ))
+    × IsLinesOfHead head lines × (bytes ≡ head ++ rest)
 
 -- the bytes are those of a head that has come so far
 abbrev pub StandsAt : HeadProgress → List ℕ → Type 0

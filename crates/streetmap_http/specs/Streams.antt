@@ -1,4 +1,5 @@
--- A stream of requests, one behind the other, and how it goes on behind them. RFC 9112, sections 2.1, 6.3 and 9.3.
+-- A stream of requests, one behind the other, and how it goes on behind them. RFC 9112, sections
+-- 2.1, 6.3 and 9.3.
 use Rattle.std.specs.Prelude.{◌≡◌, ℕ, ◌+◌, ◌<◌, List, ◌++◌, length, Bool, All}
 use Rattle.std.specs.List.{flat_map}
 use Rattle.streetmap_http.specs.Head.{IsHead, HasNoHead, IsBlank}
@@ -35,7 +36,8 @@ pub data IsUnfinished (bytes : List ℕ) : Type 0 where
   in_head : length bytes < HEAD_LIMIT → HasNoHead bytes → (IsBlank bytes → ⊥) → IsUnfinished bytes
   in_body : (missing : ℕ) → 0 < missing → LacksOfBody missing bytes → IsUnfinished bytes
 
--- how a stream goes on where no further request is: bytes that break a rule of framing (with whether the answer has no
+-- how a stream goes on where no further request is: bytes that break a rule of framing (with
+-- whether the answer has no
 -- body), its end, or a request without its end
 pub data StreamEnd : Type 0 where
   refused : List ℕ → Bool → FramingFault → StreamEnd

@@ -47,7 +47,8 @@ impl HeadScan {
     pub fn find_head(&mut self, bytes: &[u8]) -> Option<usize>
         requires { HasScanned self.old bytes.now }
         ensures scanned { HasScanned self.new bytes.now }
-        ensures found { IfSome result (λ len. (len ≤ length bytes.now) × IsHead (take len bytes.now)) }
+        ensures found { IfSome result (λ len. (len ≤ length bytes.now)
+            × IsHead (take len bytes.now)) }
         ensures none { IfNone result (HasNoHead (take HEAD_LIMIT bytes.now)) }
     {
         let end = bytes.len().min(HEAD_LIMIT);
@@ -101,8 +102,8 @@ fn arrival_by(bytes: &[u8], head: Option<usize>) -> Arrival
     }
 }
 
-/// What bytes hold of a request, where their front was looked through before. While bytes of the body
-/// are missing, each call reads the head again: it is best made when so many came.
+/// What bytes hold of a request, where their front was looked through before. While bytes of the
+/// body are missing, each call reads the head again: it is best made when so many came.
 pub fn arrival_after(scan: &mut HeadScan, bytes: &[u8]) -> Arrival
     requires { HasScanned scan.old bytes.now }
     ensures holds { HoldsOf result bytes.now }

@@ -40,7 +40,8 @@ joined chunks = flat_map (λ chunk. chunk.outlines.items) chunks
 
 -- they are the outlines of these features, in byte order of ids
 abbrev pub AreOutlines : List FeatureOutline → Features → Type 0
-AreOutlines os features = feature_outline_values os ≡ map (λ e. feature_outline_of e.0 e.1) (entries features)
+AreOutlines os features = feature_outline_values os
+    ≡ map (λ e. feature_outline_of e.0 e.1) (entries features)
 
 -- no chunk is empty
 abbrev pub AreFilled : List Chunk → Type 0
@@ -88,7 +89,8 @@ AllTimedBy os bounds = All (λ o. IsTimedBy o.seconds bounds) os
 -- many of these have an extent as it says; and their seconds lie within its bounds of seconds
 pub record IsBounded (chunk : Chunk) : Type 0 where
   pub within : AllLieWithin chunk.outlines.items chunk.bounds
-  pub exact : (features : Features) (fs : List FeatureValue) → Pairs features chunk.outlines.items fs → AreBounds (all_vertices fs) chunk.bounds
+  pub exact : (features : Features) (fs : List FeatureValue)
+      → Pairs features chunk.outlines.items fs → AreBounds (all_vertices fs) chunk.bounds
   pub counted : chunk.with_extent ≡ count_by has_extent chunk.outlines.items
   pub timed : AllTimedBy chunk.outlines.items chunk.seconds
 
@@ -136,20 +138,24 @@ IsOutlinedIf o None = ⊥
 IsOutlinedIf o (Some c) = IsOutlined o c
 
 -- what an index knows under a name
-abbrev pub known_under : Text → List (String Global × OutlinedCollection) → Option OutlinedCollection
+abbrev pub known_under : Text → List (String Global × OutlinedCollection)
+    → Option OutlinedCollection
 known_under name known = lookup (λ key. is_eq (text_cmp name (string_bytes key))) known
 
 -- each collection that is known is there, and as it is known
 abbrev pub AreKnown : List (String Global × OutlinedCollection) → State → Type 0
-AreKnown known s = (name : Text) (o : OutlinedCollection) → known_under name known ≡ Some o → IsOutlinedIf o (get s.collections name)
+AreKnown known s = (name : Text) (o : OutlinedCollection) → known_under name known ≡ Some o
+    → IsOutlinedIf o (get s.collections name)
 
 -- each collection that is there is known
 abbrev pub KnowsAll : List (String Global × OutlinedCollection) → State → Type 0
-KnowsAll known s = (name : Text) (c : Collection) → get s.collections name ≡ Some c → IsSome (known_under name known)
+KnowsAll known s = (name : Text) (c : Collection) → get s.collections name ≡ Some c
+    → IsSome (known_under name known)
 
 -- what an index knows is so, and it knows all where it says that
 abbrev pub IsIndexOf : Index → State → Type 0
-IsIndexOf index s = AreKnown index.known.entries s × (IsTrue index.is_whole → KnowsAll index.known.entries s)
+IsIndexOf index s = AreKnown index.known.entries s
+    × (IsTrue index.is_whole → KnowsAll index.known.entries s)
 
 -- what was learnt of a collection, if it was, is so
 abbrev pub Learns : State → Text → Option OutlinedCollection → Type 0
@@ -157,9 +163,11 @@ Learns s name None = Unit {0}
 Learns s name (Some o) = IsOutlinedIf o (get s.collections name)
 
 -- if it has this title, and the times of its features are read from this property
-abbrev pub LearnsUnder : State → Text → String Global → Option (String Global) → Option OutlinedCollection → Type 0
+abbrev pub LearnsUnder : State → Text → String Global → Option (String Global)
+    → Option OutlinedCollection → Type 0
 LearnsUnder s name title property o =
-    (c : Collection) → get s.collections name ≡ Some c → string_bytes title ≡ c.title → option_map string_bytes property ≡ c.time → Learns s name o
+    (c : Collection) → get s.collections name ≡ Some c → string_bytes title ≡ c.title
+    → option_map string_bytes property ≡ c.time → Learns s name o
 
 -- the collection that an edit is of
 abbrev pub collection_of : EditValue → Text

@@ -23,12 +23,16 @@ use Rattle.streetmap_index.specs.declared.chunks.Chunks.{Chunks}
 -- the feature that the state has under the id is taken
 abbrev pub TakesRead : State → Text → Text → PageFold → PageFold → Bool → Type 0
 TakesRead s name id old new taken =
-    (f : FeatureValue) → feature_in s name id ≡ Some f → IsTrue taken × ((q : QueryValue) (fs : List FeatureValue) → Holds q old fs → Holds q new (fs ++ f ∷ []))
+    (f : FeatureValue) → feature_in s name id ≡ Some f → IsTrue taken
+    × ((q : QueryValue) (fs : List FeatureValue) → Holds q old fs → Holds q new (fs ++ f ∷ []))
 
 -- if all were taken, the features with these outlines were met behind those met before
-abbrev pub TakesOutlined : State → Text → QueryValue → List FeatureOutline → PageFold → PageFold → Bool → Type 0
+abbrev pub TakesOutlined : State → Text → QueryValue → List FeatureOutline → PageFold → PageFold
+    → Bool → Type 0
 TakesOutlined s name q outlines old new taken =
-    IsTrue taken → (c : Collection) (met fs : List FeatureValue) → get s.collections name ≡ Some c → Pairs c.features outlines fs → HoldsCandidates q old met → HoldsCandidates q new (met ++ fs)
+    IsTrue taken → (c : Collection) (met fs : List FeatureValue) → get s.collections name ≡ Some c
+    → Pairs c.features outlines fs → HoldsCandidates q old met
+    → HoldsCandidates q new (met ++ fs)
 
 -- if the outlines are those of the collection's features, this is the page, if it is there
 abbrev pub IsOutlinedPage : State → Text → QueryValue → Chunks → Option Page → Type 0

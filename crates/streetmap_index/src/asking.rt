@@ -12,9 +12,14 @@ pub fn ask<K: Keeper>(keeper: &mut K, collection: &str) -> Result<(), Fault>
     ensures faults { ShutsBy result (K.cause keeper.old) (K.cause keeper.new) }
     ensures device { K.is_clean keeper.new → (s : State) → K.stands keeper.old s →
         IsErrOf result Fault.Device → K.fails keeper.old keeper.new }
-    ensures stays { K.is_clean keeper.new → (s : State) → K.stands keeper.old s → Looks s (λ _. Unit {0}) result (K.stands keeper.new) }
-    ensures leaves { K.is_clean keeper.new → (s : State) → K.stands keeper.old s → LeavesOnly (K.may_leave keeper.old) (Some s) → LeavesOnly (K.may_leave keeper.new) (Some s) }
-    ensures reopen { IsErrOf result Fault.Reopen → AsBefore (K.stands keeper.old) (K.stands keeper.new) (K.may_leave keeper.old) (K.may_leave keeper.new) }
+    ensures stays { K.is_clean keeper.new → (s : State) → K.stands keeper.old s
+        → Looks s (λ _. Unit {0}) result (K.stands keeper.new) }
+    ensures leaves { K.is_clean keeper.new → (s : State) → K.stands keeper.old s
+        → LeavesOnly (K.may_leave keeper.old) (Some s)
+        → LeavesOnly (K.may_leave keeper.new) (Some s) }
+    ensures reopen { IsErrOf result Fault.Reopen
+        → AsBefore (K.stands keeper.old) (K.stands keeper.new) (K.may_leave keeper.old)
+        (K.may_leave keeper.new) }
 {
     match keeper.feature(collection, "") {
         Ok(_) => Ok(()),

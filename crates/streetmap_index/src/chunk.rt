@@ -74,7 +74,8 @@ impl Chunk {
     /// Where the outline under an id stands, or where it would stand.
     fn place_of(&self, id: &str) -> Result<usize, usize>
         ensures bound { IsSearchInRange result (length self.now.outlines.items) }
-        ensures place { IsBinarySearchResult (λ o. text_cmp (string_bytes o.id) id.now) self.now.outlines.items result }
+        ensures place { IsBinarySearchResult (λ o. text_cmp (string_bytes o.id) id.now)
+            self.now.outlines.items result }
     {
         self.outlines
             .as_slice()
@@ -106,7 +107,9 @@ impl Chunk {
     /// Puts an outline in, in place of the one under its id, if there is one.
     pub fn put(&mut self, outline: FeatureOutline) -> Result<(), AllocError>
         ensures some { OnOk result (0 < length self.new.outlines.items) }
-        ensures outlines { (features : Features) (f : FeatureValue) → AreOutlines self.old.outlines.items features → IsOutlineOf outline f → OnOk result (AreOutlines self.new.outlines.items (insert features f.id f)) }
+        ensures outlines { (features : Features) (f : FeatureValue)
+            → AreOutlines self.old.outlines.items features → IsOutlineOf outline f
+            → OnOk result (AreOutlines self.new.outlines.items (insert features f.id f)) }
         ensures bounded { IsBounded self.old → OnOk result (IsBounded self.new) }
         ensures listed { (cells : Cells) → IsListedChunk cells self.old →
             IsListedIf cells self.old.number outline.extent →
@@ -127,7 +130,8 @@ impl Chunk {
 
     /// Takes the outline under an id out, if there is one.
     pub fn cut(&mut self, id: &str)
-        ensures outlines { (features : Features) → AreOutlines self.old.outlines.items features → AreOutlines self.new.outlines.items (remove features id.now) }
+        ensures outlines { (features : Features) → AreOutlines self.old.outlines.items features
+            → AreOutlines self.new.outlines.items (remove features id.now) }
         ensures bounded { IsBounded self.old → IsBounded self.new }
         ensures listed { (cells : Cells) → IsListedChunk cells self.old →
             IsListedChunk cells self.new }
@@ -142,7 +146,8 @@ impl Chunk {
     pub fn split_off(&mut self, place: usize, number: u32) -> Result<Chunk, AllocError>
         requires { place ≤ length self.old.outlines.items }
         ensures front { OnOk result (self.new.outlines.items ≡ take place self.old.outlines.items) }
-        ensures behind { IfOk result (λ behind. behind.outlines.items ≡ drop place self.old.outlines.items) }
+        ensures behind { IfOk result (λ behind. behind.outlines.items
+            ≡ drop place self.old.outlines.items) }
         ensures bounded { IfOk result (λ behind. IsBounded self.new × IsBounded behind) }
         ensures number { IfOk result (λ behind. behind.number ≡ number) }
         ensures listed { (cells : Cells) → IsListedChunk cells self.old →

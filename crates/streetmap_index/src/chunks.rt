@@ -1,4 +1,5 @@
-//! Outlines of features in byte order of ids, in chunks, so that one that comes or goes moves few others.
+//! Outlines of features in byte order of ids, in chunks, so that one that comes or goes moves few
+//! others.
 ghost use Rattle.std.specs.Prelude.{◌≡◌, ℕ, ◌+◌, ◌<◌, [], true, false, IfOk, IfSome, OnOk, length};
 ghost use Rattle.std.specs.Prelude.{slice_index_or};
 ghost use Rattle.std.specs.FinMap.{insert, remove};
@@ -27,8 +28,8 @@ const MOST_IN_CHUNK: usize = 256;
 /// How many outlines a chunk has that is learnt, which leaves room for others.
 const LEARNT_IN_CHUNK: usize = 128;
 
-/// Outlines of features in byte order of ids: those of each chunk behind those of the chunk before it, and
-/// no chunk is empty.
+/// Outlines of features in byte order of ids: those of each chunk behind those of the chunk before
+/// it, and no chunk is empty.
 #[derive(Drop)]
 pub struct Chunks {
     pub chunks: Vec<Chunk>,
@@ -80,12 +81,17 @@ impl Chunks {
         })
     }
 
-    /// The first chunk that reaches an id, or else the last one: there the outline under the id stands, or
-    /// would stand.
+    /// The first chunk that reaches an id, or else the last one: there the outline under the id
+    /// stands, or would stand.
     fn chunk_of(&self, id: &str) -> usize
         ensures bound { 0 < length self.now.chunks.items → result < length self.now.chunks.items }
-        ensures before { (features : Features) → AreChunksOf self.now.chunks.items features → (k : ℕ) (d : Chunk) → k < result → reaches_of id.now (slice_index_or self.now.chunks.items k d).outlines.items ≡ false }
-        ensures here { (features : Features) → AreChunksOf self.now.chunks.items features → (d : Chunk) → result + 1 < length self.now.chunks.items → reaches_of id.now (slice_index_or self.now.chunks.items result d).outlines.items ≡ true }
+        ensures before { (features : Features) → AreChunksOf self.now.chunks.items features
+            → (k : ℕ) (d : Chunk) → k < result
+            → reaches_of id.now (slice_index_or self.now.chunks.items k d).outlines.items ≡ false }
+        ensures here { (features : Features) → AreChunksOf self.now.chunks.items features
+            → (d : Chunk) → result + 1 < length self.now.chunks.items
+            → reaches_of id.now (slice_index_or self.now.chunks.items result d).outlines.items
+            ≡ true }
     {
         let place = self
             .chunks
@@ -98,8 +104,10 @@ impl Chunks {
     fn halve(&mut self, place: usize) -> Result<(), AllocError>
         requires { place < length self.old.chunks.items }
         ensures same { OnOk result (joined self.new.chunks.items ≡ joined self.old.chunks.items) }
-        ensures filled { AreFilled self.old.chunks.items → OnOk result (AreFilled self.new.chunks.items) }
-        ensures bounded { AreBounded self.old.chunks.items → OnOk result (AreBounded self.new.chunks.items) }
+        ensures filled { AreFilled self.old.chunks.items
+            → OnOk result (AreFilled self.new.chunks.items) }
+        ensures bounded { AreBounded self.old.chunks.items
+            → OnOk result (AreBounded self.new.chunks.items) }
         ensures listed { AreListed self.old.cells self.old.chunks.items →
             OnOk result (AreListed self.new.cells self.new.chunks.items) }
     {
@@ -141,8 +149,9 @@ impl Chunks {
         ensures same { self.new.chunks ≡ self.old.chunks }
         ensures kept { AreListed self.old.cells self.old.chunks.items →
             OnOk result (AreListed self.new.cells self.new.chunks.items) }
-        ensures listed { (d : Chunk) → AreListed self.old.cells self.old.chunks.items →
-            OnOk result (IsListedIf self.new.cells (slice_index_or self.new.chunks.items place d).number outline.now.extent) }
+        ensures listed { (d : Chunk) → AreListed self.old.cells self.old.chunks.items
+            → OnOk result (IsListedIf self.new.cells
+            (slice_index_or self.new.chunks.items place d).number outline.now.extent) }
     {
         if self.chunks[place].has(outline.id.as_str(), outline.extent) {
             return Ok(());
@@ -152,8 +161,8 @@ impl Chunks {
         list_extent(&mut self.cells, number, outline.extent)
     }
 
-    /// Puts an outline in, in place of the one under its id, if there is one. After an error outlines may
-    /// be missing.
+    /// Puts an outline in, in place of the one under its id, if there is one. After an error
+    /// outlines may be missing.
     pub fn put(&mut self, alloc: Global, outline: FeatureOutline) -> Result<(), AllocError>
         ensures { (features : Features) (f : FeatureValue) → AreListedChunksOf self.old features →
             IsOutlineOf outline f →
@@ -182,9 +191,10 @@ impl Chunks {
         }
     }
 
-    /// Whether to look for the box in the cells: where a page would go over more chunks with no marks
-    /// than the search goes over cells. To go over a chunk costs more than to go over a cell. Where
-    /// ids follow places few chunks are near a small box, and a search would only add to them.
+    /// Whether to look for the box in the cells: where a page would go over more chunks with no
+    /// marks than the search goes over cells. To go over a chunk costs more than to go over a cell.
+    /// Where ids follow places few chunks are near a small box, and a search would only add to
+    /// them.
     fn is_cheaper_by_cells(&self, query: &Query, area: &GridBox) -> bool {
         let cells = Cells::cost(area);
         let mut near: i64 = 0;

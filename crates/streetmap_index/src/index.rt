@@ -6,7 +6,8 @@ ghost use Rattle.streetmap_ledger.specs.State.{State, step};
 ghost use Rattle.streetmap_ledger.specs.Batches.{edited};
 ghost use Rattle.streetmap_ledger.specs.Summaries.{summaries_in};
 ghost use Rattle.streetmap_ledger.specs.SummaryView.{summary_values};
-ghost use Rattle.streetmap_index.specs.Index.{IsIndexOf, IsOutlinedIf, known_under, collection_of as collection_of_value};
+ghost use Rattle.streetmap_index.specs.Index.{IsIndexOf, IsOutlinedIf, known_under};
+ghost use Rattle.streetmap_index.specs.Index.{collection_of as collection_of_value};
 
 use crate::outlined::OutlinedCollection;
 use std::alloc::{AllocError, Global};
@@ -62,12 +63,14 @@ impl Index {
         self.looks_off = LOOKS_OFF;
     }
 
-    /// Whether a collection is to be learnt at this look: it is not known, and nothing is put off. While it
-    /// is, looks at collections that are not known are counted down.
+    /// Whether a collection is to be learnt at this look: it is not known, and nothing is put off.
+    /// While it is, looks at collections that are not known are counted down.
     pub fn is_due(&mut self, name: &str) -> bool
         ensures index { (s : State) → IsIndexOf self.old s → IsIndexOf self.new s }
-        ensures due { known_under name.now self.old.known.entries ≡ None → result ≡ nat_eq self.old.looks_off 0 }
-        ensures counted { known_under name.now self.old.known.entries ≡ None → self.new.looks_off ≡ self.old.looks_off - 1 }
+        ensures due { known_under name.now self.old.known.entries ≡ None
+            → result ≡ nat_eq self.old.looks_off 0 }
+        ensures counted { known_under name.now self.old.known.entries ≡ None
+            → self.new.looks_off ≡ self.old.looks_off - 1 }
     {
         if self.known.contains_key(name) {
             return false;
@@ -81,7 +84,8 @@ impl Index {
 
     /// Keeps what is known of a collection. Where memory for it is refused, all is forgotten.
     pub fn keep(&mut self, alloc: Global, name: &str, outlined: OutlinedCollection)
-        ensures { (s : State) → IsIndexOf self.old s → IsOutlinedIf outlined (get s.collections name.now) → IsIndexOf self.new s }
+        ensures { (s : State) → IsIndexOf self.old s
+            → IsOutlinedIf outlined (get s.collections name.now) → IsIndexOf self.new s }
     {
         let Ok(key) = String::from_str(alloc, name) else {
             self.give_up(alloc);
@@ -98,7 +102,8 @@ impl Index {
 
     /// Notes whether these collections, which are all that are there, are known.
     pub fn note(&mut self, summaries: &[Summary])
-        ensures { (s : State) → summary_values summaries.now ≡ summaries_in s → IsIndexOf self.old s → IsIndexOf self.new s }
+        ensures { (s : State) → summary_values summaries.now ≡ summaries_in s → IsIndexOf self.old s
+            → IsIndexOf self.new s }
     {
         for summary in summaries {
             if !self.known.contains_key(summary.id.as_str()) {
@@ -110,7 +115,8 @@ impl Index {
 
     /// Follows an edit that was done. After an error nothing may be right any more.
     fn follow_edit(&mut self, alloc: Global, edit: &Edit) -> Result<(), AllocError>
-        ensures { (s t : State) → step s (edit_value edit.now) ≡ Ok t → IsIndexOf self.old s → OnOk result (IsIndexOf self.new t) }
+        ensures { (s t : State) → step s (edit_value edit.now) ≡ Ok t → IsIndexOf self.old s
+            → OnOk result (IsIndexOf self.new t) }
     {
         match self.known.get_mut(collection_of(edit)) {
             Some(outlined) => outlined.follow(alloc, edit),
@@ -123,7 +129,8 @@ impl Index {
 
     /// Follows edits that were done. Where memory for that is refused, all is forgotten.
     pub fn follow(&mut self, alloc: Global, edits: &[Edit])
-        ensures { (s t : State) (place : ℕ) → edited place s (edit_values edits.now) ≡ Ok t → IsIndexOf self.old s → IsIndexOf self.new t }
+        ensures { (s t : State) (place : ℕ) → edited place s (edit_values edits.now) ≡ Ok t
+            → IsIndexOf self.old s → IsIndexOf self.new t }
     {
         for edit in edits {
             if self.follow_edit(alloc, edit).is_err() {

@@ -1,7 +1,8 @@
 //! A keeper with an index.
 ghost use Rattle.std.specs.Prelude.{◌≡◌, [], Some, None, IsErr, IsErrOf};
 ghost use Rattle.streetmap_ledger.specs.State.{State};
-ghost use Rattle.streetmap_ledger.specs.Keep.{Looks, Shows, Tells, Lists, LeavesOnly, ShutsBy, AsBefore};
+ghost use Rattle.streetmap_ledger.specs.Keep.{Looks, Shows, Tells, Lists, LeavesOnly, ShutsBy};
+ghost use Rattle.streetmap_ledger.specs.Keep.{AsBefore};
 ghost use Rattle.streetmap_index.specs.Index.{IsIndexOf, IsHeeded};
 
 use crate::index::Index;
@@ -13,9 +14,10 @@ use streetmap_geojson::Feature;
 use streetmap_ledger::{Batch, Fault, FeatureOutline, Keeper, Page, Reply, Summary};
 use streetmap_query::Query;
 
-/// A keeper that answers pages and tells of collections of another one by what it knows of the features, and
-/// reads few of them. What it knows of a collection it learns at the first look, and keeps right by each
-/// batch. Where memory for that is refused the other keeper answers, and nothing is learnt at the next looks.
+/// A keeper that answers pages and tells of collections of another one by what it knows of the
+/// features, and reads few of them. What it knows of a collection it learns at the first look, and
+/// keeps right by each batch. Where memory for that is refused the other keeper answers, and
+/// nothing is learnt at the next looks.
 #[derive(Drop)]
 pub struct IndexedKeeper<K> {
     alloc: Global,
@@ -54,9 +56,15 @@ impl<K: Keeper> IndexedKeeper<K> {
         ensures faults { ShutsBy result (K.cause self.old.keeper) (K.cause self.new.keeper) }
         ensures device { K.is_clean self.new.keeper → (s : State) → K.stands self.old.keeper s →
             IsErrOf result Fault.Device → K.fails self.old.keeper self.new.keeper }
-        ensures learns { K.is_clean self.new.keeper → (s : State) → K.stands self.old.keeper s → IsIndexOf self.old.index s → Looks s (λ _. IsIndexOf self.new.index s) result (K.stands self.new.keeper) }
-        ensures leaves { K.is_clean self.new.keeper → (s : State) → K.stands self.old.keeper s → LeavesOnly (K.may_leave self.old.keeper) (Some s) → LeavesOnly (K.may_leave self.new.keeper) (Some s) }
-        ensures reopen { IsErrOf result Fault.Reopen → AsBefore (K.stands self.old.keeper) (K.stands self.new.keeper) (K.may_leave self.old.keeper) (K.may_leave self.new.keeper) }
+        ensures learns { K.is_clean self.new.keeper → (s : State) → K.stands self.old.keeper s
+            → IsIndexOf self.old.index s → Looks s (λ _. IsIndexOf self.new.index s) result
+            (K.stands self.new.keeper) }
+        ensures leaves { K.is_clean self.new.keeper → (s : State) → K.stands self.old.keeper s
+            → LeavesOnly (K.may_leave self.old.keeper) (Some s)
+            → LeavesOnly (K.may_leave self.new.keeper) (Some s) }
+        ensures reopen { IsErrOf result Fault.Reopen
+            → AsBefore (K.stands self.old.keeper) (K.stands self.new.keeper)
+            (K.may_leave self.old.keeper) (K.may_leave self.new.keeper) }
         ensures unlearnt { IsErr result → self.new.index ≡ self.old.index }
     {
         match learn(self.alloc, &mut self.keeper, collection) {
@@ -80,9 +88,15 @@ impl<K: Keeper> IndexedKeeper<K> {
         ensures faults { ShutsBy result (K.cause self.old.keeper) (K.cause self.new.keeper) }
         ensures device { K.is_clean self.new.keeper → (s : State) → K.stands self.old.keeper s →
             IsErrOf result Fault.Device → K.fails self.old.keeper self.new.keeper }
-        ensures shows { K.is_clean self.new.keeper → (s : State) → K.stands self.old.keeper s → IsIndexOf self.old.index s → Shows s collection.now query.now result (K.stands self.new.keeper) }
-        ensures leaves { K.is_clean self.new.keeper → (s : State) → K.stands self.old.keeper s → LeavesOnly (K.may_leave self.old.keeper) (Some s) → LeavesOnly (K.may_leave self.new.keeper) (Some s) }
-        ensures reopen { IsErrOf result Fault.Reopen → AsBefore (K.stands self.old.keeper) (K.stands self.new.keeper) (K.may_leave self.old.keeper) (K.may_leave self.new.keeper) }
+        ensures shows { K.is_clean self.new.keeper → (s : State) → K.stands self.old.keeper s
+            → IsIndexOf self.old.index s → Shows s collection.now query.now result
+            (K.stands self.new.keeper) }
+        ensures leaves { K.is_clean self.new.keeper → (s : State) → K.stands self.old.keeper s
+            → LeavesOnly (K.may_leave self.old.keeper) (Some s)
+            → LeavesOnly (K.may_leave self.new.keeper) (Some s) }
+        ensures reopen { IsErrOf result Fault.Reopen
+            → AsBefore (K.stands self.old.keeper) (K.stands self.new.keeper)
+            (K.may_leave self.old.keeper) (K.may_leave self.new.keeper) }
         ensures index { self.new.index ≡ self.old.index }
     {
         match self.index.known.get(collection) {
@@ -96,11 +110,18 @@ impl<K: Keeper> IndexedKeeper<K> {
         ensures spared { K.spares self.old.keeper self.new.keeper }
         ensures began_clean { K.is_clean self.new.keeper → K.is_clean self.old.keeper }
         ensures faults { ShutsBy result (K.cause self.old.keeper) (K.cause self.new.keeper) }
-        ensures device { K.is_clean self.new.keeper → (s : State) → K.stands self.old.keeper s →
-            IsIndexOf self.old.index s → IsErrOf result Fault.Device → K.fails self.old.keeper self.new.keeper }
-        ensures shows { K.is_clean self.new.keeper → (s : State) → K.stands self.old.keeper s → IsIndexOf self.old.index s → Shows s collection.now query.now result (λ t. K.stands self.new.keeper t × IsIndexOf self.new.index t) }
-        ensures leaves { K.is_clean self.new.keeper → (s : State) → K.stands self.old.keeper s → IsIndexOf self.old.index s → LeavesOnly (K.may_leave self.old.keeper) (Some s) → LeavesOnly (K.may_leave self.new.keeper) (Some s) }
-        ensures reopen { IsErrOf result Fault.Reopen → AsBefore (K.stands self.old.keeper) (K.stands self.new.keeper) (K.may_leave self.old.keeper) (K.may_leave self.new.keeper) }
+        ensures device { K.is_clean self.new.keeper → (s : State) → K.stands self.old.keeper s
+            → IsIndexOf self.old.index s → IsErrOf result Fault.Device
+            → K.fails self.old.keeper self.new.keeper }
+        ensures shows { K.is_clean self.new.keeper → (s : State) → K.stands self.old.keeper s
+            → IsIndexOf self.old.index s → Shows s collection.now query.now result (λ t.
+            K.stands self.new.keeper t × IsIndexOf self.new.index t) }
+        ensures leaves { K.is_clean self.new.keeper → (s : State) → K.stands self.old.keeper s
+            → IsIndexOf self.old.index s → LeavesOnly (K.may_leave self.old.keeper) (Some s)
+            → LeavesOnly (K.may_leave self.new.keeper) (Some s) }
+        ensures reopen { IsErrOf result Fault.Reopen
+            → AsBefore (K.stands self.old.keeper) (K.stands self.new.keeper)
+            (K.may_leave self.old.keeper) (K.may_leave self.new.keeper) }
     {
         if !self.index.is_due(collection) {
             return self.page_known(collection, query);
@@ -118,9 +139,14 @@ impl<K: Keeper> IndexedKeeper<K> {
         ensures faults { ShutsBy result (K.cause self.old.keeper) (K.cause self.new.keeper) }
         ensures device { K.is_clean self.new.keeper → (s : State) → K.stands self.old.keeper s →
             IsErrOf result Fault.Device → K.fails self.old.keeper self.new.keeper }
-        ensures tells { K.is_clean self.new.keeper → (s : State) → K.stands self.old.keeper s → IsIndexOf self.old.index s → Tells s id.now result (K.stands self.new.keeper) }
-        ensures leaves { K.is_clean self.new.keeper → (s : State) → K.stands self.old.keeper s → LeavesOnly (K.may_leave self.old.keeper) (Some s) → LeavesOnly (K.may_leave self.new.keeper) (Some s) }
-        ensures reopen { IsErrOf result Fault.Reopen → AsBefore (K.stands self.old.keeper) (K.stands self.new.keeper) (K.may_leave self.old.keeper) (K.may_leave self.new.keeper) }
+        ensures tells { K.is_clean self.new.keeper → (s : State) → K.stands self.old.keeper s
+            → IsIndexOf self.old.index s → Tells s id.now result (K.stands self.new.keeper) }
+        ensures leaves { K.is_clean self.new.keeper → (s : State) → K.stands self.old.keeper s
+            → LeavesOnly (K.may_leave self.old.keeper) (Some s)
+            → LeavesOnly (K.may_leave self.new.keeper) (Some s) }
+        ensures reopen { IsErrOf result Fault.Reopen
+            → AsBefore (K.stands self.old.keeper) (K.stands self.new.keeper)
+            (K.may_leave self.old.keeper) (K.may_leave self.new.keeper) }
         ensures index { self.new.index ≡ self.old.index }
     {
         match self.index.known.get(id) {
@@ -134,11 +160,18 @@ impl<K: Keeper> IndexedKeeper<K> {
         ensures spared { K.spares self.old.keeper self.new.keeper }
         ensures began_clean { K.is_clean self.new.keeper → K.is_clean self.old.keeper }
         ensures faults { ShutsBy result (K.cause self.old.keeper) (K.cause self.new.keeper) }
-        ensures device { K.is_clean self.new.keeper → (s : State) → K.stands self.old.keeper s →
-            IsIndexOf self.old.index s → IsErrOf result Fault.Device → K.fails self.old.keeper self.new.keeper }
-        ensures tells { K.is_clean self.new.keeper → (s : State) → K.stands self.old.keeper s → IsIndexOf self.old.index s → Tells s id.now result (λ t. K.stands self.new.keeper t × IsIndexOf self.new.index t) }
-        ensures leaves { K.is_clean self.new.keeper → (s : State) → K.stands self.old.keeper s → IsIndexOf self.old.index s → LeavesOnly (K.may_leave self.old.keeper) (Some s) → LeavesOnly (K.may_leave self.new.keeper) (Some s) }
-        ensures reopen { IsErrOf result Fault.Reopen → AsBefore (K.stands self.old.keeper) (K.stands self.new.keeper) (K.may_leave self.old.keeper) (K.may_leave self.new.keeper) }
+        ensures device { K.is_clean self.new.keeper → (s : State) → K.stands self.old.keeper s
+            → IsIndexOf self.old.index s → IsErrOf result Fault.Device
+            → K.fails self.old.keeper self.new.keeper }
+        ensures tells { K.is_clean self.new.keeper → (s : State) → K.stands self.old.keeper s
+            → IsIndexOf self.old.index s → Tells s id.now result (λ t. K.stands self.new.keeper t
+            × IsIndexOf self.new.index t) }
+        ensures leaves { K.is_clean self.new.keeper → (s : State) → K.stands self.old.keeper s
+            → IsIndexOf self.old.index s → LeavesOnly (K.may_leave self.old.keeper) (Some s)
+            → LeavesOnly (K.may_leave self.new.keeper) (Some s) }
+        ensures reopen { IsErrOf result Fault.Reopen
+            → AsBefore (K.stands self.old.keeper) (K.stands self.new.keeper)
+            (K.may_leave self.old.keeper) (K.may_leave self.new.keeper) }
     {
         if !self.index.is_due(id) {
             return self.collection_known(id);
@@ -156,9 +189,15 @@ impl<K: Keeper> IndexedKeeper<K> {
         ensures faults { ShutsBy result (K.cause self.old.keeper) (K.cause self.new.keeper) }
         ensures device { K.is_clean self.new.keeper → (s : State) → K.stands self.old.keeper s →
             IsErrOf result Fault.Device → K.fails self.old.keeper self.new.keeper }
-        ensures lists { K.is_clean self.new.keeper → (s : State) → K.stands self.old.keeper s → IsIndexOf self.old.index s → Lists s result (λ t. K.stands self.new.keeper t × IsIndexOf self.new.index t) }
-        ensures leaves { K.is_clean self.new.keeper → (s : State) → K.stands self.old.keeper s → LeavesOnly (K.may_leave self.old.keeper) (Some s) → LeavesOnly (K.may_leave self.new.keeper) (Some s) }
-        ensures reopen { IsErrOf result Fault.Reopen → AsBefore (K.stands self.old.keeper) (K.stands self.new.keeper) (K.may_leave self.old.keeper) (K.may_leave self.new.keeper) }
+        ensures lists { K.is_clean self.new.keeper → (s : State) → K.stands self.old.keeper s
+            → IsIndexOf self.old.index s → Lists s result (λ t. K.stands self.new.keeper t
+            × IsIndexOf self.new.index t) }
+        ensures leaves { K.is_clean self.new.keeper → (s : State) → K.stands self.old.keeper s
+            → LeavesOnly (K.may_leave self.old.keeper) (Some s)
+            → LeavesOnly (K.may_leave self.new.keeper) (Some s) }
+        ensures reopen { IsErrOf result Fault.Reopen
+            → AsBefore (K.stands self.old.keeper) (K.stands self.new.keeper)
+            (K.may_leave self.old.keeper) (K.may_leave self.new.keeper) }
     {
         if self.index.is_whole {
             return collections_with(self.alloc, &mut self.keeper, &self.index.known);

@@ -9,8 +9,8 @@ use crate::outlined::OutlinedCollection;
 use std::alloc::Global;
 use streetmap_ledger::{Fault, Keeper};
 
-/// The outlines of an open keeper's collection, beside its title and the property that the times are read
-/// from; none where the collection is not there.
+/// The outlines of an open keeper's collection, beside its title and the property that the times
+/// are read from; none where the collection is not there.
 fn learn_outlines<K: Keeper>(
     alloc: Global,
     keeper: &mut K,
@@ -24,8 +24,11 @@ fn learn_outlines<K: Keeper>(
     ensures faults { ShutsBy result None (K.cause keeper.new) }
     ensures device { K.is_clean keeper.new → (s : State) → K.stands keeper.old s →
         IsErrOf result Fault.Device → K.fails keeper.old keeper.new }
-    ensures learns { K.is_clean keeper.new → (s : State) → K.stands keeper.old s → Looks s (LearnsUnder s collection.now title time) result (K.stands keeper.new) }
-    ensures leaves { K.is_clean keeper.new → (s : State) → K.stands keeper.old s → LeavesOnly (K.may_leave keeper.old) (Some s) → LeavesOnly (K.may_leave keeper.new) (Some s) }
+    ensures learns { K.is_clean keeper.new → (s : State) → K.stands keeper.old s
+        → Looks s (LearnsUnder s collection.now title time) result (K.stands keeper.new) }
+    ensures leaves { K.is_clean keeper.new → (s : State) → K.stands keeper.old s
+        → LeavesOnly (K.may_leave keeper.old) (Some s)
+        → LeavesOnly (K.may_leave keeper.new) (Some s) }
 {
     match keeper.outlines(collection) {
         Ok(Some(outlines)) => match Chunks::new(alloc, outlines) {
@@ -52,9 +55,14 @@ pub fn learn<K: Keeper>(
     ensures faults { ShutsBy result (K.cause keeper.old) (K.cause keeper.new) }
     ensures device { K.is_clean keeper.new → (s : State) → K.stands keeper.old s →
         IsErrOf result Fault.Device → K.fails keeper.old keeper.new }
-    ensures learns { K.is_clean keeper.new → (s : State) → K.stands keeper.old s → Looks s (Learns s collection.now) result (K.stands keeper.new) }
-    ensures leaves { K.is_clean keeper.new → (s : State) → K.stands keeper.old s → LeavesOnly (K.may_leave keeper.old) (Some s) → LeavesOnly (K.may_leave keeper.new) (Some s) }
-    ensures reopen { IsErrOf result Fault.Reopen → AsBefore (K.stands keeper.old) (K.stands keeper.new) (K.may_leave keeper.old) (K.may_leave keeper.new) }
+    ensures learns { K.is_clean keeper.new → (s : State) → K.stands keeper.old s
+        → Looks s (Learns s collection.now) result (K.stands keeper.new) }
+    ensures leaves { K.is_clean keeper.new → (s : State) → K.stands keeper.old s
+        → LeavesOnly (K.may_leave keeper.old) (Some s)
+        → LeavesOnly (K.may_leave keeper.new) (Some s) }
+    ensures reopen { IsErrOf result Fault.Reopen
+        → AsBefore (K.stands keeper.old) (K.stands keeper.new) (K.may_leave keeper.old)
+        (K.may_leave keeper.new) }
 {
     match keeper.collection(collection) {
         Ok(Some(summary)) => {

@@ -1,4 +1,5 @@
-//! A keeper that answers pages and what is told of collections of any other one from an index in memory.
+//! A keeper that answers pages and what is told of collections of any other one from an index in
+//! memory.
 //!
 //! An index has a collection's title and time property, and the outlines of its features, in byte
 //! order of their ids: each one's id, its extent, and the first and the last second of its time. By

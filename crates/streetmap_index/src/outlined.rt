@@ -15,7 +15,8 @@ use streetmap_geojson::Feature;
 use streetmap_ledger::FeatureOutline;
 use streetmap_moment::Interval;
 
-/// A collection's title, the property that the times of its features are read from, and their outlines.
+/// A collection's title, the property that the times of its features are read from, and their
+/// outlines.
 #[derive(Drop)]
 pub struct OutlinedCollection {
     pub title: String,
@@ -29,7 +30,8 @@ fn outline_of(
     feature: &Feature,
     time: Option<Interval>,
 ) -> Result<FeatureOutline, AllocError>
-    ensures { IfOk result (λ outline. IsOutlineOf outline (retimed feature.now (option_map interval_value time))) }
+    ensures { IfOk result (λ outline.
+        IsOutlineOf outline (retimed feature.now (option_map interval_value time))) }
 {
     FeatureOutline::new(alloc, feature.id(), feature.extent(), time)
 }
@@ -37,7 +39,9 @@ fn outline_of(
 impl OutlinedCollection {
     /// Puts the outline of a feature in, with the time that the collection's property tells.
     fn put(&mut self, alloc: Global, feature: &Feature) -> Result<(), AllocError>
-        ensures { (c : Collection) (g : FeatureValue) → IsOutlined self.old c → timed c.time feature.now ≡ Ok g → OnOk result (IsOutlined self.new (record c { features = insert c.features g.id g })) }
+        ensures { (c : Collection) (g : FeatureValue) → IsOutlined self.old c
+            → timed c.time feature.now ≡ Ok g
+            → OnOk result (IsOutlined self.new (record c { features = insert c.features g.id g })) }
     {
         match feature.time_under(self.time.as_deref()) {
             Ok(time) => self.outlines.put(alloc, outline_of(alloc, feature, time)?),
@@ -45,9 +49,13 @@ impl OutlinedCollection {
         }
     }
 
-    /// Follows an edit of the collection that was done. After an error it may not be right any more.
+    /// Follows an edit of the collection that was done. After an error it may not be right any
+    /// more.
     pub fn follow(&mut self, alloc: Global, edit: &Edit) -> Result<(), AllocError>
-        ensures { (s t : State) → step s (edit_value edit.now) ≡ Ok t → IsOutlinedIf self.old (get s.collections (collection_of (edit_value edit.now))) → OnOk result (IsOutlinedIf self.new (get t.collections (collection_of (edit_value edit.now)))) }
+        ensures { (s t : State) → step s (edit_value edit.now) ≡ Ok t
+            → IsOutlinedIf self.old (get s.collections (collection_of (edit_value edit.now)))
+            → OnOk result (IsOutlinedIf self.new
+            (get t.collections (collection_of (edit_value edit.now)))) }
     {
         match edit {
             Edit::Open { .. } => Ok(()),

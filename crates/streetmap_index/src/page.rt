@@ -1,5 +1,6 @@
 //! A page by outlines.
-ghost use Rattle.std.specs.Prelude.{◌≡◌, ◌∷◌, ◌++◌, [], List, Some, None, IsTrue, true, false, IsErrOf};
+ghost use Rattle.std.specs.Prelude.{◌≡◌, ◌∷◌, ◌++◌, [], List, Some, None, IsTrue, true, false};
+ghost use Rattle.std.specs.Prelude.{IsErrOf};
 ghost use Rattle.std.specs.FinMap.{get};
 ghost use Rattle.streetmap_geojson.specs.FeatureValue.{FeatureValue};
 ghost use Rattle.streetmap_geojson.specs.FeatureInvariant.{IsFeature};
@@ -25,14 +26,16 @@ use std::alloc::Global;
 use streetmap_ledger::{Fault, FeatureOutline, Keeper, Page, PageFold};
 use streetmap_query::Query;
 
-/// How many features a page reads one by one at most. It shows up to 1,000, and the keeper's own page is the
-/// faster one where many more have to be read to be tested.
+/// How many features a page reads one by one at most. It shows up to 1,000, and the keeper's own
+/// page is the faster one where many more have to be read to be tested.
 const MOST_READ: usize = 2000;
 
-/// Counts the candidate that comes next, where its outline tells that it is selected and the page does not
-/// show it, and answers whether it did.
+/// Counts the candidate that comes next, where its outline tells that it is selected and the page
+/// does not show it, and answers whether it did.
 fn count_unread(query: &Query, fold: &mut PageFold<'_>, outline: &FeatureOutline) -> bool
-    ensures counted { IsTrue result → (fs : List FeatureValue) (f : FeatureValue) → IsOutlineOf outline.now f → IsFeature f → Holds (query_value query.now) fold.old fs → Holds (query_value query.now) fold.new (fs ++ f ∷ []) }
+    ensures counted { IsTrue result → (fs : List FeatureValue) (f : FeatureValue)
+        → IsOutlineOf outline.now f → IsFeature f → Holds (query_value query.now) fold.old fs
+        → Holds (query_value query.now) fold.new (fs ++ f ∷ []) }
     ensures unchanged { result ≡ false → fold.new ≡ fold.old }
 {
     if !is_selected(query, outline) {
@@ -49,9 +52,13 @@ fn count_unread(query: &Query, fold: &mut PageFold<'_>, outline: &FeatureOutline
 /// Takes the feature that comes next, where its outline tells enough, and answers whether it did.
 /// Otherwise the feature is a candidate, and has to be taken itself.
 fn take_unread(query: &Query, fold: &mut PageFold<'_>, outline: &FeatureOutline) -> bool
-    ensures taken { IsTrue result → (fs : List FeatureValue) (f : FeatureValue) → IsOutlineOf outline.now f → IsFeature f → HoldsCandidates (query_value query.now) fold.old fs → HoldsCandidates (query_value query.now) fold.new (fs ++ f ∷ []) }
+    ensures taken { IsTrue result → (fs : List FeatureValue) (f : FeatureValue)
+        → IsOutlineOf outline.now f → IsFeature f
+        → HoldsCandidates (query_value query.now) fold.old fs
+        → HoldsCandidates (query_value query.now) fold.new (fs ++ f ∷ []) }
     ensures unchanged { result ≡ false → fold.new ≡ fold.old }
-    ensures candidate { result ≡ false → (f : FeatureValue) → IsOutlineOf outline.now f → is_candidate_of (query_value query.now) f ≡ true }
+    ensures candidate { result ≡ false → (f : FeatureValue) → IsOutlineOf outline.now f
+        → is_candidate_of (query_value query.now) f ≡ true }
 {
     !is_candidate(query, outline) || count_unread(query, fold, outline)
 }
@@ -86,7 +93,8 @@ fn count_chunk(query: &Query, fold: &mut PageFold<'_>, chunk: &Chunk) -> bool
     }
 }
 
-/// Takes the feature with this id, which comes next, as the keeper has it, and answers whether it is there.
+/// Takes the feature with this id, which comes next, as the keeper has it, and answers whether it
+/// is there.
 fn take_read<K: Keeper>(
     keeper: &mut K,
     collection: &str,
@@ -98,8 +106,12 @@ fn take_read<K: Keeper>(
     ensures faults { ShutsBy result (K.cause keeper.old) (K.cause keeper.new) }
     ensures device { K.is_clean keeper.new → (s : State) → K.stands keeper.old s →
         IsErrOf result Fault.Device → K.fails keeper.old keeper.new }
-    ensures takes { K.is_clean keeper.new → (s : State) → K.stands keeper.old s → Looks s (TakesRead s collection.now id.now fold.old fold.new) result (K.stands keeper.new) }
-    ensures leaves { K.is_clean keeper.new → (s : State) → K.stands keeper.old s → LeavesOnly (K.may_leave keeper.old) (Some s) → LeavesOnly (K.may_leave keeper.new) (Some s) }
+    ensures takes { K.is_clean keeper.new → (s : State) → K.stands keeper.old s
+        → Looks s (TakesRead s collection.now id.now fold.old fold.new) result
+        (K.stands keeper.new) }
+    ensures leaves { K.is_clean keeper.new → (s : State) → K.stands keeper.old s
+        → LeavesOnly (K.may_leave keeper.old) (Some s)
+        → LeavesOnly (K.may_leave keeper.new) (Some s) }
 {
     match keeper.feature(collection, id) {
         Ok(Some(feature)) => match fold.take(feature) {
@@ -111,8 +123,9 @@ fn take_read<K: Keeper>(
     }
 }
 
-/// Takes the features with these outlines, which come next, and answers whether it did: not where one of them
-/// is not there, or one more than `MOST_READ` would have to be read. `read` counts those that were read.
+/// Takes the features with these outlines, which come next, and answers whether it did: not where
+/// one of them is not there, or one more than `MOST_READ` would have to be read. `read` counts
+/// those that were read.
 fn take_outlined<K: Keeper>(
     keeper: &mut K,
     collection: &str,
@@ -127,8 +140,12 @@ fn take_outlined<K: Keeper>(
     ensures faults { ShutsBy result None (K.cause keeper.new) }
     ensures device { K.is_clean keeper.new → (s : State) → K.stands keeper.old s →
         IsErrOf result Fault.Device → K.fails keeper.old keeper.new }
-    ensures takes { K.is_clean keeper.new → (s : State) → K.stands keeper.old s → Looks s (TakesOutlined s collection.now (query_value query.now) outlines.now fold.old fold.new) result (K.stands keeper.new) }
-    ensures leaves { K.is_clean keeper.new → (s : State) → K.stands keeper.old s → LeavesOnly (K.may_leave keeper.old) (Some s) → LeavesOnly (K.may_leave keeper.new) (Some s) }
+    ensures takes { K.is_clean keeper.new → (s : State) → K.stands keeper.old s
+        → Looks s (TakesOutlined s collection.now (query_value query.now) outlines.now fold.old
+        fold.new) result (K.stands keeper.new) }
+    ensures leaves { K.is_clean keeper.new → (s : State) → K.stands keeper.old s
+        → LeavesOnly (K.may_leave keeper.old) (Some s)
+        → LeavesOnly (K.may_leave keeper.new) (Some s) }
 {
     for outline in outlines {
         if take_unread(query, fold, outline) {
@@ -147,8 +164,8 @@ fn take_outlined<K: Keeper>(
     Ok(true)
 }
 
-/// The page of an open keeper's collection by the outlines of its features; none where one of these is not
-/// there, or more than `MOST_READ` would have to be read.
+/// The page of an open keeper's collection by the outlines of its features; none where one of these
+/// is not there, or more than `MOST_READ` would have to be read.
 fn page_by_outlines<K: Keeper>(
     alloc: Global,
     keeper: &mut K,
@@ -162,9 +179,12 @@ fn page_by_outlines<K: Keeper>(
     ensures faults { ShutsBy result None (K.cause keeper.new) }
     ensures device { K.is_clean keeper.new → (s : State) → K.stands keeper.old s →
         IsErrOf result Fault.Device → K.fails keeper.old keeper.new }
-    ensures shows { K.is_clean keeper.new → (s : State) → K.stands keeper.old s →
-        Looks s (IsOutlinedPage s collection.now (query_value query.now) outlines.now) result (K.stands keeper.new) }
-    ensures leaves { K.is_clean keeper.new → (s : State) → K.stands keeper.old s → LeavesOnly (K.may_leave keeper.old) (Some s) → LeavesOnly (K.may_leave keeper.new) (Some s) }
+    ensures shows { K.is_clean keeper.new → (s : State) → K.stands keeper.old s
+        → Looks s (IsOutlinedPage s collection.now (query_value query.now) outlines.now) result
+        (K.stands keeper.new) }
+    ensures leaves { K.is_clean keeper.new → (s : State) → K.stands keeper.old s
+        → LeavesOnly (K.may_leave keeper.old) (Some s)
+        → LeavesOnly (K.may_leave keeper.new) (Some s) }
 {
     let mut fold = PageFold::new(alloc, query);
     let mut read: usize = 0;
@@ -213,9 +233,15 @@ pub fn page_with<K: Keeper>(
     ensures faults { ShutsBy result (K.cause keeper.old) (K.cause keeper.new) }
     ensures device { K.is_clean keeper.new → (s : State) → K.stands keeper.old s →
         IsErrOf result Fault.Device → K.fails keeper.old keeper.new }
-    ensures shows { K.is_clean keeper.new → (s : State) → K.stands keeper.old s → IsOutlinedIf outlined.now (get s.collections collection.now) → Shows s collection.now query.now result (K.stands keeper.new) }
-    ensures leaves { K.is_clean keeper.new → (s : State) → K.stands keeper.old s → LeavesOnly (K.may_leave keeper.old) (Some s) → LeavesOnly (K.may_leave keeper.new) (Some s) }
-    ensures reopen { IsErrOf result Fault.Reopen → AsBefore (K.stands keeper.old) (K.stands keeper.new) (K.may_leave keeper.old) (K.may_leave keeper.new) }
+    ensures shows { K.is_clean keeper.new → (s : State) → K.stands keeper.old s
+        → IsOutlinedIf outlined.now (get s.collections collection.now)
+        → Shows s collection.now query.now result (K.stands keeper.new) }
+    ensures leaves { K.is_clean keeper.new → (s : State) → K.stands keeper.old s
+        → LeavesOnly (K.may_leave keeper.old) (Some s)
+        → LeavesOnly (K.may_leave keeper.new) (Some s) }
+    ensures reopen { IsErrOf result Fault.Reopen
+        → AsBefore (K.stands keeper.old) (K.stands keeper.new) (K.may_leave keeper.old)
+        (K.may_leave keeper.new) }
 {
     match ask(keeper, collection) {
         Ok(()) => {

@@ -6,7 +6,9 @@ ghost use Rattle.streetmap_moment.specs.Meeting.{meets, seconds_overlap};
 ghost use Rattle.streetmap_geojson.specs.FeatureValue.{FeatureValue};
 ghost use Rattle.streetmap_geojson.specs.FeatureInvariant.{IsFeature};
 ghost use Rattle.streetmap_query.specs.Views.{query_value};
-ghost use Rattle.streetmap_ledger.specs.Pages.{passes, interval_asked, selects, comes_after as comes_after_of, is_candidate as is_candidate_of};
+ghost use Rattle.streetmap_ledger.specs.Pages.{passes, interval_asked, selects};
+ghost use Rattle.streetmap_ledger.specs.Pages.{comes_after as comes_after_of};
+ghost use Rattle.streetmap_ledger.specs.Pages.{is_candidate as is_candidate_of};
 ghost use Rattle.streetmap_ledger.specs.declared.outline.FeatureOutline.{FeatureOutline};
 ghost use Rattle.streetmap_index.specs.Index.{IsOutlineOf, LiesWithin, IsTimedBy, IsBounded};
 ghost use Rattle.streetmap_index.specs.Taking.{is_marked_if, IsCountedFor, CountsWhole};
@@ -20,7 +22,8 @@ use streetmap_query::Query;
 
 /// Whether the seconds overlap those of the interval, where one is asked.
 fn overlaps_interval(query: &Query, outline: &FeatureOutline) -> bool
-    ensures { (f : FeatureValue) → IsOutlineOf outline.now f → result ≡ passes seconds_overlap f.time (interval_asked (query_value query.now)) }
+    ensures { (f : FeatureValue) → IsOutlineOf outline.now f
+        → result ≡ passes seconds_overlap f.time (interval_asked (query_value query.now)) }
 {
     match &query.datetime {
         None => true,
@@ -36,14 +39,17 @@ fn overlaps_interval(query: &Query, outline: &FeatureOutline) -> bool
 
 /// Whether a page examines the feature with this outline.
 pub fn is_candidate(query: &Query, outline: &FeatureOutline) -> bool
-    ensures { (f : FeatureValue) → IsOutlineOf outline.now f → result ≡ is_candidate_of (query_value query.now) f }
+    ensures { (f : FeatureValue) → IsOutlineOf outline.now f
+        → result ≡ is_candidate_of (query_value query.now) f }
 {
     overlaps_box(query, outline.extent) && overlaps_interval(query, outline)
 }
 
 /// Whether the chunk's bounds tell that a page examines none of the features with its outlines.
 pub fn is_passed_over(query: &Query, chunk: &Chunk) -> bool
-    ensures { IsTrue result → (outline : FeatureOutline) (f : FeatureValue) → LiesWithin outline.extent chunk.now.bounds → IsOutlineOf outline f → is_candidate_of (query_value query.now) f ≡ false }
+    ensures { IsTrue result → (outline : FeatureOutline) (f : FeatureValue)
+        → LiesWithin outline.extent chunk.now.bounds → IsOutlineOf outline f
+        → is_candidate_of (query_value query.now) f ≡ false }
 {
     !overlaps_box(query, chunk.bounds)
 }
@@ -79,7 +85,8 @@ fn reaches_into_interval(query: &Query, seconds: Option<(i64, i64)>) -> bool
 
 /// Whether the outline tells that the query selects the feature.
 pub fn is_selected(query: &Query, outline: &FeatureOutline) -> bool
-    ensures { IsTrue result → (f : FeatureValue) → IsOutlineOf outline.now f → IsFeature f → selects (query_value query.now) f ≡ true }
+    ensures { IsTrue result → (f : FeatureValue) → IsOutlineOf outline.now f → IsFeature f
+        → selects (query_value query.now) f ≡ true }
 {
     lies_within_box(query, outline.extent) && reaches_into_interval(query, outline.seconds)
 }
@@ -121,7 +128,8 @@ pub fn count_selected(query: &Query, chunk: &Chunk) -> Option<u64>
 
 /// Whether the feature's id comes after the one asked.
 pub fn comes_after(query: &Query, outline: &FeatureOutline) -> bool
-    ensures { (f : FeatureValue) → IsOutlineOf outline.now f → result ≡ comes_after_of (query_value query.now).after f }
+    ensures { (f : FeatureValue) → IsOutlineOf outline.now f
+        → result ≡ comes_after_of (query_value query.now).after f }
 {
     match &query.after {
         Some(id) => outline.id.as_str() > id.as_str(),
@@ -142,8 +150,9 @@ fn begins_after(chunk: &Chunk, id: &str) -> bool
 /// Whether all features of a chunk come after the id asked, or none does; none where neither is
 /// known.
 pub fn all_come_after(query: &Query, chunk: &Chunk) -> Option<bool>
-    ensures { AreInOrder chunk.now.outlines.items →
-        IfSome result (λ behind. AllComeAfter (query_value query.now) behind chunk.now.outlines.items) }
+    ensures { AreInOrder chunk.now.outlines.items
+        → IfSome result (λ behind. AllComeAfter (query_value query.now) behind
+        chunk.now.outlines.items) }
 {
     match &query.after {
         None => Some(true),

@@ -1,5 +1,6 @@
 //! What is told of collections by what is known of them.
-ghost use Rattle.std.specs.Prelude.{◌≡◌, List, Some, None, IfOk, IsErrOf, option_map, option_copied, string_bytes};
+ghost use Rattle.std.specs.Prelude.{◌≡◌, List, Some, None, IfOk, IsErrOf, option_map};
+ghost use Rattle.std.specs.Prelude.{option_copied, string_bytes};
 ghost use Rattle.std.specs.FinMap.{get};
 ghost use Rattle.streetmap_grid.specs.Bounds.{AreBounds};
 ghost use Rattle.streetmap_geojson.specs.FeatureValue.{FeatureValue};
@@ -21,8 +22,8 @@ use std::collections::BTreeMap;
 use streetmap_grid::GridBox;
 use streetmap_ledger::{Fault, Keeper, Summary};
 
-/// The extent of the features with the outlines in these chunks, in millimetres; none where none has a
-/// geometry.
+/// The extent of the features with the outlines in these chunks, in millimetres; none where none
+/// has a geometry.
 fn extent_of(chunks: &[Chunk]) -> Option<GridBox>
     ensures { AreBounded chunks.now → (features : Features) (fs : List FeatureValue) →
         Pairs features (joined chunks.now) fs → AreBounds (all_vertices fs) result }
@@ -46,7 +47,8 @@ fn owned(alloc: Global, text: Option<&str>) -> Result<Option<String>, AllocError
 
 /// What is told of a collection by what is known of it.
 fn summary(alloc: Global, id: &str, outlined: &OutlinedCollection) -> Result<Summary, AllocError>
-    ensures { (c : Collection) → IsOutlined outlined.now c → HoldsFeatures c → IfOk result (λ told. summary_value told ≡ summary_of id.now c) }
+    ensures { (c : Collection) → IsOutlined outlined.now c → HoldsFeatures c
+        → IfOk result (λ told. summary_value told ≡ summary_of id.now c) }
 {
     Ok(Summary {
         id: String::from_str(alloc, id)?,
@@ -61,7 +63,8 @@ fn summaries(
     alloc: Global,
     known: &BTreeMap<String, OutlinedCollection>,
 ) -> Result<Vec<Summary>, AllocError>
-    ensures { (s : State) → IsState s → AreKnown known.now.entries s → KnowsAll known.now.entries s → IfOk result (λ told. summary_values told.items ≡ summaries_in s) }
+    ensures { (s : State) → IsState s → AreKnown known.now.entries s → KnowsAll known.now.entries s
+        → IfOk result (λ told. summary_values told.items ≡ summaries_in s) }
 {
     let mut told = Vec::new(alloc);
     for (id, outlined) in known.iter() {
@@ -82,9 +85,15 @@ pub fn collection_with<K: Keeper>(
     ensures faults { ShutsBy result (K.cause keeper.old) (K.cause keeper.new) }
     ensures device { K.is_clean keeper.new → (s : State) → K.stands keeper.old s →
         IsErrOf result Fault.Device → K.fails keeper.old keeper.new }
-    ensures tells { K.is_clean keeper.new → (s : State) → K.stands keeper.old s → IsOutlinedIf outlined.now (get s.collections id.now) → Tells s id.now result (K.stands keeper.new) }
-    ensures leaves { K.is_clean keeper.new → (s : State) → K.stands keeper.old s → LeavesOnly (K.may_leave keeper.old) (Some s) → LeavesOnly (K.may_leave keeper.new) (Some s) }
-    ensures reopen { IsErrOf result Fault.Reopen → AsBefore (K.stands keeper.old) (K.stands keeper.new) (K.may_leave keeper.old) (K.may_leave keeper.new) }
+    ensures tells { K.is_clean keeper.new → (s : State) → K.stands keeper.old s
+        → IsOutlinedIf outlined.now (get s.collections id.now)
+        → Tells s id.now result (K.stands keeper.new) }
+    ensures leaves { K.is_clean keeper.new → (s : State) → K.stands keeper.old s
+        → LeavesOnly (K.may_leave keeper.old) (Some s)
+        → LeavesOnly (K.may_leave keeper.new) (Some s) }
+    ensures reopen { IsErrOf result Fault.Reopen
+        → AsBefore (K.stands keeper.old) (K.stands keeper.new) (K.may_leave keeper.old)
+        (K.may_leave keeper.new) }
 {
     match ask(keeper, id) {
         Ok(()) => match summary(alloc, id, outlined) {
@@ -106,9 +115,15 @@ pub fn collections_with<K: Keeper>(
     ensures faults { ShutsBy result (K.cause keeper.old) (K.cause keeper.new) }
     ensures device { K.is_clean keeper.new → (s : State) → K.stands keeper.old s →
         IsErrOf result Fault.Device → K.fails keeper.old keeper.new }
-    ensures lists { K.is_clean keeper.new → (s : State) → K.stands keeper.old s → AreKnown known.now.entries s → KnowsAll known.now.entries s → Lists s result (K.stands keeper.new) }
-    ensures leaves { K.is_clean keeper.new → (s : State) → K.stands keeper.old s → LeavesOnly (K.may_leave keeper.old) (Some s) → LeavesOnly (K.may_leave keeper.new) (Some s) }
-    ensures reopen { IsErrOf result Fault.Reopen → AsBefore (K.stands keeper.old) (K.stands keeper.new) (K.may_leave keeper.old) (K.may_leave keeper.new) }
+    ensures lists { K.is_clean keeper.new → (s : State) → K.stands keeper.old s
+        → AreKnown known.now.entries s → KnowsAll known.now.entries s
+        → Lists s result (K.stands keeper.new) }
+    ensures leaves { K.is_clean keeper.new → (s : State) → K.stands keeper.old s
+        → LeavesOnly (K.may_leave keeper.old) (Some s)
+        → LeavesOnly (K.may_leave keeper.new) (Some s) }
+    ensures reopen { IsErrOf result Fault.Reopen
+        → AsBefore (K.stands keeper.old) (K.stands keeper.new) (K.may_leave keeper.old)
+        (K.may_leave keeper.new) }
 {
     match ask(keeper, "") {
         Ok(()) => match summaries(alloc, known) {

@@ -3,7 +3,9 @@ use Rattle.std.specs.Prelude.{ℕ, ◌^◌, pos, negsuc, List, Bool, true, false
 use Rattle.std.specs.Ordering.{nat_cmp, is_lt}
 use Rattle.std.specs.Cmp.Lexicographic.{slice_cmp}
 use Rattle.std.specs.Str.{is_utf8}
-use Rattle.serde_json.specs.Data.{Num, unsigned, negative, float, Data, null, boolean, number, string, array, object, Items, no_items, item, Members, no_members, member}
+use Rattle.serde_json.specs.Data.{Num, unsigned, negative, float, Data, null, boolean, number}
+use Rattle.serde_json.specs.Data.{string, array, object, Items, no_items, item, Members}
+use Rattle.serde_json.specs.Data.{no_members, member}
 
 -- a whole number from -(2 ^ 63) to 2 ^ 64 - 1
 abbrev pub is_whole : Num → Bool
@@ -17,7 +19,8 @@ abbrev pub is_before : List ℕ → Members → Bool
 is_before name no_members = true
 is_before name (member other d ms) = is_lt (slice_cmp nat_cmp name other) && is_before name ms
 
--- every number is whole, every text is UTF-8, and the members of each object stand in the order of their names
+-- every number is whole, every text is UTF-8, and the members of each object stand in the order of
+-- their names
 abbrev mutual
   pub is_exact : Data → Bool
   is_exact null = true
@@ -33,4 +36,5 @@ abbrev mutual
 
   pub are_exact_members : Members → Bool
   are_exact_members no_members = true
-  are_exact_members (member name d ms) = is_utf8 name && (is_before name ms && (is_exact d && are_exact_members ms))
+  are_exact_members (member name d ms) = is_utf8 name
+      && (is_before name ms && (is_exact d && are_exact_members ms))

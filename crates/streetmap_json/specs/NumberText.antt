@@ -1,5 +1,7 @@
--- JSON texts in which a number with a fraction of zeros alone stands for the whole number before it.
-use Rattle.std.specs.Prelude.{◌≢◌, ℕ, List, [], ◌∷◌, length, codes, Bool, true, false, ◌&&◌, ◌||◌, ◌==◌, nat_lt, if◌then◌else◌, bytes_eq}
+-- JSON texts in which a number with a fraction of zeros alone stands for the whole number before
+-- it.
+use Rattle.std.specs.Prelude.{◌≢◌, ℕ, List, [], ◌∷◌, length, codes, Bool, true, false, ◌&&◌, ◌||◌}
+use Rattle.std.specs.Prelude.{◌==◌, nat_lt, if◌then◌else◌, bytes_eq}
 use Rattle.std.specs.Char.{is_ascii_digit}
 use Rattle.std.specs.List.{list_all, before_first, after_first, flat_map, onto_first}
 use Rattle.json.specs.Ascii as ascii
@@ -42,9 +44,11 @@ whole_text s = unsigned_zero (without_fraction s)
 
 -- a byte of number texts: a digit, or one of + - . e E (RFC 8259, section 6)
 abbrev pub is_in_number : ℕ → Bool
-is_in_number b = is_ascii_digit b || (b == ascii.plus) || (b == ascii.minus) || (b == ascii.dot) || (b == ascii.lower_e) || (b == ascii.upper_e)
+is_in_number b = is_ascii_digit b || (b == ascii.plus) || (b == ascii.minus) || (b == ascii.dot)
+    || (b == ascii.lower_e) || (b == ascii.upper_e)
 
--- where the text goes on behind a byte: outside of strings, within a string, or within one behind a backslash
+-- where the text goes on behind a byte: outside of strings, within a string, or within one behind a
+-- backslash
 pub data Side : Type 0 where
   outside : Side
   within : Side
@@ -53,14 +57,16 @@ pub data Side : Type 0 where
 -- a string runs from a quote to the next quote that no backslash escapes (RFC 8259, section 7)
 abbrev pub side_after : Side → ℕ → Side
 side_after outside b = if b == ascii.quote then within else outside
-side_after within b = if b == ascii.quote then outside else (if b == ascii.backslash then escaped else within)
+side_after within b = if b == ascii.quote then outside
+    else (if b == ascii.backslash then escaped else within)
 side_after escaped b = within
 
 abbrev pub starts_number : List ℕ → Bool
 starts_number [] = false
 starts_number (b ∷ bs) = is_in_number b
 
--- whether the byte b, behind which the text goes on with bs on that side, and the next are of one token:
+-- whether the byte b, behind which the text goes on with bs on that side, and the next are of one
+-- token:
 -- where a string goes on, and between two number bytes outside of strings
 abbrev pub is_joined : Side → ℕ → List ℕ → Bool
 is_joined outside b bs = is_in_number b && starts_number bs
@@ -70,11 +76,13 @@ is_joined escaped b bs = true
 abbrev pub put_before : Bool → ℕ → List (List ℕ) → List (List ℕ)
 put_before joined b tokens = if joined then onto_first b tokens else (b ∷ []) ∷ tokens
 
--- the tokens of a text that begins on that side: strings with their quotes, longest runs of number bytes
+-- the tokens of a text that begins on that side: strings with their quotes, longest runs of number
+-- bytes
 -- outside of them, and every other byte alone
 unfoldable pub tokens_from : Side → List ℕ → List (List ℕ)
 tokens_from side [] = []
-tokens_from side (b ∷ bs) = put_before (is_joined (side_after side b) b bs) b (tokens_from (side_after side b) bs)
+tokens_from side (b ∷ bs) = put_before (is_joined (side_after side b) b bs) b
+    (tokens_from (side_after side b) bs)
 
 -- the text with its number texts as they are read
 abbrev pub with_whole_numbers : List ℕ → List ℕ
@@ -82,9 +90,11 @@ with_whole_numbers text = flat_map whole_text (tokens_from outside text)
 
 -- ---- by grammar
 
--- the text between the quotes of a string: bytes that are no quote and no backslash, and backslashes, each
+-- the text between the quotes of a string: bytes that are no quote and no backslash, and
+-- backslashes, each
 -- with the byte that it escapes (RFC 8259, section 7)
 pub data IsStringBody : List ℕ → Type 0 where
   empty : IsStringBody []
-  unescaped : (b : ℕ) (s : List ℕ) → b ≢ ascii.quote → b ≢ ascii.backslash → IsStringBody s → IsStringBody (b ∷ s)
+  unescaped : (b : ℕ) (s : List ℕ) → b ≢ ascii.quote → b ≢ ascii.backslash → IsStringBody s
+      → IsStringBody (b ∷ s)
   escape : (b : ℕ) (s : List ℕ) → IsStringBody s → IsStringBody (ascii.backslash ∷ b ∷ s)

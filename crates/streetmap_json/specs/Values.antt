@@ -16,15 +16,19 @@ value_at depth ts = converted of_json (value depth ts)
 abbrev pub items_at : ℕ → List Token → Option (Items × List Token)
 items_at depth ts = converted of_items (items (value depth) (length ts) ts)
 
--- behind an opening brace: the members up to the closing one, of which those with one name are the last, and the tokens behind it
+-- behind an opening brace: the members up to the closing one, of which those with one name are the
+-- last, and the tokens behind it
 abbrev pub members_at : ℕ → List Token → Option (Members × List Token)
-members_at depth ts = converted (λ ms. of_members ms no_members) (members (value depth) (length ts) ts)
+members_at depth ts = converted (λ ms. of_members ms no_members)
+    (members (value depth) (length ts) ts)
 
 -- the value that is all of it
 abbrev pub whole : Option (json.Json × List Token) → Option Data
 whole front = option_and_then of_json (option_and_then (λ p. if_last p.0 p.1) front)
 
--- what was answered, seen by view, is at the front, and these tokens are left, unless memory ran out
-abbrev pub Takes : {X Y : Type 0} → (X → Y) → Result X ParseFault → List Token → Option (Y × List Token) → Type 0
+-- what was answered, seen by view, is at the front, and these tokens are left, unless memory ran
+-- out
+abbrev pub Takes : {X Y : Type 0} → (X → Y) → Result X ParseFault → List Token
+    → Option (Y × List Token) → Type 0
 Takes view (Ok x) left front = front ≡ Some (view x, left)
 Takes view (Err fault) left front = Fails fault front

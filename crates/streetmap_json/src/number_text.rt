@@ -1,7 +1,10 @@
 // Number texts whose fraction is zeros alone, in the bytes of a JSON text.
 ghost use Rattle.std.specs.Prelude.{◌≡◌, ◌∷◌, ℕ, IfOk, MatchOption, ◌<◌, ◌≤◌, length, take, drop};
 ghost use Rattle.std.specs.List.{prefix_len, position_or_len, onto_first};
-ghost use Rattle.streetmap_json.specs.NumberText.{is_in_number, is_dot, are_digits, are_signed_digits, are_zeros, without_fraction, whole_text, outside, within, tokens_from, with_whole_numbers};
+ghost use Rattle.streetmap_json.specs.NumberText.{is_in_number, is_dot, are_digits};
+ghost use Rattle.streetmap_json.specs.NumberText.{are_signed_digits, are_zeros, without_fraction};
+ghost use Rattle.streetmap_json.specs.NumberText.{whole_text, outside, within, tokens_from};
+ghost use Rattle.streetmap_json.specs.NumberText.{with_whole_numbers};
 
 use std::alloc::{AllocError, Global};
 
@@ -130,10 +133,10 @@ fn token_len(text: &[u8]) -> usize
     }
 }
 
-/// The text with its number texts as [`crate::read_json`] reads them, or `None` where that is the text
-/// itself. Digits, with or without a minus before them, a point and zeros alone, as `1200.0`, become the
-/// digits, and `-0` becomes `0`. Strings and all other bytes stay as they are. Any bytes are taken, JSON
-/// or not.
+/// The text with its number texts as [`crate::read_json`] reads them, or `None` where that is the
+/// text itself. Digits, with or without a minus before them, a point and zeros alone, as `1200.0`,
+/// become the digits, and `-0` becomes `0`. Strings and all other bytes stay as they are. Any bytes
+/// are taken, JSON or not.
 ///
 /// # Errors
 ///

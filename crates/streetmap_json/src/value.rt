@@ -38,7 +38,8 @@ pub fn read_token(
     reader: &mut Reader<'_>,
     depth: usize,
 ) -> Result<Value, ParseFault>
-    ensures takes { Takes view result reader.new (value_at depth (token_of token.entry ∷ reader.old)) }
+    ensures takes { Takes view result reader.new
+        (value_at depth (token_of token.entry ∷ reader.old)) }
     ensures shorter { OnOk result (length reader.new ≤ length reader.old) }
 {
     match token {
@@ -92,7 +93,8 @@ fn read_members(
     reader: &mut Reader<'_>,
     depth: usize,
 ) -> Result<Map<String, Value>, ParseFault>
-    ensures takes { Takes (λ m. members_view m.entries) result reader.new (members_at depth reader.old) }
+    ensures takes { Takes (λ m. members_view m.entries) result reader.new
+        (members_at depth reader.old) }
     ensures shorter { OnOk result (length reader.new < length reader.old) }
 {
     let mut members = Map::new(alloc);

@@ -1,5 +1,6 @@
 -- What a batch does, and a list of batches.
-use Rattle.std.specs.Prelude.{ℕ, ◌+◌, ◌-◌, ◌^◌, List, [], ◌∷◌, Option, None, Some, Result, Ok, Err, if◌then◌else◌, nat_lt, nat_eq}
+use Rattle.std.specs.Prelude.{ℕ, ◌+◌, ◌-◌, ◌^◌, List, [], ◌∷◌, Option, None, Some, Result, Ok, Err}
+use Rattle.std.specs.Prelude.{if◌then◌else◌, nat_lt, nat_eq}
 use Rattle.std.specs.Cmp.Lexicographic.{pointwise}
 use Rattle.std.specs.FinMap.{get, insert, len}
 use Rattle.streetmap_batch.specs.BatchValue as edit
@@ -47,19 +48,26 @@ pub record Outcome : Type 0 where
 abbrev pub kept_for : BatchValue → ℕ → AcceptedBatch
 kept_for b serial = record { text = batch_text b; counts = counts_of b.edits; serial = serial }
 
--- a batch whose key is not there, by what its edits came to: accepted with this serial, or refused whole
+-- a batch whose key is not there, by what its edits came to: accepted with this serial, or refused
+-- whole
 abbrev pub fresh : State → BatchValue → ℕ → Result State (ℕ × Refusal) → Outcome
-fresh s b serial (Ok t) = record { reply = Accepted (counts_of b.edits) serial; state = record t { keys = insert t.keys b.key (kept_for b serial) } }
+fresh s b serial (Ok t) = record {
+  reply = Accepted (counts_of b.edits) serial;
+  state = record t
+      { keys = insert t.keys b.key (kept_for b serial) };
+}
 fresh s b serial (Err e) = record { reply = Refused e.1 (Some e.0); state = s }
 
 -- how many batches may be accepted
 abbrev pub most_batches : ℕ
 most_batches = 2 ^ 63 - 1
 
--- a batch by what is kept for its key: a repeat where the texts are one, a key that was used, or a new key
+-- a batch by what is kept for its key: a repeat where the texts are one, a key that was used, or a
+-- new key
 abbrev pub by_key : State → BatchValue → Option AcceptedBatch → Outcome
 by_key s b (Some kept) =
-    if pointwise nat_eq kept.text (batch_text b) then record { reply = Repeated kept.counts kept.serial; state = s }
+    if pointwise nat_eq kept.text (batch_text b)
+    then record { reply = Repeated kept.counts kept.serial; state = s }
     else record { reply = Refused KeyUsed None; state = s }
 by_key s b None =
     if nat_lt (len s.keys) most_batches then fresh s b (len s.keys + 1) (edited 1 s b.edits)

@@ -16,9 +16,10 @@ pub record Holds (q : QueryValue) (fold : PageFold) (fs : List FeatureValue) : T
   pub examined : fold.examined ≡ saturated (length fs)
 
 -- the page of the candidates among these features, of which no selected one is left out
-pub record HoldsCandidates (q : QueryValue) (fold : PageFold) (fs : List FeatureValue) : Type 0 where
-  pub holds : Holds q fold (candidates q fs)
-  pub whole : selected q (candidates q fs) ≡ selected q fs
+pub record HoldsCandidates (q : QueryValue) (fold : PageFold) (fs : List FeatureValue) : Type 0
+  where
+    pub holds : Holds q fold (candidates q fs)
+    pub whole : selected q (candidates q fs) ≡ selected q fs
 
 -- the page shows as many features as the query asks for at most
 abbrev pub IsFull : PageFold → Type 0

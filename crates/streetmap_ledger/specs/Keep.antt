@@ -1,5 +1,6 @@
 -- What a call of a keeper does.
-use Rattle.std.specs.Prelude.{◌≡◌, ◌⊎◌, ℕ, ◌+◌, List, Vec, Option, None, Some, Result, Ok, Err, IsSome, take}
+use Rattle.std.specs.Prelude.{◌≡◌, ◌⊎◌, ℕ, ◌+◌, List, Vec, Option, None, Some, Result, Ok, Err}
+use Rattle.std.specs.Prelude.{IsSome, take}
 use Rattle.std.specs.Option.{option_map}
 use Rattle.std.specs.declared.alloc.Global.{Global}
 use Rattle.streetmap_geojson.specs.FeatureValue.{FeatureValue}
@@ -32,7 +33,8 @@ ShutsBy (Err Device) old new = (old ≡ None) × (new ≡ Some causes.Device)
 ShutsBy (Err Damaged) old new = (old ≡ None) × (new ≡ Some causes.Damaged)
 ShutsBy (Err Reopen) old new = IsSome old × (new ≡ old)
 
--- a batch on a keeper that stood for this state: the reply is the batch's, and it stands for the state after it; a want of memory changes nothing, and the store is not damaged
+-- a batch on a keeper that stood for this state: the reply is the batch's, and it stands for the
+-- state after it; a want of memory changes nothing, and the store is not damaged
 abbrev pub Acts : State → BatchValue → Result Reply Fault → (State → Type 0) → Type 0
 Acts s b (Ok reply) stands = (reply ≡ (act s b).reply) × stands (act s b).state
 Acts s b (Err Memory) stands = stands s
@@ -40,7 +42,8 @@ Acts s b (Err Device) stands = Unit {0}
 Acts s b (Err Damaged) stands = ⊥
 Acts s b (Err Reopen) stands = ⊥
 
--- a look at a keeper that stood for this state: the answer is as it is in the state, and the state stays
+-- a look at a keeper that stood for this state: the answer is as it is in the state, and the state
+-- stays
 abbrev pub Looks : {T : Type 0} → State → (T → Type 0) → Result T Fault → (State → Type 0) → Type 0
 Looks s Is (Ok seen) stands = Is seen × stands s
 Looks s Is (Err Memory) stands = stands s
@@ -50,23 +53,30 @@ Looks s Is (Err Reopen) stands = ⊥
 
 -- a page
 abbrev pub Shows : State → Text → Query → Result (Option Page) Fault → (State → Type 0) → Type 0
-Shows s name q result stands = Looks s (λ page. option_map page_value page ≡ page_in s name (query_value q)) result stands
+Shows s name q result stands = Looks s (λ page. option_map page_value page
+    ≡ page_in s name (query_value q)) result stands
 
 -- a feature
-abbrev pub Finds : State → Text → Text → Result (Option FeatureValue) Fault → (State → Type 0) → Type 0
+abbrev pub Finds : State → Text → Text → Result (Option FeatureValue) Fault → (State → Type 0)
+    → Type 0
 Finds s name id result stands = Looks s (λ found. found ≡ feature_in s name id) result stands
 
 -- what is told of a collection
 abbrev pub Tells : State → Text → Result (Option Summary) Fault → (State → Type 0) → Type 0
-Tells s id result stands = Looks s (λ summary. option_map summary_value summary ≡ summary_in s id) result stands
+Tells s id result stands = Looks s (λ summary. option_map summary_value summary
+    ≡ summary_in s id) result stands
 
 -- what is told of all collections
 abbrev pub Lists : State → Result (Vec Summary Global) Fault → (State → Type 0) → Type 0
-Lists s result stands = Looks s (λ (summaries : Vec Summary Global). summary_values summaries.items ≡ summaries_in s) result stands
+Lists s result stands = Looks s (λ (summaries : Vec Summary Global). summary_values summaries.items
+    ≡ summaries_in s) result stands
 
 -- what is known of a collection's features without reading them
-abbrev pub Outlines : State → Text → Result (Option (Vec FeatureOutline Global)) Fault → (State → Type 0) → Type 0
-Outlines s name result stands = Looks s (λ found. option_map (λ (os : Vec FeatureOutline Global). feature_outline_values os.items) found ≡ outlines_in s name) result stands
+abbrev pub Outlines : State → Text → Result (Option (Vec FeatureOutline Global)) Fault
+    → (State → Type 0) → Type 0
+Outlines s name result stands = Looks s (λ found.
+    option_map (λ (os : Vec FeatureOutline Global). feature_outline_values os.items) found
+    ≡ outlines_in s name) result stands
 
 -- a stop may leave this and nothing else
 abbrev pub LeavesOnly : (Option State → Type 0) → Option State → Type 0
@@ -103,7 +113,8 @@ RunEnds s bs k (Some Reopen) stands = ⊥
 abbrev pub RunLeaves : State → List BatchValue → ℕ → Option Fault → (Option State → Type 0) → Type 0
 RunLeaves s bs k None left = LeavesOnly left (Some (after_all s (take k bs)))
 RunLeaves s bs k (Some Memory) left = LeavesOnly left (Some (after_all s (take k bs)))
-RunLeaves s bs k (Some Device) left = LeavesEither left (Some (after_all s (take k bs))) (Some (after_all s (take (k + 1) bs)))
+RunLeaves s bs k (Some Device) left = LeavesEither left (Some (after_all s (take k bs)))
+    (Some (after_all s (take (k + 1) bs)))
 RunLeaves s bs k (Some Damaged) left = ⊥
 RunLeaves s bs k (Some Reopen) left = ⊥
 

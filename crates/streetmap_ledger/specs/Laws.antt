@@ -1,5 +1,6 @@
 -- Laws of batches.
-use Rattle.std.specs.Prelude.{◌≡◌, ℕ, Bool, true, false, List, [], ◌∷◌, ◌++◌, Option, None, Some, if◌then◌else◌, All}
+use Rattle.std.specs.Prelude.{◌≡◌, ℕ, Bool, true, false, List, [], ◌∷◌, ◌++◌, Option, None, Some}
+use Rattle.std.specs.Prelude.{if◌then◌else◌, All}
 use Rattle.std.specs.FinMap.{get}
 use Rattle.streetmap_geojson.specs.FeatureValue.{FeatureValue}
 use Rattle.streetmap_geojson.specs.FeatureInvariant.{IsFeature}
@@ -24,7 +25,8 @@ abbrev pub RepeatActsOnce : Type 0
 RepeatActsOnce =
     (s : State) (before between later : List BatchValue) (b : BatchValue) →
     IsAcknowledged (act (after_all s before) b).reply →
-    after_all s (before ++ b ∷ (between ++ b ∷ later)) ≡ after_all s (before ++ b ∷ (between ++ later))
+    after_all s (before ++ b ∷ (between ++ b ∷ later))
+    ≡ after_all s (before ++ b ∷ (between ++ later))
 
 -- accepted now
 abbrev pub is_accepted : Reply → Bool
@@ -39,13 +41,15 @@ accepted_of s (b ∷ bs) =
     let later = accepted_of (act s b).state bs in
     if is_accepted (act s b).reply then b ∷ later else later
 
--- the state after a list of batches is that after its accepted ones alone, and told again these are all accepted
+-- the state after a list of batches is that after its accepted ones alone, and told again these are
+-- all accepted
 abbrev pub AcceptedAreEnough : Type 0
 AcceptedAreEnough =
     ((s : State) (bs : List BatchValue) → after_all s bs ≡ after_all s (accepted_of s bs))
     × ((s : State) (bs : List BatchValue) → accepted_of s (accepted_of s bs) ≡ accepted_of s bs)
 
--- a refused batch changes nothing; and where one of its edits was at fault its key is not there, so that it may be used again
+-- a refused batch changes nothing; and where one of its edits was at fault its key is not there, so
+-- that it may be used again
 abbrev pub RefusedChangesNothing : Type 0
 RefusedChangesNothing =
     (s : State) (b : BatchValue) (why : Refusal) (place : Option ℕ) →
@@ -55,5 +59,7 @@ RefusedChangesNothing =
 -- what a query selects is among its candidates, so the page of the candidates is the page of all
 abbrev pub SelectedAreCandidates : Type 0
 SelectedAreCandidates =
-    ((q : Query) (f : FeatureValue) → IsFeature f → selects (query_value q) f ≡ true → is_candidate (query_value q) f ≡ true)
-    × ((q : Query) (n : ℕ) (fs : List FeatureValue) → All IsFeature fs → page_of (query_value q) n (candidates (query_value q) fs) ≡ page_of (query_value q) n fs)
+    ((q : Query) (f : FeatureValue) → IsFeature f → selects (query_value q) f ≡ true
+    → is_candidate (query_value q) f ≡ true)
+    × ((q : Query) (n : ℕ) (fs : List FeatureValue) → All IsFeature fs
+    → page_of (query_value q) n (candidates (query_value q) fs) ≡ page_of (query_value q) n fs)

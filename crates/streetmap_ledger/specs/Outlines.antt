@@ -17,7 +17,8 @@ pub record FeatureOutlineValue : Type 0 where
 
 -- the outline of the feature that stands under this id
 abbrev pub feature_outline_of : Text → FeatureValue → FeatureOutlineValue
-feature_outline_of id f = record { id = id; extent = option_map extent_of f.geometry; seconds = option_map seconds_of f.time }
+feature_outline_of id f = record
+    { id = id; extent = option_map extent_of f.geometry; seconds = option_map seconds_of f.time }
 
 -- the outlines of a collection's features, in byte order of ids
 abbrev pub feature_outlines_of : Collection → List FeatureOutlineValue

@@ -6,4 +6,10 @@ use Rattle.streetmap_ledger.specs.declared.page.Page.{Page}
 
 -- what a page tells
 abbrev pub page_value : Page → PageValue
-page_value p = record { features = p.features.items; matched = p.matched; next = option_map string_bytes p.next; examined = p.examined }
+page_value p = record {
+  features = p.features.items;
+  matched = p.matched;
+  next = option_map
+      string_bytes p.next;
+  examined = p.examined;
+}

@@ -1,5 +1,6 @@
 -- What a page shows, and a look at one feature. OGC 17-069, sections 7.15 and 7.16.
-use Rattle.std.specs.Prelude.{ℕ, ◌-◌, ◌^◌, ◌&&◌, List, Option, None, Some, Bool, true, false, slice_get, filter, length, take, min, if◌then◌else◌, nat_lt}
+use Rattle.std.specs.Prelude.{ℕ, ◌-◌, ◌^◌, ◌&&◌, List, Option, None, Some, Bool, true, false}
+use Rattle.std.specs.Prelude.{slice_get, filter, length, take, min, if◌then◌else◌, nat_lt}
 use Rattle.std.specs.Option.{option_map, option_and_then}
 use Rattle.std.specs.Ordering.{is_gt}
 use Rattle.std.specs.FinMap.{get, values}
@@ -13,14 +14,16 @@ use Rattle.streetmap_query.specs.QueryValue.{QueryValue, DatetimeValue}
 use Rattle.streetmap_batch.specs.Text.{Text, text_cmp}
 use Rattle.streetmap_ledger.specs.State.{State, Collection}
 
--- what a page tells: its features, how many are selected, the last id where more follow, and how many were examined
+-- what a page tells: its features, how many are selected, the last id where more follow, and how
+-- many were examined
 pub record PageValue : Type 0 where
   pub features : List FeatureValue
   pub matched : ℕ
   pub next : Option Text
   pub examined : ℕ
 
--- a test of what a feature has against what a query asks: a part that is not asked leaves nothing out, and a feature that has nothing is left out where it is asked
+-- a test of what a feature has against what a query asks: a part that is not asked leaves nothing
+-- out, and a feature that has nothing is left out where it is asked
 abbrev pub passes : {A B : Type 0} → (A → B → Bool) → Option A → Option B → Bool
 passes test has None = true
 passes test None (Some asked) = false
@@ -42,9 +45,11 @@ selected q fs = filter (selects q) fs
 abbrev pub extent_overlaps : GeometryValue → BoxValue → Bool
 extent_overlaps g b = overlaps (extent_of g) b
 
--- whether the feature is examined: its extent overlaps the box, and its seconds those of the interval
+-- whether the feature is examined: its extent overlaps the box, and its seconds those of the
+-- interval
 abbrev pub is_candidate : QueryValue → FeatureValue → Bool
-is_candidate q f = passes extent_overlaps f.geometry q.bbox && passes seconds_overlap f.time (interval_asked q)
+is_candidate q f = passes extent_overlaps f.geometry q.bbox
+    && passes seconds_overlap f.time (interval_asked q)
 
 -- the features that a page examines
 abbrev pub candidates : QueryValue → List FeatureValue → List FeatureValue
@@ -88,8 +93,10 @@ page_over q fs = page_of q (length (candidates q fs)) fs
 
 -- a page in a state: none where the collection is not there
 abbrev pub page_in : State → Text → QueryValue → Option PageValue
-page_in s name q = option_map (λ (c : Collection). page_over q (values c.features)) (get s.collections name)
+page_in s name q = option_map (λ (c : Collection). page_over q (values c.features))
+    (get s.collections name)
 
 -- a feature in a state: none where the collection is not there, or the feature is not in it
 abbrev pub feature_in : State → Text → Text → Option FeatureValue
-feature_in s name id = option_and_then (λ (c : Collection). get c.features id) (get s.collections name)
+feature_in s name id = option_and_then (λ (c : Collection).
+    get c.features id) (get s.collections name)

@@ -2,7 +2,10 @@
 use Rattle.std.specs.Prelude.{codes}
 use Rattle.streetmap_batch.specs.Text.{Text}
 use Rattle.streetmap_ledger.specs.declared.reply.Refusal.{Refusal}
-use Rattle.streetmap_ledger.specs.declared.reply.Refusal.TheVariants.{NoCollection, CollectionExists, FeatureExists, NoFeature, BadTime, KeyUsed, Full}
+use Rattle.streetmap_ledger.specs.declared.reply.Refusal.TheVariants.{NoCollection}
+use Rattle.streetmap_ledger.specs.declared.reply.Refusal.TheVariants.{CollectionExists}
+use Rattle.streetmap_ledger.specs.declared.reply.Refusal.TheVariants.{FeatureExists, NoFeature}
+use Rattle.streetmap_ledger.specs.declared.reply.Refusal.TheVariants.{BadTime, KeyUsed, Full}
 use Rattle.streetmap_ledger.specs.declared.reply.Fault.{Fault}
 use Rattle.streetmap_ledger.specs.declared.reply.Fault.TheVariants.{Memory, Device, Damaged, Reopen}
 

@@ -9,19 +9,24 @@ use Rattle.streetmap_batch.specs.BatchValue as edit
 use Rattle.streetmap_batch.specs.BatchValue.{EditValue}
 use Rattle.streetmap_ledger.specs.declared.reply.Counts.{Counts}
 use Rattle.streetmap_ledger.specs.declared.reply.Refusal.{Refusal}
-use Rattle.streetmap_ledger.specs.declared.reply.Refusal.TheVariants.{NoCollection, CollectionExists, FeatureExists, NoFeature, BadTime}
+use Rattle.streetmap_ledger.specs.declared.reply.Refusal.TheVariants.{NoCollection}
+use Rattle.streetmap_ledger.specs.declared.reply.Refusal.TheVariants.{CollectionExists}
+use Rattle.streetmap_ledger.specs.declared.reply.Refusal.TheVariants.{FeatureExists, NoFeature}
+use Rattle.streetmap_ledger.specs.declared.reply.Refusal.TheVariants.{BadTime}
 
 -- features by id
 abbrev pub Features : Type 0
 Features = FinMap text_cmp FeatureValue
 
--- a collection: its title, the property that the times of its features are read from, and its features
+-- a collection: its title, the property that the times of its features are read from, and its
+-- features
 pub record Collection : Type 0 where
   pub title : Text
   pub time : Option Text
   pub features : Features
 
--- what is kept for an accepted key: the text of its batch, how many edits of each kind it had, and its serial
+-- what is kept for an accepted key: the text of its batch, how many edits of each kind it had, and
+-- its serial
 pub record AcceptedBatch : Type 0 where
   pub text : Text
   pub counts : Counts
@@ -58,7 +63,8 @@ timed property f = or_bad_time (timed_by property f)
 
 -- the state with these features in the collection
 abbrev pub with_features : State → Text → Collection → Features → State
-with_features s name c features = record s { collections = insert s.collections name (record c { features = features }) }
+with_features s name c features = record s
+    { collections = insert s.collections name (record c { features = features }) }
 
 -- the state with this feature in the collection, under its id
 abbrev pub with_feature : State → Text → Collection → FeatureValue → State
@@ -86,11 +92,15 @@ deleted s name id c = do
 
 -- a collection is opened, with no features
 abbrev pub opened : State → Text → Text → Option Text → State
-opened s name title time = record s { collections = insert s.collections name (record { title = title; time = time; features = empty }) }
+opened s name title time = record s {
+  collections = insert s.collections name
+      (record { title = title; time = time; features = empty });
+}
 
 -- one edit: the state after it, or why it is refused
 abbrev pub step : State → EditValue → Result State Refusal
-step s (edit.«open» name title time) = absent (get s.collections name) CollectionExists >>= λ new. Ok (opened s name title time)
+step s (edit.«open» name title time) = absent (get s.collections name) CollectionExists >>= λ new.
+    Ok (opened s name title time)
 step s (edit.insert name f) = ok_or (get s.collections name) NoCollection >>= inserted s name f
 step s (edit.replace name f) = ok_or (get s.collections name) NoCollection >>= replaced s name f
 step s (edit.delete name id) = ok_or (get s.collections name) NoCollection >>= deleted s name id

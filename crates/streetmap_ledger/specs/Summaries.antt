@@ -31,7 +31,13 @@ extent_if (p ∷ ps) = Some (positions_extent (p ∷ ps))
 
 -- a collection under its id
 abbrev pub summary_of : Text → Collection → SummaryValue
-summary_of id c = record { id = id; title = c.title; time = c.time; extent = extent_if (all_vertices (values c.features)) }
+summary_of id c = record {
+  id = id;
+  title = c.title;
+  time = c.time;
+  extent = extent_if
+      (all_vertices (values c.features));
+}
 
 -- none where the collection is not there
 abbrev pub summary_in : State → Text → Option SummaryValue

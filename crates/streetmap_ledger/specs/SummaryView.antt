@@ -7,7 +7,13 @@ use Rattle.streetmap_ledger.specs.declared.summary.Summary.{Summary}
 
 -- what a summary tells
 abbrev pub summary_value : Summary → SummaryValue
-summary_value s = record { id = string_bytes s.id; title = string_bytes s.title; time = option_map string_bytes s.time; extent = option_map box_value s.extent }
+summary_value s = record {
+  id = string_bytes s.id;
+  title = string_bytes s.title;
+  time = option_map
+      string_bytes s.time;
+  extent = option_map box_value s.extent;
+}
 
 -- what summaries tell, in order
 abbrev pub summary_values : List Summary → List SummaryValue

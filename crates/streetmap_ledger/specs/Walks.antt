@@ -11,30 +11,43 @@ use Rattle.streetmap_ledger.specs.Pages.{PageValue, selected, page_over, saturat
 
 -- the query from behind this id on
 abbrev pub from_behind : QueryValue → Option Text → QueryValue
-from_behind q after = record { bbox = q.bbox; datetime = q.datetime; limit = q.limit; after = after }
+from_behind q after = record {
+  bbox = q.bbox;
+  datetime = q.datetime;
+  limit = q.limit;
+  after
+      = after;
+}
 
 -- its page of features that stand in order of ids
 abbrev pub page_behind : QueryValue → List FeatureValue → Option Text → PageValue
 page_behind q fs after = page_over (from_behind q after) fs
 
 -- the pages from behind an id on: each is followed from its `next`, and the last has none
-pub data IsWalk (q : QueryValue) (fs : List FeatureValue) : Option Text → List PageValue → Type 0 where
-  ends : (after : Option Text) → (page_behind q fs after).next ≡ None → IsWalk q fs after (page_behind q fs after ∷ [])
-  goes_on : (after : Option Text) (id : Text) (pages : List PageValue) → (page_behind q fs after).next ≡ Some id → IsWalk q fs (Some id) pages → IsWalk q fs after (page_behind q fs after ∷ pages)
+pub data IsWalk (q : QueryValue) (fs : List FeatureValue) : Option Text → List PageValue
+    → Type 0 where
+  ends : (after : Option Text) → (page_behind q fs after).next ≡ None
+      → IsWalk q fs after (page_behind q fs after ∷ [])
+  goes_on : (after : Option Text) (id : Text) (pages : List PageValue)
+      → (page_behind q fs after).next ≡ Some id → IsWalk q fs (Some id) pages
+      → IsWalk q fs after (page_behind q fs after ∷ pages)
 
 -- the features that pages show, one page after the other
 abbrev pub shown : List PageValue → List FeatureValue
 shown pages = flat_map (λ (p : PageValue). p.features) pages
 
--- a walk shows the selected features, each once and in order of ids, and each of its pages tells their number
-pub record ShowsAll (q : QueryValue) (fs : List FeatureValue) (pages : List PageValue) : Type 0 where
-  pub whole : shown pages ≡ selected q fs
-  pub matched : All (λ (p : PageValue). p.matched ≡ saturated (length (selected q fs))) pages
+-- a walk shows the selected features, each once and in order of ids, and each of its pages tells
+-- their number
+pub record ShowsAll (q : QueryValue) (fs : List FeatureValue) (pages : List PageValue) : Type 0
+  where
+    pub whole : shown pages ≡ selected q fs
+    pub matched : All (λ (p : PageValue). p.matched ≡ saturated (length (selected q fs))) pages
 
 -- in a well-formed state, each walk over a collection shows all that is selected, and there is one
 abbrev pub WalksShowAll : Type 0
 WalksShowAll =
     (s : State) (name : Text) (c : Collection) (q : QueryValue) →
     IsState s → get s.collections name ≡ Some c → 1 ≤ q.limit →
-    ((pages : List PageValue) → IsWalk q (values c.features) None pages → ShowsAll q (values c.features) pages)
+    ((pages : List PageValue) → IsWalk q (values c.features) None pages
+    → ShowsAll q (values c.features) pages)
     × ((pages : List PageValue) × IsWalk q (values c.features) None pages)

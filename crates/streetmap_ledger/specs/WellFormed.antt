@@ -37,16 +37,19 @@ pub record AreCounts (n : Counts) : Type 0 where
   pub replaced : n.replaced ≤ most_edits
   pub deleted : n.deleted ≤ most_edits
 
--- collections and keys are as the rules ask; the n keys have the serials 1 to n, one each, and each the counts of a batch
+-- collections and keys are as the rules ask; the n keys have the serials 1 to n, one each, and each
+-- the counts of a batch
 pub record IsState (s : State) : Type 0 where
   pub made : (name : Text) (c : Collection) → get s.collections name ≡ Some c → IsCollection name c
   pub keyed : (key : Text) (k : AcceptedBatch) → get s.keys key ≡ Some k → IsTrue (is_key key)
   pub from_one : (key : Text) (k : AcceptedBatch) → get s.keys key ≡ Some k → 1 ≤ k.serial
   pub to_count : (key : Text) (k : AcceptedBatch) → get s.keys key ≡ Some k → k.serial ≤ len s.keys
-  pub one_each : (key other : Text) (k l : AcceptedBatch) → get s.keys key ≡ Some k → get s.keys other ≡ Some l → k.serial ≡ l.serial → key ≡ other
+  pub one_each : (key other : Text) (k l : AcceptedBatch) → get s.keys key ≡ Some k
+      → get s.keys other ≡ Some l → k.serial ≡ l.serial → key ≡ other
   pub counted : (key : Text) (k : AcceptedBatch) → get s.keys key ≡ Some k → AreCounts k.counts
   pub not_too_many : len s.keys ≤ most_batches
 
 -- the opening state is well-formed, and a batch that the type of batches can hold keeps a state so
 abbrev pub StaysWellFormed : Type 0
-StaysWellFormed = IsState opening_state × ((s : State) (b : BatchValue) → IsState s → IsSoundBatch b → IsState (act s b).state)
+StaysWellFormed = IsState opening_state
+    × ((s : State) (b : BatchValue) → IsState s → IsSoundBatch b → IsState (act s b).state)

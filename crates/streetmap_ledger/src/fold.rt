@@ -24,13 +24,16 @@ pub struct PageFold<'a> {
 }
 
 impl<'a> PageFold<'a> {
-    ghost use Rattle.std.specs.Prelude.{List, [], ◌∷◌, ◌++◌, ◌+◌, ◌↔◌, OnOk, OnErr, IfSome, IsTrue, Bool, true, false, if◌then◌else◌};
+    ghost use Rattle.std.specs.Prelude.{List, [], ◌∷◌, ◌++◌, ◌+◌, ◌↔◌, OnOk, OnErr, IfSome, IsTrue};
+    ghost use Rattle.std.specs.Prelude.{Bool, true, false, if◌then◌else◌};
     ghost use Rattle.streetmap_geojson.specs.FeatureValue.{FeatureValue};
     ghost use Rattle.streetmap_geojson.specs.FeatureInvariant.{IsFeature};
     ghost use Rattle.streetmap_feature_text.specs.Outlines.{outline_of};
     ghost use Rattle.streetmap_query.specs.QueryValue.{QueryValue};
     ghost use Rattle.streetmap_query.specs.Views.{query_value};
-    ghost use Rattle.streetmap_ledger.specs.Pages.{page_of, saturated, selects as selects_of, comes_after as comes_after_of, is_candidate as is_candidate_of};
+    ghost use Rattle.streetmap_ledger.specs.Pages.{page_of, saturated, selects as selects_of};
+    ghost use Rattle.streetmap_ledger.specs.Pages.{comes_after as comes_after_of};
+    ghost use Rattle.streetmap_ledger.specs.Pages.{is_candidate as is_candidate_of};
     ghost use Rattle.streetmap_ledger.specs.PageView.{page_value};
     ghost use Rattle.streetmap_ledger.specs.Folds.{Holds, HoldsCandidates, IsFull, AreHidden};
 
@@ -49,9 +52,11 @@ impl<'a> PageFold<'a> {
 
     /// Counts one feature more.
     fn count(&mut self, is_selected: bool)
-        ensures matched { self.new.matched ≡ (if is_selected then saturated (self.old.matched + 1) else self.old.matched) }
+        ensures matched { self.new.matched ≡ (if is_selected then saturated (self.old.matched + 1)
+            else self.old.matched) }
         ensures examined { self.new.examined ≡ saturated (self.old.examined + 1) }
-        ensures shown { (self.new.query ≡ self.old.query) × (self.new.features ≡ self.old.features) × (self.new.more ≡ self.old.more) }
+        ensures shown { (self.new.query ≡ self.old.query) × (self.new.features ≡ self.old.features)
+            × (self.new.more ≡ self.old.more) }
     {
         if is_selected {
             self.matched = self.matched.saturating_add(1);
@@ -59,11 +64,13 @@ impl<'a> PageFold<'a> {
         self.examined = self.examined.saturating_add(1);
     }
 
-    /// Takes the feature that comes next, and keeps it where the page shows it. Where memory is refused
-    /// for that, it is not counted.
+    /// Takes the feature that comes next, and keeps it where the page shows it. Where memory is
+    /// refused for that, it is not counted.
     pub fn take(&mut self, feature: Feature) -> Result<(), AllocError>
-        ensures ok { (q : QueryValue) (fs : List FeatureValue) → Holds q self.old fs → OnOk result (Holds q self.new (fs ++ feature ∷ [])) }
-        ensures err { (q : QueryValue) (fs : List FeatureValue) → Holds q self.old fs → OnErr result (Holds q self.new fs) }
+        ensures ok { (q : QueryValue) (fs : List FeatureValue) → Holds q self.old fs
+            → OnOk result (Holds q self.new (fs ++ feature ∷ [])) }
+        ensures err { (q : QueryValue) (fs : List FeatureValue) → Holds q self.old fs
+            → OnErr result (Holds q self.new fs) }
     {
         if self.pass_hidden(&feature) {
             return Ok(());
@@ -71,12 +78,16 @@ impl<'a> PageFold<'a> {
         self.show(feature)
     }
 
-    /// Counts the feature that comes next, where the page does not show it, and answers whether it did.
+    /// Counts the feature that comes next, where the page does not show it, and answers whether it
+    /// did.
     fn pass_hidden(&mut self, feature: &Feature) -> bool
-        ensures passed { IsTrue result → (q : QueryValue) (fs : List FeatureValue) → Holds q self.old fs → Holds q self.new (fs ++ feature.now ∷ []) }
+        ensures passed { IsTrue result → (q : QueryValue) (fs : List FeatureValue)
+            → Holds q self.old fs → Holds q self.new (fs ++ feature.now ∷ []) }
         ensures unchanged { result ≡ false → self.new ≡ self.old }
-        ensures selected { result ≡ false → selects_of (query_value self.old.query.now) feature.now ≡ true }
-        ensures behind { result ≡ false → comes_after_of (query_value self.old.query.now).after feature.now ≡ true }
+        ensures selected { result ≡ false
+            → selects_of (query_value self.old.query.now) feature.now ≡ true }
+        ensures behind { result ≡ false
+            → comes_after_of (query_value self.old.query.now).after feature.now ≡ true }
         ensures room { result ≡ false → length self.old.features.items < self.old.query.now.limit }
     {
         if !selects(self.query, feature) {
@@ -94,8 +105,11 @@ impl<'a> PageFold<'a> {
     /// Shows the feature that comes next.
     fn show(&mut self, feature: Feature) -> Result<(), AllocError>
         requires { length self.old.features.items < self.old.query.now.limit }
-        ensures ok { (q : QueryValue) (fs : List FeatureValue) → Holds q self.old fs → selects_of q feature ≡ true → comes_after_of q.after feature ≡ true → OnOk result (Holds q self.new (fs ++ feature ∷ [])) }
-        ensures err { (q : QueryValue) (fs : List FeatureValue) → Holds q self.old fs → OnErr result (Holds q self.new fs) }
+        ensures ok { (q : QueryValue) (fs : List FeatureValue) → Holds q self.old fs
+            → selects_of q feature ≡ true → comes_after_of q.after feature ≡ true
+            → OnOk result (Holds q self.new (fs ++ feature ∷ [])) }
+        ensures err { (q : QueryValue) (fs : List FeatureValue) → Holds q self.old fs
+            → OnErr result (Holds q self.new fs) }
     {
         self.features.push(feature)?;
         self.count(true);
@@ -112,7 +126,9 @@ impl<'a> PageFold<'a> {
     /// Counts the feature that comes next, which is selected and not shown: either it is `behind`
     /// the id asked, and the page is full, or it does not come after that id.
     pub fn count_hidden(&mut self, behind: bool)
-        ensures { (q : QueryValue) (fs : List FeatureValue) (f : FeatureValue) → Holds q self.old fs → selects_of q f ≡ true → comes_after_of q.after f ≡ behind → (IsTrue behind → IsFull self.old) → Holds q self.new (fs ++ f ∷ []) }
+        ensures { (q : QueryValue) (fs : List FeatureValue) (f : FeatureValue) → Holds q self.old fs
+            → selects_of q f ≡ true → comes_after_of q.after f ≡ behind
+            → (IsTrue behind → IsFull self.old) → Holds q self.new (fs ++ f ∷ []) }
     {
         if behind {
             self.more = true;
@@ -145,15 +161,19 @@ impl<'a> PageFold<'a> {
 
     /// Counts the feature that comes next, which is not selected.
     pub fn skip_unselected(&mut self)
-        ensures { (q : QueryValue) (fs : List FeatureValue) (f : FeatureValue) → Holds q self.old fs → selects_of q f ≡ false → Holds q self.new (fs ++ f ∷ []) }
+        ensures { (q : QueryValue) (fs : List FeatureValue) (f : FeatureValue) → Holds q self.old fs
+            → selects_of q f ≡ false → Holds q self.new (fs ++ f ∷ []) }
     {
         self.count(false);
     }
 
-    /// Counts the candidate that comes next, where its outline and its id, if that is known, tell that the
-    /// page does not show it, and answers whether it did.
+    /// Counts the candidate that comes next, where its outline and its id, if that is known, tell
+    /// that the page does not show it, and answers whether it did.
     fn pass_candidate(&mut self, outline: &Outline, id: Option<&[u8]>) -> bool
-        ensures passed { IsTrue result → (q : QueryValue) (fs : List FeatureValue) (f : FeatureValue) → outline.now ≡ outline_of f → IsFeature f → IfSome id.entry (λ known. known.now ≡ f.id) → Holds q self.old fs → Holds q self.new (fs ++ f ∷ []) }
+        ensures passed { IsTrue result
+            → (q : QueryValue) (fs : List FeatureValue) (f : FeatureValue)
+            → outline.now ≡ outline_of f → IsFeature f → IfSome id.entry (λ known. known.now ≡ f.id)
+            → Holds q self.old fs → Holds q self.new (fs ++ f ∷ []) }
         ensures unchanged { result ≡ false → self.new ≡ self.old }
     {
         match selects_unread(self.query, outline) {
@@ -172,19 +192,24 @@ impl<'a> PageFold<'a> {
         }
     }
 
-    /// Takes the feature that comes next, where its outline and its id, if that is known, tell enough,
-    /// and answers whether it did. Otherwise the feature is a candidate, and has to be taken itself.
+    /// Takes the feature that comes next, where its outline and its id, if that is known, tell
+    /// enough, and answers whether it did. Otherwise the feature is a candidate, and has to be
+    /// taken itself.
     pub fn take_unread(&mut self, outline: &Outline, id: Option<&[u8]>) -> bool
-        ensures taken { IsTrue result → (q : QueryValue) (fs : List FeatureValue) (f : FeatureValue) → outline.now ≡ outline_of f → IsFeature f → IfSome id.entry (λ known. known.now ≡ f.id) → HoldsCandidates q self.old fs → HoldsCandidates q self.new (fs ++ f ∷ []) }
+        ensures taken { IsTrue result → (q : QueryValue) (fs : List FeatureValue) (f : FeatureValue)
+            → outline.now ≡ outline_of f → IsFeature f → IfSome id.entry (λ known. known.now ≡ f.id)
+            → HoldsCandidates q self.old fs → HoldsCandidates q self.new (fs ++ f ∷ []) }
         ensures unchanged { result ≡ false → self.new ≡ self.old }
-        ensures candidate { result ≡ false → (f : FeatureValue) → outline.now ≡ outline_of f → is_candidate_of (query_value self.old.query.now) f ≡ true }
+        ensures candidate { result ≡ false → (f : FeatureValue) → outline.now ≡ outline_of f
+            → is_candidate_of (query_value self.old.query.now) f ≡ true }
     {
         !is_candidate(self.query, outline) || self.pass_candidate(outline, id)
     }
 
     /// The page of the features taken.
     pub fn end(self, alloc: Global) -> Result<Page, AllocError>
-        ensures { (q : QueryValue) (fs : List FeatureValue) → Holds q self.entry fs → IfOk result (λ page. page_value page ≡ page_of q (length fs) fs) }
+        ensures { (q : QueryValue) (fs : List FeatureValue) → Holds q self.entry fs
+            → IfOk result (λ page. page_value page ≡ page_of q (length fs) fs) }
     {
         let next = if self.more {
             last_of(alloc, &self.features)?

@@ -1,5 +1,6 @@
 //! Laws of the definitions.
-ghost use Rattle.streetmap_ledger.specs.Laws.{RepeatActsOnce, AcceptedAreEnough, RefusedChangesNothing, SelectedAreCandidates};
+ghost use Rattle.streetmap_ledger.specs.Laws.{RepeatActsOnce, AcceptedAreEnough};
+ghost use Rattle.streetmap_ledger.specs.Laws.{RefusedChangesNothing, SelectedAreCandidates};
 ghost use Rattle.streetmap_ledger.specs.WellFormed.{StaysWellFormed};
 ghost use Rattle.streetmap_ledger.specs.Walks.{WalksShowAll};
 
@@ -19,8 +20,8 @@ pub fn refused_changes_nothing()
     ensures { RefusedChangesNothing }
 {}
 
-/// The opening state is well-formed, and each batch that the type of batches can hold keeps a state so:
-/// names, titles, time properties and keys are as the rules ask, and its features are features.
+/// The opening state is well-formed, and each batch that the type of batches can hold keeps a state
+/// so: names, titles, time properties and keys are as the rules ask, and its features are features.
 pub fn states_stay_well_formed()
     ensures { StaysWellFormed }
 {}
@@ -31,8 +32,8 @@ pub fn walks_show_all()
     ensures { WalksShowAll }
 {}
 
-/// A feature that a query selects is a candidate: its extent and its seconds overlap what is asked. So a
-/// page of the candidates alone is the page of all features.
+/// A feature that a query selects is a candidate: its extent and its seconds overlap what is asked.
+/// So a page of the candidates alone is the page of all features.
 pub fn selected_are_candidates()
     ensures { SelectedAreCandidates }
 {}

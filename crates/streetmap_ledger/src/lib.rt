@@ -2,12 +2,12 @@
 //!
 //! The state is a value: collections with their features, and what is kept for each accepted key
 //! (`specs/State`). A batch acts on it whole or not at all (`specs/Batches`), and a page shows what
-//! a query selects of it (`specs/Pages`). A `Keeper` stands for a state: its methods answer as these
-//! definitions do, and each says what a stop may leave. `run` is proved once over any keeper;
+//! a query selects of it (`specs/Pages`). A `Keeper` stands for a state: its methods answer as
+//! these definitions do, and each says what a stop may leave. `run` is proved once over any keeper;
 //! `streetmap_memory` has the one that keeps the state in memory.
 //!
-//! In the order of reading: `reply`, `page`, `summary`, `outline`, `keeper` (the trait and `run`), `laws`; for
-//! pages `selection` and `fold`. Batches are those of `streetmap_batch`.
+//! In the order of reading: `reply`, `page`, `summary`, `outline`, `keeper` (the trait and `run`),
+//! `laws`; for pages `selection` and `fold`. Batches are those of `streetmap_batch`.
 #![tactic(auto)]
 
 mod fold;

@@ -16,21 +16,27 @@ pub struct FeatureOutline {
     pub id: String,
     /// The extent of its geometry, in millimetres; none where it has none.
     pub extent: Option<GridBox>,
-    /// The first and the last second of its time, since 1970-01-01T00:00:00Z and rounded down; none where
-    /// it has no time. An open start is -1,000,000,000,000 and an open end 1,000,000,000,000.
+    /// The first and the last second of its time, since 1970-01-01T00:00:00Z and rounded down; none
+    /// where it has no time. An open start is -1,000,000,000,000 and an open end 1,000,000,000,000.
     pub seconds: Option<(i64, i64)>,
 }
 
 impl FeatureOutline {
-    /// The outline of a feature with this id, extent (in millimetres) and time. The error is that memory for
-    /// the id is refused.
+    /// The outline of a feature with this id, extent (in millimetres) and time. The error is that
+    /// memory for the id is refused.
     pub fn new(
         alloc: Global,
         id: &str,
         extent: Option<GridBox>,
         time: Option<Interval>,
     ) -> Result<FeatureOutline, AllocError>
-        ensures { IfOk result (λ outline. feature_outline_value outline ≡ record { id = id.now; extent = option_map box_value extent; seconds = option_map seconds_of (option_map interval_value time) }) }
+        ensures { IfOk result (λ outline. feature_outline_value outline
+            ≡ record {
+              id = id.now;
+              extent = option_map box_value extent;
+              seconds = option_map
+                  seconds_of (option_map interval_value time);
+            }) }
     {
         Ok(FeatureOutline {
             id: String::from_str(alloc, id)?,

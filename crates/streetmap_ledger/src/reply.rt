@@ -36,7 +36,8 @@ pub enum Reply {
     Accepted(Counts, u64),
     /// It was accepted before: what was answered then.
     Repeated(Counts, u64),
-    /// It was refused, and nothing changed; with the place of the edit at fault, counted from 1, where there is one.
+    /// It was refused, and nothing changed; with the place of the edit at fault, counted from 1,
+    /// where there is one.
     Refused(Refusal, Option<u64>),
 }
 

@@ -10,7 +10,9 @@ ghost use Rattle.streetmap_geojson.specs.FeatureValue.{FeatureValue};
 ghost use Rattle.streetmap_geojson.specs.FeatureInvariant.{IsFeature, IsGeometryIf};
 ghost use Rattle.streetmap_feature_text.specs.Outlines.{outline_of};
 ghost use Rattle.streetmap_query.specs.Views.{query_value};
-ghost use Rattle.streetmap_ledger.specs.Pages.{passes, interval_asked, selects as selects_of, comes_after as comes_after_of, extent_overlaps, is_candidate as is_candidate_of};
+ghost use Rattle.streetmap_ledger.specs.Pages.{passes, interval_asked, selects as selects_of};
+ghost use Rattle.streetmap_ledger.specs.Pages.{comes_after as comes_after_of, extent_overlaps};
+ghost use Rattle.streetmap_ledger.specs.Pages.{is_candidate as is_candidate_of};
 
 use streetmap_feature_text::Outline;
 use streetmap_geojson::Feature;
@@ -33,7 +35,8 @@ fn meets_box(query: &Query, feature: &Feature) -> bool
 
 /// Whether a feature's time meets the interval, where one is asked.
 fn meets_interval(query: &Query, time: Option<Interval>) -> bool
-    ensures { result ≡ passes meets (option_map interval_value time) (interval_asked (query_value query.now)) }
+    ensures { result ≡ passes meets (option_map interval_value time)
+        (interval_asked (query_value query.now)) }
 {
     match &query.datetime {
         None => true,
@@ -61,9 +64,12 @@ pub fn comes_after(query: &Query, feature: &Feature) -> bool
     }
 }
 
-/// Whether the extent overlaps the box, where one is asked: that of a geometry, or none. Both are in millimetres.
+/// Whether the extent overlaps the box, where one is asked: that of a geometry, or none. Both are
+/// in millimetres.
 pub fn overlaps_box(query: &Query, extent: Option<GridBox>) -> bool
-    ensures { (geometry : Option GeometryValue) → option_map box_value extent ≡ option_map extent_of geometry → result ≡ passes extent_overlaps geometry (query_value query.now).bbox }
+    ensures { (geometry : Option GeometryValue)
+        → option_map box_value extent ≡ option_map extent_of geometry
+        → result ≡ passes extent_overlaps geometry (query_value query.now).bbox }
 {
     match &query.bbox {
         None => true,
@@ -74,10 +80,12 @@ pub fn overlaps_box(query: &Query, extent: Option<GridBox>) -> bool
     }
 }
 
-/// Whether the extent lies within the box, where one is asked: then the geometry that it is of meets it. Both are
-/// in millimetres.
+/// Whether the extent lies within the box, where one is asked: then the geometry that it is of
+/// meets it. Both are in millimetres.
 pub fn lies_within_box(query: &Query, extent: Option<GridBox>) -> bool
-    ensures { IsTrue result → (geometry : Option GeometryValue) → option_map box_value extent ≡ option_map extent_of geometry → IsGeometryIf geometry → passes geometry_meets geometry (query_value query.now).bbox ≡ true }
+    ensures { IsTrue result → (geometry : Option GeometryValue)
+        → option_map box_value extent ≡ option_map extent_of geometry → IsGeometryIf geometry
+        → passes geometry_meets geometry (query_value query.now).bbox ≡ true }
 {
     match &query.bbox {
         None => true,
@@ -90,7 +98,8 @@ pub fn lies_within_box(query: &Query, extent: Option<GridBox>) -> bool
 
 /// Whether the seconds of the time overlap those of the interval, where one is asked.
 fn overlaps_interval(query: &Query, outline: &Outline) -> bool
-    ensures { (f : FeatureValue) → outline.now ≡ outline_of f → result ≡ passes seconds_overlap f.time (interval_asked (query_value query.now)) }
+    ensures { (f : FeatureValue) → outline.now ≡ outline_of f
+        → result ≡ passes seconds_overlap f.time (interval_asked (query_value query.now)) }
 {
     match &query.datetime {
         None => true,
@@ -103,14 +112,16 @@ fn overlaps_interval(query: &Query, outline: &Outline) -> bool
 
 /// Whether a page examines the feature with this outline.
 pub fn is_candidate(query: &Query, outline: &Outline) -> bool
-    ensures { (f : FeatureValue) → outline.now ≡ outline_of f → result ≡ is_candidate_of (query_value query.now) f }
+    ensures { (f : FeatureValue) → outline.now ≡ outline_of f
+        → result ≡ is_candidate_of (query_value query.now) f }
 {
     overlaps_box(query, outline.extent()) && overlaps_interval(query, outline)
 }
 
 /// Whether the query selects the feature with this outline, where the outline tells.
 pub fn selects_unread(query: &Query, outline: &Outline) -> Option<bool>
-    ensures { (f : FeatureValue) → outline.now ≡ outline_of f → IsFeature f → IfSome result (λ known. known ≡ selects_of (query_value query.now) f) }
+    ensures { (f : FeatureValue) → outline.now ≡ outline_of f → IsFeature f
+        → IfSome result (λ known. known ≡ selects_of (query_value query.now) f) }
 {
     if !meets_interval(query, outline.time()) {
         return Some(false);
@@ -123,7 +134,8 @@ pub fn selects_unread(query: &Query, outline: &Outline) -> Option<bool>
 
 /// Whether a feature with this id comes after the one asked, where the id is known.
 pub fn comes_after_unread(query: &Query, id: Option<&[u8]>) -> Option<bool>
-    ensures { (f : FeatureValue) → IfSome id.entry (λ known. known.now ≡ f.id) → IfSome result (λ known. known ≡ comes_after_of (query_value query.now).after f) }
+    ensures { (f : FeatureValue) → IfSome id.entry (λ known. known.now ≡ f.id)
+        → IfSome result (λ known. known ≡ comes_after_of (query_value query.now).after f) }
 {
     match &query.after {
         None => Some(true),

@@ -1,12 +1,12 @@
-//! Want of memory, that no clause rules out: the ledger is as it was, and the line is answered when it comes again.
-//! Each allocation is refused in turn by `make refusals`.
+//! Want of memory, that no clause rules out: the ledger is as it was, and the line is answered when
+//! it comes again. Each allocation is refused in turn by `make refusals`.
 use std::alloc::{AllocError, Global};
 use std::test::Fail;
 use streetmap_lines::answer_line;
 use streetmap_memory::PlainKeeper;
 
-/// A line over the ledger that the lines before it left, and what it is answered; and a line that looks at the
-/// ledger, with what that is answered before.
+/// A line over the ledger that the lines before it left, and what it is answered; and a line that
+/// looks at the ledger, with what that is answered before.
 struct Row {
     line: &'static str,
     answer: &'static str,
@@ -14,7 +14,8 @@ struct Row {
     seen: &'static str,
 }
 
-/// Batches that are accepted, repeated and refused, features with a geometry of each kind, pages and look-ups.
+/// Batches that are accepted, repeated and refused, features with a geometry of each kind, pages
+/// and look-ups.
 const ROWS: &[Row] = &[
     Row {
         line: r#"batch {"key":"b1","edits":[{"op":"open","collection":"lamps","time":"set"},{"op":"insert","collection":"lamps","feature":{"type":"Feature","id":"L1","geometry":{"type":"Point","coordinates":[1000,2000]},"properties":{"set":"2024-05-01"}}}]}"#,

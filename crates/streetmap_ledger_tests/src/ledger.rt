@@ -1,4 +1,5 @@
-//! How many features a page examines, which no answer tells, and a run of batches, which no command makes.
+//! How many features a page examines, which no answer tells, and a run of batches, which no command
+//! makes.
 use std::alloc::Global;
 use std::test::Fail;
 use streetmap_ledger::{Batch, Counts, Keeper, Refusal, Reply, read_batch, run};
@@ -15,8 +16,8 @@ const STREET: &str = r#"{"key":"street","edits":[
     {"op":"insert","collection":"street","feature":{"type":"Feature","id":"E","properties":{"when":"2024-05-01"}}},
     {"op":"insert","collection":"street","feature":{"type":"Feature","id":"F","properties":{"when":"2024-05-01T12:00:00.5Z"}}}]}"#;
 
-/// A query, and how many features its page examines: those whose extent overlaps the box, and whose seconds overlap
-/// those of the interval.
+/// A query, and how many features its page examines: those whose extent overlaps the box, and whose
+/// seconds overlap those of the interval.
 const EXAMINED: &[(&str, u64)] = &[
     ("", 6),
     ("limit=1&after=D", 6),
@@ -63,8 +64,8 @@ const FIRST: Counts = Counts {
     deleted: 0,
 };
 
-/// Batches, and what each comes to behind the ones before: one that is accepted, one that is refused, and the first
-/// again.
+/// Batches, and what each comes to behind the ones before: one that is accepted, one that is
+/// refused, and the first again.
 const STEPS: [(&str, Reply); 3] = [
     (
         r#"{"key":"b1","edits":[{"op":"open","collection":"lamps"},{"op":"insert","collection":"lamps","feature":{"type":"Feature","id":"L1"}}]}"#,

@@ -13,7 +13,8 @@ use Rattle.streetmap_lines.specs.Answers.{Answer}
 
 -- the text is the compact text of the answer's body, and the keeper stands for the answer's state
 abbrev pub Says : Answer → String Global → PlainKeeper → Type 0
-Says answer text keeper = (string_bytes text ≡ compact_text answer.body) × IsPlain keeper answer.state
+Says answer text keeper = (string_bytes text ≡ compact_text answer.body)
+    × IsPlain keeper answer.state
 
 -- it says so, or memory was refused and the keeper stands for the state as before
 abbrev pub SaysOr : State → Answer → Result (String Global) AllocError → PlainKeeper → Type 0
@@ -21,7 +22,8 @@ SaysOr s answer (Ok text) keeper = Says answer text keeper
 SaysOr s answer (Err e) keeper = IsPlain keeper s
 
 -- the same of a line, where an answer is there
-abbrev pub LineSays : State → Answer → Result (Option (String Global)) AllocError → PlainKeeper → Type 0
+abbrev pub LineSays : State → Answer → Result (Option (String Global)) AllocError → PlainKeeper
+    → Type 0
 LineSays s answer (Ok None) keeper = ⊥
 LineSays s answer (Ok (Some text)) keeper = Says answer text keeper
 LineSays s answer (Err e) keeper = IsPlain keeper s

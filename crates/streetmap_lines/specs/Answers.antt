@@ -16,7 +16,8 @@ use Rattle.streetmap_bodies.specs.Bodies.{line_page_data}
 use Rattle.streetmap_bodies.specs.Errors.{error_data}
 use Rattle.streetmap_bodies.specs.Replies.{reply_body}
 use Rattle.streetmap_bodies.specs.RequestFaults.{fault_body}
-use Rattle.streetmap_bodies.specs.declared.request_fault.RequestFault.TheVariants.{NotFound, Query, Batch}
+use Rattle.streetmap_bodies.specs.declared.request_fault.RequestFault.TheVariants.{NotFound, Query}
+use Rattle.streetmap_bodies.specs.declared.request_fault.RequestFault.TheVariants.{Batch}
 use Rattle.streetmap_lines.specs.Request.{Text, RequestValue, batch, page, feature}
 
 -- the JSON value that is answered, and the state after it
@@ -62,5 +63,7 @@ found_feature (Some f) = feature_data f
 unfoldable pub answer_to : State → Option RequestValue → Answer
 answer_to s None = record { body = unknown_command; state = s }
 answer_to s (Some (batch text)) = batch_answer s (batch_of text)
-answer_to s (Some (page collection text)) = record { body = page_body s collection (query_of text); state = s }
-answer_to s (Some (feature collection id)) = record { body = found_feature (feature_in s collection id); state = s }
+answer_to s (Some (page collection text)) = record
+    { body = page_body s collection (query_of text); state = s }
+answer_to s (Some (feature collection id)) = record
+    { body = found_feature (feature_in s collection id); state = s }

@@ -1,7 +1,8 @@
 -- What may end the answering of lines.
 use Rattle.std.specs.Prelude.{⊤}
 use Rattle.streetmap_lines.specs.declared.fault.LinesFault.{LinesFault}
-use Rattle.streetmap_lines.specs.declared.fault.LinesFault.TheVariants.{LineTooLong, ReadFailed, WriteFailed, Memory}
+use Rattle.streetmap_lines.specs.declared.fault.LinesFault.TheVariants.{LineTooLong, ReadFailed}
+use Rattle.streetmap_lines.specs.declared.fault.LinesFault.TheVariants.{WriteFailed, Memory}
 
 -- what may come of a write: memory is refused, or the write fails
 abbrev pub IsWriteFault : LinesFault → Type 0

@@ -1,5 +1,6 @@
 -- The lines of the input, and what is written for them.
-use Rattle.std.specs.Prelude.{ℕ, Bool, List, [], ◌∷◌, ◌++◌, Option, None, Some, length, nat_lt, take, ◌==◌}
+use Rattle.std.specs.Prelude.{ℕ, Bool, List, [], ◌∷◌, ◌++◌, Option, None, Some, length, nat_lt}
+use Rattle.std.specs.Prelude.{take, ◌==◌}
 use Rattle.std.specs.List.{slice_split, position}
 use Rattle.std.specs.Io.{StartsWith}
 use Rattle.std.specs.Io.KnownBytes.{Appends}
@@ -29,7 +30,8 @@ answer_text (Some body) = compact_text body ++ 10 ∷ []
 -- the answers to lines, in order: each line is answered in the state after the ones before it
 abbrev pub answers_of : State → List (List ℕ) → List ℕ
 answers_of s [] = []
-answers_of s (line ∷ lines) = answer_text (line_answer s line) ++ answers_of (state_after s line) lines
+answers_of s (line ∷ lines) = answer_text (line_answer s line)
+    ++ answers_of (state_after s line) lines
 
 -- ---- too long lines
 

@@ -1,5 +1,6 @@
 -- What taking lines off a reader does to the bytes that it has left.
-use Rattle.std.specs.Prelude.{◌≡◌, ℕ, ◌+◌, List, [], ◌∷◌, ◌++◌, Option, None, Some, option_map, All, false, ◌==◌, ⊤}
+use Rattle.std.specs.Prelude.{◌≡◌, ℕ, ◌+◌, List, [], ◌∷◌, ◌++◌, Option, None, Some, option_map}
+use Rattle.std.specs.Prelude.{All, false, ◌==◌, ⊤}
 use Rattle.std.specs.Str.Lines.{lines}
 use Rattle.std.specs.Io.KnownBytes.{Keeps, IsAtEnd, prepend_known}
 use Rattle.streetmap_lines.specs.Lines.{first_too_long}
@@ -12,10 +13,13 @@ use Rattle.streetmap_lines.specs.declared.input.Shown.TheVariants as shown
 abbrev pub HasNoLineFeed : List ℕ → Type 0
 HasNoLineFeed bytes = All (λ b. (b == 10) ≡ false) bytes
 
--- what a reader showed was taken over to the line: the line and what is left are the same bytes as before
+-- what a reader showed was taken over to the line: the line and what is left are the same bytes as
+-- before
 abbrev pub TakesShown : Option (List ℕ) → Option (List ℕ) → List ℕ → List ℕ → Shown → Type 0
-TakesShown old new line longer shown.More = Keeps (prepend_known line old) (prepend_known longer new)
-TakesShown old new line longer shown.LineFeed = Keeps (prepend_known line old) (prepend_known (longer ++ 10 ∷ []) new)
+TakesShown old new line longer shown.More = Keeps (prepend_known line old)
+    (prepend_known longer new)
+TakesShown old new line longer shown.LineFeed = Keeps (prepend_known line old)
+    (prepend_known (longer ++ 10 ∷ []) new)
 TakesShown old new line longer shown.End = (longer ≡ line) × Keeps old new × IsAtEnd old
 
 -- the first line of the input, which is not too long, and the rest of the input

@@ -1,5 +1,6 @@
 -- What a line of input asks for.
-use Rattle.std.specs.Prelude.{◌≡◌, ℕ, false, List, ◌∷◌, ◌++◌, Option, Some, None, option_map, option_and_then, codes, length, nat_lt, IsUtf8, ◌==◌, if◌then◌else◌}
+use Rattle.std.specs.Prelude.{◌≡◌, ℕ, false, List, ◌∷◌, ◌++◌, Option, Some, None, option_map}
+use Rattle.std.specs.Prelude.{option_and_then, codes, length, nat_lt, IsUtf8, ◌==◌, if◌then◌else◌}
 use Rattle.std.specs.List.{position_or_len, before_first, after_first, list_any}
 use Rattle.std.specs.Str.{bytes_eq, is_utf8}
 
@@ -18,8 +19,10 @@ HasNoSpace text = list_any (λ b. b == 32) text ≡ false
 abbrev pub Asks : Text → RequestValue → Type 0
 Asks line (batch text) = line ≡ codes "batch " ++ text
 Asks line (page collection None) = (line ≡ codes "page " ++ collection) × HasNoSpace collection
-Asks line (page collection (Some query)) = (line ≡ codes "page " ++ (collection ++ 32 ∷ query)) × HasNoSpace collection × HasNoSpace query
-Asks line (feature collection id) = (line ≡ codes "feature " ++ (collection ++ 32 ∷ id)) × HasNoSpace collection
+Asks line (page collection (Some query)) = (line ≡ codes "page " ++ (collection ++ 32 ∷ query))
+    × HasNoSpace collection × HasNoSpace query
+Asks line (feature collection id) = (line ≡ codes "feature " ++ (collection ++ 32 ∷ id))
+    × HasNoSpace collection
 
 -- a line is text in UTF-8 that asks for a request
 abbrev pub AsksFor : List ℕ → RequestValue → Type 0
@@ -50,7 +53,8 @@ unfoldable pub request_by : Text → Text → Option RequestValue
 request_by word text =
     if bytes_eq word (codes "batch") then Some (batch text)
     else (if bytes_eq word (codes "page") then page_request_of text
-    else (if bytes_eq word (codes "feature") then option_map (λ p. feature p.0 p.1) (split_space text) else None))
+    else (if bytes_eq word (codes "feature")
+    then option_map (λ p. feature p.0 p.1) (split_space text) else None))
 
 abbrev pub request_of : Text → Option RequestValue
 request_of line = option_and_then (λ p. request_by p.0 p.1) (split_space line)

@@ -1,5 +1,6 @@
 //! Lines, answered over a ledger in memory.
-ghost use Rattle.std.specs.Prelude.{◌≡◌, ◌≢◌, ◌≤◌, ◌+◌, ◌++◌, IfOk, Ok, None, option_map, string_bytes, string_len, string_capacity, []};
+ghost use Rattle.std.specs.Prelude.{◌≡◌, ◌≢◌, ◌≤◌, ◌+◌, ◌++◌, IfOk, Ok, None, option_map};
+ghost use Rattle.std.specs.Prelude.{string_bytes, string_len, string_capacity, []};
 ghost use Rattle.std.specs.Option.{option_copied};
 ghost use Rattle.serde_json.specs.Written.{compact_text};
 ghost use Rattle.streetmap_query.specs.Query.{query_of};
@@ -9,7 +10,8 @@ ghost use Rattle.streetmap_ledger.specs.State.{State};
 ghost use Rattle.streetmap_memory.specs.Plain.{IsPlain as IsPlainState};
 ghost use Rattle.streetmap_ledger.specs.Pages.{feature_in};
 ghost use Rattle.streetmap_bodies.specs.RequestFaults.{fault_body};
-ghost use Rattle.streetmap_lines.specs.Answers.{answer_to, batch_answer, page_body, found_feature, unknown_command};
+ghost use Rattle.streetmap_lines.specs.Answers.{answer_to, batch_answer, page_body, found_feature};
+ghost use Rattle.streetmap_lines.specs.Answers.{unknown_command};
 ghost use Rattle.streetmap_lines.specs.AnswerView.{SaysOr, LineSays, ActsOr};
 ghost use Rattle.streetmap_lines.specs.Request.{request_in, Text};
 ghost use Rattle.streetmap_lines.specs.RequestView.{request_value};
@@ -59,7 +61,8 @@ fn unknown_command_text(alloc: Global) -> Result<String, AllocError>
 
 /// Applies a batch. In memory nothing but memory can be wanting.
 fn apply(keeper: &mut PlainKeeper, batch: &Batch) -> Result<Reply, AllocError>
-    ensures { (s : State) → IsPlainState keeper.old s → ActsOr s (batch_value batch.now) result keeper.new }
+    ensures { (s : State) → IsPlainState keeper.old s
+        → ActsOr s (batch_value batch.now) result keeper.new }
 {
     match keeper.apply(batch) {
         Ok(reply) => Ok(reply),
@@ -69,7 +72,8 @@ fn apply(keeper: &mut PlainKeeper, batch: &Batch) -> Result<Reply, AllocError>
 
 /// The answer to a batch, in room that was taken before it is applied.
 fn answer_batch(alloc: Global, keeper: &mut PlainKeeper, text: &str) -> Result<String, AllocError>
-    ensures { (s : State) → IsPlainState keeper.old s → SaysOr s (batch_answer s (batch_of text.now)) result keeper.new }
+    ensures { (s : State) → IsPlainState keeper.old s
+        → SaysOr s (batch_answer s (batch_of text.now)) result keeper.new }
 {
     let mut answer = room(alloc)?;
     match read_batch(alloc, text.as_bytes()) {
@@ -93,7 +97,12 @@ fn answer_page(
     collection: &str,
     query: Option<&str>,
 ) -> Result<String, AllocError>
-    ensures { (s : State) → IsPlainState keeper.old s → SaysOr s (record { body = page_body s collection.now (query_of (option_copied query.entry)); state = s }) result keeper.new }
+    ensures { (s : State) → IsPlainState keeper.old s
+        → SaysOr s (record {
+          body = page_body s collection.now
+              (query_of (option_copied query.entry));
+          state = s;
+        }) result keeper.new }
 {
     match read_query(alloc, query) {
         Ok(query) => match keeper.page(collection, &query) {
@@ -113,7 +122,9 @@ fn answer_feature(
     collection: &str,
     id: &str,
 ) -> Result<String, AllocError>
-    ensures { (s : State) → IsPlainState keeper.old s → SaysOr s (record { body = found_feature (feature_in s collection.now id.now); state = s }) result keeper.new }
+    ensures { (s : State) → IsPlainState keeper.old s
+        → SaysOr s (record { body = found_feature (feature_in s collection.now id.now); state = s })
+        result keeper.new }
 {
     match keeper.feature(collection, id) {
         Ok(Some(feature)) => line_feature_text(alloc, &feature),
@@ -129,7 +140,8 @@ fn answer_request(
     keeper: &mut PlainKeeper,
     request: Option<Request<'_>>,
 ) -> Result<String, AllocError>
-    ensures { (s : State) → IsPlainState keeper.old s → SaysOr s (answer_to s (option_map request_value request.entry)) result keeper.new }
+    ensures { (s : State) → IsPlainState keeper.old s
+        → SaysOr s (answer_to s (option_map request_value request.entry)) result keeper.new }
 {
     match request {
         Some(Request::Batch { text }) => answer_batch(alloc, keeper, text),
@@ -153,9 +165,11 @@ pub fn answer_line(
 ) -> Result<Option<String>, AllocError>
     // The text and the state afterwards are those of what the line asks for, in the state before;
     // after want of memory the state is the one before.
-    ensures answered { (s : State) → IsPlainState keeper.old s → line.now ≢ [] → LineSays s (answer_to s (request_in line.now)) result keeper.new }
+    ensures answered { (s : State) → IsPlainState keeper.old s → line.now ≢ []
+        → LineSays s (answer_to s (request_in line.now)) result keeper.new }
     // An empty line is passed over.
-    ensures empty { line.now ≡ [] → (result ≡ Ok None) × ((s : State) → IsPlainState keeper.old s → IsPlainState keeper.new s) }
+    ensures empty { line.now ≡ [] → (result ≡ Ok None)
+        × ((s : State) → IsPlainState keeper.old s → IsPlainState keeper.new s) }
 {
     if line.is_empty() {
         return Ok(None);

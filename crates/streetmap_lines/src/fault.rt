@@ -23,7 +23,8 @@ impl LinesFault {
     /// The fault of a read that failed. A buffer that finds no memory fails so too.
     pub fn of_read(error: &Error) -> LinesFault
         ensures memory { error_kind error.now ≡ ErrorKind.OutOfMemory → result ≡ LinesFault.Memory }
-        ensures other { error_kind error.now ≢ ErrorKind.OutOfMemory → result ≡ LinesFault.ReadFailed }
+        ensures other { error_kind error.now ≢ ErrorKind.OutOfMemory
+            → result ≡ LinesFault.ReadFailed }
         ensures fault { IsReadFault result }
     {
         if error.kind() == ErrorKind::OutOfMemory {
@@ -36,7 +37,8 @@ impl LinesFault {
     /// The fault of a write that failed.
     pub fn of_write(error: &Error) -> LinesFault
         ensures memory { error_kind error.now ≡ ErrorKind.OutOfMemory → result ≡ LinesFault.Memory }
-        ensures other { error_kind error.now ≢ ErrorKind.OutOfMemory → result ≡ LinesFault.WriteFailed }
+        ensures other { error_kind error.now ≢ ErrorKind.OutOfMemory
+            → result ≡ LinesFault.WriteFailed }
         ensures fault { IsWriteFault result }
     {
         if error.kind() == ErrorKind::OutOfMemory {

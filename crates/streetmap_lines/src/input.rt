@@ -1,12 +1,14 @@
 //! Lines of input, answered one by one.
-ghost use Rattle.std.specs.Prelude.{◌≡◌, ◌≤◌, ◌++◌, ◌∷◌, [], Some, None, Err, IfOk, OnOk, IfErr, OnErr, IfSome, OnSome, IsSomeAnd, vec_len, take, ◌==◌};
+ghost use Rattle.std.specs.Prelude.{◌≡◌, ◌≤◌, ◌++◌, ◌∷◌, [], Some, None, Err, IfOk, OnOk, IfErr};
+ghost use Rattle.std.specs.Prelude.{OnErr, IfSome, OnSome, IsSomeAnd, vec_len, take, ◌==◌};
 ghost use Rattle.std.specs.List.{position_from, position_or_len};
 ghost use Rattle.std.specs.Str.Lines.{lines, strip_carriage_return};
 ghost use Rattle.std.specs.Io.KnownBytes.{Appends, IsAtEnd};
 ghost use Rattle.streetmap_memory.specs.Plain.{IsPlain, plain_state};
 ghost use Rattle.streetmap_ledger.specs.State.{opening_state};
 ghost use Rattle.streetmap_lines.specs.Faults.{IsLineFault, IsWriteFault};
-ghost use Rattle.streetmap_lines.specs.Lines.{line_answer, state_after, answer_text, answers_of, first_too_long, AppendsFirst, AnswersFirst};
+ghost use Rattle.streetmap_lines.specs.Lines.{line_answer, state_after, answer_text, answers_of};
+ghost use Rattle.streetmap_lines.specs.Lines.{first_too_long, AppendsFirst, AnswersFirst};
 ghost use Rattle.streetmap_lines.specs.Reading.{HasNoLineFeed, TakesShown, TakesLine};
 
 use crate::answer::answer_line;
@@ -61,8 +63,11 @@ fn take_shown<R: BufRead>(reader: &mut R, line: &mut Vec<u8>) -> Result<Shown, L
     requires one_line { HasNoLineFeed line.old.items }
     ensures short { OnOk result (vec_len line.new ≤ 8388608) }
     ensures one_line { OnOk result (HasNoLineFeed line.new.items) }
-    ensures taken { IfOk result (TakesShown (R.remaining reader.old) (R.remaining reader.new) line.old.items line.new.items) }
-    ensures too_long { result ≡ Err LinesFault.LineTooLong → IfSome (R.remaining reader.old) (λ rest. first_too_long (line.old.items ++ rest) ≡ Some 0) }
+    ensures taken { IfOk result (TakesShown (R.remaining reader.old) (R.remaining reader.new)
+        line.old.items line.new.items) }
+    ensures too_long { result ≡ Err LinesFault.LineTooLong
+        → IfSome (R.remaining reader.old) (λ rest. first_too_long (line.old.items ++ rest)
+        ≡ Some 0) }
     ensures fault { IfErr result IsLineFault }
 {
     let shown = match reader.fill_buf() {
@@ -100,7 +105,8 @@ fn drop_carriage_return(line: &mut Vec<u8>)
 /// The next line of the input. The last one may lack its line feed.
 fn next_line<R: BufRead>(alloc: Global, reader: &mut R) -> Result<Line, LinesFault>
     ensures taken { IfOk result (TakesLine (R.remaining reader.old) (R.remaining reader.new)) }
-    ensures too_long { result ≡ Err LinesFault.LineTooLong → IfSome (R.remaining reader.old) (λ input. first_too_long input ≡ Some 0) }
+    ensures too_long { result ≡ Err LinesFault.LineTooLong
+        → IfSome (R.remaining reader.old) (λ input. first_too_long input ≡ Some 0) }
     ensures fault { IfErr result IsLineFault }
 {
     let mut line = Vec::new(alloc);
@@ -127,7 +133,8 @@ fn next_line<R: BufRead>(alloc: Global, reader: &mut R) -> Result<Line, LinesFau
 /// Writes bytes, as often as the writer takes some of them.
 fn write_bytes<W: Write>(writer: &mut W, bytes: &[u8]) -> Result<(), LinesFault>
     ensures ok { OnOk result (Appends (W.contents writer.old) (W.contents writer.new) bytes.now) }
-    ensures err { OnErr result (AppendsFirst (W.contents writer.old) (W.contents writer.new) bytes.now) }
+    ensures err { OnErr result (AppendsFirst (W.contents writer.old) (W.contents writer.new)
+        bytes.now) }
     ensures fault { IfErr result IsWriteFault }
 {
     let mut rest = bytes;
@@ -147,8 +154,10 @@ fn write_bytes<W: Write>(writer: &mut W, bytes: &[u8]) -> Result<(), LinesFault>
 
 /// Writes an answer and a line feed, and lets the reader of the answers see them.
 fn write_line<W: Write>(writer: &mut W, answer: &str) -> Result<(), LinesFault>
-    ensures ok { OnOk result (Appends (W.contents writer.old) (W.contents writer.new) (answer.now ++ 10 ∷ [])) }
-    ensures err { OnErr result (AppendsFirst (W.contents writer.old) (W.contents writer.new) (answer.now ++ 10 ∷ [])) }
+    ensures ok { OnOk result (Appends (W.contents writer.old) (W.contents writer.new)
+        (answer.now ++ 10 ∷ [])) }
+    ensures err { OnErr result (AppendsFirst (W.contents writer.old) (W.contents writer.new)
+        (answer.now ++ 10 ∷ [])) }
     ensures fault { IfErr result IsWriteFault }
 {
     write_bytes(writer, answer.as_bytes())?;
@@ -166,9 +175,14 @@ fn write_answer<W: Write>(
     line: &[u8],
     writer: &mut W,
 ) -> Result<(), LinesFault>
-    ensures ok { IsPlain keeper.old (plain_state keeper.old) → OnOk result (Appends (W.contents writer.old) (W.contents writer.new) (answer_text (line_answer (plain_state keeper.old) line.now))) }
-    ensures state { IsPlain keeper.old (plain_state keeper.old) → OnOk result (IsPlain keeper.new (state_after (plain_state keeper.old) line.now)) }
-    ensures err { IsPlain keeper.old (plain_state keeper.old) → OnErr result (AppendsFirst (W.contents writer.old) (W.contents writer.new) (answer_text (line_answer (plain_state keeper.old) line.now))) }
+    ensures ok { IsPlain keeper.old (plain_state keeper.old)
+        → OnOk result (Appends (W.contents writer.old) (W.contents writer.new)
+        (answer_text (line_answer (plain_state keeper.old) line.now))) }
+    ensures state { IsPlain keeper.old (plain_state keeper.old)
+        → OnOk result (IsPlain keeper.new (state_after (plain_state keeper.old) line.now)) }
+    ensures err { IsPlain keeper.old (plain_state keeper.old)
+        → OnErr result (AppendsFirst (W.contents writer.old) (W.contents writer.new)
+        (answer_text (line_answer (plain_state keeper.old) line.now))) }
     ensures fault { IfErr result IsWriteFault }
 {
     match answer_line(alloc, keeper, line)? {
@@ -177,36 +191,45 @@ fn write_answer<W: Write>(
     }
 }
 
-/// Answers the lines of the reader in order, each by one line of the writer, over a ledger in memory
-/// that begins empty. Empty lines are passed over.
+/// Answers the lines of the reader in order, each by one line of the writer, over a ledger in
+/// memory that begins empty. Empty lines are passed over.
 ///
 /// # Errors
 ///
-/// `LineTooLong` at a line of more than 8,388,608 bytes, where the answers to all lines before it are
-/// written; `ReadFailed`, where those to some of the first lines are; `WriteFailed` or `Memory`, where what
-/// was written is a beginning of the answers. After 2^64 - 1 lines it ends as after a failed read.
+/// `LineTooLong` at a line of more than 8,388,608 bytes, where the answers to all lines before it
+/// are written; `ReadFailed`, where those to some of the first lines are; `WriteFailed` or
+/// `Memory`, where what was written is a beginning of the answers. After 2^64 - 1 lines it ends as
+/// after a failed read.
 pub fn lines<R: BufRead, W: Write>(
     alloc: Global,
     reader: &mut R,
     writer: &mut W,
 ) -> Result<(), LinesFault>
     // All lines are answered, in order from the opening state on, and nothing else is written.
-    ensures answered { OnOk result (IfSome (R.remaining reader.old) (λ input.
-        Appends (W.contents writer.old) (W.contents writer.new) (answers_of opening_state (lines input)))) }
+    ensures answered { OnOk result
+        (IfSome (R.remaining reader.old) (λ input.
+        Appends (W.contents writer.old) (W.contents writer.new)
+        (answers_of opening_state (lines input)))) }
     // No line is too long.
-    ensures short { OnOk result (IfSome (R.remaining reader.old) (λ input. first_too_long input ≡ None)) }
+    ensures short { OnOk result (IfSome (R.remaining reader.old) (λ input. first_too_long input
+        ≡ None)) }
     // The whole input is taken.
-    ensures whole { OnOk result (OnSome (R.remaining reader.old) (IsAtEnd (R.remaining reader.new))) }
+    ensures whole { OnOk result (OnSome (R.remaining reader.old)
+        (IsAtEnd (R.remaining reader.new))) }
     // There is a line that is too long, and the lines before the first of them are answered.
-    ensures too_long { result ≡ Err LinesFault.LineTooLong → IfSome (R.remaining reader.old) (λ input.
+    ensures too_long { result ≡ Err LinesFault.LineTooLong
+        → IfSome (R.remaining reader.old) (λ input.
         IsSomeAnd (first_too_long input) (λ count.
-        Appends (W.contents writer.old) (W.contents writer.new) (answers_of opening_state (take count (lines input))))) }
+        Appends (W.contents writer.old) (W.contents writer.new)
+        (answers_of opening_state (take count (lines input))))) }
     // Some of the first lines are answered, each whole, and no other.
-    ensures read_failed { result ≡ Err LinesFault.ReadFailed → IfSome (R.remaining reader.old) (λ input.
+    ensures read_failed { result ≡ Err LinesFault.ReadFailed
+        → IfSome (R.remaining reader.old) (λ input.
         AnswersFirst (W.contents writer.old) (W.contents writer.new) opening_state (lines input)) }
     // What was written is the beginning of the answers.
     ensures err { OnErr result (IfSome (R.remaining reader.old) (λ input.
-        AppendsFirst (W.contents writer.old) (W.contents writer.new) (answers_of opening_state (lines input)))) }
+        AppendsFirst (W.contents writer.old) (W.contents writer.new)
+        (answers_of opening_state (lines input)))) }
 {
     let mut keeper = PlainKeeper::new(alloc);
     for _turn in 0..u64::MAX {

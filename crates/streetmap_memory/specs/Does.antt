@@ -21,10 +21,14 @@ state_of t keys = record { collections = collections_of t; keys = keys }
 
 -- one edit is done, and can be taken back, or is refused
 abbrev pub DoesOne : SlotCollections → EditValue → Acted → SlotCollections → Type 0
-DoesOne old e (Done u) new = ((keys : Keys) → step (state_of old keys) e ≡ Ok (state_of new keys)) × (undone u new ≡ old)
-DoesOne old e (Refused why) new = ((keys : Keys) → step (state_of old keys) e ≡ Err why) × (new ≡ old)
+DoesOne old e (Done u) new = ((keys : Keys) → step (state_of old keys) e ≡ Ok (state_of new keys))
+    × (undone u new ≡ old)
+DoesOne old e (Refused why) new = ((keys : Keys) → step (state_of old keys) e ≡ Err why)
+    × (new ≡ old)
 
 -- all are done, or one is refused and nothing changes
-abbrev pub DoesAll : SlotCollections → List EditValue → Option (ℕ × Refusal) → SlotCollections → Type 0
+abbrev pub DoesAll : SlotCollections → List EditValue → Option (ℕ × Refusal) → SlotCollections
+    → Type 0
 DoesAll old es None new = (keys : Keys) → edited 1 (state_of old keys) es ≡ Ok (state_of new keys)
-DoesAll old es (Some stop) new = ((keys : Keys) → edited 1 (state_of old keys) es ≡ Err (stop.0, stop.1)) × (new ≡ old)
+DoesAll old es (Some stop) new = ((keys : Keys)
+    → edited 1 (state_of old keys) es ≡ Err (stop.0, stop.1)) × (new ≡ old)

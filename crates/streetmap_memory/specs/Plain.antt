@@ -19,14 +19,17 @@ abbrev pub plain_state : PlainKeeper → State
 plain_state k = state_of (map_of k.collections.entries) (map_of k.keys.entries)
 
 -- what a batch whose key is not there comes to
-abbrev pub outcome_of : BTreeMap (String Global) SlotCollection → BTreeMap (String Global) AcceptedBatch → BatchValue → ℕ → Outcome
+abbrev pub outcome_of : BTreeMap (String Global) SlotCollection
+    → BTreeMap (String Global) AcceptedBatch → BatchValue → ℕ → Outcome
 outcome_of collections keys b serial =
     let s = state_of (map_of collections.entries) (map_of keys.entries) in
     fresh s b serial (edited 1 s b.edits)
 
 -- the reply is the outcome's, and the maps are those of its state
-abbrev pub IsOutcome : Outcome → Reply → BTreeMap (String Global) SlotCollection → BTreeMap (String Global) AcceptedBatch → Type 0
-IsOutcome o reply collections keys = (reply ≡ o.reply) × (state_of (map_of collections.entries) (map_of keys.entries) ≡ o.state)
+abbrev pub IsOutcome : Outcome → Reply → BTreeMap (String Global) SlotCollection
+    → BTreeMap (String Global) AcceptedBatch → Type 0
+IsOutcome o reply collections keys = (reply ≡ o.reply)
+    × (state_of (map_of collections.entries) (map_of keys.entries) ≡ o.state)
 
 -- nothing shut a keeper that has no cause
 pub never_shut : {B : Type 0} → IsSome {T = Cause} None → B

@@ -1,5 +1,7 @@
--- How the plain keeper keeps a collection: a feature that a batch deletes leaves its slot empty, until the batch is done.
-use Rattle.std.specs.Prelude.{Bool, true, false, List, [], ◌∷◌, Option, None, Some, String, string_bytes, map, is_some, if◌then◌else◌, refl}
+-- How the plain keeper keeps a collection: a feature that a batch deletes leaves its slot empty,
+-- until the batch is done.
+use Rattle.std.specs.Prelude.{Bool, true, false, List, [], ◌∷◌, Option, None, Some, String}
+use Rattle.std.specs.Prelude.{string_bytes, map, is_some, if◌then◌else◌, refl}
 use Rattle.std.specs.Option.{option_and_then}
 use Rattle.std.specs.Coded.{Coded, code_by, coded×, coded_ℕ, coded_list, coded_option}
 use Rattle.std.specs.FinMap as finmap
@@ -29,8 +31,11 @@ coded_text = coded_list coded_ℕ
 -- a collection is stored as its title, time property and slots
 abbrev pub coded_slot_collection : Coded SlotCollection
 coded_slot_collection =
-    code_by (Text × (Option Text × Slots)) (coded× coded_text (coded× (coded_option coded_text) (finmap.code coded_text (coded_option coded_feature))))
-    (λ c. (c.title, (c.time, c.slots))) (λ p. record { title = p.0; time = p.1.0; slots = p.1.1 }) (λ _. refl)
+    code_by (Text × (Option Text × Slots))
+    (coded× coded_text (coded× (coded_option coded_text)
+    (finmap.code coded_text (coded_option coded_feature))))
+    (λ c. (c.title, (c.time, c.slots))) (λ p. record { title = p.0; time = p.1.0; slots = p.1.1 })
+    (λ _. refl)
 
 -- the entries of a map whose keys are `String`s, by the keys' bytes
 abbrev pub by_text : {X : Type 0} → List (String Global × X) → List (Text × X)
@@ -55,7 +60,8 @@ live_of [] = empty
 live_of (e ∷ es) = filled (live_of es) e.0 e.1
 
 -- with the feature of a slot before them, under its id, where it holds one
-abbrev pub with_live : Text → Option FeatureValue → List (Text × FeatureValue) → List (Text × FeatureValue)
+abbrev pub with_live : Text → Option FeatureValue → List (Text × FeatureValue)
+    → List (Text × FeatureValue)
 with_live id None es = es
 with_live id (Some f) es = (id, f) ∷ es
 
@@ -94,12 +100,14 @@ abbrev pub cut_slot : SlotCollection → Text → SlotCollection
 cut_slot c id = record c { slots = remove c.slots id }
 
 -- with this collection changed, where it is there
-abbrev pub changed_collection : SlotCollections → Text → (SlotCollection → SlotCollection) → Option SlotCollection → SlotCollections
+abbrev pub changed_collection : SlotCollections → Text → (SlotCollection → SlotCollection)
+    → Option SlotCollection → SlotCollections
 changed_collection t name f None = t
 changed_collection t name f (Some c) = insert t name (f c)
 
 -- with one of the collections changed, where it is there
-abbrev pub with_collection : SlotCollections → Text → (SlotCollection → SlotCollection) → SlotCollections
+abbrev pub with_collection : SlotCollections → Text → (SlotCollection → SlotCollection)
+    → SlotCollections
 with_collection t name f = changed_collection t name f (get t name)
 
 -- with this in a slot of a collection

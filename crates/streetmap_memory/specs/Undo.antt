@@ -6,7 +6,8 @@ use Rattle.std.specs.FinMap.{get, remove}
 use Rattle.streetmap_geojson.specs.FeatureValue.{FeatureValue}
 use Rattle.streetmap_batch.specs.Text.{Text}
 use Rattle.streetmap_ledger.specs.State.{timed}
-use Rattle.streetmap_memory.specs.Slots.{SlotCollections, SlotCollection, cut_in, reset_in, swept_in}
+use Rattle.streetmap_memory.specs.Slots.{SlotCollections, SlotCollection, cut_in, reset_in}
+use Rattle.streetmap_memory.specs.Slots.{swept_in}
 use Rattle.streetmap_memory.specs.declared.edits.Found.{Found}
 use Rattle.streetmap_memory.specs.declared.edits.Found.TheVariants.{NoCollection, NoFeature, There}
 use Rattle.streetmap_memory.specs.declared.undo.Undo.{Undo}
@@ -39,7 +40,8 @@ found_in t name id = found_on (get t name) id
 
 -- the feature with its time by the collection's property: none where the time cannot be read
 abbrev pub timed_in : SlotCollections → Text → FeatureValue → Option FeatureValue
-timed_in t name f = option_and_then (λ (c : SlotCollection). result_ok (timed c.time f)) (get t name)
+timed_in t name f = option_and_then (λ (c : SlotCollection). result_ok (timed c.time f))
+    (get t name)
 
 -- the slot that an edit wrote is taken out where it is empty
 abbrev pub swept_by : Undo → SlotCollections → SlotCollections

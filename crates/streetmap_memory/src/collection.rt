@@ -1,5 +1,6 @@
 //! A collection as the plain keeper keeps it, by its slots.
-ghost use Rattle.std.specs.Prelude.{◌≡◌, ◌+◌, ◌++◌, ◌∷◌, [], List, IsTrue, false, IfOk, OnOk, OnErr, Option, Some, None, map, string_bytes, length};
+ghost use Rattle.std.specs.Prelude.{◌≡◌, ◌+◌, ◌++◌, ◌∷◌, [], List, IsTrue, false, IfOk, OnOk};
+ghost use Rattle.std.specs.Prelude.{OnErr, Option, Some, None, map, string_bytes, length};
 ghost use Rattle.std.specs.Option.{option_copied, option_flatten, option_map};
 ghost use Rattle.std.specs.Result.{result_ok};
 ghost use Rattle.std.specs.FinMap.{get, insert, empty};
@@ -9,7 +10,8 @@ ghost use Rattle.std.specs.String.{string_cmp};
 ghost use Rattle.streetmap_query.specs.QueryValue.{QueryValue};
 ghost use Rattle.streetmap_query.specs.Views.{query_value};
 ghost use Rattle.streetmap_ledger.specs.State.{timed as timed_by};
-ghost use Rattle.streetmap_memory.specs.Slots.{by_text, live_entries, live_values, outline_at, is_emptied as is_emptied_of};
+ghost use Rattle.streetmap_memory.specs.Slots.{by_text, live_entries, live_values, outline_at};
+ghost use Rattle.streetmap_memory.specs.Slots.{is_emptied as is_emptied_of};
 ghost use Rattle.streetmap_grid.specs.Bounds.{AreBounds};
 ghost use Rattle.streetmap_ledger.specs.Summaries.{all_vertices, summary_of};
 ghost use Rattle.streetmap_ledger.specs.SummaryView.{summary_value};
@@ -54,11 +56,16 @@ impl Model for PlainCollection {
 }
 
 impl PlainCollection {
-    ghost use Rattle.streetmap_memory.specs.Slots.{put_slot, cut_slot, reset_slot, swept_slot, live, collected};
+    ghost use Rattle.streetmap_memory.specs.Slots.{put_slot, cut_slot, reset_slot, swept_slot};
+    ghost use Rattle.streetmap_memory.specs.Slots.{live, collected};
     ghost use Rattle.std.specs.FinMap.{values};
 
     pub fn new(alloc: Global, title: String, time: Option<String>) -> Self
-        ensures { result ≡ record { title = string_bytes title; time = option_map string_bytes time; slots = empty } }
+        ensures { result ≡ record {
+          title = string_bytes title;
+          time = option_map string_bytes time;
+          slots = empty;
+        } }
     {
         PlainCollection {
             title,
@@ -161,7 +168,8 @@ impl PlainCollection {
 
     /// What is told of the collection under its id.
     pub fn summary(&self, alloc: Global, id: &str) -> Result<Summary, AllocError>
-        ensures { IfOk result (λ summary. summary_value summary ≡ summary_of id.now (collected self.now)) }
+        ensures { IfOk result (λ summary. summary_value summary
+            ≡ summary_of id.now (collected self.now)) }
     {
         Ok(Summary {
             id: String::from_str(alloc, id)?,
@@ -173,14 +181,16 @@ impl PlainCollection {
 
     /// The outlines of the features, in the order of their ids.
     pub fn outlines(&self, alloc: Global) -> Result<Vec<FeatureOutline>, AllocError>
-        ensures { IfOk result (λ outlines. feature_outline_values outlines.items ≡ feature_outlines_of (collected self.now)) }
+        ensures { IfOk result (λ outlines. feature_outline_values outlines.items
+            ≡ feature_outlines_of (collected self.now)) }
     {
         outlines_of(alloc, &self.slots)
     }
 
     /// The page of the features.
     pub fn page(&self, alloc: Global, query: &Query) -> Result<Page, AllocError>
-        ensures { IfOk result (λ page. page_value page ≡ page_over_of (query_value query.now) (values (live self.now.slots))) }
+        ensures { IfOk result (λ page. page_value page
+            ≡ page_over_of (query_value query.now) (values (live self.now.slots))) }
     {
         page_over(alloc, &self.slots, query)
     }
@@ -216,7 +226,8 @@ fn outline_of(
     id: &str,
     feature: &PackedFeature,
 ) -> Result<FeatureOutline, AllocError>
-    ensures { IfOk result (λ outline. feature_outline_value outline ≡ feature_outline_of id.now feature.now) }
+    ensures { IfOk result (λ outline. feature_outline_value outline
+        ≡ feature_outline_of id.now feature.now) }
 {
     FeatureOutline::new(alloc, id, feature.extent(), feature.time())
 }
@@ -226,7 +237,8 @@ fn outlines_of(
     alloc: Global,
     slots: &BTreeMap<String, Option<PackedFeature>>,
 ) -> Result<Vec<FeatureOutline>, AllocError>
-    ensures outlines { IfOk result (λ outlines. feature_outline_values outlines.items ≡ map outline_at (live_entries (by_text slots.now.entries))) }
+    ensures outlines { IfOk result (λ outlines. feature_outline_values outlines.items
+        ≡ map outline_at (live_entries (by_text slots.now.entries))) }
     ensures ordered { IsOrdered string_cmp slots.now }
 {
     let mut outlines = Vec::new(alloc);
@@ -244,7 +256,8 @@ fn take_unpacked(
     fold: &mut PageFold<'_>,
     feature: &PackedFeature,
 ) -> Result<(), AllocError>
-    ensures { (q : QueryValue) (fs : List FeatureValue) → Holds q fold.old fs → OnOk result (Holds q fold.new (fs ++ feature.now ∷ [])) }
+    ensures { (q : QueryValue) (fs : List FeatureValue) → Holds q fold.old fs
+        → OnOk result (Holds q fold.new (fs ++ feature.now ∷ [])) }
 {
     fold.take(feature.unpack(alloc)?)
 }
@@ -255,7 +268,8 @@ fn examine(
     fold: &mut PageFold<'_>,
     feature: &PackedFeature,
 ) -> Result<(), AllocError>
-    ensures { (q : QueryValue) (fs : List FeatureValue) → HoldsCandidates q fold.old fs → OnOk result (HoldsCandidates q fold.new (fs ++ feature.now ∷ [])) }
+    ensures { (q : QueryValue) (fs : List FeatureValue) → HoldsCandidates q fold.old fs
+        → OnOk result (HoldsCandidates q fold.new (fs ++ feature.now ∷ [])) }
 {
     feature.facts();
     if fold.take_unread(&feature.outline(), feature.unescaped_id()) {
@@ -270,7 +284,8 @@ fn page_over(
     slots: &BTreeMap<String, Option<PackedFeature>>,
     query: &Query,
 ) -> Result<Page, AllocError>
-    ensures page { IfOk result (λ page. page_value page ≡ page_over_of (query_value query.now) (live_values (values_of slots.now.entries))) }
+    ensures page { IfOk result (λ page. page_value page
+        ≡ page_over_of (query_value query.now) (live_values (values_of slots.now.entries))) }
     ensures ordered { IsOrdered string_cmp slots.now }
 {
     let mut fold = PageFold::new(alloc, query);

@@ -5,7 +5,8 @@ ghost use Rattle.std.specs.FinMap.{get, insert, empty};
 ghost use Rattle.serde_json.specs.Written.{compact_text};
 ghost use Rattle.streetmap_geojson.specs.FeatureValue.{FeatureValue};
 ghost use Rattle.streetmap_feature_text.specs.Written.{feature_data};
-ghost use Rattle.streetmap_memory.specs.Slots.{SlotCollections, map_of, slot_in, put_in, cut_in, reset_in, swept_in};
+ghost use Rattle.streetmap_memory.specs.Slots.{SlotCollections, map_of, slot_in, put_in, cut_in};
+ghost use Rattle.streetmap_memory.specs.Slots.{reset_in, swept_in};
 ghost use Rattle.std.specs.BTreeMap.{IsOrdered};
 ghost use Rattle.std.specs.String.{string_cmp};
 ghost use Rattle.streetmap_memory.specs.Slots.{summary_at};
@@ -23,7 +24,8 @@ use streetmap_ledger::Summary;
 
 /// Takes a slot out of a collection.
 fn remove_slot(collections: &mut BTreeMap<String, PlainCollection>, name: &str, id: &str)
-    ensures { map_of collections.new.entries ≡ cut_in (map_of collections.old.entries) name.now id.now }
+    ensures { map_of collections.new.entries
+        ≡ cut_in (map_of collections.old.entries) name.now id.now }
 {
     if let Some(collection) = collections.get_mut(name) {
         collection.remove_slot(id);
@@ -37,7 +39,8 @@ pub fn replace_slot(
     id: &str,
     slot: Option<PackedFeature>,
 ) -> Option<Option<PackedFeature>>
-    ensures after { map_of collections.new.entries ≡ reset_in (map_of collections.old.entries) name.now id.now slot }
+    ensures after { map_of collections.new.entries
+        ≡ reset_in (map_of collections.old.entries) name.now id.now slot }
     ensures was { result ≡ slot_in (map_of collections.old.entries) name.now id.now }
 {
     match collections.get_mut(name) {
@@ -46,8 +49,8 @@ pub fn replace_slot(
     }
 }
 
-/// The feature packed with its text, and with its time by the collection's property; none where that
-/// cannot be read.
+/// The feature packed with its text, and with its time by the collection's property; none where
+/// that cannot be read.
 pub fn packed(
     alloc: Global,
     collections: &BTreeMap<String, PlainCollection>,
@@ -56,7 +59,8 @@ pub fn packed(
     feature: &Feature,
 ) -> Result<Option<PackedFeature>, AllocError>
     requires { text ≡ compact_text (feature_data feature.now) }
-    ensures { IfOk result (λ packed. packed ≡ timed_in (map_of collections.now.entries) name.now feature.now) }
+    ensures { IfOk result (λ packed. packed
+        ≡ timed_in (map_of collections.now.entries) name.now feature.now) }
 {
     match collections.get(name) {
         Some(collection) => Ok(collection.packed(alloc, text, feature)?),
@@ -72,8 +76,10 @@ pub fn put(
     id: &str,
     feature: PackedFeature,
 ) -> Result<Option<Option<PackedFeature>>, AllocError>
-    ensures ok { OnOk result (map_of collections.new.entries ≡ put_in (map_of collections.old.entries) name.now id.now (Some feature)) }
-    ensures was { IfOk result (λ was. was ≡ slot_in (map_of collections.old.entries) name.now id.now) }
+    ensures ok { OnOk result (map_of collections.new.entries
+        ≡ put_in (map_of collections.old.entries) name.now id.now (Some feature)) }
+    ensures was { IfOk result (λ was. was
+        ≡ slot_in (map_of collections.old.entries) name.now id.now) }
     ensures err { OnErr result (map_of collections.new.entries ≡ map_of collections.old.entries) }
 {
     let key = String::from_str(alloc, id)?;
@@ -85,7 +91,8 @@ pub fn put(
 
 /// What takes back that a slot was written which was this before.
 pub fn undo_of<'a>(name: &'a str, id: &'a str, was: Option<Option<PackedFeature>>) -> Undo<'a>
-    ensures { (t : SlotCollections) (slot : Option FeatureValue) → slot_in t name.now id.now ≡ was → undone result (put_in t name.now id.now slot) ≡ t }
+    ensures { (t : SlotCollections) (slot : Option FeatureValue) → slot_in t name.now id.now ≡ was
+        → undone result (put_in t name.now id.now slot) ≡ t }
 {
     match was {
         Some(slot) => Undo::Set(name, id, slot),
@@ -102,7 +109,9 @@ pub fn open(
     time: Option<&str>,
 ) -> Result<(), AllocError>
     requires { get (map_of collections.old.entries) name.now ≡ None }
-    ensures ok { OnOk result (map_of collections.new.entries ≡ insert (map_of collections.old.entries) name.now (record { title = title.now; time = option_copied time.entry; slots = empty })) }
+    ensures ok { OnOk result (map_of collections.new.entries
+        ≡ insert (map_of collections.old.entries) name.now
+        (record { title = title.now; time = option_copied time.entry; slots = empty })) }
     ensures err { OnErr result (map_of collections.new.entries ≡ map_of collections.old.entries) }
 {
     let key = String::from_str(alloc, name)?;
@@ -132,7 +141,8 @@ fn undo(collections: &mut BTreeMap<String, PlainCollection>, edit: Undo<'_>)
 
 /// Takes edits back, the last first.
 pub fn rewind(collections: &mut BTreeMap<String, PlainCollection>, mut log: Vec<Undo<'_>>)
-    ensures { map_of collections.new.entries ≡ rewound log.entry.items (map_of collections.old.entries) }
+    ensures { map_of collections.new.entries
+        ≡ rewound log.entry.items (map_of collections.old.entries) }
 {
     while let Some(edit) = log.pop() {
         undo(collections, edit);
@@ -141,7 +151,8 @@ pub fn rewind(collections: &mut BTreeMap<String, PlainCollection>, mut log: Vec<
 
 /// Takes a slot out of a collection, where it is empty.
 fn sweep_slot(collections: &mut BTreeMap<String, PlainCollection>, name: &str, id: &str)
-    ensures { map_of collections.new.entries ≡ swept_in (map_of collections.old.entries) name.now id.now }
+    ensures { map_of collections.new.entries
+        ≡ swept_in (map_of collections.old.entries) name.now id.now }
 {
     if let Some(collection) = collections.get_mut(name) {
         collection.sweep(id);
@@ -150,7 +161,8 @@ fn sweep_slot(collections: &mut BTreeMap<String, PlainCollection>, name: &str, i
 
 /// Takes out the slot that an edit wrote, where it left that empty.
 fn sweep_edit(collections: &mut BTreeMap<String, PlainCollection>, edit: Undo<'_>)
-    ensures { map_of collections.new.entries ≡ swept_by edit.entry (map_of collections.old.entries) }
+    ensures { map_of collections.new.entries
+        ≡ swept_by edit.entry (map_of collections.old.entries) }
 {
     match edit {
         Undo::Open(_) => {}
@@ -164,7 +176,8 @@ fn sweep_edit(collections: &mut BTreeMap<String, PlainCollection>, edit: Undo<'_
 
 /// Takes out the slots that edits wrote and left empty.
 pub fn sweep(collections: &mut BTreeMap<String, PlainCollection>, mut log: Vec<Undo<'_>>)
-    ensures { map_of collections.new.entries ≡ all_swept log.entry.items (map_of collections.old.entries) }
+    ensures { map_of collections.new.entries
+        ≡ all_swept log.entry.items (map_of collections.old.entries) }
 {
     while let Some(edit) = log.pop() {
         sweep_edit(collections, edit);
@@ -176,7 +189,8 @@ pub fn summaries(
     alloc: Global,
     collections: &BTreeMap<String, PlainCollection>,
 ) -> Result<Vec<Summary>, AllocError>
-    ensures told { IfOk result (λ told. summary_values told.items ≡ map summary_at collections.now.entries) }
+    ensures told { IfOk result (λ told. summary_values told.items
+        ≡ map summary_at collections.now.entries) }
     ensures ordered { IsOrdered string_cmp collections.now }
 {
     let mut told = Vec::new(alloc);

@@ -22,10 +22,13 @@ impl<'a> Cutter<'a> {
         Cutter { whole, from: 0 }
     }
 
-    /// Where the text begins and ends in the rest of the whole. The next one is looked for behind it.
+    /// Where the text begins and ends in the rest of the whole. The next one is looked for behind
+    /// it.
     fn find(&mut self, text: &[u8]) -> Option<(usize, usize)>
         ensures whole { self.new.whole ≡ self.old.whole }
-        ensures found { IfSome result (λ place. (place.0 ≤ place.1) × (place.1 ≤ length self.old.whole.now) × (slice_range self.old.whole.now place.0 place.1 ≡ text.now)) }
+        ensures found { IfSome result (λ place. (place.0 ≤ place.1)
+            × (place.1 ≤ length self.old.whole.now)
+            × (slice_range self.old.whole.now place.0 place.1 ≡ text.now)) }
     {
         let whole = self.whole.as_slice();
         let rest = whole.get(self.from..)?;
@@ -39,7 +42,8 @@ impl<'a> Cutter<'a> {
         }
     }
 
-    /// The compact text of a feature: a part of the whole where it stands there, else one of its own.
+    /// The compact text of a feature: a part of the whole where it stands there, else one of its
+    /// own.
     pub fn cut(&mut self, alloc: Global, feature: &Feature) -> Result<Bytes, AllocError>
         ensures { IfOk result (λ text. text ≡ compact_text (feature_data feature.now)) }
     {

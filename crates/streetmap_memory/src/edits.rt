@@ -46,7 +46,10 @@ fn act_open<'a>(
     title: &str,
     time: Option<&str>,
 ) -> Result<Acted<'a>, AllocError>
-    ensures done { IfOk result (λ acted. DoesOne (map_of collections.old.entries) (edit.«open» name.now title.now (option_copied time.entry)) acted (map_of collections.new.entries)) }
+    ensures done { IfOk result (λ acted.
+        DoesOne (map_of collections.old.entries)
+        (edit.«open» name.now title.now (option_copied time.entry)) acted
+        (map_of collections.new.entries)) }
     ensures err { OnErr result (map_of collections.new.entries ≡ map_of collections.old.entries) }
 {
     match collections.get(name) {
@@ -65,7 +68,9 @@ fn act_insert<'a>(
     feature: &'a Feature,
     cutter: &mut Cutter<'_>,
 ) -> Result<Acted<'a>, AllocError>
-    ensures done { IfOk result (λ acted. DoesOne (map_of collections.old.entries) (edit.insert name.now feature.now) acted (map_of collections.new.entries)) }
+    ensures done { IfOk result (λ acted.
+        DoesOne (map_of collections.old.entries) (edit.insert name.now feature.now) acted
+        (map_of collections.new.entries)) }
     ensures err { OnErr result (map_of collections.new.entries ≡ map_of collections.old.entries) }
 {
     let id = feature.id();
@@ -92,7 +97,9 @@ fn act_replace<'a>(
     feature: &'a Feature,
     cutter: &mut Cutter<'_>,
 ) -> Result<Acted<'a>, AllocError>
-    ensures done { IfOk result (λ acted. DoesOne (map_of collections.old.entries) (edit.replace name.now feature.now) acted (map_of collections.new.entries)) }
+    ensures done { IfOk result (λ acted.
+        DoesOne (map_of collections.old.entries) (edit.replace name.now feature.now) acted
+        (map_of collections.new.entries)) }
     ensures err { OnErr result (map_of collections.new.entries ≡ map_of collections.old.entries) }
 {
     let id = feature.id();
@@ -117,7 +124,8 @@ fn act_delete<'a>(
     name: &'a str,
     id: &'a str,
 ) -> Acted<'a>
-    ensures { DoesOne (map_of collections.old.entries) (edit.delete name.now id.now) result (map_of collections.new.entries) }
+    ensures { DoesOne (map_of collections.old.entries) (edit.delete name.now id.now) result
+        (map_of collections.new.entries) }
 {
     match find(collections, name, id) {
         Found::NoCollection => Acted::Refused(Refusal::NoCollection),
@@ -145,7 +153,9 @@ fn act<'a>(
     edit: &'a Edit,
     cutter: &mut Cutter<'_>,
 ) -> Result<Acted<'a>, AllocError>
-    ensures done { IfOk result (λ acted. DoesOne (map_of collections.old.entries) (edit_value edit.now) acted (map_of collections.new.entries)) }
+    ensures done { IfOk result (λ acted.
+        DoesOne (map_of collections.old.entries) (edit_value edit.now) acted
+        (map_of collections.new.entries)) }
     ensures err { OnErr result (map_of collections.new.entries ≡ map_of collections.old.entries) }
 {
     match edit {
@@ -176,15 +186,17 @@ fn act<'a>(
     }
 }
 
-/// Acts on edits in order; the texts of their features are cut from that of the batch. Where an edit is
-/// refused, or memory is, what was done is taken back.
+/// Acts on edits in order; the texts of their features are cut from that of the batch. Where an
+/// edit is refused, or memory is, what was done is taken back.
 pub fn act_all(
     alloc: Global,
     collections: &mut BTreeMap<String, PlainCollection>,
     edits: &[Edit],
     text: &Bytes,
 ) -> Result<Option<(u64, Refusal)>, AllocError>
-    ensures done { IfOk result (λ stopped. DoesAll (map_of collections.old.entries) (map edit_value edits.now) stopped (map_of collections.new.entries)) }
+    ensures done { IfOk result (λ stopped.
+        DoesAll (map_of collections.old.entries) (map edit_value edits.now) stopped
+        (map_of collections.new.entries)) }
     ensures err { OnErr result (map_of collections.new.entries ≡ map_of collections.old.entries) }
 {
     let mut log = Vec::with_capacity(alloc, edits.len())?;

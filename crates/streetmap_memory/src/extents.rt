@@ -9,7 +9,8 @@ use streetmap_grid::GridBox;
 
 /// The bounds so far, with those of one feature more.
 pub fn grown(bounds: Option<GridBox>, feature: &PackedFeature) -> Option<GridBox>
-    ensures { (ps : List PositionValue) → AreBounds ps bounds → AreBounds (ps ++ feature_vertices feature.now) result }
+    ensures { (ps : List PositionValue) → AreBounds ps bounds
+        → AreBounds (ps ++ feature_vertices feature.now) result }
 {
     feature.facts();
     match (bounds, feature.extent()) {

@@ -1,5 +1,6 @@
 //! A keeper in memory.
-ghost use Rattle.std.specs.Prelude.{◌≡◌, ◌+◌, Option, Some, None, Vec, IfOk, OnOk, OnErr, IsErrOf, string_bytes};
+ghost use Rattle.std.specs.Prelude.{◌≡◌, ◌+◌, Option, Some, None, Vec, IfOk, OnOk, OnErr, IsErrOf};
+ghost use Rattle.std.specs.Prelude.{string_bytes};
 ghost use Rattle.std.specs.FinMap.{get, insert};
 ghost use Rattle.std.specs.Option.{option_map};
 ghost use Rattle.std.specs.declared.alloc.Global.{Global};
@@ -60,7 +61,9 @@ fn keep(
     counts: Counts,
     serial: u64,
 ) -> Result<(), AllocError>
-    ensures ok { OnOk result (map_of keys.new.entries ≡ insert (map_of keys.old.entries) key.now (record { text = text.now; counts = counts; serial = serial })) }
+    ensures ok { OnOk result (map_of keys.new.entries
+        ≡ insert (map_of keys.old.entries) key.now
+        (record { text = text.now; counts = counts; serial = serial })) }
     ensures err { OnErr result (map_of keys.new.entries ≡ map_of keys.old.entries) }
 {
     let own_key = String::from_str(alloc, key)?;
@@ -81,8 +84,11 @@ fn accept(
 ) -> Result<Reply, AllocError>
     requires new { get (map_of keys.old.entries) (batch_value batch.now).key ≡ None }
     requires its_text { text.now ≡ batch_text (batch_value batch.now) }
-    ensures ok { IfOk result (λ reply. IsOutcome (outcome_of collections.old keys.old (batch_value batch.now) serial) reply collections.new keys.new) }
-    ensures err_collections { OnErr result (map_of collections.new.entries ≡ map_of collections.old.entries) }
+    ensures ok { IfOk result (λ reply.
+        IsOutcome (outcome_of collections.old keys.old (batch_value batch.now) serial) reply
+        collections.new keys.new) }
+    ensures err_collections { OnErr result (map_of collections.new.entries
+        ≡ map_of collections.old.entries) }
     ensures err_keys { OnErr result (map_of keys.new.entries ≡ map_of keys.old.entries) }
 {
     let counts = Counts::of(batch.edits());
@@ -113,7 +119,8 @@ impl PlainKeeper {
     }
 
     fn page_of(&self, collection: &str, query: &Query) -> Result<Option<Page>, AllocError>
-        ensures { IfOk result (λ page. option_map page_value page ≡ page_in (plain_state self.now) collection.now (query_value query.now)) }
+        ensures { IfOk result (λ page. option_map page_value page
+            ≡ page_in (plain_state self.now) collection.now (query_value query.now)) }
     {
         match self.collections.get(collection) {
             Some(collection) => Ok(Some(collection.page(self.alloc, query)?)),
@@ -122,7 +129,8 @@ impl PlainKeeper {
     }
 
     fn feature_of(&self, collection: &str, id: &str) -> Result<Option<Feature>, AllocError>
-        ensures { IfOk result (λ found. found ≡ feature_in (plain_state self.now) collection.now id.now) }
+        ensures { IfOk result (λ found. found
+            ≡ feature_in (plain_state self.now) collection.now id.now) }
     {
         match self.collections.get(collection) {
             Some(collection) => match collection.get(id) {
@@ -134,7 +142,8 @@ impl PlainKeeper {
     }
 
     fn summary_of(&self, id: &str) -> Result<Option<Summary>, AllocError>
-        ensures { IfOk result (λ told. option_map summary_value told ≡ summary_in (plain_state self.now) id.now) }
+        ensures { IfOk result (λ told. option_map summary_value told
+            ≡ summary_in (plain_state self.now) id.now) }
     {
         match self.collections.get(id) {
             Some(collection) => Ok(Some(collection.summary(self.alloc, id)?)),
@@ -143,7 +152,9 @@ impl PlainKeeper {
     }
 
     fn outlines_of(&self, collection: &str) -> Result<Option<Vec<FeatureOutline>>, AllocError>
-        ensures { IfOk result (λ found. option_map (λ (os : Vec FeatureOutline Global). feature_outline_values os.items) found ≡ outlines_in (plain_state self.now) collection.now) }
+        ensures { IfOk result (λ found.
+            option_map (λ (os : Vec FeatureOutline Global). feature_outline_values os.items) found
+            ≡ outlines_in (plain_state self.now) collection.now) }
     {
         match self.collections.get(collection) {
             Some(collection) => Ok(Some(collection.outlines(self.alloc)?)),
@@ -152,14 +163,17 @@ impl PlainKeeper {
     }
 
     fn summaries_of(&self) -> Result<Vec<Summary>, AllocError>
-        ensures { IfOk result (λ told. summary_values told.items ≡ summaries_in (plain_state self.now)) }
+        ensures { IfOk result (λ told. summary_values told.items
+            ≡ summaries_in (plain_state self.now)) }
     {
         summaries(self.alloc, &self.collections)
     }
 
     fn apply_batch(&mut self, batch: &Batch) -> Result<Reply, AllocError>
-        ensures reply { IfOk result (λ reply. reply ≡ (act (plain_state self.old) (batch_value batch.now)).reply) }
-        ensures state { OnOk result (plain_state self.new ≡ (act (plain_state self.old) (batch_value batch.now)).state) }
+        ensures reply { IfOk result (λ reply. reply
+            ≡ (act (plain_state self.old) (batch_value batch.now)).reply) }
+        ensures state { OnOk result (plain_state self.new
+            ≡ (act (plain_state self.old) (batch_value batch.now)).state) }
         ensures err { OnErr result (plain_state self.new ≡ plain_state self.old) }
     {
         let text = text_of(self.alloc, batch)?;
@@ -185,7 +199,8 @@ impl PlainKeeper {
 }
 
 impl Keeper for PlainKeeper {
-    ghost use Rattle.streetmap_memory.specs.Plain.{IsPlain, PlainLeaves, one_plain, leaves_it, never_shut};
+    ghost use Rattle.streetmap_memory.specs.Plain.{IsPlain, PlainLeaves, one_plain, leaves_it};
+    ghost use Rattle.streetmap_memory.specs.Plain.{never_shut};
 
     ghost stands = { IsPlain };
 

@@ -1,9 +1,12 @@
--- The texts of date-times (RFC 3339 5.6): what may be written, how it is spelled, and what it means.
-use Rattle.std.specs.Prelude.{◌≡◌, ◌⊎◌, ℕ, ◌+◌, ◌*◌, ◌/◌, ◌%◌, ◌<◌, ◌≤◌, List, [], ◌∷◌, ◌++◌, length, map, ℤ, pos, neg_ℤ, ◌+ℤ◌, ◌-ℤ◌, ◌*ℤ◌}
+-- The texts of date-times (RFC 3339 5.6): what may be written, how it is spelled, and what it
+-- means.
+use Rattle.std.specs.Prelude.{◌≡◌, ◌⊎◌, ℕ, ◌+◌, ◌*◌, ◌/◌, ◌%◌, ◌<◌, ◌≤◌, List, [], ◌∷◌, ◌++◌}
+use Rattle.std.specs.Prelude.{length, map, ℤ, pos, neg_ℤ, ◌+ℤ◌, ◌-ℤ◌, ◌*ℤ◌}
 use Rattle.std.specs.List.{AllByRecursion}
 use Rattle.jiff_core.specs.Calendar.{days_in_month, days_from_civil}
 
--- RFC 3339 4.2, time-offset: `Z`, `z`, or a sign with hours and minutes, where a space stands for `+`
+-- RFC 3339 4.2, time-offset: `Z`, `z`, or a sign with hours and minutes, where a space stands for
+-- `+`
 pub data Offset : Type 0 where
   Zulu : Offset
   SmallZulu : Offset
@@ -11,7 +14,8 @@ pub data Offset : Type 0 where
   Spaced : ℕ → ℕ → Offset
   West : ℕ → ℕ → Offset
 
--- RFC 3339 5.6, date-time: its fields. The separator is a byte; the fraction is the list of its digits, empty where there is no point
+-- RFC 3339 5.6, date-time: its fields. The separator is a byte; the fraction is the list of its
+-- digits, empty where there is no point
 pub record DateTime : Type 0 where
   pub year : ℕ
   pub month : ℕ
@@ -61,7 +65,8 @@ clock_text h m s = two_digits h ++ 58 ∷ two_digits m ++ 58 ∷ two_digits s
 -- the date, the separator, the time of day, the fraction and the offset
 abbrev pub date_time_text : DateTime → List ℕ
 date_time_text t =
-    date_text t.year t.month t.day ++ t.separator ∷ clock_text t.hour t.minute t.second ++ fraction_text t.fraction ++ offset_text t.offset
+    date_text t.year t.month t.day ++ t.separator ∷ clock_text t.hour t.minute t.second
+    ++ fraction_text t.fraction ++ offset_text t.offset
 
 -- ---- validity
 
@@ -81,7 +86,8 @@ IsOffset (East h m) = (h < 24) × (m < 60)
 IsOffset (Spaced h m) = (h < 24) × (m < 60)
 IsOffset (West h m) = (h < 24) × (m < 60)
 
--- a day of the calendar, `T` or `t`, a time of day without second 60, and at most nine digits of fraction
+-- a day of the calendar, `T` or `t`, a time of day without second 60, and at most nine digits of
+-- fraction
 pub record IsDateTime (t : DateTime) : Type 0 where
   pub date : IsDay t.year t.month t.day
   pub separator : (t.separator ≡ 84) ⊎ (t.separator ≡ 116)
@@ -107,7 +113,8 @@ abbrev pub fraction_meant : ℕ → List ℕ → ℕ
 fraction_meant unit [] = 0
 fraction_meant unit (d ∷ digits) = d * unit + fraction_meant (unit / 10) digits
 
--- the nanoseconds since 1970-01-01T00:00:00Z, of a day number, the seconds of the day, the nanoseconds of the second and an offset in seconds
+-- the nanoseconds since 1970-01-01T00:00:00Z, of a day number, the seconds of the day, the
+-- nanoseconds of the second and an offset in seconds
 abbrev pub nanoseconds : ℤ → ℕ → ℕ → ℤ → ℤ
 nanoseconds day clock fraction offset =
     (day *ℤ pos 86_400 +ℤ pos clock -ℤ offset) *ℤ pos 1_000_000_000 +ℤ pos fraction
@@ -115,9 +122,11 @@ nanoseconds day clock fraction offset =
 -- the moment that a date-time means
 abbrev pub moment_meant : DateTime → ℤ
 moment_meant t =
-    nanoseconds (days_from_civil (pos t.year) t.month t.day) (t.hour * 3600 + t.minute * 60 + t.second)
+    nanoseconds (days_from_civil (pos t.year) t.month t.day) (t.hour * 3600 + t.minute * 60
+    + t.second)
     (fraction_meant 100_000_000 t.fraction) (offset_seconds t.offset)
 
 -- the text is a date-time that means n
 abbrev pub IsMomentText : List ℕ → ℤ → Type 0
-IsMomentText text n = (t : DateTime) × IsDateTime t × (text ≡ date_time_text t) × (n ≡ moment_meant t)
+IsMomentText text n = (t : DateTime) × IsDateTime t × (text ≡ date_time_text t)
+    × (n ≡ moment_meant t)

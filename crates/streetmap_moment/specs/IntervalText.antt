@@ -1,9 +1,12 @@
--- The texts of intervals and of time properties: what may be written, how it is spelled, and what it means.
-use Rattle.std.specs.Prelude.{◌≡◌, ◌⊎◌, ℕ, ◌<ℤ◌, List, [], ◌∷◌, ◌++◌, Some, None, ℤ, pos, ◌+ℤ◌, ◌-ℤ◌, ◌*ℤ◌, codes}
+-- The texts of intervals and of time properties: what may be written, how it is spelled, and what
+-- it means.
+use Rattle.std.specs.Prelude.{◌≡◌, ◌⊎◌, ℕ, ◌<ℤ◌, List, [], ◌∷◌, ◌++◌, Some, None, ℤ, pos, ◌+ℤ◌}
+use Rattle.std.specs.Prelude.{◌-ℤ◌, ◌*ℤ◌, codes}
 use Rattle.jiff_core.specs.Calendar.{days_from_civil}
 use Rattle.streetmap_moment.specs.declared.faults.TimeFault.{TimeFault}
 use Rattle.streetmap_moment.specs.declared.faults.TimeFault.TheVariants.{BadTime, EmptyInterval}
-use Rattle.streetmap_moment.specs.DateTime.{DateTime, IsDateTime, IsDay, date_text, date_time_text, moment_meant}
+use Rattle.streetmap_moment.specs.DateTime.{DateTime, IsDateTime, IsDay, date_text, date_time_text}
+use Rattle.streetmap_moment.specs.DateTime.{moment_meant}
 use Rattle.streetmap_moment.specs.IntervalValue.{IntervalValue}
 
 -- an open end: `..`, or nothing
@@ -52,7 +55,8 @@ interval_meant (Until open_end b) = record { start = None; end = Some (moment_me
 
 -- the text is an interval text that means i
 abbrev pub IsIntervalText : List ℕ → IntervalValue → Type 0
-IsIntervalText text i = (t : IntervalText) × HasDateTimes t × (text ≡ interval_text t) × (i ≡ interval_meant t)
+IsIntervalText text i = (t : IntervalText) × HasDateTimes t × (text ≡ interval_text t)
+    × (i ≡ interval_meant t)
 
 -- from the first to the last nanosecond of a UTC day
 abbrev pub day_interval : ℤ → IntervalValue

@@ -1,5 +1,6 @@
 -- Intervals of time as plain values.
-use Rattle.std.specs.Prelude.{Bool, false, ◌||◌, Option, Some, None, is_some, IsTrue, ℤ, ◌≤ℤ◌, int_lt, refl}
+use Rattle.std.specs.Prelude.{Bool, false, ◌||◌, Option, Some, None, is_some, IsTrue, ℤ, ◌≤ℤ◌}
+use Rattle.std.specs.Prelude.{int_lt, refl}
 use Rattle.std.specs.Option.{ForSome}
 use Rattle.std.specs.Coded.{Coded, code_by, coded×, coded_option, coded_ℤ}
 use Rattle.streetmap_moment.specs.Range.{IsMoment}
@@ -12,7 +13,8 @@ pub record IntervalValue : Type 0 where
 -- an interval is stored as the pair of its ends
 abbrev pub coded_interval : Coded IntervalValue
 coded_interval =
-    code_by (Option ℤ × Option ℤ) (coded× (coded_option coded_ℤ) (coded_option coded_ℤ)) (λ i. (i.start, i.end)) (λ p. record { start = p.0; end = p.1 }) (λ _. refl)
+    code_by (Option ℤ × Option ℤ) (coded× (coded_option coded_ℤ) (coded_option coded_ℤ)) (λ i.
+    (i.start, i.end)) (λ p. record { start = p.0; end = p.1 }) (λ _. refl)
 
 -- the start is after the end, where both are there
 abbrev pub starts_after : Option ℤ → Option ℤ → Bool

@@ -1,5 +1,6 @@
 -- Reading the texts of intervals and of time properties.
-use Rattle.std.specs.Prelude.{ℕ, Bool, Option, Some, None, Result, Ok, Err, ℤ, List, length, ◌==◌, ◌||◌, option_map, codes, if◌then◌else◌}
+use Rattle.std.specs.Prelude.{ℕ, Bool, Option, Some, None, Result, Ok, Err, ℤ, List, length, ◌==◌}
+use Rattle.std.specs.Prelude.{◌||◌, option_map, codes, if◌then◌else◌}
 use Rattle.std.specs.Str.{bytes_eq}
 use Rattle.std.specs.List.{position_or_len, before_first, after_first}
 use Rattle.streetmap_moment.specs.declared.faults.TimeFault.{TimeFault}
@@ -14,7 +15,8 @@ is_slash b = b == 47
 
 -- an end: open where the text is empty or `..`
 abbrev pub end_of : List ℕ → Option (Option ℤ)
-end_of text = if (length text == 0) || bytes_eq text (codes "..") then Some None else option_map Some (moment_of text)
+end_of text = if (length text == 0) || bytes_eq text (codes "..") then Some None
+    else option_map Some (moment_of text)
 
 -- two ends, of which one is there
 abbrev pub bounded : Option ℤ → Option ℤ → Option IntervalValue
@@ -24,8 +26,10 @@ bounded start end = Some (record { start = start; end = end })
 -- a moment that is both ends, or two ends with a slash between them
 unfoldable pub ends_of : List ℕ → Option IntervalValue
 ends_of text =
-    if position_or_len is_slash text == length text then (moment_of text >>= λ m. Some (record { start = Some m; end = Some m }))
-    else (end_of (before_first is_slash text) >>= λ start. end_of (after_first is_slash text) >>= λ end. bounded start end)
+    if position_or_len is_slash text == length text
+    then (moment_of text >>= λ m. Some (record { start = Some m; end = Some m }))
+    else (end_of (before_first is_slash text) >>= λ start.
+    end_of (after_first is_slash text) >>= λ end. bounded start end)
 
 -- the ends, unless there are none or the start is after the end
 abbrev pub ordered_ends : Option IntervalValue → Result IntervalValue TimeFault
@@ -41,7 +45,8 @@ unfoldable pub full_date_of : List ℕ → Option ℤ
 full_date_of text = date_at text >>= ended
 
 -- a full date, or else an interval text
-abbrev pub date_or_interval : Option ℤ → Result IntervalValue TimeFault → Result IntervalValue TimeFault
+abbrev pub date_or_interval : Option ℤ → Result IntervalValue TimeFault
+    → Result IntervalValue TimeFault
 date_or_interval None other = other
 date_or_interval (Some day) other = Ok (day_interval day)
 

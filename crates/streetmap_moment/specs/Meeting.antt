@@ -1,9 +1,11 @@
 -- Intervals that meet, and the seconds of an interval.
-use Rattle.std.specs.Prelude.{◌≡◌, Bool, not, ◌&&◌, Option, Some, None, ℤ, pos, neg_ℤ, ◌+ℤ◌, ◌*ℤ◌, ◌≤ℤ◌, ◌<ℤ◌, int_le}
+use Rattle.std.specs.Prelude.{◌≡◌, Bool, not, ◌&&◌, Option, Some, None, ℤ, pos, neg_ℤ, ◌+ℤ◌, ◌*ℤ◌}
+use Rattle.std.specs.Prelude.{◌≤ℤ◌, ◌<ℤ◌, int_le}
 use Rattle.std.specs.Int.{int_div_euclid}
 use Rattle.streetmap_moment.specs.IntervalValue.{IntervalValue, IsInOrder, starts_after}
 
--- the first is over before the second begins; an open end is never over, and an open start was always there
+-- the first is over before the second begins; an open end is never over, and an open start was
+-- always there
 abbrev pub EndsBefore : IntervalValue → IntervalValue → Type 0
 EndsBefore a b = (e : ℤ) × (s : ℤ) × (a.end ≡ Some e) × (b.start ≡ Some s) × (e <ℤ s)
 
@@ -52,4 +54,5 @@ seconds_of i = (first_second i.start, last_second i.end)
 -- two intervals have a second in common, both ends included
 abbrev pub seconds_overlap : IntervalValue → IntervalValue → Bool
 seconds_overlap a b =
-    int_le (first_second a.start) (last_second b.end) && int_le (first_second b.start) (last_second a.end)
+    int_le (first_second a.start) (last_second b.end)
+    && int_le (first_second b.start) (last_second a.end)

@@ -1,7 +1,8 @@
 -- The ranges that the calendar gives: the years 0000 to 9999 of RFC 3339.
 use Rattle.std.specs.Prelude.{ℤ, pos, neg_ℤ, ◌≤ℤ◌}
 
--- from 0000-01-01T00:00:00+23:59 to 9999-12-31T23:59:59.999999999-23:59, in nanoseconds since 1970-01-01T00:00:00Z
+-- from 0000-01-01T00:00:00+23:59 to 9999-12-31T23:59:59.999999999-23:59, in nanoseconds since
+-- 1970-01-01T00:00:00Z
 abbrev pub IsMoment : ℤ → Type 0
 IsMoment n = (neg_ℤ (pos 62_167_305_540_000_000_000) ≤ℤ n) × (n ≤ℤ pos 253_402_387_139_999_999_999)
 

@@ -1,5 +1,7 @@
 -- Reading date-times: what stands at the front of a text, and the bytes after it.
-use Rattle.std.specs.Prelude.{ℕ, ◌+◌, ◌-◌, ◌*◌, ◌/◌, Bool, ◌&&◌, ◌||◌, ◌==◌, nat_lt, nat_le, List, [], ◌∷◌, Option, Some, None, option_map, option_and_then, if◌then◌else◌, ℤ, pos, neg_ℤ}
+use Rattle.std.specs.Prelude.{ℕ, ◌+◌, ◌-◌, ◌*◌, ◌/◌, Bool, ◌&&◌, ◌||◌, ◌==◌, nat_lt, nat_le, List}
+use Rattle.std.specs.Prelude.{[], ◌∷◌, Option, Some, None, option_map, option_and_then}
+use Rattle.std.specs.Prelude.{if◌then◌else◌, ℤ, pos, neg_ℤ}
 use Rattle.std.specs.Borrow.{Bor}
 use Rattle.std.specs.Char.{is_ascii_digit}
 use Rattle.streetmap_moment.specs.DateTime.{nanoseconds}
@@ -77,14 +79,16 @@ clock_at text = do
 unfoldable pub digits_at : ℕ → List ℕ → Option (ℕ × List ℕ)
 digits_at unit [] = Some (0, [])
 digits_at unit (b ∷ rest) =
-    if is_ascii_digit b then (if unit == 0 then None else (digits_at (unit / 10) rest >>= λ x. Some ((b - 48) * unit + x.0, x.1)))
+    if is_ascii_digit b then (if unit == 0 then None
+    else (digits_at (unit / 10) rest >>= λ x. Some ((b - 48) * unit + x.0, x.1)))
     else Some (0, b ∷ rest)
 
 -- a point and one to nine digits, or nothing
 unfoldable pub fraction_at : List ℕ → Option (ℕ × List ℕ)
 fraction_at [] = Some (0, [])
 fraction_at (b ∷ rest) =
-    if b == 46 then (digit_at rest >>= λ x. digits_at 10_000_000 x.1 >>= λ y. Some (x.0 * 100_000_000 + y.0, y.1))
+    if b == 46 then (digit_at rest >>= λ x. digits_at 10_000_000 x.1 >>= λ y.
+    Some (x.0 * 100_000_000 + y.0, y.1))
     else Some (0, b ∷ rest)
 
 -- nothing is left

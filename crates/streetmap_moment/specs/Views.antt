@@ -16,7 +16,11 @@ moment_result (Err fault) = Err fault
 
 -- the nanoseconds of the ends, as far as they are there
 abbrev pub ends_value : Option Moment → Option Moment → IntervalValue
-ends_value start end = record { start = option_map moment_value start; end = option_map moment_value end }
+ends_value start end = record {
+  start = option_map moment_value start;
+  end = option_map moment_value
+      end;
+}
 
 -- the ends of an interval
 abbrev pub interval_value : Interval → IntervalValue

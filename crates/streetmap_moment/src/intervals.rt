@@ -1,5 +1,6 @@
 //! Intervals of time.
-ghost use Rattle.std.specs.Prelude.{◌≡◌, ◌||◌, ℤ, ℕ, pos, neg_ℤ, IfOk, IfErr, IsTrue, ◌↔◌, is_some, ◌≤ℤ◌, true, false};
+ghost use Rattle.std.specs.Prelude.{◌≡◌, ◌||◌, ℤ, ℕ, pos, neg_ℤ, IfOk, IfErr, IsTrue, ◌↔◌, is_some};
+ghost use Rattle.std.specs.Prelude.{◌≤ℤ◌, true, false};
 ghost use Rattle.std.specs.Option.{ForSome};
 
 use crate::faults::TimeFault;
@@ -20,14 +21,17 @@ pub struct Interval {
 }
 
 impl Interval {
-    ghost use Rattle.std.specs.Prelude.{◌≡◌, ◌||◌, ◌↔◌, IfSome, IfOk, IfErr, IsTrue, is_some, option_map, true, false};
+    ghost use Rattle.std.specs.Prelude.{◌≡◌, ◌||◌, ◌↔◌, IfSome, IfOk, IfErr, IsTrue, is_some};
+    ghost use Rattle.std.specs.Prelude.{option_map, true, false};
     ghost use Rattle.streetmap_moment.specs.IntervalValue.{starts_after};
-    ghost use Rattle.streetmap_moment.specs.Meeting.{Meets, HaveCommonMoment, IsSecondOf, IsSecond, meets, seconds_of, seconds_overlap};
+    ghost use Rattle.streetmap_moment.specs.Meeting.{Meets, HaveCommonMoment, IsSecondOf, IsSecond};
+    ghost use Rattle.streetmap_moment.specs.Meeting.{meets, seconds_of, seconds_overlap};
     ghost use Rattle.streetmap_moment.specs.Views.{moment_value, interval_value};
 
     // Whether the start is after the end, where both are there.
     fn starts_after(start: Option<Moment>, end: Option<Moment>) -> bool
-        ensures { result ≡ starts_after (option_map moment_value start) (option_map moment_value end) }
+        ensures { result ≡ starts_after (option_map moment_value start)
+            (option_map moment_value end) }
     {
         match (start, end) {
             (Some(start), Some(end)) => end.nanoseconds < start.nanoseconds,
@@ -38,8 +42,11 @@ impl Interval {
     // The interval between two ends, of which one is there.
     pub(crate) fn between(start: Option<Moment>, end: Option<Moment>) -> Result<Interval, TimeFault>
         requires { IsTrue (is_some start || is_some end) }
-        ensures ok { IfOk result (λ i. (i.start ≡ start) × (i.end ≡ end) × (starts_after (option_map moment_value start) (option_map moment_value end) ≡ false)) }
-        ensures err { IfErr result (λ e. (e ≡ TimeFault.EmptyInterval) × (starts_after (option_map moment_value start) (option_map moment_value end) ≡ true)) }
+        ensures ok { IfOk result (λ i. (i.start ≡ start) × (i.end ≡ end)
+            × (starts_after (option_map moment_value start) (option_map moment_value end)
+            ≡ false)) }
+        ensures err { IfErr result (λ e. (e ≡ TimeFault.EmptyInterval)
+            × (starts_after (option_map moment_value start) (option_map moment_value end) ≡ true)) }
     {
         match (start, end) {
             (Some(first), Some(last)) => {
@@ -66,18 +73,21 @@ impl Interval {
     /// Whether the two intervals meet: neither ends before the other starts, so that some moment
     /// lies in both. An open end is never over, and an open start was always there.
     pub fn meets(&self, other: &Interval) -> bool
-        ensures meeting { IsTrue result ↔ Meets (interval_value self.now) (interval_value other.now) }
-        ensures common { IsTrue result ↔ HaveCommonMoment (interval_value self.now) (interval_value other.now) }
+        ensures meeting { IsTrue result ↔ Meets (interval_value self.now)
+            (interval_value other.now) }
+        ensures common { IsTrue result ↔ HaveCommonMoment (interval_value self.now)
+            (interval_value other.now) }
         // Intervals that meet have a second in common.
-        ensures seconds { IsTrue result → IsTrue (seconds_overlap (interval_value self.now) (interval_value other.now)) }
+        ensures seconds { IsTrue result
+            → IsTrue (seconds_overlap (interval_value self.now) (interval_value other.now)) }
         ensures value { result ≡ meets (interval_value self.now) (interval_value other.now) }
     {
         !Interval::starts_after(other.start, self.end)
             && !Interval::starts_after(self.start, other.end)
     }
 
-    /// Whether the two intervals have a second in common, where each end that is between two seconds is
-    /// rounded down, and both ends count.
+    /// Whether the two intervals have a second in common, where each end that is between two
+    /// seconds is rounded down, and both ends count.
     pub fn overlaps_seconds(&self, other: &Interval) -> bool
         ensures { result ≡ seconds_overlap (interval_value self.now) (interval_value other.now) }
     {

@@ -12,13 +12,16 @@ pub fn meeting_is_tested()
 
 /// Intervals that meet have a second in common, so a search by seconds misses none of them.
 pub fn meeting_shares_a_second()
-    ensures { (a b : IntervalValue) → IsInterval a → IsInterval b → Meets a b → IsTrue (seconds_overlap a b) }
+    ensures { (a b : IntervalValue) → IsInterval a → IsInterval b → Meets a b
+        → IsTrue (seconds_overlap a b) }
 {}
 
-/// What the text of a time property is read as is what the text says (RFC 3339, section 5.6, and OGC
-/// 17-069, section 7.15.4), and an interval; and a text is read as what it says, where that does not
-/// start after its end.
+/// What the text of a time property is read as is what the text says (RFC 3339, section 5.6, and
+/// OGC 17-069, section 7.15.4), and an interval; and a text is read as what it says, where that
+/// does not start after its end.
 pub fn property_texts_are_read_as_they_say()
-    ensures read { (text : List ℕ) (i : IntervalValue) → property_of text ≡ Ok i → IsPropertyText text i × IsInterval i }
-    ensures said { (text : List ℕ) (i : IntervalValue) → IsPropertyText text i → IsInOrder i.start i.end → property_of text ≡ Ok i }
+    ensures read { (text : List ℕ) (i : IntervalValue) → property_of text ≡ Ok i
+        → IsPropertyText text i × IsInterval i }
+    ensures said { (text : List ℕ) (i : IntervalValue) → IsPropertyText text i
+        → IsInOrder i.start i.end → property_of text ≡ Ok i }
 {}

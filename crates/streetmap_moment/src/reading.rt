@@ -1,7 +1,11 @@
 //! The fields of a date-time (RFC 3339 section 5.6), each read at the front of what is left of a
 //! text.
-ghost use Rattle.std.specs.Prelude.{◌≡◌, ◌*◌, ◌+◌, ◌-◌, ◌<◌, ◌≤◌, ◌^◌, ◌↔◌, IfSome, pos, option_copied, ◌≤ℤ◌, ◌-ℤ◌, neg_ℤ, option_map};
-ghost use Rattle.streetmap_moment.specs.Reading.{read_view, digit_at, two_digits_at, four_digits_at, below_at, mark_at, date_at, day_of, clock_at, digits_at, fraction_at, hours_of, offset_of};
+ghost use Rattle.std.specs.Prelude.{◌≡◌, ◌*◌, ◌+◌, ◌-◌, ◌<◌, ◌≤◌, ◌^◌, ◌↔◌, IfSome, pos};
+ghost use Rattle.std.specs.Prelude.{option_copied, ◌≤ℤ◌, ◌-ℤ◌, neg_ℤ, option_map};
+ghost use Rattle.streetmap_moment.specs.Reading.{read_view, digit_at, two_digits_at};
+ghost use Rattle.streetmap_moment.specs.Reading.{four_digits_at, below_at, mark_at, date_at};
+ghost use Rattle.streetmap_moment.specs.Reading.{day_of, clock_at, digits_at, fraction_at};
+ghost use Rattle.streetmap_moment.specs.Reading.{hours_of, offset_of};
 ghost use Rattle.streetmap_moment.specs.Range.{IsDayNumber, IsOffsetSeconds};
 
 use jiff::civil::Date;

@@ -1,13 +1,17 @@
 //! Moments and intervals, read from their texts.
-ghost use Rattle.std.specs.Prelude.{◌≡◌, ◌||◌, ℤ, Ok, IfOk, IfErr, IfSome, IsTrue, is_some, MatchOption, ok_or, length, option_map};
+ghost use Rattle.std.specs.Prelude.{◌≡◌, ◌||◌, ℤ, Ok, IfOk, IfErr, IfSome, IsTrue, is_some};
+ghost use Rattle.std.specs.Prelude.{MatchOption, ok_or, length, option_map};
 ghost use Rattle.std.specs.Option.{ForSome};
 ghost use Rattle.streetmap_moment.specs.DateTime.{IsMomentText};
-ghost use Rattle.streetmap_moment.specs.IntervalText.{day_interval, IsIntervalText, IsPropertyText, IsFaultOf};
+ghost use Rattle.streetmap_moment.specs.IntervalText.{day_interval, IsIntervalText, IsPropertyText};
+ghost use Rattle.streetmap_moment.specs.IntervalText.{IsFaultOf};
 ghost use Rattle.streetmap_moment.specs.IntervalValue.{IntervalValue, IsInOrder};
-ghost use Rattle.streetmap_moment.specs.Intervals.{end_of, ends_of, full_date_of, interval_of, property_of};
+ghost use Rattle.streetmap_moment.specs.Intervals.{end_of, ends_of, full_date_of, interval_of};
+ghost use Rattle.streetmap_moment.specs.Intervals.{property_of};
 ghost use Rattle.streetmap_moment.specs.Range.{IsMoment, IsDayNumber};
 ghost use Rattle.streetmap_moment.specs.Reading.{moment_of};
-ghost use Rattle.streetmap_moment.specs.Views.{moment_value, moment_result, ends_value, interval_value, interval_result};
+ghost use Rattle.streetmap_moment.specs.Views.{moment_value, moment_result, ends_value};
+ghost use Rattle.streetmap_moment.specs.Views.{interval_value, interval_result};
 
 use crate::faults::TimeFault;
 use crate::intervals::Interval;
@@ -90,8 +94,8 @@ fn day(number: i32) -> Interval
 /// A date-time (RFC 3339 section 5.6) is `YYYY-MM-DD`, `T` or `t`, `hh:mm:ss`, optionally a point
 /// and one to nine digits, and then `Z`, `z` or a sign and `hh:mm`. The day exists in the Gregorian
 /// calendar (section 5.7), in the years 0000 to 9999; hours go to 23, minutes and seconds to 59, in
-/// the offset too. Second 60 is refused: leap seconds are not kept. A space is read as the sign `+`,
-/// since `+` in the text of a query decodes to a space.
+/// the offset too. Second 60 is refused: leap seconds are not kept. A space is read as the sign
+/// `+`, since `+` in the text of a query decodes to a space.
 ///
 /// # Errors
 ///
@@ -123,9 +127,11 @@ pub fn read_interval(text: &str) -> Result<Interval, TimeFault>
     // What is read is an interval text that means this interval.
     ensures found { IfOk result (λ i. IsIntervalText text.now (interval_value i)) }
     // An interval text whose start is not after its end is read.
-    ensures only { (i : IntervalValue) → IsIntervalText text.now i → IsInOrder i.start i.end → interval_result result ≡ Ok i }
+    ensures only { (i : IntervalValue) → IsIntervalText text.now i → IsInOrder i.start i.end
+        → interval_result result ≡ Ok i }
     ensures fault { IfErr result (IsFaultOf IsIntervalText text.now) }
-    ensures one_meaning { (i j : IntervalValue) → IsIntervalText text.now i → IsIntervalText text.now j → i ≡ j }
+    ensures one_meaning { (i j : IntervalValue) → IsIntervalText text.now i
+        → IsIntervalText text.now j → i ≡ j }
     // Which it is, as a function of the text.
     ensures value { interval_result result ≡ interval_of text.now }
 {
@@ -146,9 +152,11 @@ pub fn read_property(text: &str) -> Result<Interval, TimeFault>
     // What is read is a full date or an interval text that means this interval.
     ensures found { IfOk result (λ i. IsPropertyText text.now (interval_value i)) }
     // A full date is read, and an interval text whose start is not after its end.
-    ensures only { (i : IntervalValue) → IsPropertyText text.now i → IsInOrder i.start i.end → interval_result result ≡ Ok i }
+    ensures only { (i : IntervalValue) → IsPropertyText text.now i → IsInOrder i.start i.end
+        → interval_result result ≡ Ok i }
     ensures fault { IfErr result (IsFaultOf IsPropertyText text.now) }
-    ensures one_meaning { (i j : IntervalValue) → IsPropertyText text.now i → IsPropertyText text.now j → i ≡ j }
+    ensures one_meaning { (i j : IntervalValue) → IsPropertyText text.now i
+        → IsPropertyText text.now j → i ≡ j }
     // Which it is, as a function of the text.
     ensures value { interval_result result ≡ property_of text.now }
 {

@@ -1,5 +1,6 @@
 -- Opening tables that are there.
-use Rattle.std.specs.Prelude.{◌≡◌, ℕ, List, [], ◌∷◌, pos, codes, length, None, Some, Ok, Err, Result, Vec, MatchResult, IsTrue}
+use Rattle.std.specs.Prelude.{◌≡◌, ℕ, List, [], ◌∷◌, pos, codes, length, None, Some, Ok, Err}
+use Rattle.std.specs.Prelude.{Result, Vec, MatchResult, IsTrue}
 use Rattle.std.specs.FinMap.{len}
 use Rattle.std.specs.declared.alloc.Global.{Global}
 use Rattle.sqlite.specs.Order.{Row}
@@ -25,15 +26,19 @@ serials_text = codes "SELECT serial FROM streetmap_batches"
 
 -- on the tables of a state the format is 2, or the store fails
 abbrev pub FindsFormat : Seen → Seen → Result (Vec Row Global) Error → Type 0
-FindsFormat old new result = (s : State) → old.step_limit ≡ None → Keeps s old.now → MatchResult result (λ (rows : Vec Row Global). (rows.items ≡ (Int (pos 2) ∷ []) ∷ []) × IsUnchanged old new) IsOfStore
+FindsFormat old new result = (s : State) → old.step_limit ≡ None → Keeps s old.now
+    → MatchResult result (λ (rows : Vec Row Global). (rows.items ≡ (Int (pos 2) ∷ []) ∷ [])
+    × IsUnchanged old new) IsOfStore
 
 -- on the tables of a state there is a serial for each key, or the store fails
 abbrev pub FindsSerials : Seen → Result (Vec Row Global) Error → Type 0
-FindsSerials old result = (s : State) → old.step_limit ≡ None → Keeps s old.now → MatchResult result (λ (rows : Vec Row Global). length rows.items ≡ len s.keys) IsOfStore
+FindsSerials old result = (s : State) → old.step_limit ≡ None → Keeps s old.now
+    → MatchResult result (λ (rows : Vec Row Global). length rows.items ≡ len s.keys) IsOfStore
 
 -- on the tables of a state so many keys are found as it has, or the store fails
 abbrev pub FindsKeys : Seen → Result Found Error → Type 0
-FindsKeys old result = (s : State) → old.step_limit ≡ None → Keeps s old.now → MatchResult result (λ found. found ≡ Keys (len s.keys)) IsOfStore
+FindsKeys old result = (s : State) → old.step_limit ≡ None → Keeps s old.now
+    → MatchResult result (λ found. found ≡ Keys (len s.keys)) IsOfStore
 
 -- an open connection that held what was committed still holds it
 abbrev pub IsAsItWas : Seen → Seen → Type 0
@@ -55,11 +60,14 @@ LeavesNoMore old new = (trees : Trees) → new.may_leave trees → old.may_leave
 
 -- a stop may leave the same
 abbrev pub LeavesTheSame : Seen → Seen → Type 0
-LeavesTheSame old new = ((trees : Trees) → new.may_leave trees → old.may_leave trees) × ((trees : Trees) → old.may_leave trees → new.may_leave trees)
+LeavesTheSame old new = ((trees : Trees) → new.may_leave trees → old.may_leave trees)
+    × ((trees : Trees) → old.may_leave trees → new.may_leave trees)
 
--- Tables of a state are opened as that state, with the number of its keys; a stop may leave it, and no other. But the store may fail, or memory be refused, which changes nothing.
+-- Tables of a state are opened as that state, with the number of its keys; a stop may leave it, and
+-- no other. But the store may fail, or memory be refused, which changes nothing.
 abbrev pub Adopts : State → Seen → Seen → Result ℕ AdoptFault → Type 0
-Adopts s old new (Ok count) = (count ≡ len s.keys) × Rests new s × MayLeave new (Some s) × LeavesOnly (MayLeave new) (Some s)
+Adopts s old new (Ok count) = (count ≡ len s.keys) × Rests new s × MayLeave new (Some s)
+    × LeavesOnly (MayLeave new) (Some s)
 Adopts s old new (Err Memory) = Rests new s × LeavesTheSame old new
 Adopts s old new (Err (Device e)) = IsTrue new.is_open → Rests new s
 Adopts s old new (Err NotOurs) = ⊥

@@ -1,5 +1,6 @@
 -- Format 1 is carried over to format 2.
-use Rattle.std.specs.Prelude.{◌≡◌, ◌⊎◌, ℕ, [], ◌∷◌, pos, None, Some, Result, Ok, Err, MatchResult, IsTrue}
+use Rattle.std.specs.Prelude.{◌≡◌, ◌⊎◌, ℕ, [], ◌∷◌, pos, None, Some, Result, Ok, Err, MatchResult}
+use Rattle.std.specs.Prelude.{IsTrue}
 use Rattle.std.specs.FinMap.{len}
 use Rattle.sqlite.specs.Effect.{Database}
 use Rattle.sqlite.specs.Schema.{Schema}
@@ -24,13 +25,19 @@ use Rattle.streetmap_opening.specs.declared.adopting.AdoptFault.TheVariants as a
 use Rattle.streetmap_opening.specs.Old.{WereOurs, KeepsOld, RestsOld}
 use Rattle.streetmap_opening.specs.Part.{emptied}
 use Rattle.streetmap_opening.specs.declared.opening.TablesFault.{TablesFault}
-use Rattle.streetmap_opening.specs.declared.opening.TablesFault.TheVariants.{NotOurs, NewFormat, Damaged, Device, Memory}
+use Rattle.streetmap_opening.specs.declared.opening.TablesFault.TheVariants.{NotOurs, NewFormat}
+use Rattle.streetmap_opening.specs.declared.opening.TablesFault.TheVariants.{Damaged, Device}
+use Rattle.streetmap_opening.specs.declared.opening.TablesFault.TheVariants.{Memory}
 
 -- ---- why tables are not carried over
 
--- the store failed, or the schema less the two tables of format 1 has no place for those of format 2
+-- the store failed, or the schema less the two tables of format 1 has no place for those of format
+-- 2
 abbrev pub IsToldOld : Schema → Error → Type 0
-IsToldOld schema e = IsOfStore e ⊎ ((roots : Roots) × WereOurs roots schema × IsFullFor (meta 0 ∷ features 0 ∷ []) (without_table (without_table schema roots.features) roots.meta) e)
+IsToldOld schema e = IsOfStore e
+    ⊎ ((roots : Roots) × WereOurs roots schema
+    × IsFullFor (meta 0 ∷ features 0 ∷ [])
+    (without_table (without_table schema roots.features) roots.meta) e)
 
 -- it is for that, or memory was refused, and for no row that cannot be read
 abbrev pub IsHeldBack : Schema → ReadFault → Type 0
@@ -40,32 +47,42 @@ IsHeldBack schema read.Unread = ⊥
 
 -- ---- inside the transaction
 
--- the features and the format are made anew: the tables are of format 2, and have every row of the state but those of its features
+-- the features and the format are made anew: the tables are of format 2, and have every row of the
+-- state but those of its features
 abbrev pub Remakes : Seen → Seen → Type 0
-Remakes old new = (s : State) → KeepsOld s old.now → StandsFor (emptied s) new.now × KeepsOtherTables old.now new.now
+Remakes old new = (s : State) → KeepsOld s old.now → StandsFor (emptied s) new.now
+    × KeepsOtherTables old.now new.now
 
 -- the tables are those of the state in format 2, with so many batches
 abbrev pub CarriesInside : Seen → Seen → Result ℕ ReadFault → Type 0
 CarriesInside old new result =
     old.step_limit ≡ None → IsTrue old.in_transaction → (s : State) → KeepsOld s old.now
-    → MatchResult result (λ count. (count ≡ len s.keys) × Keeps s new.now × KeepsOtherTables old.now new.now) (IsHeldBack old.now.schema)
+    → MatchResult result (λ count. (count ≡ len s.keys) × Keeps s new.now
+    × KeepsOtherTables old.now new.now) (IsHeldBack old.now.schema)
 
 -- ---- the transaction
 
 -- it was committed, or undone
 abbrev pub CarriesAlone : State → Seen → Seen → Result ℕ ReadFault → Type 0
-CarriesAlone s old new (Ok count) = (count ≡ len s.keys) × Rests new s × KeepsOtherTables old.now new.now
-CarriesAlone s old new (Err fault) = IsHeldBack old.now.schema fault × (IsTrue new.is_open → HasSame old new)
+CarriesAlone s old new (Ok count) = (count ≡ len s.keys) × Rests new s
+    × KeepsOtherTables old.now new.now
+CarriesAlone s old new (Err fault) = IsHeldBack old.now.schema fault
+    × (IsTrue new.is_open → HasSame old new)
 
 -- a stop leaves what it left before, or the same state in format 2
 abbrev pub MayCarry : State → Seen → Seen → Type 0
-MayCarry s old new = (trees : Trees) → new.may_leave trees → old.may_leave trees ⊎ ((db : Database) × Keeps s db × (trees ≡ db.trees))
+MayCarry s old new = (trees : Trees) → new.may_leave trees → old.may_leave trees
+    ⊎ ((db : Database) × Keeps s db × (trees ≡ db.trees))
 
--- Tables of a state in format 1 are opened as that state in format 2, with the number of its keys; a stop may then leave it, and no other. But the store may fail, or its schema have no place for the tables of format 2, or memory be refused, which changes nothing.
+-- Tables of a state in format 1 are opened as that state in format 2, with the number of its keys;
+-- a stop may then leave it, and no other. But the store may fail, or its schema have no place for
+-- the tables of format 2, or memory be refused, which changes nothing.
 abbrev pub Carries : State → Seen → Seen → Result ℕ TablesFault → Type 0
-Carries s old new (Ok count) = (count ≡ len s.keys) × Rests new s × MayLeave new (Some s) × LeavesOnly (MayLeave new) (Some s)
+Carries s old new (Ok count) = (count ≡ len s.keys) × Rests new s × MayLeave new (Some s)
+    × LeavesOnly (MayLeave new) (Some s)
 Carries s old new (Err Memory) = RestsOld new s × LeavesTheSame old new
-Carries s old new (Err (Device e)) = IsToldOld old.now.schema e × (IsTrue new.is_open → RestsOld new s)
+Carries s old new (Err (Device e)) = IsToldOld old.now.schema e
+    × (IsTrue new.is_open → RestsOld new s)
 Carries s old new (Err Damaged) = ⊥
 Carries s old new (Err NotOurs) = ⊥
 Carries s old new (Err NewFormat) = ⊥
@@ -101,20 +118,24 @@ IsRefusedOld schema NewFormat = ⊥
 abbrev pub IsOld : Seen → Type 0
 IsOld seen = TellsFormat seen (Some (pos 1))
 
--- where the format is not 1 the connection holds what it held, and a stop leaves no more than before
+-- where the format is not 1 the connection holds what it held, and a stop leaves no more than
+-- before
 abbrev pub LeavesUnlessOld : Seen → Seen → Type 0
 LeavesUnlessOld old new = ¬ (IsOld old) → IsAsItWas old new × Survives old new (λ _. ⊥)
 
--- Tables of a state in format 2 are opened as that state, with the number of its keys; a stop may leave it, and no other. But the store may fail, or memory be refused, which changes nothing.
+-- Tables of a state in format 2 are opened as that state, with the number of its keys; a stop may
+-- leave it, and no other. But the store may fail, or memory be refused, which changes nothing.
 abbrev pub Opens : State → Seen → Seen → Result ℕ TablesFault → Type 0
-Opens s old new (Ok count) = (count ≡ len s.keys) × Rests new s × MayLeave new (Some s) × LeavesOnly (MayLeave new) (Some s)
+Opens s old new (Ok count) = (count ≡ len s.keys) × Rests new s × MayLeave new (Some s)
+    × LeavesOnly (MayLeave new) (Some s)
 Opens s old new (Err Memory) = Rests new s × LeavesTheSame old new
 Opens s old new (Err (Device e)) = IsTrue new.is_open → Rests new s
 Opens s old new (Err Damaged) = ⊥
 Opens s old new (Err NotOurs) = ⊥
 Opens s old new (Err NewFormat) = ⊥
 
--- What is answered is what the looks tell, whatever the tables are; those of format 1 may be carried over, or be damaged, or a statement that carries them over be refused.
+-- What is answered is what the looks tell, whatever the tables are; those of format 1 may be
+-- carried over, or be damaged, or a statement that carries them over be refused.
 abbrev pub OpensBy : Seen → Result ℕ TablesFault → Type 0
 OpensBy seen (Ok count) = TellsKeys seen count ⊎ IsOld seen
 OpensBy seen (Err NotOurs) = TellsFault seen adopting.NotOurs ⊎ TellsNothing seen

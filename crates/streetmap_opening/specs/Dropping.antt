@@ -30,7 +30,8 @@ pub record IsDropAlone (sql name : List ℕ) : Type 0 where
 pub record CanGo (schema : Schema) (name : List ℕ) (table : Table) : Type 0 where
   pub named : IsNamed schema name table
   pub uncounted : table.is_counted ≡ false
-  pub free : (t : Table) (ref : Reference) → Has schema.tables t → Has t.references ref → same_name table.name ref.parent ≡ false
+  pub free : (t : Table) (ref : Reference) → Has schema.tables t → Has t.references ref
+      → same_name table.name ref.parent ≡ false
 
 -- the table was dropped, with its indexes, and each other keeps its rows
 pub record Dropped (table : Table) (old new : Database) : Type 0 where

@@ -13,7 +13,16 @@ use Rattle.sqlite_catalog.specs.Change.{next_tree, created, is_used, KeepsRows}
 
 -- what is run of a text that makes a table
 abbrev pub creating : Parsed → Compiled
-creating p = record { command = CreateTable; returning = None; names = p.names; formats = []; start = p.start; end = p.end; tail = p.tail }
+creating p = record {
+  command = CreateTable;
+  returning = None;
+  names = p.names;
+  formats = [];
+  start
+      = p.start;
+  end = p.end;
+  tail = p.tail;
+}
 
 -- The text is one CREATE TABLE without IF NOT EXISTS, and defines this table.
 pub record IsTableText (sql : List ℕ) (table : Table) : Type 0 where

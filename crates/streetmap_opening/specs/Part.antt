@@ -31,7 +31,10 @@ abbrev pub bare : Collection → Collection
 bare c = record c { features = empty }
 
 abbrev pub emptied : State → State
-emptied s = record s { collections = from_entries (map (λ e. (e.0, bare e.1)) (entries s.collections)) }
+emptied s = record s {
+  collections = from_entries
+      (map (λ e. (e.0, bare e.1)) (entries s.collections));
+}
 
 -- the collection and the id in a row of format 1
 abbrev pub pair_in : Row → KeyPair
@@ -54,14 +57,17 @@ pub record AreRowsOf (s : State) (rows : List Row) : Type 0 where
 -- a state that lacks of another the features of these rows, and nothing else
 pub record Lacks (rows : List Row) (s t : State) : Type 0 where
   pub keys : t.keys ≡ s.keys
-  pub heads : (name : Text) → option_map bare (get t.collections name) ≡ option_map bare (get s.collections name)
+  pub heads : (name : Text) → option_map bare (get t.collections name)
+      ≡ option_map bare (get s.collections name)
   pub each : AllByRecursion (IsRowOf s) rows
   pub apart : IsAscending (λ a b. pair_in a ≢ pair_in b) rows
   pub missing : AllByRecursion (λ r. feature_at t (pair_in r) ≡ None) rows
   pub within : (p : KeyPair) (f : FeatureValue) → feature_at t p ≡ Some f → feature_at s p ≡ Some f
-  pub all : (p : KeyPair) (f : FeatureValue) → feature_at s p ≡ Some f → (feature_at t p ≡ Some f) ⊎ Has rows (old_cells p f)
+  pub all : (p : KeyPair) (f : FeatureValue) → feature_at s p ≡ Some f → (feature_at t p ≡ Some f)
+      ⊎ Has rows (old_cells p f)
 
--- a look or a write gave up for want of memory or since the store failed, and met no row that cannot be read
+-- a look or a write gave up for want of memory or since the store failed, and met no row that
+-- cannot be read
 abbrev pub IsSpared : ReadFault → Type 0
 IsSpared Memory = Unit {0}
 IsSpared (Store e) = IsOfStore e
@@ -69,23 +75,31 @@ IsSpared Unread = ⊥
 
 -- the rows of the features, which stay
 abbrev pub TakesRows : Seen → Seen → Result (Vec Row Global) ReadFault → Type 0
-TakesRows old new result = (s : State) → old.step_limit ≡ None → KeepsOld s old.now → MatchResult result (λ (rows : Vec Row Global). AreRowsOf s rows.items × IsUnchanged old new) IsSpared
+TakesRows old new result = (s : State) → old.step_limit ≡ None → KeepsOld s old.now
+    → MatchResult result (λ (rows : Vec Row Global). AreRowsOf s rows.items
+    × IsUnchanged old new) IsSpared
 
 -- the time property of a collection that is there, which stays
 abbrev pub FindsTime : Text → Seen → Seen → Result (Option (String Global)) ReadFault → Type 0
 FindsTime name old new result =
-    old.step_limit ≡ None → (t : State) (c : Collection) → StandsFor t old.now → get t.collections name ≡ Some c → MatchResult result (λ time. (option_map string_bytes time ≡ c.time) × IsUnchanged old new) IsSpared
+    old.step_limit ≡ None → (t : State) (c : Collection) → StandsFor t old.now
+    → get t.collections name ≡ Some c
+    → MatchResult result (λ time. (option_map string_bytes time ≡ c.time)
+    × IsUnchanged old new) IsSpared
 
 -- the feature of the first row is put in
 abbrev pub PutsRow : Row → Seen → Seen → Result (Unit {0}) ReadFault → Type 0
 PutsRow row old new result =
-    old.step_limit ≡ None → IsTrue old.in_transaction → (s t : State) (more : List Row) → IsState s → StandsFor t old.now → Lacks (row ∷ more) s t
-    → MatchResult result (λ _. ((u : State) × StandsFor u new.now × Lacks more s u) × IsSameElsewhere old.now new.now) IsSpared
+    old.step_limit ≡ None → IsTrue old.in_transaction → (s t : State) (more : List Row) → IsState s
+    → StandsFor t old.now → Lacks (row ∷ more) s t
+    → MatchResult result (λ _. ((u : State) × StandsFor u new.now × Lacks more s u)
+    × IsSameElsewhere old.now new.now) IsSpared
 
 -- the features of all rows are put in
 abbrev pub PutsRows : List Row → Seen → Seen → Result (Unit {0}) ReadFault → Type 0
 PutsRows rows old new result =
-    old.step_limit ≡ None → IsTrue old.in_transaction → (s t : State) → IsState s → StandsFor t old.now → Lacks rows s t
+    old.step_limit ≡ None → IsTrue old.in_transaction → (s t : State) → IsState s
+    → StandsFor t old.now → Lacks rows s t
     → MatchResult result (λ _. StandsFor s new.now × IsSameElsewhere old.now new.now) IsSpared
 
 -- the rows of the features in format 1

@@ -12,12 +12,16 @@ use Rattle.sqlite.specs.State.{State as Seen}
 use Rattle.streetmap_rows.specs.Failing.{IsOfStore, HasReason}
 use Rattle.streetmap_opening.specs.declared.making.MakeFault.{MakeFault}
 use Rattle.streetmap_opening.specs.declared.making.MakeFault.TheVariants.{Taken, Device, Memory}
-use Rattle.streetmap_rows.specs.Tables.{meta, meta_text, collections, collections_text, batches, batches_text, features, features_text}
+use Rattle.streetmap_rows.specs.Tables.{meta, meta_text, collections, collections_text, batches}
+use Rattle.streetmap_rows.specs.Tables.{batches_text, features, features_text}
 
 -- a table of ours, and the text that makes it
 abbrev pub IsOurText : List ℕ → Table → Type 0
 IsOurText sql table =
-    ((sql ≡ meta_text) × (table ≡ meta 0)) ⊎ (((sql ≡ collections_text) × (table ≡ collections 0)) ⊎ (((sql ≡ batches_text) × (table ≡ batches 0)) ⊎ ((sql ≡ features_text) × (table ≡ features 0))))
+    ((sql ≡ meta_text) × (table ≡ meta 0))
+    ⊎ (((sql ≡ collections_text) × (table ≡ collections 0))
+    ⊎ (((sql ≡ batches_text) × (table ≡ batches 0))
+    ⊎ ((sql ≡ features_text) × (table ≡ features 0))))
 
 abbrev pub our_tables : List Table
 our_tables = meta 0 ∷ collections 0 ∷ batches 0 ∷ features 0 ∷ []
@@ -31,11 +35,13 @@ abbrev pub trees_for : List Table → ℕ
 trees_for [] = 0
 trees_for (t ∷ tables) = 1 + length t.uniques + trees_for tables
 
--- a schema has no place for tables whose names are free: it would number more than 65536 trees, or something has the name of one of those indexes
+-- a schema has no place for tables whose names are free: it would number more than 65536 trees, or
+-- something has the name of one of those indexes
 abbrev pub IsFullFor : List Table → Schema → Error → Type 0
 IsFullFor tables schema e =
     ((e ≡ SqliteFailure SchemaTooBig) × (65536 < next_tree schema + trees_for tables))
-    ⊎ ((e ≡ SqliteFailure NameTaken) × (t : Table) × Has tables t × (index : Index) × Has (key_indexes t) index × IsTrue (is_used schema index.name))
+    ⊎ ((e ≡ SqliteFailure NameTaken) × (t : Table) × Has tables t × (index : Index)
+    × Has (key_indexes t) index × IsTrue (is_used schema index.name))
 
 -- why these tables are not made: the store failed, or the schema has no place for them
 abbrev pub IsToldFor : List Table → Schema → Error → Type 0

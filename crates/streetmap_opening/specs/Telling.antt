@@ -41,11 +41,13 @@ LooksAt sql old new (Err e) = (¬ (IsOfStore e)) → IsUnseen sql old
 
 -- the look at the format row tells this format
 abbrev pub TellsFormat : Seen → Option ℤ → Type 0
-TellsFormat seen format = (rows : List Row) × Sees select_format seen rows × (format_in rows ≡ format)
+TellsFormat seen format = (rows : List Row) × Sees select_format seen rows
+    × (format_in rows ≡ format)
 
 -- the tables are of format 2, and so many batches are shown
 abbrev pub TellsKeys : Seen → ℕ → Type 0
-TellsKeys seen count = TellsFormat seen (Some (pos 2)) × ((rows : List Row) × Sees serials_text seen rows × (count ≡ length rows))
+TellsKeys seen count = TellsFormat seen (Some (pos 2))
+    × ((rows : List Row) × Sees serials_text seen rows × (count ≡ length rows))
 
 -- the look at the format row is refused
 abbrev pub TellsNothing : Seen → Type 0
@@ -76,7 +78,8 @@ IsRefusedFor format Memory = ⊥
 abbrev pub TellsFault : Seen → AdoptFault → Type 0
 TellsFault seen fault = (format : Option ℤ) × IsRefusedFor format fault × TellsFormat seen format
 
--- What is answered is what the looks tell, whatever the tables are; but the store may fail, or memory be refused.
+-- What is answered is what the looks tell, whatever the tables are; but the store may fail, or
+-- memory be refused.
 abbrev pub AdoptsBy : Seen → Result ℕ AdoptFault → Type 0
 AdoptsBy seen (Ok count) = TellsKeys seen count
 AdoptsBy seen (Err NotOurs) = TellsFault seen NotOurs ⊎ TellsNothing seen

@@ -7,8 +7,10 @@ ghost use Rattle.streetmap_rows.specs.Failing.{HasReason, IsOfStore};
 ghost use Rattle.streetmap_opening.specs.Reasons.{AdoptsFor};
 ghost use Rattle.streetmap_rows.specs.Keeping.{Rests};
 ghost use Rattle.streetmap_rows.specs.Statements.{select_format};
-ghost use Rattle.streetmap_opening.specs.Adopting.{serials_text, FindsFormat, FindsSerials, FindsKeys, IsAsItWas, StaysOpen, Adopts};
-ghost use Rattle.streetmap_opening.specs.Telling.{format_in, LooksAt, IsFoundIn, IsRefusedFor, AdoptsBy};
+ghost use Rattle.streetmap_opening.specs.Adopting.{serials_text, FindsFormat, FindsSerials};
+ghost use Rattle.streetmap_opening.specs.Adopting.{FindsKeys, IsAsItWas, StaysOpen, Adopts};
+ghost use Rattle.streetmap_opening.specs.Telling.{format_in, LooksAt, IsFoundIn, IsRefusedFor};
+ghost use Rattle.streetmap_opening.specs.Telling.{AdoptsBy};
 
 use sqlite::types::ValueRef;
 use sqlite::{Alter, Connection, Error, Row, Transaction};
@@ -48,11 +50,19 @@ fn read_format<S: Alter>(tx: &mut Transaction<'_, S>) -> Result<Vec<Row>, Error>
     ensures reason { HasCleanDisk (state S.Store tx.new.conn.now) →
         IfErr result (HasReason (state S.Store tx.old.conn.now) (state S.Store tx.new.conn.now)) }
     ensures same_reference { tx.new.conn.ghost_name ≡ tx.old.conn.ghost_name }
-    ensures finds { HasCleanDisk (state S.Store tx.new.conn.now) → FindsFormat (state S.Store tx.old.conn.now) (state S.Store tx.new.conn.now) result }
-    ensures tells { HasCleanDisk (state S.Store tx.new.conn.now) → LooksAt select_format (state S.Store tx.old.conn.now) (state S.Store tx.new.conn.now) result }
-    ensures inside { HasCleanDisk (state S.Store tx.new.conn.now) → IsTrue (state S.Store tx.old.conn.now).in_transaction → OnOk result (IsTrue (state S.Store tx.new.conn.now).in_transaction) }
-    ensures kept { HasCleanDisk (state S.Store tx.new.conn.now) → IsTrue (state S.Store tx.old.conn.now).in_transaction → KeepsCommit (state S.Store tx.old.conn.now) (state S.Store tx.new.conn.now) }
-    ensures survives { Survives (state S.Store tx.old.conn.now) (state S.Store tx.new.conn.now) (λ _. ⊥) }
+    ensures finds { HasCleanDisk (state S.Store tx.new.conn.now)
+        → FindsFormat (state S.Store tx.old.conn.now) (state S.Store tx.new.conn.now) result }
+    ensures tells { HasCleanDisk (state S.Store tx.new.conn.now)
+        → LooksAt select_format (state S.Store tx.old.conn.now) (state S.Store tx.new.conn.now)
+        result }
+    ensures inside { HasCleanDisk (state S.Store tx.new.conn.now)
+        → IsTrue (state S.Store tx.old.conn.now).in_transaction
+        → OnOk result (IsTrue (state S.Store tx.new.conn.now).in_transaction) }
+    ensures kept { HasCleanDisk (state S.Store tx.new.conn.now)
+        → IsTrue (state S.Store tx.old.conn.now).in_transaction
+        → KeepsCommit (state S.Store tx.old.conn.now) (state S.Store tx.new.conn.now) }
+    ensures survives { Survives (state S.Store tx.old.conn.now) (state S.Store tx.new.conn.now)
+        (λ _. ⊥) }
 {
     tx.query_all(
         "SELECT value FROM streetmap_meta WHERE name = 'format'",
@@ -66,11 +76,19 @@ pub fn read_serials<S: Alter>(tx: &mut Transaction<'_, S>) -> Result<Vec<Row>, E
     ensures reason { HasCleanDisk (state S.Store tx.new.conn.now) →
         IfErr result (HasReason (state S.Store tx.old.conn.now) (state S.Store tx.new.conn.now)) }
     ensures same_reference { tx.new.conn.ghost_name ≡ tx.old.conn.ghost_name }
-    ensures finds { HasCleanDisk (state S.Store tx.new.conn.now) → FindsSerials (state S.Store tx.old.conn.now) result }
-    ensures tells { HasCleanDisk (state S.Store tx.new.conn.now) → LooksAt serials_text (state S.Store tx.old.conn.now) (state S.Store tx.new.conn.now) result }
-    ensures inside { HasCleanDisk (state S.Store tx.new.conn.now) → IsTrue (state S.Store tx.old.conn.now).in_transaction → OnOk result (IsTrue (state S.Store tx.new.conn.now).in_transaction) }
-    ensures kept { HasCleanDisk (state S.Store tx.new.conn.now) → IsTrue (state S.Store tx.old.conn.now).in_transaction → KeepsCommit (state S.Store tx.old.conn.now) (state S.Store tx.new.conn.now) }
-    ensures survives { Survives (state S.Store tx.old.conn.now) (state S.Store tx.new.conn.now) (λ _. ⊥) }
+    ensures finds { HasCleanDisk (state S.Store tx.new.conn.now)
+        → FindsSerials (state S.Store tx.old.conn.now) result }
+    ensures tells { HasCleanDisk (state S.Store tx.new.conn.now)
+        → LooksAt serials_text (state S.Store tx.old.conn.now) (state S.Store tx.new.conn.now)
+        result }
+    ensures inside { HasCleanDisk (state S.Store tx.new.conn.now)
+        → IsTrue (state S.Store tx.old.conn.now).in_transaction
+        → OnOk result (IsTrue (state S.Store tx.new.conn.now).in_transaction) }
+    ensures kept { HasCleanDisk (state S.Store tx.new.conn.now)
+        → IsTrue (state S.Store tx.old.conn.now).in_transaction
+        → KeepsCommit (state S.Store tx.old.conn.now) (state S.Store tx.new.conn.now) }
+    ensures survives { Survives (state S.Store tx.old.conn.now) (state S.Store tx.new.conn.now)
+        (λ _. ⊥) }
 {
     tx.query_all("SELECT serial FROM streetmap_batches", &[])
 }
@@ -107,10 +125,15 @@ fn look_inside<S: Alter>(tx: &mut Transaction<'_, S>) -> Result<Found, Error>
     ensures reason { HasCleanDisk (state S.Store tx.new.conn.now) →
         IfErr result (HasReason (state S.Store tx.old.conn.now) (state S.Store tx.new.conn.now)) }
     ensures same_reference { tx.new.conn.ghost_name ≡ tx.old.conn.ghost_name }
-    ensures finds { HasCleanDisk (state S.Store tx.new.conn.now) → FindsKeys (state S.Store tx.old.conn.now) result }
-    ensures tells { HasCleanDisk (state S.Store tx.new.conn.now) → IsFoundIn (state S.Store tx.old.conn.now) result }
-    ensures kept { HasCleanDisk (state S.Store tx.new.conn.now) → IsTrue (state S.Store tx.old.conn.now).in_transaction → KeepsCommit (state S.Store tx.old.conn.now) (state S.Store tx.new.conn.now) }
-    ensures survives { Survives (state S.Store tx.old.conn.now) (state S.Store tx.new.conn.now) (λ _. ⊥) }
+    ensures finds { HasCleanDisk (state S.Store tx.new.conn.now)
+        → FindsKeys (state S.Store tx.old.conn.now) result }
+    ensures tells { HasCleanDisk (state S.Store tx.new.conn.now)
+        → IsFoundIn (state S.Store tx.old.conn.now) result }
+    ensures kept { HasCleanDisk (state S.Store tx.new.conn.now)
+        → IsTrue (state S.Store tx.old.conn.now).in_transaction
+        → KeepsCommit (state S.Store tx.old.conn.now) (state S.Store tx.new.conn.now) }
+    ensures survives { Survives (state S.Store tx.old.conn.now) (state S.Store tx.new.conn.now)
+        (λ _. ⊥) }
 {
     let rows = read_format(tx)?;
     match format_of(&rows) {
@@ -130,9 +153,12 @@ fn look_alone<S: Alter>(conn: &mut Connection<S>) -> Result<Found, Error>
         IfErr result (HasReason (state S.Store conn.old) (state S.Store conn.new)) }
     ensures idle { conn.new.in_transaction ≡ false }
     ensures survives { Survives (state S.Store conn.old) (state S.Store conn.new) (λ _. ⊥) }
-    ensures same { HasCleanDisk (state S.Store conn.new) → IsAsItWas (state S.Store conn.old) (state S.Store conn.new) }
-    ensures finds { HasCleanDisk (state S.Store conn.new) → FindsKeys (state S.Store conn.old) result }
-    ensures tells { HasCleanDisk (state S.Store conn.new) → IsFoundIn (state S.Store conn.old) result }
+    ensures same { HasCleanDisk (state S.Store conn.new)
+        → IsAsItWas (state S.Store conn.old) (state S.Store conn.new) }
+    ensures finds { HasCleanDisk (state S.Store conn.new)
+        → FindsKeys (state S.Store conn.old) result }
+    ensures tells { HasCleanDisk (state S.Store conn.new)
+        → IsFoundIn (state S.Store conn.old) result }
 {
     let mut tx = conn.transaction();
     let found = look_inside(&mut tx);
@@ -170,10 +196,15 @@ pub fn adopt_tables<S: Alter>(conn: &mut Connection<S>) -> Result<u64, AdoptFaul
         IfErr result (AdoptsFor (state S.Store conn.old) (state S.Store conn.new)) }
     ensures idle { conn.new.in_transaction ≡ false }
     ensures survives { Survives (state S.Store conn.old) (state S.Store conn.new) (λ _. ⊥) }
-    ensures same { HasCleanDisk (state S.Store conn.new) → IsAsItWas (state S.Store conn.old) (state S.Store conn.new) }
-    ensures tells { HasCleanDisk (state S.Store conn.new) → AdoptsBy (state S.Store conn.old) result }
-    ensures live { HasCleanDisk (state S.Store conn.new) → StaysOpen (state S.Store conn.new) result }
-    ensures adopts { HasCleanDisk (state S.Store conn.new) → (s : State) → Rests (state S.Store conn.old) s → Adopts s (state S.Store conn.old) (state S.Store conn.new) result }
+    ensures same { HasCleanDisk (state S.Store conn.new)
+        → IsAsItWas (state S.Store conn.old) (state S.Store conn.new) }
+    ensures tells { HasCleanDisk (state S.Store conn.new)
+        → AdoptsBy (state S.Store conn.old) result }
+    ensures live { HasCleanDisk (state S.Store conn.new)
+        → StaysOpen (state S.Store conn.new) result }
+    ensures adopts { HasCleanDisk (state S.Store conn.new) → (s : State)
+        → Rests (state S.Store conn.old) s
+        → Adopts s (state S.Store conn.old) (state S.Store conn.new) result }
 {
     match look_alone(conn) {
         Ok(Found::Keys(count)) => match probe(conn) {

@@ -10,7 +10,8 @@ ghost use Rattle.streetmap_opening.specs.Making.{KeepsOtherTables};
 ghost use Rattle.streetmap_opening.specs.Old.{RestsOld};
 ghost use Rattle.streetmap_opening.specs.Reasons.{IsOwn, HasReasonIn, TellsFor, OpensFor};
 ghost use Rattle.streetmap_opening.specs.Part.{HasCarried};
-ghost use Rattle.streetmap_opening.specs.Carrying.{IsHeldBack, IsRefusedOld, CarriesInside, CarriesAlone, MayCarry, Carries, IsNamedFault};
+ghost use Rattle.streetmap_opening.specs.Carrying.{IsHeldBack, IsRefusedOld, CarriesInside};
+ghost use Rattle.streetmap_opening.specs.Carrying.{CarriesAlone, MayCarry, Carries, IsNamedFault};
 
 use crate::adopting::read_serials;
 use crate::features::{fault_of, put_rows, take_rows};
@@ -26,13 +27,19 @@ fn carry_inside<S: Alter>(tx: &mut Transaction<'_, S>, alloc: Global) -> Result<
     ensures reason { HasCleanDisk (state S.Store tx.new.conn.now) →
         IfErr result (HasReasonIn (state S.Store tx.old.conn.now) (state S.Store tx.new.conn.now)) }
     ensures same_reference { tx.new.conn.ghost_name ≡ tx.old.conn.ghost_name }
-    ensures carries { HasCleanDisk (state S.Store tx.new.conn.now) → CarriesInside (state S.Store tx.old.conn.now) (state S.Store tx.new.conn.now) result }
+    ensures carries { HasCleanDisk (state S.Store tx.new.conn.now)
+        → CarriesInside (state S.Store tx.old.conn.now) (state S.Store tx.new.conn.now) result }
     ensures carried { HasCleanDisk (state S.Store tx.new.conn.now) →
         IsTrue (state S.Store tx.old.conn.now).in_transaction →
         OnOk result (HasCarried S.Store tx.old.conn.now tx.new.conn.now) }
-    ensures inside { HasCleanDisk (state S.Store tx.new.conn.now) → IsTrue (state S.Store tx.old.conn.now).in_transaction → OnOk result (IsTrue (state S.Store tx.new.conn.now).in_transaction) }
-    ensures kept { HasCleanDisk (state S.Store tx.new.conn.now) → IsTrue (state S.Store tx.old.conn.now).in_transaction → KeepsCommit (state S.Store tx.old.conn.now) (state S.Store tx.new.conn.now) }
-    ensures survives { Survives (state S.Store tx.old.conn.now) (state S.Store tx.new.conn.now) (λ _. ⊥) }
+    ensures inside { HasCleanDisk (state S.Store tx.new.conn.now)
+        → IsTrue (state S.Store tx.old.conn.now).in_transaction
+        → OnOk result (IsTrue (state S.Store tx.new.conn.now).in_transaction) }
+    ensures kept { HasCleanDisk (state S.Store tx.new.conn.now)
+        → IsTrue (state S.Store tx.old.conn.now).in_transaction
+        → KeepsCommit (state S.Store tx.old.conn.now) (state S.Store tx.new.conn.now) }
+    ensures survives { Survives (state S.Store tx.old.conn.now) (state S.Store tx.new.conn.now)
+        (λ _. ⊥) }
 {
     let rows = take_rows(tx)?;
     match remake_tables(tx) {
@@ -55,14 +62,20 @@ fn carry_alone<S: Alter>(alloc: Global, conn: &mut Connection<S>) -> Result<u64,
     ensures carried { HasCleanDisk (state S.Store conn.new) →
         OnOk result (HasCarried S.Store conn.old conn.new) }
     ensures idle { conn.new.in_transaction ≡ false }
-    ensures clean { doubt (state S.Store conn.old).is_clean ≤ doubt (state S.Store conn.new).is_clean }
+    ensures clean { doubt (state S.Store conn.old).is_clean
+        ≤ doubt (state S.Store conn.new).is_clean }
     ensures limit { (state S.Store conn.new).step_limit ≡ (state S.Store conn.old).step_limit }
     ensures fewer { HasCleanDisk (state S.Store conn.new) →
         IfErr result (λ fault. IsOwn fault →
         LeavesNoMore (state S.Store conn.old) (state S.Store conn.new)) }
-    ensures carries { HasCleanDisk (state S.Store conn.new) → (s : State) → RestsOld (state S.Store conn.old) s → CarriesAlone s (state S.Store conn.old) (state S.Store conn.new) result }
-    ensures same { HasCleanDisk (state S.Store conn.new) → IfErr result (λ _. IsAsItWas (state S.Store conn.old) (state S.Store conn.new)) }
-    ensures crash { HasCleanDisk (state S.Store conn.new) → (s : State) → RestsOld (state S.Store conn.old) s → MayCarry s (state S.Store conn.old) (state S.Store conn.new) }
+    ensures carries { HasCleanDisk (state S.Store conn.new) → (s : State)
+        → RestsOld (state S.Store conn.old) s
+        → CarriesAlone s (state S.Store conn.old) (state S.Store conn.new) result }
+    ensures same { HasCleanDisk (state S.Store conn.new)
+        → IfErr result (λ _. IsAsItWas (state S.Store conn.old) (state S.Store conn.new)) }
+    ensures crash { HasCleanDisk (state S.Store conn.new) → (s : State)
+        → RestsOld (state S.Store conn.old) s
+        → MayCarry s (state S.Store conn.old) (state S.Store conn.new) }
 {
     let mut tx = conn.transaction();
     match carry_inside(&mut tx, alloc) {
@@ -86,10 +99,14 @@ fn tell<S: Alter>(conn: &mut Connection<S>, fault: ReadFault) -> TablesFault
     ensures survives { Survives (state S.Store conn.old) (state S.Store conn.new) (λ _. ⊥) }
     ensures named { IsNamedFault result }
     ensures damaged { result ≡ TablesFault.Damaged → fault ≡ ReadFault.Unread }
-    ensures told { HasCleanDisk (state S.Store conn.new) → (schema : Schema) → IsHeldBack schema fault → IsRefusedOld schema result }
-    ensures settled { IsTrue (state S.Store conn.new).is_open → (state S.Store conn.new).now ≡ (state S.Store conn.new).committed }
-    ensures kept { HasCleanDisk (state S.Store conn.new) → KeepsCommit (state S.Store conn.old) (state S.Store conn.new) }
-    ensures live { HasCleanDisk (state S.Store conn.new) → result ≡ TablesFault.Memory → IsTrue (state S.Store conn.new).is_open }
+    ensures told { HasCleanDisk (state S.Store conn.new) → (schema : Schema)
+        → IsHeldBack schema fault → IsRefusedOld schema result }
+    ensures settled { IsTrue (state S.Store conn.new).is_open
+        → (state S.Store conn.new).now ≡ (state S.Store conn.new).committed }
+    ensures kept { HasCleanDisk (state S.Store conn.new)
+        → KeepsCommit (state S.Store conn.old) (state S.Store conn.new) }
+    ensures live { HasCleanDisk (state S.Store conn.new) → result ≡ TablesFault.Memory
+        → IsTrue (state S.Store conn.new).is_open }
 {
     // Between two transactions it holds what was committed.
     let _idle = conn.is_autocommit();
@@ -103,21 +120,21 @@ fn tell<S: Alter>(conn: &mut Connection<S>, fault: ReadFault) -> TablesFault
     }
 }
 
-/// Carries tables of format 1 over to format 2, in one transaction, and tells how many batches they have
-/// accepted.
+/// Carries tables of format 1 over to format 2, in one transaction, and tells how many batches they
+/// have accepted.
 ///
 /// The connection is to have no step limit. A stop within leaves the rows of format 1 or those of
-/// format 2, whole. After a refusal an open connection holds what it held, and every other table stays in
-/// each case.
+/// format 2, whole. After a refusal an open connection holds what it held, and every other table
+/// stays in each case.
 ///
 /// # Errors
 ///
-/// `Damaged` at a row that is none that this product writes; `Memory` where memory was refused and the
-/// connection is open; `Device` where the store fails or has no room, or a statement that makes the tables
-/// anew is refused, by its error. After memory was refused the connection is looked at by `probe`: where
-/// memory is refused to that look too, it is `Device`, by that error. On the tables of a state it is
-/// `Memory`, or `Device` by an error of the store, or by `SchemaTooBig` or `NameTaken` where their schema
-/// has no place for the tables of format 2 (`make_tables`).
+/// `Damaged` at a row that is none that this product writes; `Memory` where memory was refused and
+/// the connection is open; `Device` where the store fails or has no room, or a statement that makes
+/// the tables anew is refused, by its error. After memory was refused the connection is looked at
+/// by `probe`: where memory is refused to that look too, it is `Device`, by that error. On the
+/// tables of a state it is `Memory`, or `Device` by an error of the store, or by `SchemaTooBig` or
+/// `NameTaken` where their schema has no place for the tables of format 2 (`make_tables`).
 #[tactic(auto, using(crate::proofs::Reasons::opens_for))]
 pub fn carry_tables<S: Alter>(alloc: Global, conn: &mut Connection<S>) -> Result<u64, TablesFault>
     requires { conn.old.in_transaction ≡ false }
@@ -127,16 +144,24 @@ pub fn carry_tables<S: Alter>(alloc: Global, conn: &mut Connection<S>) -> Result
     ensures carried { HasCleanDisk (state S.Store conn.new) →
         OnOk result (HasCarried S.Store conn.old conn.new) }
     ensures idle { conn.new.in_transaction ≡ false }
-    ensures clean { doubt (state S.Store conn.old).is_clean ≤ doubt (state S.Store conn.new).is_clean }
+    ensures clean { doubt (state S.Store conn.old).is_clean
+        ≤ doubt (state S.Store conn.new).is_clean }
     ensures limit { (state S.Store conn.new).step_limit ≡ (state S.Store conn.old).step_limit }
     ensures told { IfErr result IsNamedFault }
     ensures fewer { HasCleanDisk (state S.Store conn.new) →
         IfErr result (λ fault. fault ≡ TablesFault.Damaged →
         LeavesNoMore (state S.Store conn.old) (state S.Store conn.new)) }
-    ensures same { HasCleanDisk (state S.Store conn.new) → IfErr result (λ _. IsAsItWas (state S.Store conn.old) (state S.Store conn.new)) }
-    ensures carries { HasCleanDisk (state S.Store conn.new) → (s : State) → RestsOld (state S.Store conn.old) s → Carries s (state S.Store conn.old) (state S.Store conn.new) result }
-    ensures elsewhere { HasCleanDisk (state S.Store conn.new) → (s : State) → RestsOld (state S.Store conn.old) s → IsTrue (state S.Store conn.new).is_open → KeepsOtherTables (state S.Store conn.old).now (state S.Store conn.new).now }
-    ensures crash { HasCleanDisk (state S.Store conn.new) → (s : State) → RestsOld (state S.Store conn.old) s → MayCarry s (state S.Store conn.old) (state S.Store conn.new) }
+    ensures same { HasCleanDisk (state S.Store conn.new)
+        → IfErr result (λ _. IsAsItWas (state S.Store conn.old) (state S.Store conn.new)) }
+    ensures carries { HasCleanDisk (state S.Store conn.new) → (s : State)
+        → RestsOld (state S.Store conn.old) s
+        → Carries s (state S.Store conn.old) (state S.Store conn.new) result }
+    ensures elsewhere { HasCleanDisk (state S.Store conn.new) → (s : State)
+        → RestsOld (state S.Store conn.old) s → IsTrue (state S.Store conn.new).is_open
+        → KeepsOtherTables (state S.Store conn.old).now (state S.Store conn.new).now }
+    ensures crash { HasCleanDisk (state S.Store conn.new) → (s : State)
+        → RestsOld (state S.Store conn.old) s
+        → MayCarry s (state S.Store conn.old) (state S.Store conn.new) }
 {
     match carry_alone(alloc, conn) {
         Ok(count) => Ok(count),

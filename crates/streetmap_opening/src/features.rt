@@ -25,8 +25,8 @@ use streetmap_reading::{ReadFault, read_body, unread};
 use streetmap_rows::{is_of_store, time_in};
 use streetmap_writing::put_feature;
 
-/// Why a look or a write of a feature gave up: the store failed, or the statement was refused, as one
-/// over a row that is none that this product writes.
+/// Why a look or a write of a feature gave up: the store failed, or the statement was refused, as
+/// one over a row that is none that this product writes.
 pub fn fault_of(error: Error) -> ReadFault
     ensures only { (e : Error) → result ≡ ReadFault.Store e → e ≡ error }
     ensures store { IsOfStore error → result ≡ ReadFault.Store error }
@@ -43,12 +43,18 @@ pub fn take_rows<S: Alter>(tx: &mut Transaction<'_, S>) -> Result<Vec<Row>, Read
     ensures reason { HasCleanDisk (state S.Store tx.new.conn.now) →
         IfErr result (HasReasonIn (state S.Store tx.old.conn.now) (state S.Store tx.new.conn.now)) }
     ensures same_reference { tx.new.conn.ghost_name ≡ tx.old.conn.ghost_name }
-    ensures takes { HasCleanDisk (state S.Store tx.new.conn.now) → TakesRows (state S.Store tx.old.conn.now) (state S.Store tx.new.conn.now) result }
+    ensures takes { HasCleanDisk (state S.Store tx.new.conn.now)
+        → TakesRows (state S.Store tx.old.conn.now) (state S.Store tx.new.conn.now) result }
     ensures shown { HasCleanDisk (state S.Store tx.new.conn.now) →
         IfOk result (λ rows. Sees old_rows_text (state S.Store tx.old.conn.now) rows.items) }
-    ensures inside { HasCleanDisk (state S.Store tx.new.conn.now) → IsTrue (state S.Store tx.old.conn.now).in_transaction → OnOk result (IsTrue (state S.Store tx.new.conn.now).in_transaction) }
-    ensures kept { HasCleanDisk (state S.Store tx.new.conn.now) → IsTrue (state S.Store tx.old.conn.now).in_transaction → KeepsCommit (state S.Store tx.old.conn.now) (state S.Store tx.new.conn.now) }
-    ensures survives { Survives (state S.Store tx.old.conn.now) (state S.Store tx.new.conn.now) (λ _. ⊥) }
+    ensures inside { HasCleanDisk (state S.Store tx.new.conn.now)
+        → IsTrue (state S.Store tx.old.conn.now).in_transaction
+        → OnOk result (IsTrue (state S.Store tx.new.conn.now).in_transaction) }
+    ensures kept { HasCleanDisk (state S.Store tx.new.conn.now)
+        → IsTrue (state S.Store tx.old.conn.now).in_transaction
+        → KeepsCommit (state S.Store tx.old.conn.now) (state S.Store tx.new.conn.now) }
+    ensures survives { Survives (state S.Store tx.old.conn.now) (state S.Store tx.new.conn.now)
+        (λ _. ⊥) }
 {
     match tx.query_all("SELECT collection, id, body FROM streetmap_features", &[]) {
         Ok(rows) => Ok(rows),
@@ -62,12 +68,19 @@ fn head_rows<S: Alter>(tx: &mut Transaction<'_, S>, collection: &str) -> Result<
     ensures reason { HasCleanDisk (state S.Store tx.new.conn.now) →
         IfErr result (HasReason (state S.Store tx.old.conn.now) (state S.Store tx.new.conn.now)) }
     ensures same_reference { tx.new.conn.ghost_name ≡ tx.old.conn.ghost_name }
-    ensures looks { HasCleanDisk (state S.Store tx.new.conn.now) → LooksAll (views.collection_rows collection.now) (state S.Store tx.old.conn.now) (state S.Store tx.new.conn.now) result }
+    ensures looks { HasCleanDisk (state S.Store tx.new.conn.now)
+        → LooksAll (views.collection_rows collection.now) (state S.Store tx.old.conn.now)
+        (state S.Store tx.new.conn.now) result }
     ensures same { HasCleanDisk (state S.Store tx.new.conn.now) →
         OnOk result ((state S.Store tx.new.conn.now).now ≡ (state S.Store tx.old.conn.now).now) }
-    ensures inside { HasCleanDisk (state S.Store tx.new.conn.now) → IsTrue (state S.Store tx.old.conn.now).in_transaction → OnOk result (IsTrue (state S.Store tx.new.conn.now).in_transaction) }
-    ensures kept { HasCleanDisk (state S.Store tx.new.conn.now) → IsTrue (state S.Store tx.old.conn.now).in_transaction → KeepsCommit (state S.Store tx.old.conn.now) (state S.Store tx.new.conn.now) }
-    ensures survives { Survives (state S.Store tx.old.conn.now) (state S.Store tx.new.conn.now) (λ _. ⊥) }
+    ensures inside { HasCleanDisk (state S.Store tx.new.conn.now)
+        → IsTrue (state S.Store tx.old.conn.now).in_transaction
+        → OnOk result (IsTrue (state S.Store tx.new.conn.now).in_transaction) }
+    ensures kept { HasCleanDisk (state S.Store tx.new.conn.now)
+        → IsTrue (state S.Store tx.old.conn.now).in_transaction
+        → KeepsCommit (state S.Store tx.old.conn.now) (state S.Store tx.new.conn.now) }
+    ensures survives { Survives (state S.Store tx.old.conn.now) (state S.Store tx.new.conn.now)
+        (λ _. ⊥) }
 {
     tx.query_all(
         "SELECT title, time FROM streetmap_collections WHERE id = ?1",
@@ -83,12 +96,19 @@ fn find_time<S: Alter>(
     ensures reason { HasCleanDisk (state S.Store tx.new.conn.now) →
         IfErr result (HasReasonIn (state S.Store tx.old.conn.now) (state S.Store tx.new.conn.now)) }
     ensures same_reference { tx.new.conn.ghost_name ≡ tx.old.conn.ghost_name }
-    ensures finds { HasCleanDisk (state S.Store tx.new.conn.now) → FindsTime collection.now (state S.Store tx.old.conn.now) (state S.Store tx.new.conn.now) result }
+    ensures finds { HasCleanDisk (state S.Store tx.new.conn.now)
+        → FindsTime collection.now (state S.Store tx.old.conn.now) (state S.Store tx.new.conn.now)
+        result }
     ensures same { HasCleanDisk (state S.Store tx.new.conn.now) →
         OnOk result ((state S.Store tx.new.conn.now).now ≡ (state S.Store tx.old.conn.now).now) }
-    ensures inside { HasCleanDisk (state S.Store tx.new.conn.now) → IsTrue (state S.Store tx.old.conn.now).in_transaction → OnOk result (IsTrue (state S.Store tx.new.conn.now).in_transaction) }
-    ensures kept { HasCleanDisk (state S.Store tx.new.conn.now) → IsTrue (state S.Store tx.old.conn.now).in_transaction → KeepsCommit (state S.Store tx.old.conn.now) (state S.Store tx.new.conn.now) }
-    ensures survives { Survives (state S.Store tx.old.conn.now) (state S.Store tx.new.conn.now) (λ _. ⊥) }
+    ensures inside { HasCleanDisk (state S.Store tx.new.conn.now)
+        → IsTrue (state S.Store tx.old.conn.now).in_transaction
+        → OnOk result (IsTrue (state S.Store tx.new.conn.now).in_transaction) }
+    ensures kept { HasCleanDisk (state S.Store tx.new.conn.now)
+        → IsTrue (state S.Store tx.old.conn.now).in_transaction
+        → KeepsCommit (state S.Store tx.old.conn.now) (state S.Store tx.new.conn.now) }
+    ensures survives { Survives (state S.Store tx.old.conn.now) (state S.Store tx.new.conn.now)
+        (λ _. ⊥) }
 {
     let rows = match head_rows(tx, collection) {
         Ok(rows) => rows,
@@ -146,13 +166,19 @@ fn put_row<S: Alter>(tx: &mut Transaction<'_, S>, alloc: Global, row: &Row) -> R
     ensures reason { HasCleanDisk (state S.Store tx.new.conn.now) →
         IfErr result (HasReasonIn (state S.Store tx.old.conn.now) (state S.Store tx.new.conn.now)) }
     ensures same_reference { tx.new.conn.ghost_name ≡ tx.old.conn.ghost_name }
-    ensures puts { HasCleanDisk (state S.Store tx.new.conn.now) → PutsRow row.now (state S.Store tx.old.conn.now) (state S.Store tx.new.conn.now) result }
+    ensures puts { HasCleanDisk (state S.Store tx.new.conn.now)
+        → PutsRow row.now (state S.Store tx.old.conn.now) (state S.Store tx.new.conn.now) result }
     ensures ran { HasCleanDisk (state S.Store tx.new.conn.now) →
         IsTrue (state S.Store tx.old.conn.now).in_transaction →
         OnOk result (PutsOne S.Store row.now tx.old.conn.now tx.new.conn.now) }
-    ensures inside { HasCleanDisk (state S.Store tx.new.conn.now) → IsTrue (state S.Store tx.old.conn.now).in_transaction → OnOk result (IsTrue (state S.Store tx.new.conn.now).in_transaction) }
-    ensures kept { HasCleanDisk (state S.Store tx.new.conn.now) → IsTrue (state S.Store tx.old.conn.now).in_transaction → KeepsCommit (state S.Store tx.old.conn.now) (state S.Store tx.new.conn.now) }
-    ensures survives { Survives (state S.Store tx.old.conn.now) (state S.Store tx.new.conn.now) (λ _. ⊥) }
+    ensures inside { HasCleanDisk (state S.Store tx.new.conn.now)
+        → IsTrue (state S.Store tx.old.conn.now).in_transaction
+        → OnOk result (IsTrue (state S.Store tx.new.conn.now).in_transaction) }
+    ensures kept { HasCleanDisk (state S.Store tx.new.conn.now)
+        → IsTrue (state S.Store tx.old.conn.now).in_transaction
+        → KeepsCommit (state S.Store tx.old.conn.now) (state S.Store tx.new.conn.now) }
+    ensures survives { Survives (state S.Store tx.old.conn.now) (state S.Store tx.new.conn.now)
+        (λ _. ⊥) }
 {
     let collection = collection_in(row)?;
     let time = find_time(tx, collection.as_str())?;
@@ -173,13 +199,19 @@ pub fn put_rows<S: Alter>(
     ensures reason { HasCleanDisk (state S.Store tx.new.conn.now) →
         IfErr result (HasReasonIn (state S.Store tx.old.conn.now) (state S.Store tx.new.conn.now)) }
     ensures same_reference { tx.new.conn.ghost_name ≡ tx.old.conn.ghost_name }
-    ensures puts { HasCleanDisk (state S.Store tx.new.conn.now) → PutsRows rows.now (state S.Store tx.old.conn.now) (state S.Store tx.new.conn.now) result }
+    ensures puts { HasCleanDisk (state S.Store tx.new.conn.now)
+        → PutsRows rows.now (state S.Store tx.old.conn.now) (state S.Store tx.new.conn.now) result }
     ensures ran { HasCleanDisk (state S.Store tx.new.conn.now) →
         IsTrue (state S.Store tx.old.conn.now).in_transaction →
         OnOk result (PutsEach S.Store rows.now tx.old.conn.now tx.new.conn.now) }
-    ensures inside { HasCleanDisk (state S.Store tx.new.conn.now) → IsTrue (state S.Store tx.old.conn.now).in_transaction → OnOk result (IsTrue (state S.Store tx.new.conn.now).in_transaction) }
-    ensures kept { HasCleanDisk (state S.Store tx.new.conn.now) → IsTrue (state S.Store tx.old.conn.now).in_transaction → KeepsCommit (state S.Store tx.old.conn.now) (state S.Store tx.new.conn.now) }
-    ensures survives { Survives (state S.Store tx.old.conn.now) (state S.Store tx.new.conn.now) (λ _. ⊥) }
+    ensures inside { HasCleanDisk (state S.Store tx.new.conn.now)
+        → IsTrue (state S.Store tx.old.conn.now).in_transaction
+        → OnOk result (IsTrue (state S.Store tx.new.conn.now).in_transaction) }
+    ensures kept { HasCleanDisk (state S.Store tx.new.conn.now)
+        → IsTrue (state S.Store tx.old.conn.now).in_transaction
+        → KeepsCommit (state S.Store tx.old.conn.now) (state S.Store tx.new.conn.now) }
+    ensures survives { Survives (state S.Store tx.old.conn.now) (state S.Store tx.new.conn.now)
+        (λ _. ⊥) }
 {
     'rows: for row in rows {
         put_row(tx, alloc, row)?;

@@ -29,8 +29,8 @@ pub enum TablesFault {
     /// The format is 1, and a row is none that this product writes; or it is 2, and the look at the
     /// batches is refused.
     Damaged,
-    /// The store failed, or has no room: the error that told it. In format 1 also that a statement which
-    /// makes its tables anew was refused.
+    /// The store failed, or has no room: the error that told it. In format 1 also that a statement
+    /// which makes its tables anew was refused.
     Device(Error),
     /// Memory was refused.
     Memory,
@@ -60,18 +60,30 @@ pub fn open_tables<S: Alter>(alloc: Global, conn: &mut Connection<S>) -> Result<
         IfOk result (λ count.
         TellsKeys (state S.Store conn.old) count ⊎ HasCarried S.Store conn.old conn.new) }
     ensures idle { conn.new.in_transaction ≡ false }
-    ensures clean { doubt (state S.Store conn.old).is_clean ≤ doubt (state S.Store conn.new).is_clean }
+    ensures clean { doubt (state S.Store conn.old).is_clean
+        ≤ doubt (state S.Store conn.new).is_clean }
     ensures limit { (state S.Store conn.new).step_limit ≡ (state S.Store conn.old).step_limit }
-    ensures tells { HasCleanDisk (state S.Store conn.new) → OpensBy (state S.Store conn.old) result }
-    ensures same { HasCleanDisk (state S.Store conn.new) → IfErr result (λ _. IsAsItWas (state S.Store conn.old) (state S.Store conn.new)) }
+    ensures tells { HasCleanDisk (state S.Store conn.new)
+        → OpensBy (state S.Store conn.old) result }
+    ensures same { HasCleanDisk (state S.Store conn.new)
+        → IfErr result (λ _. IsAsItWas (state S.Store conn.old) (state S.Store conn.new)) }
     ensures fewer { HasCleanDisk (state S.Store conn.new) →
         IfErr result (λ fault.
         KeepsNoMore fault (state S.Store conn.old) (state S.Store conn.new)) }
-    ensures unwritten { HasCleanDisk (state S.Store conn.new) → LeavesUnlessOld (state S.Store conn.old) (state S.Store conn.new) }
-    ensures opens { HasCleanDisk (state S.Store conn.new) → (s : State) → Rests (state S.Store conn.old) s → Opens s (state S.Store conn.old) (state S.Store conn.new) result }
-    ensures carries { HasCleanDisk (state S.Store conn.new) → (s : State) → RestsOld (state S.Store conn.old) s → Carries s (state S.Store conn.old) (state S.Store conn.new) result }
-    ensures elsewhere { HasCleanDisk (state S.Store conn.new) → (s : State) → RestsOld (state S.Store conn.old) s → IsTrue (state S.Store conn.new).is_open → KeepsOtherTables (state S.Store conn.old).now (state S.Store conn.new).now }
-    ensures crash { HasCleanDisk (state S.Store conn.new) → (s : State) → RestsOld (state S.Store conn.old) s → MayCarry s (state S.Store conn.old) (state S.Store conn.new) }
+    ensures unwritten { HasCleanDisk (state S.Store conn.new)
+        → LeavesUnlessOld (state S.Store conn.old) (state S.Store conn.new) }
+    ensures opens { HasCleanDisk (state S.Store conn.new) → (s : State)
+        → Rests (state S.Store conn.old) s
+        → Opens s (state S.Store conn.old) (state S.Store conn.new) result }
+    ensures carries { HasCleanDisk (state S.Store conn.new) → (s : State)
+        → RestsOld (state S.Store conn.old) s
+        → Carries s (state S.Store conn.old) (state S.Store conn.new) result }
+    ensures elsewhere { HasCleanDisk (state S.Store conn.new) → (s : State)
+        → RestsOld (state S.Store conn.old) s → IsTrue (state S.Store conn.new).is_open
+        → KeepsOtherTables (state S.Store conn.old).now (state S.Store conn.new).now }
+    ensures crash { HasCleanDisk (state S.Store conn.new) → (s : State)
+        → RestsOld (state S.Store conn.old) s
+        → MayCarry s (state S.Store conn.old) (state S.Store conn.new) }
 {
     // Between two transactions it holds what was committed.
     let _idle = conn.is_autocommit();

@@ -19,26 +19,52 @@ fn drop_table<S: Alter>(tx: &mut Transaction<'_, S>, sql: &str) -> Result<(), Er
     ensures reason { HasCleanDisk (state S.Store tx.new.conn.now) →
         IfErr result (HasReason (state S.Store tx.old.conn.now) (state S.Store tx.new.conn.now)) }
     ensures same_reference { tx.new.conn.ghost_name ≡ tx.old.conn.ghost_name }
-    ensures dropped { HasCleanDisk (state S.Store tx.new.conn.now) → IsTrue (state S.Store tx.old.conn.now).in_transaction → (name : List ℕ) → (table : Table) → IsDropText sql.now name → CanGo (state S.Store tx.old.conn.now).now.schema name table → OnOk result (Dropped table (state S.Store tx.old.conn.now).now (state S.Store tx.new.conn.now).now) }
-    ensures told { HasCleanDisk (state S.Store tx.new.conn.now) → IsTrue (state S.Store tx.old.conn.now).in_transaction → (name : List ℕ) → (table : Table) → IsDropAlone sql.now name → CanGo (state S.Store tx.old.conn.now).now.schema name table → IsAscending (λ a b. a.tree ≡ b.tree → ⊥) (state S.Store tx.old.conn.now).now.schema.tables → IsDatabase (state S.Store tx.old.conn.now).now → IfErr result IsOfStore }
-    ensures inside { HasCleanDisk (state S.Store tx.new.conn.now) → IsTrue (state S.Store tx.old.conn.now).in_transaction → OnOk result (IsTrue (state S.Store tx.new.conn.now).in_transaction) }
-    ensures kept { HasCleanDisk (state S.Store tx.new.conn.now) → IsTrue (state S.Store tx.old.conn.now).in_transaction → KeepsCommit (state S.Store tx.old.conn.now) (state S.Store tx.new.conn.now) }
-    ensures survives { Survives (state S.Store tx.old.conn.now) (state S.Store tx.new.conn.now) (λ _. ⊥) }
+    ensures dropped { HasCleanDisk (state S.Store tx.new.conn.now)
+        → IsTrue (state S.Store tx.old.conn.now).in_transaction → (name : List ℕ) → (table : Table)
+        → IsDropText sql.now name → CanGo (state S.Store tx.old.conn.now).now.schema name table
+        → OnOk result (Dropped table (state S.Store tx.old.conn.now).now
+        (state S.Store tx.new.conn.now).now) }
+    ensures told { HasCleanDisk (state S.Store tx.new.conn.now)
+        → IsTrue (state S.Store tx.old.conn.now).in_transaction → (name : List ℕ) → (table : Table)
+        → IsDropAlone sql.now name → CanGo (state S.Store tx.old.conn.now).now.schema name table
+        → IsAscending (λ a b. a.tree ≡ b.tree → ⊥) (state S.Store tx.old.conn.now).now.schema.tables
+        → IsDatabase (state S.Store tx.old.conn.now).now → IfErr result IsOfStore }
+    ensures inside { HasCleanDisk (state S.Store tx.new.conn.now)
+        → IsTrue (state S.Store tx.old.conn.now).in_transaction
+        → OnOk result (IsTrue (state S.Store tx.new.conn.now).in_transaction) }
+    ensures kept { HasCleanDisk (state S.Store tx.new.conn.now)
+        → IsTrue (state S.Store tx.old.conn.now).in_transaction
+        → KeepsCommit (state S.Store tx.old.conn.now) (state S.Store tx.new.conn.now) }
+    ensures survives { Survives (state S.Store tx.old.conn.now) (state S.Store tx.new.conn.now)
+        (λ _. ⊥) }
 {
     tx.execute(sql, &[])?;
     Ok(())
 }
 
-/// Drops the tables of the features and of the format, and makes those of format 2 with the format row.
+/// Drops the tables of the features and of the format, and makes those of format 2 with the format
+/// row.
 pub fn remake_tables<S: Alter>(tx: &mut Transaction<'_, S>) -> Result<(), Error>
     ensures reason { HasCleanDisk (state S.Store tx.new.conn.now) →
         IfErr result (HasReason (state S.Store tx.old.conn.now) (state S.Store tx.new.conn.now)) }
     ensures same_reference { tx.new.conn.ghost_name ≡ tx.old.conn.ghost_name }
-    ensures made { HasCleanDisk (state S.Store tx.new.conn.now) → IsTrue (state S.Store tx.old.conn.now).in_transaction → (state S.Store tx.old.conn.now).step_limit ≡ None → OnOk result (Remakes (state S.Store tx.old.conn.now) (state S.Store tx.new.conn.now)) }
-    ensures told { HasCleanDisk (state S.Store tx.new.conn.now) → IsTrue (state S.Store tx.old.conn.now).in_transaction → (state S.Store tx.old.conn.now).step_limit ≡ None → (s : State) → KeepsOld s (state S.Store tx.old.conn.now).now → IfErr result (IsToldOld (state S.Store tx.old.conn.now).now.schema) }
-    ensures inside { HasCleanDisk (state S.Store tx.new.conn.now) → IsTrue (state S.Store tx.old.conn.now).in_transaction → OnOk result (IsTrue (state S.Store tx.new.conn.now).in_transaction) }
-    ensures kept { HasCleanDisk (state S.Store tx.new.conn.now) → IsTrue (state S.Store tx.old.conn.now).in_transaction → KeepsCommit (state S.Store tx.old.conn.now) (state S.Store tx.new.conn.now) }
-    ensures survives { Survives (state S.Store tx.old.conn.now) (state S.Store tx.new.conn.now) (λ _. ⊥) }
+    ensures made { HasCleanDisk (state S.Store tx.new.conn.now)
+        → IsTrue (state S.Store tx.old.conn.now).in_transaction
+        → (state S.Store tx.old.conn.now).step_limit ≡ None
+        → OnOk result (Remakes (state S.Store tx.old.conn.now) (state S.Store tx.new.conn.now)) }
+    ensures told { HasCleanDisk (state S.Store tx.new.conn.now)
+        → IsTrue (state S.Store tx.old.conn.now).in_transaction
+        → (state S.Store tx.old.conn.now).step_limit ≡ None → (s : State)
+        → KeepsOld s (state S.Store tx.old.conn.now).now
+        → IfErr result (IsToldOld (state S.Store tx.old.conn.now).now.schema) }
+    ensures inside { HasCleanDisk (state S.Store tx.new.conn.now)
+        → IsTrue (state S.Store tx.old.conn.now).in_transaction
+        → OnOk result (IsTrue (state S.Store tx.new.conn.now).in_transaction) }
+    ensures kept { HasCleanDisk (state S.Store tx.new.conn.now)
+        → IsTrue (state S.Store tx.old.conn.now).in_transaction
+        → KeepsCommit (state S.Store tx.old.conn.now) (state S.Store tx.new.conn.now) }
+    ensures survives { Survives (state S.Store tx.old.conn.now) (state S.Store tx.new.conn.now)
+        (λ _. ⊥) }
 {
     drop_table(tx, "DROP TABLE streetmap_features")?;
     drop_table(tx, "DROP TABLE streetmap_meta")?;

@@ -1,12 +1,14 @@
 -- Boxes of the grid, and their texts.
-use Rattle.std.specs.Prelude.{ℕ, ◌&&◌, ◌==◌, List, ◌∷◌, ◌++◌, length, Option, Some, None, if◌then◌else◌, int_le}
+use Rattle.std.specs.Prelude.{ℕ, ◌&&◌, ◌==◌, List, ◌∷◌, ◌++◌, length, Option, Some, None}
+use Rattle.std.specs.Prelude.{if◌then◌else◌, int_le}
 use Rattle.streetmap_grid.specs.Values.{BoxValue}
 use Rattle.std.specs.Fmt.{signed_decimal}
 use Rattle.streetmap_query.specs.Number.{◌>>=◌, bound_at, comma_at}
 
 -- the box, whose bounds are in order, where nothing follows
 abbrev pub in_order : BoxValue → List ℕ → Option BoxValue
-in_order b rest = if (length rest == 0) && int_le b.x0 b.x1 && int_le b.y0 b.y1 then Some b else None
+in_order b rest = if (length rest == 0) && int_le b.x0 b.x1 && int_le b.y0 b.y1 then Some b
+    else None
 
 -- four numbers with commas between them, in order
 unfoldable pub box_of : List ℕ → Option BoxValue
@@ -23,4 +25,5 @@ box_of text = do
 -- the text that is written for a box
 abbrev pub box_text : BoxValue → List ℕ
 box_text b =
-    signed_decimal b.x0 ++ 44 ∷ (signed_decimal b.y0 ++ 44 ∷ (signed_decimal b.x1 ++ 44 ∷ signed_decimal b.y1))
+    signed_decimal b.x0 ++ 44 ∷ (signed_decimal b.y0 ++ 44
+    ∷ (signed_decimal b.x1 ++ 44 ∷ signed_decimal b.y1))

@@ -1,11 +1,13 @@
 -- The texts of boxes: what may be written, how it is spelled, and what it means.
-use Rattle.std.specs.Prelude.{◌≡◌, ℕ, ◌≤◌, Bool, true, false, IsTrue, List, [], ◌∷◌, ◌++◌, length, replicate, zero, suc, ℤ, pos, neg_ℤ}
+use Rattle.std.specs.Prelude.{◌≡◌, ℕ, ◌≤◌, Bool, true, false, IsTrue, List, [], ◌∷◌, ◌++◌, length}
+use Rattle.std.specs.Prelude.{replicate, zero, suc, ℤ, pos, neg_ℤ}
 use Rattle.std.specs.Str.{all_ascii_digits}
 use Rattle.std.specs.Str.Parse.{digits_value}
 use Rattle.streetmap_grid.specs.Values.{BoxValue}
 use Rattle.streetmap_grid.specs.WellFormed.{IsBox}
 
--- a number as it is written: a minus or none, digits, and behind a point that many zeros; no point where there are none
+-- a number as it is written: a minus or none, digits, and behind a point that many zeros; no point
+-- where there are none
 pub record NumberText : Type 0 where
   pub minus : Bool
   pub digits : List ℕ
@@ -46,6 +48,13 @@ pub record IsBoxText (text : List ℕ) (b : BoxValue) : Type 0 where
   pub y0_is : IsNumberText y0
   pub x1_is : IsNumberText x1
   pub y1_is : IsNumberText y1
-  pub spelled : text ≡ number_spelled x0 ++ 44 ∷ (number_spelled y0 ++ 44 ∷ (number_spelled x1 ++ 44 ∷ number_spelled y1))
-  pub meant : b ≡ record { x0 = number_meant x0; y0 = number_meant y0; x1 = number_meant x1; y1 = number_meant y1 }
+  pub spelled : text ≡ number_spelled x0 ++ 44
+      ∷ (number_spelled y0 ++ 44 ∷ (number_spelled x1 ++ 44 ∷ number_spelled y1))
+  pub meant : b ≡ record {
+    x0 = number_meant x0;
+    y0 = number_meant y0;
+    x1 = number_meant x1;
+    y1
+        = number_meant y1;
+  }
   pub kept : IsBox b

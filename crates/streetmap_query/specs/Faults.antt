@@ -1,7 +1,11 @@
 -- What is wrong with a query.
 use Rattle.std.specs.Prelude.{◌≡◌, ℕ, List, Result, Ok, Err, codes}
 use Rattle.streetmap_query.specs.declared.fault.QueryFault.{QueryFault}
-use Rattle.streetmap_query.specs.declared.fault.QueryFault.TheVariants.{UnknownParameter, RepeatedParameter, BadLimit, BadBbox, BadDatetime, BadAfter, Memory}
+use Rattle.streetmap_query.specs.declared.fault.QueryFault.TheVariants.{UnknownParameter}
+use Rattle.streetmap_query.specs.declared.fault.QueryFault.TheVariants.{RepeatedParameter}
+use Rattle.streetmap_query.specs.declared.fault.QueryFault.TheVariants.{BadLimit, BadBbox}
+use Rattle.streetmap_query.specs.declared.fault.QueryFault.TheVariants.{BadDatetime, BadAfter}
+use Rattle.streetmap_query.specs.declared.fault.QueryFault.TheVariants.{Memory}
 
 -- the name of a fault in an answer
 abbrev pub code_of : QueryFault → List ℕ

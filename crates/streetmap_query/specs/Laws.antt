@@ -15,4 +15,5 @@ BoxTextsAreRead = (text : List ℕ) (b : BoxValue) → (box_of text ≡ Some b) 
 -- the text of a query is read as that query
 abbrev pub QueryTextsAreRead : Type 0
 QueryTextsAreRead =
-    (q : QueryValue) → IsQuery q → ForSome q.after IsText → ForSome q.datetime (λ t. IsText t.text) → query_of (Some (query_text q)) ≡ Ok q
+    (q : QueryValue) → IsQuery q → ForSome q.after IsText → ForSome q.datetime (λ t. IsText t.text)
+    → query_of (Some (query_text q)) ≡ Ok q

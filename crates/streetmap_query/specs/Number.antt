@@ -1,5 +1,6 @@
 -- Reading numbers at the front of a text: what was read, and the bytes behind it.
-use Rattle.std.specs.Prelude.{ℕ, ◌+◌, ◌-◌, ◌*◌, ◌==◌, nat_le, List, [], ◌∷◌, Option, Some, None, option_map, option_and_then, if◌then◌else◌, ℤ, pos, neg_ℤ}
+use Rattle.std.specs.Prelude.{ℕ, ◌+◌, ◌-◌, ◌*◌, ◌==◌, nat_le, List, [], ◌∷◌, Option, Some, None}
+use Rattle.std.specs.Prelude.{option_map, option_and_then, if◌then◌else◌, ℤ, pos, neg_ℤ}
 use Rattle.std.specs.Borrow.{Bor}
 use Rattle.std.specs.Char.{is_ascii_digit}
 
@@ -25,7 +26,8 @@ digit_at (b ∷ rest) = if is_ascii_digit b then Some (b - 48, rest) else None
 unfoldable pub digits_at : (room n : ℕ) → List ℕ → Option (ℕ × List ℕ)
 digits_at room n [] = Some (n, [])
 digits_at room n (b ∷ rest) =
-    if is_ascii_digit b then (if room == 0 then None else digits_at (room - 1) (10 * n + (b - 48)) rest)
+    if is_ascii_digit b then (if room == 0 then None
+    else digits_at (room - 1) (10 * n + (b - 48)) rest)
     else Some (n, b ∷ rest)
 
 -- 1 to 19 digits
@@ -60,7 +62,8 @@ unsigned_at text = do
 unfoldable pub bound_at : List ℕ → Option (ℤ × List ℕ)
 bound_at [] = None
 bound_at (b ∷ rest) =
-    if b == 45 then option_map (λ x. (neg_ℤ x.0, x.1)) (unsigned_at rest) else unsigned_at (b ∷ rest)
+    if b == 45 then option_map (λ x. (neg_ℤ x.0, x.1)) (unsigned_at rest)
+    else unsigned_at (b ∷ rest)
 
 -- a comma
 unfoldable pub comma_at : List ℕ → Option (List ℕ)

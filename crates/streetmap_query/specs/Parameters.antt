@@ -1,19 +1,24 @@
 -- The parameters of a query, taken one pair of name and value at a time.
-use Rattle.std.specs.Prelude.{ℕ, List, [], ◌∷◌, Option, Some, None, is_some, unwrap_or, Result, Ok, Err, if◌then◌else◌, codes}
+use Rattle.std.specs.Prelude.{ℕ, List, [], ◌∷◌, Option, Some, None, is_some, unwrap_or, Result, Ok}
+use Rattle.std.specs.Prelude.{Err, if◌then◌else◌, codes}
 use Rattle.std.specs.Str.{bytes_eq}
 use Rattle.streetmap_grid.specs.Values.{BoxValue}
 use Rattle.streetmap_moment.specs.Intervals.{interval_of}
 use Rattle.streetmap_moment.specs.IntervalValue.{IntervalValue}
 use Rattle.streetmap_geojson.specs.Id.{is_id}
 use Rattle.streetmap_query.specs.declared.fault.QueryFault.{QueryFault}
-use Rattle.streetmap_query.specs.declared.fault.QueryFault.TheVariants.{UnknownParameter, RepeatedParameter, BadLimit, BadBbox, BadDatetime, BadAfter}
+use Rattle.streetmap_query.specs.declared.fault.QueryFault.TheVariants.{UnknownParameter}
+use Rattle.streetmap_query.specs.declared.fault.QueryFault.TheVariants.{RepeatedParameter}
+use Rattle.streetmap_query.specs.declared.fault.QueryFault.TheVariants.{BadLimit, BadBbox}
+use Rattle.streetmap_query.specs.declared.fault.QueryFault.TheVariants.{BadDatetime, BadAfter}
 use Rattle.streetmap_query.specs.Limit.{limit_of, default_limit}
 use Rattle.streetmap_query.specs.Box.{box_of}
 use Rattle.streetmap_query.specs.QueryValue.{DatetimeValue, QueryValue}
 
 -- goes on with a value, and stops at a fault
 infixl 10 ◌>>=◌
-abbrev pub ◌>>=◌ : {A B : Type 0} → Result A QueryFault → (A → Result B QueryFault) → Result B QueryFault
+abbrev pub ◌>>=◌ : {A B : Type 0} → Result A QueryFault → (A → Result B QueryFault)
+    → Result B QueryFault
 (Ok x) >>= f = f x
 (Err e) >>= f = Err e
 
@@ -29,7 +34,12 @@ no_parameters = record { bbox = None; datetime = None; limit = None; after = Non
 
 -- the query of the parameters: the limit is 10 where none was given
 abbrev pub query_by : ParametersValue → QueryValue
-query_by p = record { bbox = p.bbox; datetime = p.datetime; limit = unwrap_or p.limit default_limit; after = p.after }
+query_by p = record {
+  bbox = p.bbox;
+  datetime = p.datetime;
+  limit = unwrap_or p.limit default_limit;
+  after = p.after;
+}
 
 -- a parameter that was given before is a fault, whatever its value is now
 abbrev pub unless_given : {A B : Type 0} → Option A → Result B QueryFault → Result B QueryFault
@@ -43,9 +53,11 @@ abbrev pub bbox_read : Option BoxValue → ParametersValue → Result Parameters
 bbox_read None p = Err BadBbox
 bbox_read (Some b) p = Ok (record p { bbox = Some b })
 
-abbrev pub datetime_read : {E : Type 0} → List ℕ → Result IntervalValue E → ParametersValue → Result ParametersValue QueryFault
+abbrev pub datetime_read : {E : Type 0} → List ℕ → Result IntervalValue E → ParametersValue
+    → Result ParametersValue QueryFault
 datetime_read text (Err e) p = Err BadDatetime
-datetime_read text (Ok i) p = Ok (record p { datetime = Some (record { text = text; interval = i }) })
+datetime_read text (Ok i) p = Ok
+    (record p { datetime = Some (record { text = text; interval = i }) })
 
 -- `limit`: a whole number from 1, of which no more than 1000 is taken
 unfoldable pub set_limit : ParametersValue → List ℕ → Result ParametersValue QueryFault
@@ -61,7 +73,8 @@ set_datetime p value = unless_given p.datetime (datetime_read value (interval_of
 
 -- `after`: the id of a feature
 unfoldable pub set_after : ParametersValue → List ℕ → Result ParametersValue QueryFault
-set_after p value = unless_given p.after (if is_id value then Ok (record p { after = Some value }) else Err BadAfter)
+set_after p value = unless_given p.after (if is_id value then Ok (record p { after = Some value })
+    else Err BadAfter)
 
 -- one more pair of name and value; OGC 17-069, 7.6: an unknown name is a fault
 unfoldable pub with_pair : ParametersValue → List ℕ → List ℕ → Result ParametersValue QueryFault
@@ -72,6 +85,7 @@ with_pair p name value =
     else (if bytes_eq name (codes "after") then set_after p value else Err UnknownParameter)))
 
 -- all pairs from left to right, or the first fault
-unfoldable pub with_pairs : ParametersValue → List (List ℕ × List ℕ) → Result ParametersValue QueryFault
+unfoldable pub with_pairs : ParametersValue → List (List ℕ × List ℕ)
+    → Result ParametersValue QueryFault
 with_pairs p [] = Ok p
 with_pairs p (pair ∷ pairs) = with_pair p pair.0 pair.1 >>= λ q. with_pairs q pairs

@@ -1,5 +1,6 @@
 -- The query that a text is, or the first fault in it; and the text that is written for a query.
-use Rattle.std.specs.Prelude.{◌≡◌, ℕ, Bool, false, List, [], ◌∷◌, map, Option, Some, None, length, nat_lt, option_map, Result, Ok, codes, decimal, IsTrue}
+use Rattle.std.specs.Prelude.{◌≡◌, ℕ, Bool, false, List, [], ◌∷◌, map, Option, Some, None, length}
+use Rattle.std.specs.Prelude.{nat_lt, option_map, Result, Ok, codes, decimal, IsTrue}
 use Rattle.std.specs.Option.{ForSome}
 use Rattle.std.specs.Str.Lossy.{utf8_lossy}
 use Rattle.form_urlencoded.specs.Form.{raw_pairs, decode, extend_pairs}
@@ -10,7 +11,8 @@ use Rattle.streetmap_query.specs.Limit.{IsLimit}
 use Rattle.streetmap_grid.specs.WellFormed.{IsBox}
 use Rattle.streetmap_query.specs.Box.{box_text}
 use Rattle.streetmap_query.specs.QueryValue.{QueryValue}
-use Rattle.streetmap_query.specs.Parameters.{ParametersValue, no_parameters, query_by, with_pairs, ◌>>=◌}
+use Rattle.streetmap_query.specs.Parameters.{ParametersValue, no_parameters, query_by, with_pairs}
+use Rattle.streetmap_query.specs.Parameters.{◌>>=◌}
 
 -- the text that an encoded name or value stands for; bytes that are no UTF-8 are read as U+FFFD
 abbrev pub text_of : List ℕ → List ℕ
@@ -46,7 +48,8 @@ abbrev pub pairs_of : QueryValue → List (List ℕ × List ℕ)
 pairs_of q =
     pair_if (codes "after") q.after
     (pair_if (codes "bbox") (option_map box_text q.bbox)
-    (pair_if (codes "datetime") (option_map (λ t. t.text) q.datetime) ((codes "limit", decimal q.limit) ∷ [])))
+    (pair_if (codes "datetime") (option_map (λ t. t.text) q.datetime)
+    ((codes "limit", decimal q.limit) ∷ [])))
 
 -- the text of a query; URL Standard, 5.2
 abbrev pub query_text : QueryValue → List ℕ

@@ -15,14 +15,27 @@ abbrev pub datetime_value : Datetime → DatetimeValue
 datetime_value t = record { text = string_bytes t.text; interval = interval_value t.interval }
 
 abbrev pub parameters_value : Parameters → ParametersValue
-parameters_value p = record { bbox = option_map box_value p.bbox; datetime = option_map datetime_value p.datetime; limit = p.limit; after = p.after }
+parameters_value p = record {
+  bbox = option_map box_value p.bbox;
+  datetime = option_map
+      datetime_value p.datetime;
+  limit = p.limit;
+  after = p.after;
+}
 
 abbrev pub query_value : Query → QueryValue
-query_value q = record { bbox = option_map box_value q.bbox; datetime = option_map datetime_value q.datetime; limit = q.limit; after = q.after }
+query_value q = record {
+  bbox = option_map box_value q.bbox;
+  datetime = option_map datetime_value
+      q.datetime;
+  limit = q.limit;
+  after = q.after;
+}
 
 -- what reading the value of `datetime` gave
 abbrev pub DatetimeRead : Result Datetime QueryFault → List ℕ → Type 0
-DatetimeRead (Ok t) text = (interval_of text ≡ Ok (interval_value t.interval)) × (string_bytes t.text ≡ text)
+DatetimeRead (Ok t) text = (interval_of text ≡ Ok (interval_value t.interval))
+    × (string_bytes t.text ≡ text)
 DatetimeRead (Err Memory) text = Unit {0}
 DatetimeRead (Err BadDatetime) text = IsErr (interval_of text)
 DatetimeRead (Err _) text = ⊥

@@ -16,7 +16,8 @@ fn ordered(x0: i64, y0: i64, x1: i64, y1: i64, rest: &[u8]) -> Option<GridBox>
     requires south { IsBound y0 }
     requires east { IsBound x1 }
     requires north { IsBound y1 }
-    ensures { option_map box_value result ≡ in_order (record { x0 = x0; y0 = y0; x1 = x1; y1 = y1 }) rest.now }
+    ensures { option_map box_value result
+        ≡ in_order (record { x0 = x0; y0 = y0; x1 = x1; y1 = y1 }) rest.now }
 {
     if !rest.is_empty() {
         return None;

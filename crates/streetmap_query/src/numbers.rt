@@ -1,7 +1,8 @@
 //! Numbers, read at the front of what is left of a text.
 ghost use Rattle.std.specs.Prelude.{◌≡◌, ◌<◌, ◌≤◌, ◌≤ℤ◌, pos, IfSome, option_copied};
 ghost use Rattle.streetmap_grid.specs.Range.{IsBound};
-ghost use Rattle.streetmap_query.specs.Number.{read_view, digit_at, whole_at, zeros_from, fraction_at, unsigned_at, bound_at, comma_at, reach};
+ghost use Rattle.streetmap_query.specs.Number.{read_view, digit_at, whole_at, zeros_from};
+ghost use Rattle.streetmap_query.specs.Number.{fraction_at, unsigned_at, bound_at, comma_at, reach};
 
 // A digit.
 #[tactic(auto, unfolding(crate::specs::Number::digit_at))]

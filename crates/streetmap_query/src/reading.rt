@@ -3,7 +3,8 @@ ghost use Rattle.std.specs.Prelude.{◌≡◌, MatchResult, Err, option_copied, 
 ghost use Rattle.std.specs.Cow.{cow_str_bytes};
 ghost use Rattle.streetmap_query.specs.Faults.{Gives};
 ghost use Rattle.streetmap_query.specs.Limit.{limit_of, IsLimit};
-ghost use Rattle.streetmap_query.specs.Parameters.{no_parameters, query_by, set_limit, set_bbox, set_datetime, set_after, with_pair};
+ghost use Rattle.streetmap_query.specs.Parameters.{no_parameters, query_by, set_limit, set_bbox};
+ghost use Rattle.streetmap_query.specs.Parameters.{set_datetime, set_after, with_pair};
 ghost use Rattle.streetmap_query.specs.Query.{has_pair, parameters_of, query_of};
 ghost use Rattle.streetmap_query.specs.Views.{DatetimeRead, parameters_value, query_value};
 
@@ -117,7 +118,8 @@ impl Parameters {
     // Takes one more pair of name and value.
     #[tactic(auto, unfolding(crate::specs::Parameters::with_pair))]
     fn with(self, alloc: Global, name: &str, value: &str) -> Result<Parameters, QueryFault>
-        ensures { Gives parameters_value result (with_pair (parameters_value self) name.now value.now) }
+        ensures { Gives parameters_value result
+            (with_pair (parameters_value self) name.now value.now) }
     {
         match name {
             "limit" => self.with_limit(value),
@@ -134,9 +136,9 @@ impl Parameters {
         alloc: Global,
         pair: Result<(CowStr<'_>, CowStr<'_>), AllocError>,
     ) -> Result<Parameters, QueryFault>
-        ensures { MatchResult pair.entry
-            (λ p. Gives parameters_value result (with_pair (parameters_value self) (cow_str_bytes p.0) (cow_str_bytes p.1)))
-            (λ _. result ≡ Err QueryFault.Memory) }
+        ensures { MatchResult pair.entry (λ p.
+            Gives parameters_value result (with_pair (parameters_value self) (cow_str_bytes p.0)
+            (cow_str_bytes p.1))) (λ _. result ≡ Err QueryFault.Memory) }
     {
         let (name, value) = pair?;
         self.with(alloc, name.as_str(), value.as_str())

@@ -1,5 +1,6 @@
 //! Queries, written as texts.
-ghost use Rattle.std.specs.Prelude.{◌≡◌, ℕ, [], option_map, option_copied, string_bytes, IfOk, OnOk, IsTrue, Ok, Some, None, codes, decimal};
+ghost use Rattle.std.specs.Prelude.{◌≡◌, ℕ, [], option_map, option_copied, string_bytes, IfOk};
+ghost use Rattle.std.specs.Prelude.{OnOk, IsTrue, Ok, Some, None, codes, decimal};
 ghost use Rattle.std.specs.Option.{ForSome};
 ghost use Rattle.form_urlencoded.specs.Form as spec;
 ghost use Rattle.streetmap_geojson.specs.Id.{is_id};
@@ -18,7 +19,8 @@ use streetmap_grid::GridBox;
 
 // Appends a pair.
 fn append(form: &mut Serializer, name: &str, value: &str) -> Result<(), AllocError>
-    ensures pair { OnOk result (form.new ≡ record form.old { form = spec.append_pair form.old.form name.now value.now }) }
+    ensures pair { OnOk result (form.new
+        ≡ record form.old { form = spec.append_pair form.old.form name.now value.now }) }
     ensures text { IsText value.now }
 {
     form.append_pair(name, value)
@@ -26,7 +28,11 @@ fn append(form: &mut Serializer, name: &str, value: &str) -> Result<(), AllocErr
 
 // Appends the id behind which the page starts, where there is one.
 fn append_after(form: &mut Serializer, after: Option<&str>) -> Result<(), AllocError>
-    ensures pair { OnOk result (form.new ≡ record form.old { form = spec.extend_pairs form.old.form (pair_if (codes "after") (option_copied after.entry) []) }) }
+    ensures pair { OnOk result (form.new
+        ≡ record form.old {
+          form = spec.extend_pairs form.old.form
+              (pair_if (codes "after") (option_copied after.entry) []);
+        }) }
     ensures text { ForSome (option_copied after.entry) IsText }
 {
     match after {
@@ -41,7 +47,11 @@ fn append_bbox(
     form: &mut Serializer,
     bbox: Option<GridBox>,
 ) -> Result<(), AllocError>
-    ensures { OnOk result (form.new ≡ record form.old { form = spec.extend_pairs form.old.form (pair_if (codes "bbox") (option_map box_text (option_map box_value bbox)) []) }) }
+    ensures { OnOk result (form.new
+        ≡ record form.old {
+          form = spec.extend_pairs form.old.form
+              (pair_if (codes "bbox") (option_map box_text (option_map box_value bbox)) []);
+        }) }
 {
     match bbox {
         Some(bbox) => {
@@ -54,7 +64,12 @@ fn append_bbox(
 
 // Appends the interval of time, where there is one.
 fn append_datetime(form: &mut Serializer, datetime: &Option<Datetime>) -> Result<(), AllocError>
-    ensures pair { OnOk result (form.new ≡ record form.old { form = spec.extend_pairs form.old.form (pair_if (codes "datetime") (option_map (λ t. t.text) (option_map datetime_value datetime.now)) []) }) }
+    ensures pair { OnOk result (form.new
+        ≡ record form.old {
+          form = spec.extend_pairs form.old.form
+              (pair_if (codes "datetime") (option_map (λ t.
+              t.text) (option_map datetime_value datetime.now)) []);
+        }) }
     ensures text { ForSome (option_map datetime_value datetime.now) (λ t. IsText t.text) }
 {
     match datetime {
@@ -65,7 +80,11 @@ fn append_datetime(form: &mut Serializer, datetime: &Option<Datetime>) -> Result
 
 // Appends the limit.
 fn append_limit(alloc: Global, form: &mut Serializer, limit: u32) -> Result<(), AllocError>
-    ensures { OnOk result (form.new ≡ record form.old { form = spec.append_pair form.old.form (codes "limit") (decimal limit) }) }
+    ensures { OnOk result (form.new
+        ≡ record form.old {
+          form = spec.append_pair form.old.form (codes "limit")
+              (decimal limit);
+        }) }
 {
     let text = format!(in alloc; "{limit}")?;
     form.append_pair("limit", text.as_str())
@@ -73,9 +92,11 @@ fn append_limit(alloc: Global, form: &mut Serializer, limit: u32) -> Result<(), 
 
 // The text of a query whose page starts behind another id.
 fn spell(alloc: Global, after: Option<&str>, query: &Query) -> Result<String, AllocError>
-    ensures spelled { IfOk result (λ text. string_bytes text ≡ query_text (record (query_value query.now) { after = option_copied after.entry })) }
+    ensures spelled { IfOk result (λ text. string_bytes text
+        ≡ query_text (record (query_value query.now) { after = option_copied after.entry })) }
     ensures after_text { IfOk result (λ _. ForSome (option_copied after.entry) IsText) }
-    ensures datetime_text { IfOk result (λ _. ForSome (query_value query.now).datetime (λ t. IsText t.text)) }
+    ensures datetime_text { IfOk result (λ _.
+        ForSome (query_value query.now).datetime (λ t. IsText t.text)) }
 {
     let mut form = Serializer::new(String::new(alloc));
     append_after(&mut form, after)?;
@@ -88,8 +109,10 @@ fn spell(alloc: Global, after: Option<&str>, query: &Query) -> Result<String, Al
 // The same, which reads as that query.
 fn write(alloc: Global, after: Option<&str>, query: &Query) -> Result<String, AllocError>
     requires { ForSome (option_copied after) (λ id. IsTrue (is_id id)) }
-    ensures spelled { IfOk result (λ text. string_bytes text ≡ query_text (record (query_value query.now) { after = option_copied after.entry })) }
-    ensures again { IfOk result (λ text. query_of (Some (string_bytes text)) ≡ Ok (record (query_value query.now) { after = option_copied after.entry })) }
+    ensures spelled { IfOk result (λ text. string_bytes text
+        ≡ query_text (record (query_value query.now) { after = option_copied after.entry })) }
+    ensures again { IfOk result (λ text. query_of (Some (string_bytes text))
+        ≡ Ok (record (query_value query.now) { after = option_copied after.entry })) }
 {
     spell(alloc, after, query)
 }
@@ -99,7 +122,8 @@ fn write(alloc: Global, after: Option<&str>, query: &Query) -> Result<String, Al
 pub fn self_query(alloc: Global, query: &Query) -> Result<String, AllocError>
     ensures spelled { IfOk result (λ text. string_bytes text ≡ query_text (query_value query.now)) }
     // The text reads as the same query.
-    ensures again { IfOk result (λ text. query_of (Some (string_bytes text)) ≡ Ok (query_value query.now)) }
+    ensures again { IfOk result (λ text. query_of (Some (string_bytes text))
+        ≡ Ok (query_value query.now)) }
 {
     match &query.after {
         Some(after) => write(alloc, Some(after.as_str()), query),
@@ -111,9 +135,11 @@ pub fn self_query(alloc: Global, query: &Query) -> Result<String, AllocError>
 /// (OGC 17-069, 7.15.7).
 pub fn next_query(alloc: Global, query: &Query, last: &str) -> Result<String, AllocError>
     requires { IsTrue (is_id last.now) }
-    ensures spelled { IfOk result (λ text. string_bytes text ≡ query_text (record (query_value query.now) { after = Some last.now })) }
+    ensures spelled { IfOk result (λ text. string_bytes text
+        ≡ query_text (record (query_value query.now) { after = Some last.now })) }
     // The text reads as the same query, behind `last`.
-    ensures again { IfOk result (λ text. query_of (Some (string_bytes text)) ≡ Ok (record (query_value query.now) { after = Some last.now })) }
+    ensures again { IfOk result (λ text. query_of (Some (string_bytes text))
+        ≡ Ok (record (query_value query.now) { after = Some last.now })) }
 {
     write(alloc, Some(last), query)
 }

@@ -1,5 +1,6 @@
 -- The rows that a page reads.
-use Rattle.std.specs.Prelude.{◌≡◌, ◌≤◌, ℕ, List, [], ◌∷◌, ◌++◌, length, Option, None, Ok, Err, Result, false}
+use Rattle.std.specs.Prelude.{◌≡◌, ◌≤◌, ℕ, List, [], ◌∷◌, ◌++◌, length, Option, None, Ok, Err}
+use Rattle.std.specs.Prelude.{Result, false}
 use Rattle.sqlite.specs.declared.types.Value.TheVariants.{Text as Words}
 use Rattle.sqlite.specs.declared.error.Error.{Error}
 use Rattle.sqlite.specs.Order.{Row}
@@ -46,6 +47,7 @@ pub record ShowsOf (sql : List ℕ) (params : Row) (db : Database) (rows : List 
   pub names : List (List ℕ)
   pub is : command_of (understood db.schema sql) ≡ Select program names
   pub whole : IsWhole sql params (understood db.schema sql)
-  pub starts : (given : List Row) → ReadsFirst (Select program names) db params given → (tail : List Row) × (given ++ tail ≡ rows)
+  pub starts : (given : List Row) → ReadsFirst (Select program names) db params given
+      → (tail : List Row) × (given ++ tail ≡ rows)
   pub answers : (given : List Row) → Reads (Select program names) db params given → given ≡ rows
   pub never : (e : Error) → RefusesQuery None db program params e → ⊥

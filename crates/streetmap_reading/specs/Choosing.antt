@@ -1,5 +1,6 @@
 -- What the statements of a page choose.
-use Rattle.std.specs.Prelude.{◌≡◌, Bool, ◌&&◌, List, [], filter, Option, None, Some, Result, MatchResult}
+use Rattle.std.specs.Prelude.{◌≡◌, Bool, ◌&&◌, List, [], filter, Option, None, Some, Result}
+use Rattle.std.specs.Prelude.{MatchResult}
 use Rattle.std.specs.FinMap.{get, values}
 use Rattle.sqlite.specs.State.{State as Seen, IsUnchanged}
 use Rattle.streetmap_grid.specs.Values.{BoxValue}
@@ -18,14 +19,18 @@ use Rattle.streetmap_reading.specs.Taking.{Stopped}
 
 -- the extent overlaps the box, and the seconds those of the interval, as far as they are asked
 abbrev pub is_chosen : Option BoxValue → Option IntervalValue → FeatureValue → Bool
-is_chosen box interval f = passes extent_overlaps f.geometry box && passes seconds_overlap f.time interval
+is_chosen box interval f = passes extent_overlaps f.geometry box
+    && passes seconds_overlap f.time interval
 
 -- the chosen features of a collection, in order of ids
 abbrev pub chosen_of : Option BoxValue → Option IntervalValue → Collection → List FeatureValue
 chosen_of box interval c = filter (is_chosen box interval) (values c.features)
 
 -- the chosen features of a collection that is there were taken, in order of ids
-abbrev pub TakesChosen : Option BoxValue → Option IntervalValue → Text → Option Text → Seen → Seen → PageFold → PageFold → Result (Unit {0}) ReadFault → Type 0
+abbrev pub TakesChosen : Option BoxValue → Option IntervalValue → Text → Option Text → Seen → Seen
+    → PageFold → PageFold → Result (Unit {0}) ReadFault → Type 0
 TakesChosen box interval name property old new before after result =
-    (q : QueryValue) (s : State) (c : Collection) → old.step_limit ≡ None → Keeps s old.now → get s.collections name ≡ Some c → c.time ≡ property → Holds q before []
-    → MatchResult result (λ _. Holds q after (chosen_of box interval c) × IsUnchanged old new) (Stopped old new)
+    (q : QueryValue) (s : State) (c : Collection) → old.step_limit ≡ None → Keeps s old.now
+    → get s.collections name ≡ Some c → c.time ≡ property → Holds q before []
+    → MatchResult result (λ _. Holds q after (chosen_of box interval c)
+    × IsUnchanged old new) (Stopped old new)

@@ -21,11 +21,14 @@ use Rattle.streetmap_reading.specs.Views.{outline_row, extent_row, feature_exten
 
 -- the outlines that the rows are of
 abbrev pub HoldsOutlines : Vec FeatureOutline Global → List Row → Type 0
-HoldsOutlines os rows = (vs : List FeatureOutlineValue) → rows ≡ map outline_row vs → AllByRecursion IsOutline vs → feature_outline_values os.items ≡ vs
+HoldsOutlines os rows = (vs : List FeatureOutlineValue) → rows ≡ map outline_row vs
+    → AllByRecursion IsOutline vs → feature_outline_values os.items ≡ vs
 
 -- the bounds of the features whose extents the rows are
 abbrev pub HoldsBounds : Option GridBox → List Row → Type 0
-HoldsBounds bounds rows = (fs : List FeatureValue) → rows ≡ map (λ f. extent_row (feature_extent f)) fs → AllByRecursion (λ f. IsGeometryIf f.geometry) fs → AreBounds (all_vertices fs) bounds
+HoldsBounds bounds rows = (fs : List FeatureValue)
+    → rows ≡ map (λ f. extent_row (feature_extent f)) fs
+    → AllByRecursion (λ f. IsGeometryIf f.geometry) fs → AreBounds (all_vertices fs) bounds
 
 -- what is told of a collection before its extent is known
 abbrev pub head_of : Text → Collection → SummaryValue
@@ -33,4 +36,6 @@ head_of id c = record { id = id; title = c.title; time = c.time; extent = None }
 
 -- what is told of the collections that the rows are of, before their extents are known
 abbrev pub HoldsHeads : Vec Summary Global → List Row → Type 0
-HoldsHeads ss rows = (es : List (Text × Collection)) → rows ≡ map (λ e. collection_cells e.0 e.1) es → AllByRecursion (λ e. IsReadable e.0 e.1) es → summary_values ss.items ≡ map (λ e. head_of e.0 e.1) es
+HoldsHeads ss rows = (es : List (Text × Collection)) → rows ≡ map (λ e. collection_cells e.0 e.1) es
+    → AllByRecursion (λ e. IsReadable e.0 e.1) es
+    → summary_values ss.items ≡ map (λ e. head_of e.0 e.1) es

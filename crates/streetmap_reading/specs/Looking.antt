@@ -18,13 +18,16 @@ use Rattle.streetmap_reading.specs.Candidates.{candidate_row}
 use Rattle.streetmap_reading.specs.Taking.{Stopped}
 
 -- a look at the database of a state: the answer is as it is in the state, and nothing changes
-abbrev pub LooksInto : {A : Type 0} → (State → A → Type 0) → Seen → Seen → Result A ReadFault → Type 0
+abbrev pub LooksInto : {A : Type 0} → (State → A → Type 0) → Seen → Seen → Result A ReadFault
+    → Type 0
 LooksInto Is old new result =
-    (s : State) → old.step_limit ≡ None → Keeps s old.now → MatchResult result (λ a. Is s a × IsUnchanged old new) (Stopped old new)
+    (s : State) → old.step_limit ≡ None → Keeps s old.now
+    → MatchResult result (λ a. Is s a × IsUnchanged old new) (Stopped old new)
 
 -- a crash leaves of a state's database what it left before
 abbrev pub Stays : Seen → Seen → Type 0
-Stays old new = HasCleanDisk new → (s : State) → old.step_limit ≡ None → Keeps s old.now → (trees : Trees) → new.may_leave trees → old.may_leave trees
+Stays old new = HasCleanDisk new → (s : State) → old.step_limit ≡ None → Keeps s old.now
+    → (trees : Trees) → new.may_leave trees → old.may_leave trees
 
 -- what is kept of a collection
 abbrev pub IsCollectionRow : Text → State → Option Row → Type 0
@@ -34,21 +37,28 @@ abbrev pub IsPageOf : Text → QueryValue → State → Option Page → Type 0
 IsPageOf name q s page = option_map page_value page ≡ page_in s name q
 
 -- the page of a collection that is there, whose time property is this
-abbrev pub IsPageUnder : Text → QueryValue → Option Text → Seen → Seen → Result Page ReadFault → Type 0
+abbrev pub IsPageUnder : Text → QueryValue → Option Text → Seen → Seen → Result Page ReadFault
+    → Type 0
 IsPageUnder name q property old new result =
-    (s : State) (c : Collection) → old.step_limit ≡ None → Keeps s old.now → get s.collections name ≡ Some c → c.time ≡ property
-    → MatchResult result (λ page. (page_value page ≡ page_over q (values c.features)) × IsUnchanged old new) (Stopped old new)
+    (s : State) (c : Collection) → old.step_limit ≡ None → Keeps s old.now
+    → get s.collections name ≡ Some c → c.time ≡ property
+    → MatchResult result (λ page. (page_value page ≡ page_over q (values c.features))
+    × IsUnchanged old new) (Stopped old new)
 
 -- the row of a feature's text, where the feature is there
 abbrev pub IsTextRow : Text → Text → State → Option Row → Type 0
 IsTextRow name id s o = o ≡ option_map candidate_row (feature_in s name id)
 
--- the feature of this collection with this id; none where the collection is not there, or the feature is not in it
+-- the feature of this collection with this id; none where the collection is not there, or the
+-- feature is not in it
 abbrev pub IsFeatureOf : Text → Text → State → Option FeatureValue → Type 0
 IsFeatureOf name id s found = found ≡ feature_in s name id
 
 -- the feature of a collection that is there, whose time property is this
-abbrev pub IsFeatureUnder : Text → Text → Option Text → Seen → Seen → Result (Option FeatureValue) ReadFault → Type 0
+abbrev pub IsFeatureUnder : Text → Text → Option Text → Seen → Seen
+    → Result (Option FeatureValue) ReadFault → Type 0
 IsFeatureUnder name id property old new result =
-    (s : State) (c : Collection) → old.step_limit ≡ None → Keeps s old.now → get s.collections name ≡ Some c → c.time ≡ property
-    → MatchResult result (λ found. IsFeatureOf name id s found × IsUnchanged old new) (Stopped old new)
+    (s : State) (c : Collection) → old.step_limit ≡ None → Keeps s old.now
+    → get s.collections name ≡ Some c → c.time ≡ property
+    → MatchResult result (λ found. IsFeatureOf name id s found
+    × IsUnchanged old new) (Stopped old new)

@@ -3,8 +3,10 @@ use Rattle.std.specs.Prelude.{ℕ, List, codes}
 
 -- the ids, extents and seconds of a collection's features
 abbrev pub select_outlines : List ℕ
-select_outlines = codes "SELECT id, x0, y0, x1, y1, s0, s1 FROM streetmap_features WHERE collection = ?1 ORDER BY id"
+select_outlines = codes
+    "SELECT id, x0, y0, x1, y1, s0, s1 FROM streetmap_features WHERE collection = ?1 ORDER BY id"
 
 -- the extents of a collection's features
 abbrev pub select_extents : List ℕ
-select_extents = codes "SELECT x0, y0, x1, y1 FROM streetmap_features WHERE collection = ?1 ORDER BY id"
+select_extents = codes
+    "SELECT x0, y0, x1, y1 FROM streetmap_features WHERE collection = ?1 ORDER BY id"

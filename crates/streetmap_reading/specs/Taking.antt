@@ -1,5 +1,6 @@
 -- What taking rows into a page does.
-use Rattle.std.specs.Prelude.{◌≡◌, List, [], ◌∷◌, ◌++◌, map, Option, None, Bool, true, false, Result, ℕ, MatchResult}
+use Rattle.std.specs.Prelude.{◌≡◌, List, [], ◌∷◌, ◌++◌, map, Option, None, Bool, true, false}
+use Rattle.std.specs.Prelude.{Result, ℕ, MatchResult}
 use Rattle.std.specs.List.{AllByRecursion}
 use Rattle.sqlite.specs.Order.{Row}
 use Rattle.sqlite.specs.Store.{Ghosts}
@@ -25,27 +26,43 @@ Stopped old new Unread = ⊥
 
 module _ {S : Type 0} (g : Ghosts S) where
   -- one row more was taken, or there was none
-  abbrev pub TookNext : List ℕ → Row → QueryValue → List FeatureValue → List FeatureValue → Held S → PageFold → Bool → Type 0
+  abbrev pub TookNext : List ℕ → Row → QueryValue → List FeatureValue → List FeatureValue → Held S
+      → PageFold → Bool → Type 0
   TookNext sql params q done rest new fold true =
-      (f : FeatureValue) × (later : List FeatureValue) × (rest ≡ f ∷ later) × HasGiven g sql params new (map candidate_row (done ++ f ∷ [])) × Holds q fold (done ++ f ∷ [])
+      (f : FeatureValue) × (later : List FeatureValue) × (rest ≡ f ∷ later)
+      × HasGiven g sql params new (map candidate_row (done ++ f ∷ []))
+      × Holds q fold (done ++ f ∷ [])
   TookNext sql params q done rest new fold false = (rest ≡ []) × Holds q fold done
 
   -- a query that shows the rows of these features, after some of them were taken
-  abbrev pub TakesNext : Option Text → Held S → Held S → PageFold → PageFold → Result Bool ReadFault → Type 0
+  abbrev pub TakesNext : Option Text → Held S → Held S → PageFold → PageFold → Result Bool ReadFault
+      → Type 0
   TakesNext property old new before after result =
-      (sql : List ℕ) (params : Row) (q : QueryValue) (done rest : List FeatureValue) → (state g old).step_limit ≡ None → ShowsOf sql params (state g old).now (map candidate_row (done ++ rest)) → AllByRecursion (IsStored property) rest
+      (sql : List ℕ) (params : Row) (q : QueryValue) (done rest : List FeatureValue)
+      → (state g old).step_limit ≡ None
+      → ShowsOf sql params (state g old).now (map candidate_row (done ++ rest))
+      → AllByRecursion (IsStored property) rest
       → HasGiven g sql params old (map candidate_row done) → Holds q before done
-      → MatchResult result (λ more. TookNext sql params q done rest new after more × IsUnchanged (state g old) (state g new)) (Stopped (state g old) (state g new))
+      → MatchResult result (λ more. TookNext sql params q done rest new after more
+      × IsUnchanged (state g old) (state g new)) (Stopped (state g old) (state g new))
 
   -- a query that shows the rows of these features, before any of them was taken
-  abbrev pub TakesRest : Option Text → Held S → Held S → PageFold → PageFold → Result (Unit {0}) ReadFault → Type 0
+  abbrev pub TakesRest : Option Text → Held S → Held S → PageFold → PageFold
+      → Result (Unit {0}) ReadFault → Type 0
   TakesRest property old new before after result =
-      (sql : List ℕ) (params : Row) (q : QueryValue) (fs : List FeatureValue) → (state g old).step_limit ≡ None → ShowsOf sql params (state g old).now (map candidate_row fs) → AllByRecursion (IsStored property) fs
+      (sql : List ℕ) (params : Row) (q : QueryValue) (fs : List FeatureValue)
+      → (state g old).step_limit ≡ None
+      → ShowsOf sql params (state g old).now (map candidate_row fs)
+      → AllByRecursion (IsStored property) fs
       → HasGiven g sql params old [] → Holds q before []
-      → MatchResult result (λ _. Holds q after fs × IsUnchanged (state g old) (state g new)) (Stopped (state g old) (state g new))
+      → MatchResult result (λ _. Holds q after fs
+      × IsUnchanged (state g old) (state g new)) (Stopped (state g old) (state g new))
 
 -- all of them were taken
-abbrev pub TakesAll : List ℕ → Row → Option Text → Seen → Seen → PageFold → PageFold → Result (Unit {0}) ReadFault → Type 0
+abbrev pub TakesAll : List ℕ → Row → Option Text → Seen → Seen → PageFold → PageFold
+    → Result (Unit {0}) ReadFault → Type 0
 TakesAll sql params property old new before after result =
-    (q : QueryValue) (fs : List FeatureValue) → old.step_limit ≡ None → ShowsOf sql params old.now (map candidate_row fs) → AllByRecursion (IsStored property) fs → Holds q before []
+    (q : QueryValue) (fs : List FeatureValue) → old.step_limit ≡ None
+    → ShowsOf sql params old.now (map candidate_row fs) → AllByRecursion (IsStored property) fs
+    → Holds q before []
     → MatchResult result (λ _. Holds q after fs × IsUnchanged old new) (Stopped old new)

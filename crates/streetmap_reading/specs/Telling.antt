@@ -10,7 +10,8 @@ use Rattle.streetmap_batch.specs.Text.{Text}
 use Rattle.streetmap_ledger.specs.State.{State, Collection, Features}
 use Rattle.streetmap_ledger.specs.Outlines.{feature_outline_of, outlines_in}
 use Rattle.streetmap_ledger.specs.OutlineView.{feature_outline_values}
-use Rattle.streetmap_ledger.specs.Summaries.{all_vertices, extent_if, summary_of, summary_in, summaries_in}
+use Rattle.streetmap_ledger.specs.Summaries.{all_vertices, extent_if, summary_of, summary_in}
+use Rattle.streetmap_ledger.specs.Summaries.{summaries_in}
 use Rattle.streetmap_ledger.specs.SummaryView.{summary_value, summary_values}
 use Rattle.streetmap_ledger.specs.declared.outline.FeatureOutline.{FeatureOutline}
 use Rattle.streetmap_ledger.specs.declared.summary.Summary.{Summary}
@@ -26,9 +27,11 @@ IsSummaryOf id s found = option_map summary_value found ≡ summary_in s id
 abbrev pub AreSummaries : State → Vec Summary Global → Type 0
 AreSummaries s found = summary_values found.items ≡ summaries_in s
 
--- the outlines of a collection's features, in byte order of ids; none where the collection is not there
+-- the outlines of a collection's features, in byte order of ids; none where the collection is not
+-- there
 abbrev pub AreOutlinesOf : Text → State → Option (Vec FeatureOutline Global) → Type 0
-AreOutlinesOf name s found = option_map (λ (os : Vec FeatureOutline Global). feature_outline_values os.items) found ≡ outlines_in s name
+AreOutlinesOf name s found = option_map (λ (os : Vec FeatureOutline Global).
+    feature_outline_values os.items) found ≡ outlines_in s name
 
 -- ---- of one collection
 
@@ -38,15 +41,18 @@ features_in s name = option_map_or (λ (c : Collection). c.features) (get s.coll
 
 -- the outlines of its features, in byte order of ids
 abbrev pub AreOutlinesIn : Text → State → Vec FeatureOutline Global → Type 0
-AreOutlinesIn name s os = feature_outline_values os.items ≡ map (λ e. feature_outline_of e.0 e.1) (entries (features_in s name))
+AreOutlinesIn name s os = feature_outline_values os.items
+    ≡ map (λ e. feature_outline_of e.0 e.1) (entries (features_in s name))
 
 -- the extent of its features
 abbrev pub IsExtentIn : Text → State → Option GridBox → Type 0
-IsExtentIn name s extent = option_map box_value extent ≡ extent_if (all_vertices (values (features_in s name)))
+IsExtentIn name s extent = option_map box_value extent
+    ≡ extent_if (all_vertices (values (features_in s name)))
 
 -- what is told of it, from what is told before its extent is known
 abbrev pub IsTold : Summary → State → Summary → Type 0
-IsTold head s summary = (name : Text) (c : Collection) → get s.collections name ≡ Some c → summary_value head ≡ head_of name c → summary_value summary ≡ summary_of name c
+IsTold head s summary = (name : Text) (c : Collection) → get s.collections name ≡ Some c
+    → summary_value head ≡ head_of name c → summary_value summary ≡ summary_of name c
 
 -- ---- of all collections
 
@@ -58,5 +64,6 @@ abbrev pub AreTold : Vec Summary Global → State → Vec Summary Global → Typ
 AreTold heads s summaries = AreHeads s heads → AreSummaries s summaries
 
 -- on a connection that is open
-abbrev pub TellsAll : Vec Summary Global → Seen → Seen → Result (Vec Summary Global) ReadFault → Type 0
+abbrev pub TellsAll : Vec Summary Global → Seen → Seen → Result (Vec Summary Global) ReadFault
+    → Type 0
 TellsAll heads old new result = IsTrue old.is_open → LooksInto (AreTold heads) old new result

@@ -17,7 +17,10 @@ use Rattle.streetmap_rows.specs.Stands.{IsReadable}
 -- the four bounds of an extent, or NULLs
 abbrev pub extent_row : Option BoxValue → Row
 extent_row e =
-    or_null Int (option_map (λ (b : BoxValue). b.x0) e) ∷ or_null Int (option_map (λ (b : BoxValue). b.y0) e) ∷ or_null Int (option_map (λ (b : BoxValue). b.x1) e) ∷ or_null Int (option_map (λ (b : BoxValue). b.y1) e) ∷ []
+    or_null Int (option_map (λ (b : BoxValue). b.x0) e)
+    ∷ or_null Int (option_map (λ (b : BoxValue). b.y0) e)
+    ∷ or_null Int (option_map (λ (b : BoxValue). b.x1) e)
+    ∷ or_null Int (option_map (λ (b : BoxValue). b.y1) e) ∷ []
 
 -- the extent of a feature
 abbrev pub feature_extent : FeatureValue → Option BoxValue
@@ -26,9 +29,12 @@ feature_extent f = option_map extent_of f.geometry
 -- an outline: its id, the bounds of its extent or NULLs, its seconds or NULLs
 abbrev pub outline_row : FeatureOutlineValue → Row
 outline_row o =
-    Words o.id ∷ or_null Int (option_map (λ (b : BoxValue). b.x0) o.extent) ∷ or_null Int (option_map (λ (b : BoxValue). b.y0) o.extent)
-    ∷ or_null Int (option_map (λ (b : BoxValue). b.x1) o.extent) ∷ or_null Int (option_map (λ (b : BoxValue). b.y1) o.extent)
-    ∷ or_null Int (option_map (λ (s : ℤ × ℤ). s.0) o.seconds) ∷ or_null Int (option_map (λ (s : ℤ × ℤ). s.1) o.seconds) ∷ []
+    Words o.id ∷ or_null Int (option_map (λ (b : BoxValue). b.x0) o.extent)
+    ∷ or_null Int (option_map (λ (b : BoxValue). b.y0) o.extent)
+    ∷ or_null Int (option_map (λ (b : BoxValue). b.x1) o.extent)
+    ∷ or_null Int (option_map (λ (b : BoxValue). b.y1) o.extent)
+    ∷ or_null Int (option_map (λ (s : ℤ × ℤ). s.0) o.seconds)
+    ∷ or_null Int (option_map (λ (s : ℤ × ℤ). s.1) o.seconds) ∷ []
 
 -- the id is a text, and the extent a box
 pub record IsOutline (o : FeatureOutlineValue) : Type 0 where

@@ -26,8 +26,8 @@ use streetmap_ledger::PageFold;
 ///
 /// # Errors
 ///
-/// `Memory` where memory was refused; `Fault` where the text reads as no feature, which never comes of
-/// a text that is kept.
+/// `Memory` where memory was refused; `Fault` where the text reads as no feature, which never comes
+/// of a text that is kept.
 pub fn read_body(alloc: Global, body: &[u8], property: Option<&str>) -> Result<Feature, JsonFault>
     ensures reads { IfOk result (TextReadsAs (option_copied property.entry) body.now) }
     ensures again { (f : FeatureValue) → body.now ≡ feature_text f →
@@ -39,7 +39,9 @@ pub fn read_body(alloc: Global, body: &[u8], property: Option<&str>) -> Result<F
 
 /// The feature of a row that shows its text.
 pub fn read_row(alloc: Global, row: &Row, property: Option<&str>) -> Result<Feature, ReadFault>
-    ensures { (f : FeatureValue) → row.now ≡ candidate_row f → IsStored (option_copied property.entry) f → MatchResult result (λ g. g ≡ f) (λ fault. fault ≡ ReadFault.Memory) }
+    ensures { (f : FeatureValue) → row.now ≡ candidate_row f
+        → IsStored (option_copied property.entry) f
+        → MatchResult result (λ g. g ≡ f) (λ fault. fault ≡ ReadFault.Memory) }
 {
     match row.get_ref(0) {
         Ok(ValueRef::Text(body)) => match read_body(alloc, body, property) {
@@ -59,9 +61,13 @@ fn take_next<S: Alter>(
     fold: &mut PageFold<'_>,
 ) -> Result<bool, ReadFault>
     ensures same_reference { rows.new.conn.ghost_name ≡ rows.old.conn.ghost_name }
-    ensures takes { HasCleanDisk (state S.Store rows.new.conn.now) → TakesNext S.Store (option_copied property.entry) rows.old.conn.now rows.new.conn.now fold.old fold.new result }
-    ensures mode { rows.old.conn.now.in_transaction ≡ false → rows.new.conn.now.in_transaction ≡ false }
-    ensures survives { Survives (state S.Store rows.old.conn.now) (state S.Store rows.new.conn.now) (λ _. ⊥) }
+    ensures takes { HasCleanDisk (state S.Store rows.new.conn.now)
+        → TakesNext S.Store (option_copied property.entry) rows.old.conn.now rows.new.conn.now
+        fold.old fold.new result }
+    ensures mode { rows.old.conn.now.in_transaction ≡ false
+        → rows.new.conn.now.in_transaction ≡ false }
+    ensures survives { Survives (state S.Store rows.old.conn.now) (state S.Store rows.new.conn.now)
+        (λ _. ⊥) }
 {
     match rows.advance() {
         Ok(()) => {}
@@ -85,9 +91,13 @@ fn take_rest<S: Alter>(
     fold: &mut PageFold<'_>,
 ) -> Result<(), ReadFault>
     ensures same_reference { rows.new.conn.ghost_name ≡ rows.old.conn.ghost_name }
-    ensures takes { HasCleanDisk (state S.Store rows.new.conn.now) → TakesRest S.Store (option_copied property.entry) rows.old.conn.now rows.new.conn.now fold.old fold.new result }
-    ensures mode { rows.old.conn.now.in_transaction ≡ false → rows.new.conn.now.in_transaction ≡ false }
-    ensures survives { Survives (state S.Store rows.old.conn.now) (state S.Store rows.new.conn.now) (λ _. ⊥) }
+    ensures takes { HasCleanDisk (state S.Store rows.new.conn.now)
+        → TakesRest S.Store (option_copied property.entry) rows.old.conn.now rows.new.conn.now
+        fold.old fold.new result }
+    ensures mode { rows.old.conn.now.in_transaction ≡ false
+        → rows.new.conn.now.in_transaction ≡ false }
+    ensures survives { Survives (state S.Store rows.old.conn.now) (state S.Store rows.new.conn.now)
+        (λ _. ⊥) }
 {
     'rows: for _ in 0..u64::MAX {
         let took = take_next(alloc, rows, property, fold)?;
@@ -107,9 +117,12 @@ pub fn take_rows<S: Alter>(
     property: Option<&str>,
     fold: &mut PageFold<'_>,
 ) -> Result<(), ReadFault>
-    ensures takes { HasCleanDisk (state S.Store conn.new) → TakesAll sql.now (bound params.now) (option_copied property.entry) (state S.Store conn.old) (state S.Store conn.new) fold.old fold.new result }
+    ensures takes { HasCleanDisk (state S.Store conn.new)
+        → TakesAll sql.now (bound params.now) (option_copied property.entry)
+        (state S.Store conn.old) (state S.Store conn.new) fold.old fold.new result }
     ensures mode { conn.old.in_transaction ≡ false → conn.new.in_transaction ≡ false }
-    ensures survives { Survives (state S.Store conn.old) (state S.Store conn.new) (CommitsShowing sql.now (bound params.now) (state S.Store conn.old)) }
+    ensures survives { Survives (state S.Store conn.old) (state S.Store conn.new)
+        (CommitsShowing sql.now (bound params.now) (state S.Store conn.old)) }
 {
     match conn.query(sql, params) {
         Ok(mut rows) => take_rest(alloc, &mut rows, property, fold),

@@ -1,5 +1,6 @@
 //! Extents of collections, folded from the extents of their features.
-ghost use Rattle.std.specs.Prelude.{◌≡◌, List, Option, option_map, ◌++◌, false, MatchResult, IfSome};
+ghost use Rattle.std.specs.Prelude.{◌≡◌, List, Option, option_map, ◌++◌, false, MatchResult};
+ghost use Rattle.std.specs.Prelude.{IfSome};
 ghost use Rattle.sqlite.specs.Held.{state};
 ghost use Rattle.sqlite.specs.State.{HasCleanDisk, Survives};
 ghost use Rattle.streetmap_grid.specs.Bounds.{AreBounds};
@@ -18,7 +19,8 @@ use streetmap_grid::GridBox;
 
 /// The bounds of the positions of both.
 fn bounds_of_both(one: Option<GridBox>, other: Option<GridBox>) -> Option<GridBox>
-    ensures { (ps qs : List PositionValue) → AreBounds ps one → AreBounds qs other → AreBounds (ps ++ qs) result }
+    ensures { (ps qs : List PositionValue) → AreBounds ps one → AreBounds qs other
+        → AreBounds (ps ++ qs) result }
 {
     match (one, other) {
         (one, None) => one,
@@ -29,7 +31,8 @@ fn bounds_of_both(one: Option<GridBox>, other: Option<GridBox>) -> Option<GridBo
 
 /// The extent that a row shows.
 fn extent_in(row: &Row) -> Result<Option<GridBox>, ReadFault>
-    ensures { (b : Option BoxValue) → row.now ≡ extent_row b → IfSome b IsBox → MatchResult result (λ extent. option_map box_value extent ≡ b) (λ _. ⊥) }
+    ensures { (b : Option BoxValue) → row.now ≡ extent_row b → IfSome b IsBox
+        → MatchResult result (λ extent. option_map box_value extent ≡ b) (λ _. ⊥) }
 {
     box_at(row, 0)
 }
@@ -49,13 +52,15 @@ impl RowFold for Option<GridBox> {
     }
 }
 
-/// The extent of the features of a collection, in millimetres; none where no feature has a geometry, or
-/// the collection is not there.
+/// The extent of the features of a collection, in millimetres; none where no feature has a
+/// geometry, or the collection is not there.
 pub fn extent_of<S: Alter>(
     conn: &mut Connection<S>,
     collection: &str,
 ) -> Result<Option<GridBox>, ReadFault>
-    ensures shows { HasCleanDisk (state S.Store conn.new) → LooksInto (IsExtentIn collection.now) (state S.Store conn.old) (state S.Store conn.new) result }
+    ensures shows { HasCleanDisk (state S.Store conn.new)
+        → LooksInto (IsExtentIn collection.now) (state S.Store conn.old) (state S.Store conn.new)
+        result }
     ensures mode { conn.old.in_transaction ≡ false → conn.new.in_transaction ≡ false }
     ensures survives { Survives (state S.Store conn.old) (state S.Store conn.new) (λ _. Unit {0}) }
     ensures stays { Stays (state S.Store conn.old) (state S.Store conn.new) }

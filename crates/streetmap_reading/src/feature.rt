@@ -3,7 +3,8 @@ ghost use Rattle.std.specs.Prelude.{◌≡◌, false};
 ghost use Rattle.std.specs.Option.{option_copied};
 ghost use Rattle.sqlite.specs.Held.{state};
 ghost use Rattle.sqlite.specs.State.{HasCleanDisk, Survives};
-ghost use Rattle.streetmap_reading.specs.Looking.{LooksInto, Stays, IsTextRow, IsFeatureOf, IsFeatureUnder};
+ghost use Rattle.streetmap_reading.specs.Looking.{LooksInto, Stays, IsTextRow, IsFeatureOf};
+ghost use Rattle.streetmap_reading.specs.Looking.{IsFeatureUnder};
 
 use crate::candidates::read_row;
 use crate::fault::ReadFault;
@@ -18,7 +19,9 @@ fn text_row<S: Alter>(
     collection: &str,
     id: &str,
 ) -> Result<Option<Row>, ReadFault>
-    ensures finds { HasCleanDisk (state S.Store conn.new) → LooksInto (IsTextRow collection.now id.now) (state S.Store conn.old) (state S.Store conn.new) result }
+    ensures finds { HasCleanDisk (state S.Store conn.new)
+        → LooksInto (IsTextRow collection.now id.now) (state S.Store conn.old)
+        (state S.Store conn.new) result }
     ensures mode { conn.old.in_transaction ≡ false → conn.new.in_transaction ≡ false }
     ensures survives { Survives (state S.Store conn.old) (state S.Store conn.new) (λ _. Unit {0}) }
     ensures stays { Stays (state S.Store conn.old) (state S.Store conn.new) }
@@ -40,7 +43,9 @@ fn feature_under<S: Alter>(
     id: &str,
     property: Option<&str>,
 ) -> Result<Option<Feature>, ReadFault>
-    ensures shows { HasCleanDisk (state S.Store conn.new) → IsFeatureUnder collection.now id.now (option_copied property.entry) (state S.Store conn.old) (state S.Store conn.new) result }
+    ensures shows { HasCleanDisk (state S.Store conn.new)
+        → IsFeatureUnder collection.now id.now (option_copied property.entry)
+        (state S.Store conn.old) (state S.Store conn.new) result }
     ensures mode { conn.old.in_transaction ≡ false → conn.new.in_transaction ≡ false }
     ensures survives { Survives (state S.Store conn.old) (state S.Store conn.new) (λ _. Unit {0}) }
     ensures stays { Stays (state S.Store conn.old) (state S.Store conn.new) }
@@ -63,7 +68,9 @@ pub fn feature_of<S: Alter>(
     collection: &str,
     id: &str,
 ) -> Result<Option<Feature>, ReadFault>
-    ensures shows { HasCleanDisk (state S.Store conn.new) → LooksInto (IsFeatureOf collection.now id.now) (state S.Store conn.old) (state S.Store conn.new) result }
+    ensures shows { HasCleanDisk (state S.Store conn.new)
+        → LooksInto (IsFeatureOf collection.now id.now) (state S.Store conn.old)
+        (state S.Store conn.new) result }
     ensures mode { conn.old.in_transaction ≡ false → conn.new.in_transaction ≡ false }
     ensures survives { Survives (state S.Store conn.old) (state S.Store conn.new) (λ _. Unit {0}) }
     ensures stays { Stays (state S.Store conn.old) (state S.Store conn.new) }

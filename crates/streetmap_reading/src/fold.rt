@@ -26,9 +26,13 @@ pub trait RowFold {
 /// Takes the next row, if there is one.
 fn take_next<S: Alter, F: RowFold>(rows: &mut Rows<'_, S>, fold: &mut F) -> Result<bool, ReadFault>
     ensures same_reference { rows.new.conn.ghost_name ≡ rows.old.conn.ghost_name }
-    ensures takes { HasCleanDisk (state S.Store rows.new.conn.now) → TakesNext F.holds F.is_readable S.Store rows.old.conn.now rows.new.conn.now fold.old fold.new result }
-    ensures mode { rows.old.conn.now.in_transaction ≡ false → rows.new.conn.now.in_transaction ≡ false }
-    ensures survives { Survives (state S.Store rows.old.conn.now) (state S.Store rows.new.conn.now) (λ _. ⊥) }
+    ensures takes { HasCleanDisk (state S.Store rows.new.conn.now)
+        → TakesNext F.holds F.is_readable S.Store rows.old.conn.now rows.new.conn.now fold.old
+        fold.new result }
+    ensures mode { rows.old.conn.now.in_transaction ≡ false
+        → rows.new.conn.now.in_transaction ≡ false }
+    ensures survives { Survives (state S.Store rows.old.conn.now) (state S.Store rows.new.conn.now)
+        (λ _. ⊥) }
 {
     match rows.advance() {
         Ok(()) => {}
@@ -44,9 +48,13 @@ fn take_next<S: Alter, F: RowFold>(rows: &mut Rows<'_, S>, fold: &mut F) -> Resu
 /// Takes the rows of a query that has begun, up to the last.
 fn take_rest<S: Alter, F: RowFold>(rows: &mut Rows<'_, S>, fold: &mut F) -> Result<(), ReadFault>
     ensures same_reference { rows.new.conn.ghost_name ≡ rows.old.conn.ghost_name }
-    ensures takes { HasCleanDisk (state S.Store rows.new.conn.now) → TakesRest F.holds F.is_readable S.Store rows.old.conn.now rows.new.conn.now fold.old fold.new result }
-    ensures mode { rows.old.conn.now.in_transaction ≡ false → rows.new.conn.now.in_transaction ≡ false }
-    ensures survives { Survives (state S.Store rows.old.conn.now) (state S.Store rows.new.conn.now) (λ _. ⊥) }
+    ensures takes { HasCleanDisk (state S.Store rows.new.conn.now)
+        → TakesRest F.holds F.is_readable S.Store rows.old.conn.now rows.new.conn.now fold.old
+        fold.new result }
+    ensures mode { rows.old.conn.now.in_transaction ≡ false
+        → rows.new.conn.now.in_transaction ≡ false }
+    ensures survives { Survives (state S.Store rows.old.conn.now) (state S.Store rows.new.conn.now)
+        (λ _. ⊥) }
 {
     'rows: for _ in 0..u64::MAX {
         let took = take_next(rows, fold)?;
@@ -64,9 +72,12 @@ pub fn fold_rows<S: Alter, F: RowFold>(
     params: &[ValueRef<'_>],
     fold: &mut F,
 ) -> Result<(), ReadFault>
-    ensures takes { HasCleanDisk (state S.Store conn.new) → TakesAll F.holds F.is_readable sql.now (bound params.now) (state S.Store conn.old) (state S.Store conn.new) fold.old fold.new result }
+    ensures takes { HasCleanDisk (state S.Store conn.new)
+        → TakesAll F.holds F.is_readable sql.now (bound params.now) (state S.Store conn.old)
+        (state S.Store conn.new) fold.old fold.new result }
     ensures mode { conn.old.in_transaction ≡ false → conn.new.in_transaction ≡ false }
-    ensures survives { Survives (state S.Store conn.old) (state S.Store conn.new) (CommitsShowing sql.now (bound params.now) (state S.Store conn.old)) }
+    ensures survives { Survives (state S.Store conn.old) (state S.Store conn.new)
+        (CommitsShowing sql.now (bound params.now) (state S.Store conn.old)) }
 {
     match conn.query(sql, params) {
         Ok(mut rows) => take_rest(&mut rows, fold),

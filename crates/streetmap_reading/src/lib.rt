@@ -1,15 +1,16 @@
 //! Pages, features, and what is told of collections, read from the tables of a state, row by row.
 //!
 //! `page_of` answers the page of a collection as the state has it: it reads the rows whose stored
-//! extent and seconds overlap what is asked, by one of four statements, one row at a time and in order
-//! of ids, and hands each feature to `PageFold`. `feature_of` answers one feature as the state has it,
-//! by its collection and its id, with the time that the collection's time property tells. Nothing
-//! changes, and a stop may leave no more than before. Where one gives up it says why: for memory,
-//! because a statement failed, or at a row that is none that this product writes; the last never on
-//! the tables of a state.
+//! extent and seconds overlap what is asked, by one of four statements, one row at a time and in
+//! order of ids, and hands each feature to `PageFold`. `feature_of` answers one feature as the
+//! state has it, by its collection and its id, with the time that the collection's time property
+//! tells. Nothing changes, and a stop may leave no more than before. Where one gives up it says
+//! why: for memory, because a statement failed, or at a row that is none that this product writes;
+//! the last never on the tables of a state.
 //!
 //! `summary_of` and `summaries_of` tell of one collection and of all, and `outlines_of` lists a
-//! collection's features by what is stored beside their bodies, in one pass; none of them reads a body.
+//! collection's features by what is stored beside their bodies, in one pass; none of them reads a
+//! body.
 //!
 //! In the order of reading: `fault`, `candidates` (rows of a query, one after the other), `page`,
 //! `feature`; `cells` (a value of a row), `fold` (rows taken one by one), `extents`, `summaries`,

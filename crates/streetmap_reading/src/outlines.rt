@@ -19,7 +19,8 @@ use streetmap_ledger::FeatureOutline;
 
 /// The outline that a row shows.
 fn outline_in(row: &Row) -> Result<FeatureOutline, ReadFault>
-    ensures { (o : FeatureOutlineValue) → row.now ≡ outline_row o → IsOutline o → MatchResult result (λ outline. feature_outline_value outline ≡ o) IsForMemory }
+    ensures { (o : FeatureOutlineValue) → row.now ≡ outline_row o → IsOutline o
+        → MatchResult result (λ outline. feature_outline_value outline ≡ o) IsForMemory }
 {
     let id = text_at(row, 0)?;
     let extent = box_at(row, 1)?;
@@ -46,13 +47,16 @@ impl RowFold for Vec<FeatureOutline> {
     }
 }
 
-/// The outlines of the features of a collection, in byte order of ids; none of one that is not there.
+/// The outlines of the features of a collection, in byte order of ids; none of one that is not
+/// there.
 fn outlines_in<S: Alter>(
     alloc: Global,
     conn: &mut Connection<S>,
     collection: &str,
 ) -> Result<Vec<FeatureOutline>, ReadFault>
-    ensures shows { HasCleanDisk (state S.Store conn.new) → LooksInto (AreOutlinesIn collection.now) (state S.Store conn.old) (state S.Store conn.new) result }
+    ensures shows { HasCleanDisk (state S.Store conn.new)
+        → LooksInto (AreOutlinesIn collection.now) (state S.Store conn.old) (state S.Store conn.new)
+        result }
     ensures mode { conn.old.in_transaction ≡ false → conn.new.in_transaction ≡ false }
     ensures survives { Survives (state S.Store conn.old) (state S.Store conn.new) (λ _. Unit {0}) }
     ensures stays { Stays (state S.Store conn.old) (state S.Store conn.new) }
@@ -67,8 +71,8 @@ fn outlines_in<S: Alter>(
     Ok(outlines)
 }
 
-/// The outlines of the features of a collection, in byte order of ids; `None` where the collection is
-/// not there.
+/// The outlines of the features of a collection, in byte order of ids; `None` where the collection
+/// is not there.
 ///
 /// # Errors
 ///
@@ -78,7 +82,9 @@ pub fn outlines_of<S: Alter>(
     conn: &mut Connection<S>,
     collection: &str,
 ) -> Result<Option<Vec<FeatureOutline>>, ReadFault>
-    ensures shows { HasCleanDisk (state S.Store conn.new) → LooksInto (AreOutlinesOf collection.now) (state S.Store conn.old) (state S.Store conn.new) result }
+    ensures shows { HasCleanDisk (state S.Store conn.new)
+        → LooksInto (AreOutlinesOf collection.now) (state S.Store conn.old) (state S.Store conn.new)
+        result }
     ensures mode { conn.old.in_transaction ≡ false → conn.new.in_transaction ≡ false }
     ensures survives { Survives (state S.Store conn.old) (state S.Store conn.new) (λ _. Unit {0}) }
     ensures stays { Stays (state S.Store conn.old) (state S.Store conn.new) }

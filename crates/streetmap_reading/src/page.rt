@@ -1,5 +1,6 @@
 //! Pages, through the stored extents and seconds.
-ghost use Rattle.std.specs.Prelude.{◌≡◌, ◌≤◌, [], ◌∷◌, Option, None, Some, Ok, false, IfOk, MatchResult, option_map, string_bytes};
+ghost use Rattle.std.specs.Prelude.{◌≡◌, ◌≤◌, [], ◌∷◌, Option, None, Some, Ok, false, IfOk};
+ghost use Rattle.std.specs.Prelude.{MatchResult, option_map, string_bytes};
 ghost use Rattle.std.specs.Option.{option_copied};
 ghost use Rattle.std.specs.FinMap.{get};
 ghost use Rattle.sqlite.specs.Held.{state};
@@ -13,9 +14,11 @@ ghost use Rattle.streetmap_query.specs.Views.{query_value};
 ghost use Rattle.streetmap_ledger.specs.State.{Collection};
 ghost use Rattle.streetmap_ledger.specs.Pages.{interval_asked};
 ghost use Rattle.streetmap_rows.specs.Stands.{IsReadable};
-ghost use Rattle.streetmap_rows.specs.Statements.{select_all, select_in_box, select_in_time, select_in_both, select_collection};
+ghost use Rattle.streetmap_rows.specs.Statements.{select_all, select_in_box, select_in_time};
+ghost use Rattle.streetmap_rows.specs.Statements.{select_in_both, select_collection};
 ghost use Rattle.streetmap_reading.specs.Choosing.{TakesChosen};
-ghost use Rattle.streetmap_reading.specs.Looking.{LooksInto, Stays, IsCollectionRow, IsPageOf, IsPageUnder};
+ghost use Rattle.streetmap_reading.specs.Looking.{LooksInto, Stays, IsCollectionRow, IsPageOf};
+ghost use Rattle.streetmap_reading.specs.Looking.{IsPageUnder};
 ghost use Rattle.streetmap_rows.specs.Views.{collection_view};
 
 use crate::candidates::take_rows;
@@ -36,7 +39,9 @@ fn take_all<S: Alter>(
     property: Option<&str>,
     fold: &mut PageFold<'_>,
 ) -> Result<(), ReadFault>
-    ensures takes { HasCleanDisk (state S.Store conn.new) → TakesChosen None None collection.now (option_copied property.entry) (state S.Store conn.old) (state S.Store conn.new) fold.old fold.new result }
+    ensures takes { HasCleanDisk (state S.Store conn.new)
+        → TakesChosen None None collection.now (option_copied property.entry)
+        (state S.Store conn.old) (state S.Store conn.new) fold.old fold.new result }
     ensures mode { conn.old.in_transaction ≡ false → conn.new.in_transaction ≡ false }
     ensures survives { Survives (state S.Store conn.old) (state S.Store conn.new) (λ _. Unit {0}) }
     ensures stays { Stays (state S.Store conn.old) (state S.Store conn.new) }
@@ -60,7 +65,9 @@ fn take_in_box<S: Alter>(
     property: Option<&str>,
     fold: &mut PageFold<'_>,
 ) -> Result<(), ReadFault>
-    ensures takes { HasCleanDisk (state S.Store conn.new) → TakesChosen (Some (box_value area.now)) None collection.now (option_copied property.entry) (state S.Store conn.old) (state S.Store conn.new) fold.old fold.new result }
+    ensures takes { HasCleanDisk (state S.Store conn.new)
+        → TakesChosen (Some (box_value area.now)) None collection.now (option_copied property.entry)
+        (state S.Store conn.old) (state S.Store conn.new) fold.old fold.new result }
     ensures mode { conn.old.in_transaction ≡ false → conn.new.in_transaction ≡ false }
     ensures survives { Survives (state S.Store conn.old) (state S.Store conn.new) (λ _. Unit {0}) }
     ensures stays { Stays (state S.Store conn.old) (state S.Store conn.new) }
@@ -84,7 +91,10 @@ fn take_in_time<S: Alter>(
     property: Option<&str>,
     fold: &mut PageFold<'_>,
 ) -> Result<(), ReadFault>
-    ensures takes { HasCleanDisk (state S.Store conn.new) → TakesChosen None (Some (interval_value interval.now)) collection.now (option_copied property.entry) (state S.Store conn.old) (state S.Store conn.new) fold.old fold.new result }
+    ensures takes { HasCleanDisk (state S.Store conn.new)
+        → TakesChosen None (Some (interval_value interval.now)) collection.now
+        (option_copied property.entry) (state S.Store conn.old) (state S.Store conn.new) fold.old
+        fold.new result }
     ensures mode { conn.old.in_transaction ≡ false → conn.new.in_transaction ≡ false }
     ensures survives { Survives (state S.Store conn.old) (state S.Store conn.new) (λ _. Unit {0}) }
     ensures stays { Stays (state S.Store conn.old) (state S.Store conn.new) }
@@ -100,8 +110,8 @@ fn take_in_time<S: Alter>(
     )
 }
 
-/// Takes the features of a collection whose extents overlap a box, and whose seconds overlap those of
-/// an interval.
+/// Takes the features of a collection whose extents overlap a box, and whose seconds overlap those
+/// of an interval.
 fn take_in_both<S: Alter>(
     alloc: Global,
     conn: &mut Connection<S>,
@@ -111,7 +121,10 @@ fn take_in_both<S: Alter>(
     property: Option<&str>,
     fold: &mut PageFold<'_>,
 ) -> Result<(), ReadFault>
-    ensures takes { HasCleanDisk (state S.Store conn.new) → TakesChosen (Some (box_value area.now)) (Some (interval_value interval.now)) collection.now (option_copied property.entry) (state S.Store conn.old) (state S.Store conn.new) fold.old fold.new result }
+    ensures takes { HasCleanDisk (state S.Store conn.new)
+        → TakesChosen (Some (box_value area.now)) (Some (interval_value interval.now))
+        collection.now (option_copied property.entry) (state S.Store conn.old)
+        (state S.Store conn.new) fold.old fold.new result }
     ensures mode { conn.old.in_transaction ≡ false → conn.new.in_transaction ≡ false }
     ensures survives { Survives (state S.Store conn.old) (state S.Store conn.new) (λ _. Unit {0}) }
     ensures stays { Stays (state S.Store conn.old) (state S.Store conn.new) }
@@ -136,7 +149,10 @@ fn take_candidates<S: Alter>(
     property: Option<&str>,
     fold: &mut PageFold<'_>,
 ) -> Result<(), ReadFault>
-    ensures takes { HasCleanDisk (state S.Store conn.new) → TakesChosen (query_value query.now).bbox (interval_asked (query_value query.now)) collection.now (option_copied property.entry) (state S.Store conn.old) (state S.Store conn.new) fold.old fold.new result }
+    ensures takes { HasCleanDisk (state S.Store conn.new)
+        → TakesChosen (query_value query.now).bbox (interval_asked (query_value query.now))
+        collection.now (option_copied property.entry) (state S.Store conn.old)
+        (state S.Store conn.new) fold.old fold.new result }
     ensures mode { conn.old.in_transaction ≡ false → conn.new.in_transaction ≡ false }
     ensures survives { Survives (state S.Store conn.old) (state S.Store conn.new) (λ _. Unit {0}) }
     ensures stays { Stays (state S.Store conn.old) (state S.Store conn.new) }
@@ -168,7 +184,9 @@ pub fn collection_row<S: Alter>(
     conn: &mut Connection<S>,
     id: &str,
 ) -> Result<Option<Row>, ReadFault>
-    ensures finds { HasCleanDisk (state S.Store conn.new) → LooksInto (IsCollectionRow id.now) (state S.Store conn.old) (state S.Store conn.new) result }
+    ensures finds { HasCleanDisk (state S.Store conn.new)
+        → LooksInto (IsCollectionRow id.now) (state S.Store conn.old) (state S.Store conn.new)
+        result }
     ensures mode { conn.old.in_transaction ≡ false → conn.new.in_transaction ≡ false }
     ensures survives { Survives (state S.Store conn.old) (state S.Store conn.new) (λ _. Unit {0}) }
     ensures stays { Stays (state S.Store conn.old) (state S.Store conn.new) }
@@ -184,7 +202,9 @@ pub fn collection_row<S: Alter>(
 
 /// The time property in the row of a collection.
 pub fn property_in(row: &Row) -> Result<Option<String>, ReadFault>
-    ensures { (name : _) (c : Collection) → row.now ≡ collection_view c → IsReadable name c → MatchResult result (λ time. option_map string_bytes time ≡ c.time) (λ fault. fault ≡ ReadFault.Memory) }
+    ensures { (name : _) (c : Collection) → row.now ≡ collection_view c → IsReadable name c
+        → MatchResult result (λ time. option_map string_bytes time ≡ c.time) (λ fault. fault
+        ≡ ReadFault.Memory) }
 {
     time_in(row).map_err(unread)
 }
@@ -197,7 +217,9 @@ fn page_under<S: Alter>(
     query: &Query,
     property: Option<&str>,
 ) -> Result<Page, ReadFault>
-    ensures shows { HasCleanDisk (state S.Store conn.new) → IsPageUnder collection.now (query_value query.now) (option_copied property.entry) (state S.Store conn.old) (state S.Store conn.new) result }
+    ensures shows { HasCleanDisk (state S.Store conn.new)
+        → IsPageUnder collection.now (query_value query.now) (option_copied property.entry)
+        (state S.Store conn.old) (state S.Store conn.new) result }
     ensures mode { conn.old.in_transaction ≡ false → conn.new.in_transaction ≡ false }
     ensures survives { Survives (state S.Store conn.old) (state S.Store conn.new) (λ _. Unit {0}) }
     ensures stays { Stays (state S.Store conn.old) (state S.Store conn.new) }
@@ -214,16 +236,18 @@ fn page_under<S: Alter>(
 ///
 /// # Errors
 ///
-/// `Memory` where memory was refused while a row was read or the page was made, `Store` where a statement
-/// failed, which tells a want of memory too by its error, and `Unread` at a row that is none that this
-/// product writes.
+/// `Memory` where memory was refused while a row was read or the page was made, `Store` where a
+/// statement failed, which tells a want of memory too by its error, and `Unread` at a row that is
+/// none that this product writes.
 pub fn page_of<S: Alter>(
     alloc: Global,
     conn: &mut Connection<S>,
     collection: &str,
     query: &Query,
 ) -> Result<Option<Page>, ReadFault>
-    ensures shows { HasCleanDisk (state S.Store conn.new) → LooksInto (IsPageOf collection.now (query_value query.now)) (state S.Store conn.old) (state S.Store conn.new) result }
+    ensures shows { HasCleanDisk (state S.Store conn.new)
+        → LooksInto (IsPageOf collection.now (query_value query.now)) (state S.Store conn.old)
+        (state S.Store conn.new) result }
     ensures mode { conn.old.in_transaction ≡ false → conn.new.in_transaction ≡ false }
     ensures survives { Survives (state S.Store conn.old) (state S.Store conn.new) (λ _. Unit {0}) }
     ensures stays { Stays (state S.Store conn.old) (state S.Store conn.new) }

@@ -11,7 +11,8 @@ ghost use Rattle.streetmap_rows.specs.Stands.{IsReadable};
 ghost use Rattle.streetmap_rows.specs.Views.{collection_view};
 ghost use Rattle.streetmap_reading.specs.Folding.{IsForMemory};
 ghost use Rattle.streetmap_reading.specs.Held.{head_of};
-ghost use Rattle.streetmap_reading.specs.Telling.{IsSummaryOf, AreSummaries, IsTold, AreHeads, TellsAll};
+ghost use Rattle.streetmap_reading.specs.Telling.{IsSummaryOf, AreSummaries, IsTold, AreHeads};
+ghost use Rattle.streetmap_reading.specs.Telling.{TellsAll};
 
 use crate::cells::{text_at, text_if_at};
 use crate::extents::extent_of;
@@ -24,7 +25,8 @@ use streetmap_ledger::Summary;
 
 /// What is told of a collection before its extent is known, from its row without its id.
 fn head_under(alloc: Global, id: &str, row: &Row) -> Result<Summary, ReadFault>
-    ensures { (c : Collection) → row.now ≡ collection_view c → IsReadable id.now c → MatchResult result (λ head. summary_value head ≡ head_of id.now c) IsForMemory }
+    ensures { (c : Collection) → row.now ≡ collection_view c → IsReadable id.now c
+        → MatchResult result (λ head. summary_value head ≡ head_of id.now c) IsForMemory }
 {
     let title = text_at(row, 0)?;
     let time = text_if_at(row, 1)?;
@@ -39,7 +41,8 @@ fn head_under(alloc: Global, id: &str, row: &Row) -> Result<Summary, ReadFault>
 
 /// What is told of a collection before its extent is known, from its row.
 fn head_in(row: &Row) -> Result<Summary, ReadFault>
-    ensures { (id : Text) (c : Collection) → row.now ≡ collection_cells id c → IsReadable id c → MatchResult result (λ head. summary_value head ≡ head_of id c) IsForMemory }
+    ensures { (id : Text) (c : Collection) → row.now ≡ collection_cells id c → IsReadable id c
+        → MatchResult result (λ head. summary_value head ≡ head_of id c) IsForMemory }
 {
     let id = text_at(row, 0)?;
     let title = text_at(row, 1)?;
@@ -69,7 +72,8 @@ impl RowFold for Vec<Summary> {
 
 /// What is told of a collection, with its extent.
 fn with_extent<S: Alter>(conn: &mut Connection<S>, head: Summary) -> Result<Summary, ReadFault>
-    ensures shows { HasCleanDisk (state S.Store conn.new) → LooksInto (IsTold head) (state S.Store conn.old) (state S.Store conn.new) result }
+    ensures shows { HasCleanDisk (state S.Store conn.new)
+        → LooksInto (IsTold head) (state S.Store conn.old) (state S.Store conn.new) result }
     ensures mode { conn.old.in_transaction ≡ false → conn.new.in_transaction ≡ false }
     ensures survives { Survives (state S.Store conn.old) (state S.Store conn.new) (λ _. Unit {0}) }
     ensures stays { Stays (state S.Store conn.old) (state S.Store conn.new) }
@@ -83,14 +87,15 @@ fn with_extent<S: Alter>(conn: &mut Connection<S>, head: Summary) -> Result<Summ
 /// # Errors
 ///
 /// `Memory` where memory was refused while a row was read or what it says was kept, `Store` where a
-/// statement failed, by its error, which may be that memory was refused to it, and `Unread` at a row that
-/// is none that this product writes.
+/// statement failed, by its error, which may be that memory was refused to it, and `Unread` at a
+/// row that is none that this product writes.
 pub fn summary_of<S: Alter>(
     alloc: Global,
     conn: &mut Connection<S>,
     id: &str,
 ) -> Result<Option<Summary>, ReadFault>
-    ensures shows { HasCleanDisk (state S.Store conn.new) → LooksInto (IsSummaryOf id.now) (state S.Store conn.old) (state S.Store conn.new) result }
+    ensures shows { HasCleanDisk (state S.Store conn.new)
+        → LooksInto (IsSummaryOf id.now) (state S.Store conn.old) (state S.Store conn.new) result }
     ensures mode { conn.old.in_transaction ≡ false → conn.new.in_transaction ≡ false }
     ensures survives { Survives (state S.Store conn.old) (state S.Store conn.new) (λ _. Unit {0}) }
     ensures stays { Stays (state S.Store conn.old) (state S.Store conn.new) }
@@ -105,7 +110,8 @@ pub fn summary_of<S: Alter>(
 
 /// What is told of all collections before their extents are known, in byte order of ids.
 fn heads<S: Alter>(alloc: Global, conn: &mut Connection<S>) -> Result<Vec<Summary>, ReadFault>
-    ensures shows { HasCleanDisk (state S.Store conn.new) → LooksInto AreHeads (state S.Store conn.old) (state S.Store conn.new) result }
+    ensures shows { HasCleanDisk (state S.Store conn.new)
+        → LooksInto AreHeads (state S.Store conn.old) (state S.Store conn.new) result }
     ensures mode { conn.old.in_transaction ≡ false → conn.new.in_transaction ≡ false }
     ensures survives { Survives (state S.Store conn.old) (state S.Store conn.new) (λ _. Unit {0}) }
     ensures stays { Stays (state S.Store conn.old) (state S.Store conn.new) }
@@ -126,7 +132,8 @@ fn with_extents<S: Alter>(
     conn: &mut Connection<S>,
     heads: Vec<Summary>,
 ) -> Result<Vec<Summary>, ReadFault>
-    ensures shows { HasCleanDisk (state S.Store conn.new) → TellsAll heads (state S.Store conn.old) (state S.Store conn.new) result }
+    ensures shows { HasCleanDisk (state S.Store conn.new)
+        → TellsAll heads (state S.Store conn.old) (state S.Store conn.new) result }
     ensures mode { conn.old.in_transaction ≡ false → conn.new.in_transaction ≡ false }
     ensures survives { Survives (state S.Store conn.old) (state S.Store conn.new) (λ _. Unit {0}) }
     ensures stays { Stays (state S.Store conn.old) (state S.Store conn.new) }
@@ -148,7 +155,8 @@ pub fn summaries_of<S: Alter>(
     alloc: Global,
     conn: &mut Connection<S>,
 ) -> Result<Vec<Summary>, ReadFault>
-    ensures shows { HasCleanDisk (state S.Store conn.new) → LooksInto AreSummaries (state S.Store conn.old) (state S.Store conn.new) result }
+    ensures shows { HasCleanDisk (state S.Store conn.new)
+        → LooksInto AreSummaries (state S.Store conn.old) (state S.Store conn.new) result }
     ensures mode { conn.old.in_transaction ≡ false → conn.new.in_transaction ≡ false }
     ensures survives { Survives (state S.Store conn.old) (state S.Store conn.new) (λ _. Unit {0}) }
     ensures stays { Stays (state S.Store conn.old) (state S.Store conn.new) }

@@ -1,5 +1,7 @@
 -- What a request asks for, before the state is asked. OGC 17-069, section 7.
-use Rattle.std.specs.Prelude.{ℕ, [], ◌∷◌, Bool, false, unwrap_or, ◌||◌, Option, None, Some, option_map, option_and_then, Result, Ok, Err, codes, if◌then◌else◌, ◌==◌, bytes_eq, slice_get, nat_lt, length}
+use Rattle.std.specs.Prelude.{ℕ, [], ◌∷◌, Bool, false, unwrap_or, ◌||◌, Option, None, Some}
+use Rattle.std.specs.Prelude.{option_map, option_and_then, Result, Ok, Err, codes, if◌then◌else◌}
+use Rattle.std.specs.Prelude.{◌==◌, bytes_eq, slice_get, nat_lt, length}
 use Rattle.std.specs.List.{before_first, after_first, position_or_len, slice_split}
 use Rattle.std.specs.Str.{is_utf8}
 use Rattle.percent_encoding.specs.Percent.{percent_decode}
@@ -18,7 +20,10 @@ use Rattle.streetmap_routes.specs.Routes.{the_rows}
 use Rattle.streetmap_routes.specs.declared.routes.Route.{Route}
 use Rattle.streetmap_routes.specs.declared.routes.Route.TheVariants as routes
 use Rattle.streetmap_bodies.specs.declared.request_fault.RequestFault.{RequestFault}
-use Rattle.streetmap_bodies.specs.declared.request_fault.RequestFault.TheVariants.{BadTarget, NotFound, MethodNotAllowed, Query, Batch}
+use Rattle.streetmap_bodies.specs.declared.request_fault.RequestFault.TheVariants.{BadTarget}
+use Rattle.streetmap_bodies.specs.declared.request_fault.RequestFault.TheVariants.{NotFound}
+use Rattle.streetmap_bodies.specs.declared.request_fault.RequestFault.TheVariants.{MethodNotAllowed}
+use Rattle.streetmap_bodies.specs.declared.request_fault.RequestFault.TheVariants.{Query, Batch}
 
 -- a resource, with the names in its path
 pub data ResourceValue : Type 0 where
@@ -51,7 +56,8 @@ resource_by path routes.Conformance = Some conformance
 resource_by path routes.Collections = Some collections
 resource_by path routes.Collection = option_map collection (decoded 2 path)
 resource_by path routes.Items = option_map items (decoded 2 path)
-resource_by path routes.Item = option_and_then (λ name. option_map (item name) (decoded 4 path)) (decoded 2 path)
+resource_by path routes.Item = option_and_then (λ name. option_map (item name) (decoded 4 path))
+    (decoded 2 path)
 resource_by path routes.Batches = Some batches
 
 -- the route that the router finds for a path
@@ -97,7 +103,8 @@ unqueried batches body = ask_batch (batch_of body)
 
 -- a resource that takes no parameter
 abbrev pub without_query : ResourceValue → Option Text → Text → AskValue
-without_query r query body = if has_pair query then faulty (Query UnknownParameter) else unqueried r body
+without_query r query body = if has_pair query then faulty (Query UnknownParameter)
+    else unqueried r body
 
 -- by the query, and then by the body
 abbrev pub queried : ResourceValue → Option Text → Text → AskValue
@@ -118,7 +125,8 @@ allows Posts method = bytes_eq method (codes "POST")
 abbrev pub placed : Option ResourceValue → Text → Option Text → Text → AskValue
 placed None method query body = faulty NotFound
 placed (Some r) method query body =
-    if allows (methods_of r) method then queried r query body else faulty (MethodNotAllowed (methods_of r))
+    if allows (methods_of r) method then queried r query body
+    else faulty (MethodNotAllowed (methods_of r))
 
 -- the part of a target before its first question mark; RFC 3986, section 3.4
 unfoldable pub path_part : Text → Text
@@ -126,7 +134,8 @@ path_part target = before_first (λ b. b == 63) target
 
 -- the part behind it, where there is one
 unfoldable pub query_part : Text → Option Text
-query_part target = if nat_lt (position_or_len (λ b. b == 63) target) (length target) then Some (after_first (λ b. b == 63) target) else None
+query_part target = if nat_lt (position_or_len (λ b. b == 63) target) (length target)
+    then Some (after_first (λ b. b == 63) target) else None
 
 -- whether a target begins with a slash
 unfoldable pub begins_with_slash : Text → Bool
@@ -136,4 +145,5 @@ begins_with_slash (b ∷ bs) = b == 47
 -- the whole order: the target, the path, the method, the query, the body
 unfoldable pub ask_of : Text → Text → Text → AskValue
 ask_of method target body =
-    if begins_with_slash target then placed (resource_at (path_part target)) method (query_part target) body else faulty BadTarget
+    if begins_with_slash target then placed (resource_at (path_part target)) method
+    (query_part target) body else faulty BadTarget

@@ -3,7 +3,9 @@ use Rattle.std.specs.Prelude.{string_bytes}
 use Rattle.streetmap_query.specs.Views.{query_value}
 use Rattle.streetmap_batch.specs.BatchView.{batch_value}
 use Rattle.streetmap_routes.specs.declared.routes.Resource.{Resource}
-use Rattle.streetmap_routes.specs.declared.routes.Resource.TheVariants.{Landing, Api, Conformance, Collections, Collection, Items, Item, Batches}
+use Rattle.streetmap_routes.specs.declared.routes.Resource.TheVariants.{Landing, Api, Conformance}
+use Rattle.streetmap_routes.specs.declared.routes.Resource.TheVariants.{Collections, Collection}
+use Rattle.streetmap_routes.specs.declared.routes.Resource.TheVariants.{Items, Item, Batches}
 use Rattle.streetmap_routes.specs.declared.asks.Ask.{Ask}
 use Rattle.streetmap_routes.specs.declared.asks.Ask.TheVariants as asks
 use Rattle.streetmap_routes.specs.Ask as ask

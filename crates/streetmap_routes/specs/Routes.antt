@@ -6,10 +6,13 @@ use Rattle.matchit.specs.Router.{RouteOf, route_from}
 use Rattle.matchit.specs.Order.{placed}
 use Rattle.matchit.specs.declared.error.InsertError.{InsertError}
 use Rattle.streetmap_routes.specs.declared.routes.Route.{Route}
-use Rattle.streetmap_routes.specs.declared.routes.Route.TheVariants.{Landing, Api, Conformance, Collections, Collection, Items, Item, Batches}
+use Rattle.streetmap_routes.specs.declared.routes.Route.TheVariants.{Landing, Api, Conformance}
+use Rattle.streetmap_routes.specs.declared.routes.Route.TheVariants.{Collections, Collection}
+use Rattle.streetmap_routes.specs.declared.routes.Route.TheVariants.{Items, Item, Batches}
 
 -- the rows with one more, where its text is a route
-abbrev pub put_scan : Result Scan InsertError → Route → RowsOf (RouteOf Route) → RowsOf (RouteOf Route)
+abbrev pub put_scan : Result Scan InsertError → Route → RowsOf (RouteOf Route)
+    → RowsOf (RouteOf Route)
 put_scan (Ok s) path rows = placed (s.pattern, route_from s path) rows
 put_scan (Err e) path rows = rows
 

@@ -21,11 +21,15 @@ use Rattle.streetmap_rows.specs.Holds.{KeyPair}
 
 -- the rows of a look, which leaves the database
 abbrev pub LooksAll : (State → List Row) → Seen → Seen → Result (Vec Row Global) Error → Type 0
-LooksAll f old new r = old.step_limit ≡ None → (s : State) → StandsFor s old.now → MatchResult r (λ rows. (rows.items ≡ f s) × IsUnchanged old new) (λ e. IsOfStore e × KeepsCommit old new)
+LooksAll f old new r = old.step_limit ≡ None → (s : State) → StandsFor s old.now
+    → MatchResult r (λ rows. (rows.items ≡ f s) × IsUnchanged old new) (λ e. IsOfStore e
+    × KeepsCommit old new)
 
--- a write that leads from a state to another: the database becomes the other's and is the same beside our tables, or the store has no room or fails
+-- a write that leads from a state to another: the database becomes the other's and is the same
+-- beside our tables, or the store has no room or fails
 abbrev pub Writes : (State → State → Type 0) → Seen → Seen → Result (Unit {0}) Error → Type 0
-Writes Leads old new r = old.step_limit ≡ None → (s t : State) → StandsFor s old.now → Leads s t → MatchResult r (λ _. StandsFor t new.now × IsSameElsewhere old.now new.now) IsOfStore
+Writes Leads old new r = old.step_limit ≡ None → (s t : State) → StandsFor s old.now → Leads s t
+    → MatchResult r (λ _. StandsFor t new.now × IsSameElsewhere old.now new.now) IsOfStore
 
 -- a collection that is not there is opened
 pub record OpensCollection (name title : Text) (time : Option Text) (s t : State) : Type 0 where
@@ -36,7 +40,8 @@ pub record OpensCollection (name title : Text) (time : Option Text) (s t : State
   pub is : t ≡ opened s name title time
 
 -- this is written for the feature
-pub record IsWritten (f : FeatureValue) (text : Text) (extent : Option BoxValue) (seconds : Option (ℤ × ℤ)) : Type 0 where
+pub record IsWritten (f : FeatureValue) (text : Text) (extent : Option BoxValue)
+    (seconds : Option (ℤ × ℤ)) : Type 0 where
   pub text_is : text ≡ feature_text f
   pub extent_is : extent ≡ extent_in f
   pub seconds_are : seconds ≡ seconds_in f

@@ -4,7 +4,9 @@ use Rattle.sqlite_disk.specs.Disk.{MoreFaults}
 use Rattle.sqlite.specs.State.{State as Seen}
 use Rattle.sqlite.specs.declared.error.Error.{Error}
 use Rattle.sqlite.specs.declared.error.Error.TheVariants.{SqliteFailure}
-use Rattle.sqlite.specs.declared.error.ErrorCode.TheVariants.{NoRowid, OutOfMemory, SystemIoFailure, DatabaseCorrupt, DiskFull, Closed, TooBig}
+use Rattle.sqlite.specs.declared.error.ErrorCode.TheVariants.{NoRowid, OutOfMemory}
+use Rattle.sqlite.specs.declared.error.ErrorCode.TheVariants.{SystemIoFailure, DatabaseCorrupt}
+use Rattle.sqlite.specs.declared.error.ErrorCode.TheVariants.{DiskFull, Closed, TooBig}
 
 -- there is no rowid left, or the store failed or had no room or memory
 abbrev pub is_of_store : Error → Bool

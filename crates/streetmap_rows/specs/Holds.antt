@@ -16,8 +16,10 @@ Text = List ℕ
 abbrev pub text_cmp : Text → Text → Ordering
 text_cmp = slice_cmp nat_cmp
 
--- Each row stands at another key, and what follows the rowid of the row at a key is what this function has there.
-pub record Holds {K : Type 0} (key : Row → K) (is_at : K → Row → Bool) (cells : K → Option Row) (rows : List Row) : Type 0 where
+-- Each row stands at another key, and what follows the rowid of the row at a key is what this
+-- function has there.
+pub record Holds {K : Type 0} (key : Row → K) (is_at : K → Row → Bool) (cells : K
+    → Option Row) (rows : List Row) : Type 0 where
   pub table : IsTable rows
   pub keyed : AllByRecursion (λ r. IsTrue (is_int (rowid r))) rows
   pub apart : IsAscending (λ a b. key a ≢ key b) rows

@@ -28,39 +28,60 @@ batches_name = codes "streetmap_batches"
 -- ---- the texts that make the tables
 
 abbrev pub meta_text : List ℕ
-meta_text = codes "CREATE TABLE streetmap_meta (name TEXT PRIMARY KEY, value INTEGER NOT NULL) STRICT"
+meta_text = codes
+    "CREATE TABLE streetmap_meta (name TEXT PRIMARY KEY, value INTEGER NOT NULL) STRICT"
 
 abbrev pub collections_text : List ℕ
-collections_text = codes "CREATE TABLE streetmap_collections (id TEXT PRIMARY KEY, title TEXT NOT NULL, time TEXT) STRICT"
+collections_text = codes
+    "CREATE TABLE streetmap_collections (id TEXT PRIMARY KEY, title TEXT NOT NULL, time TEXT) STRICT"
 
 abbrev pub batches_text : List ℕ
-batches_text = codes "CREATE TABLE streetmap_batches (key TEXT PRIMARY KEY, body TEXT NOT NULL, opened INTEGER NOT NULL, inserted INTEGER NOT NULL, replaced INTEGER NOT NULL, deleted INTEGER NOT NULL, serial INTEGER NOT NULL UNIQUE) STRICT"
+batches_text = codes
+    "CREATE TABLE streetmap_batches (key TEXT PRIMARY KEY, body TEXT NOT NULL, opened INTEGER NOT NULL, inserted INTEGER NOT NULL, replaced INTEGER NOT NULL, deleted INTEGER NOT NULL, serial INTEGER NOT NULL UNIQUE) STRICT"
 
 abbrev pub features_text : List ℕ
-features_text = codes "CREATE TABLE streetmap_features (collection TEXT NOT NULL REFERENCES streetmap_collections(id), id TEXT NOT NULL, body TEXT NOT NULL, x0 INTEGER, y0 INTEGER, x1 INTEGER, y1 INTEGER, s0 INTEGER, s1 INTEGER, PRIMARY KEY (collection, id)) STRICT"
+features_text = codes
+    "CREATE TABLE streetmap_features (collection TEXT NOT NULL REFERENCES streetmap_collections(id), id TEXT NOT NULL, body TEXT NOT NULL, x0 INTEGER, y0 INTEGER, x1 INTEGER, y1 INTEGER, s0 INTEGER, s1 INTEGER, PRIMARY KEY (collection, id)) STRICT"
 
 -- ---- the tables, each in its tree
 
 abbrev pub meta : ℕ → Table
-meta tree = plain_table meta_name tree (text_column (codes "name") true ∷ integer_column (codes "value") true ∷ []) (1 ∷ []) []
+meta tree = plain_table meta_name tree (text_column (codes "name") true
+    ∷ integer_column (codes "value") true ∷ []) (1 ∷ []) []
 
 abbrev pub collections : ℕ → Table
-collections tree = plain_table collections_name tree (text_column (codes "id") true ∷ text_column (codes "title") true ∷ text_column (codes "time") false ∷ []) (1 ∷ []) []
+collections tree = plain_table collections_name tree (text_column (codes "id") true
+    ∷ text_column (codes "title") true ∷ text_column (codes "time") false ∷ []) (1 ∷ []) []
 
 abbrev pub batches : ℕ → Table
 batches tree =
-    record (plain_table batches_name tree (text_column (codes "key") true ∷ text_column (codes "body") true ∷ integer_column (codes "opened") true ∷ integer_column (codes "inserted") true ∷ integer_column (codes "replaced") true
-    ∷ integer_column (codes "deleted") true ∷ integer_column (codes "serial") true ∷ []) (1 ∷ []) [])
+    record (plain_table batches_name tree (text_column (codes "key") true
+    ∷ text_column (codes "body") true ∷ integer_column (codes "opened") true
+    ∷ integer_column (codes "inserted") true ∷ integer_column (codes "replaced") true
+    ∷ integer_column (codes "deleted") true ∷ integer_column (codes "serial") true ∷ []) (1 ∷ [])
+    [])
     { uniques = (1 ∷ []) ∷ (7 ∷ []) ∷ []; orders = plain ∷ plain ∷ [] }
 
 -- a feature's collection is one that is there
 abbrev pub to_collections : Reference
-to_collections = record { columns = 1 ∷ []; parent = collections_name; parent_columns = codes "id" ∷ []; on_delete = NoAction; on_update = NoAction; is_deferred = false }
+to_collections = record {
+  columns = 1 ∷ [];
+  parent = collections_name;
+  parent_columns = codes "id"
+      ∷ [];
+  on_delete = NoAction;
+  on_update = NoAction;
+  is_deferred = false;
+}
 
 abbrev pub features : ℕ → Table
 features tree =
-    plain_table features_name tree (text_column (codes "collection") true ∷ text_column (codes "id") true ∷ text_column (codes "body") true ∷ integer_column (codes "x0") false ∷ integer_column (codes "y0") false
-    ∷ integer_column (codes "x1") false ∷ integer_column (codes "y1") false ∷ integer_column (codes "s0") false ∷ integer_column (codes "s1") false ∷ []) (1 ∷ 2 ∷ []) (to_collections ∷ [])
+    plain_table features_name tree (text_column (codes "collection") true
+    ∷ text_column (codes "id") true ∷ text_column (codes "body") true
+    ∷ integer_column (codes "x0") false ∷ integer_column (codes "y0") false
+    ∷ integer_column (codes "x1") false ∷ integer_column (codes "y1") false
+    ∷ integer_column (codes "s0") false ∷ integer_column (codes "s1") false ∷ []) (1 ∷ 2 ∷ [])
+    (to_collections ∷ [])
 
 -- ---- a schema that has them
 
@@ -83,7 +104,8 @@ to_key roots = (roots.collections, 1 ∷ [], plain)
 abbrev pub IsKey : Index → List ℕ → Type 0
 IsKey i columns = (i.columns ≡ columns) × (i.order ≡ plain)
 
--- The four names find our tables, wherever they stand; no index but their own is on them, and no table refers to the features.
+-- The four names find our tables, wherever they stand; no index but their own is on them, and no
+-- table refers to the features.
 pub record IsOurs (roots : Roots) (schema : Schema) : Type 0 where
   pub meta_is : IsNamed schema meta_name (meta roots.meta)
   pub collections_is : IsNamed schema collections_name (collections roots.collections)
@@ -91,7 +113,11 @@ pub record IsOurs (roots : Roots) (schema : Schema) : Type 0 where
   pub features_is : IsNamed schema features_name (features roots.features)
   pub apart : IsAscending (λ a b. a.tree ≡ b.tree → ⊥) schema.tables
   pub guarded : list_any (is_index_for (to_key roots)) schema.indexes ≡ true
-  pub on_collections : (i : Index) → Has schema.indexes i → i.table ≡ roots.collections → IsKey i (1 ∷ [])
-  pub on_batches : (i : Index) → Has schema.indexes i → i.table ≡ roots.batches → IsKey i (1 ∷ []) ⊎ IsKey i (7 ∷ [])
-  pub on_features : (i : Index) → Has schema.indexes i → i.table ≡ roots.features → IsKey i (1 ∷ 2 ∷ [])
-  pub alone : AllByRecursion (λ t. list_all (λ ref. not (same_name features_name ref.parent)) t.references ≡ true) schema.tables
+  pub on_collections : (i : Index) → Has schema.indexes i → i.table ≡ roots.collections
+      → IsKey i (1 ∷ [])
+  pub on_batches : (i : Index) → Has schema.indexes i → i.table ≡ roots.batches → IsKey i (1 ∷ [])
+      ⊎ IsKey i (7 ∷ [])
+  pub on_features : (i : Index) → Has schema.indexes i → i.table ≡ roots.features
+      → IsKey i (1 ∷ 2 ∷ [])
+  pub alone : AllByRecursion (λ t.
+      list_all (λ ref. not (same_name features_name ref.parent)) t.references ≡ true) schema.tables

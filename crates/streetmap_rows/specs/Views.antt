@@ -13,7 +13,8 @@ use Rattle.streetmap_rows.specs.Holds.{KeyPair}
 
 -- what is kept for a key
 abbrev pub kept_view : AcceptedBatch → Row
-kept_view k = Words k.text ∷ Int (pos k.counts.opened) ∷ Int (pos k.counts.inserted) ∷ Int (pos k.counts.replaced) ∷ Int (pos k.counts.deleted) ∷ Int (pos k.serial) ∷ []
+kept_view k = Words k.text ∷ Int (pos k.counts.opened) ∷ Int (pos k.counts.inserted)
+    ∷ Int (pos k.counts.replaced) ∷ Int (pos k.counts.deleted) ∷ Int (pos k.serial) ∷ []
 
 -- what is kept for a key: one row, or none
 abbrev pub kept_rows : Text → State → List Row

@@ -67,19 +67,22 @@ pub fn cause_of(error: Error) -> Shut
 /// Tells how a call ends that met an error, between two transactions.
 ///
 /// Where memory was refused the connection is looked at by `probe`. Where that look goes well the
-/// connection is open and as it was, and the call ends with `Memory`. Where it fails, the keeper is to be
-/// shut for the error of the look, which may again be that memory was refused: so
-/// `Closed(Device(SqliteFailure(OutOfMemory)))` tells that it was refused twice, to the call and to the
-/// look, and that nothing is known of the connection. Another error is itself the cause: `Device` where it
-/// is of the store, and else `Damaged`.
+/// connection is open and as it was, and the call ends with `Memory`. Where it fails, the keeper is
+/// to be shut for the error of the look, which may again be that memory was refused: so
+/// `Closed(Device(SqliteFailure(OutOfMemory)))` tells that it was refused twice, to the call and to
+/// the look, and that nothing is known of the connection. Another error is itself the cause:
+/// `Device` where it is of the store, and else `Damaged`.
 pub fn settle<S: Alter>(conn: &mut Connection<S>, error: Error) -> Stop
     requires { conn.old.in_transaction ≡ false }
     ensures idle { conn.new.in_transaction ≡ false }
     ensures survives { Survives (state S.Store conn.old) (state S.Store conn.new) (λ _. ⊥) }
-    ensures settled { IsTrue (state S.Store conn.new).is_open → (state S.Store conn.new).now ≡ (state S.Store conn.new).committed }
+    ensures settled { IsTrue (state S.Store conn.new).is_open
+        → (state S.Store conn.new).now ≡ (state S.Store conn.new).committed }
     ensures damaged { (result ≡ Stop.Closed Shut.Damaged) ↔ ¬ (IsOfStore error) }
-    ensures ends { HasCleanDisk (state S.Store conn.new) → Settles error (state S.Store conn.old) (state S.Store conn.new) result }
-    ensures kept { HasCleanDisk (state S.Store conn.new) → KeepsCommit (state S.Store conn.old) (state S.Store conn.new) }
+    ensures ends { HasCleanDisk (state S.Store conn.new)
+        → Settles error (state S.Store conn.old) (state S.Store conn.new) result }
+    ensures kept { HasCleanDisk (state S.Store conn.new)
+        → KeepsCommit (state S.Store conn.old) (state S.Store conn.new) }
 {
     if !is_memory(error) {
         // Between two transactions it holds what was committed.

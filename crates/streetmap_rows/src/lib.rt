@@ -5,13 +5,13 @@
 //! one statement; its clause says what it does on a database of a state, and why it may fail there:
 //! for want of memory or room, or because the store fails, and for no other cause.
 //!
-//! What is true of any plain table of a `sqlite` connection, wherever it stands in its schema, is in
-//! proofs: what a statement over one table means (`proofs/Resolving`), what an INSERT of one row and a
-//! DELETE do and why they may fail (`proofs/Running`, `proofs/Cutting`), and what a query shows
-//! (`proofs/Choosing`).
+//! What is true of any plain table of a `sqlite` connection, wherever it stands in its schema, is
+//! in proofs: what a statement over one table means (`proofs/Resolving`), what an INSERT of one row
+//! and a DELETE do and why they may fail (`proofs/Running`, `proofs/Cutting`), and what a query
+//! shows (`proofs/Choosing`).
 //!
-//! In the order of reading: `openness` (whether a connection is open), `failing` (how a call ends that
-//! met an error), `looks` (by a key), `writes` (of one row).
+//! In the order of reading: `openness` (whether a connection is open), `failing` (how a call ends
+//! that met an error), `looks` (by a key), `writes` (of one row).
 #![tactic(auto)]
 
 mod failing;

@@ -15,18 +15,24 @@ ghost use Rattle.streetmap_rows.specs.Views as views;
 
 use sqlite::{Alter, Connection, Error, Row, Transaction, params};
 
-/// What is kept for a key, outside of a transaction: a row of its text, its counts and its serial, or none.
+/// What is kept for a key, outside of a transaction: a row of its text, its counts and its serial,
+/// or none.
 #[tactic(auto, using(crate::proofs::Reasons::queried))]
 pub fn kept_rows<S: Alter>(conn: &mut Connection<S>, key: &str) -> Result<Vec<Row>, Error>
     requires { conn.old.in_transaction ≡ false }
     ensures idle { conn.new.in_transaction ≡ false }
-    ensures looks { HasCleanDisk (state S.Store conn.new) → LooksAll (views.kept_rows key.now) (state S.Store conn.old) (state S.Store conn.new) result }
+    ensures looks { HasCleanDisk (state S.Store conn.new)
+        → LooksAll (views.kept_rows key.now) (state S.Store conn.old) (state S.Store conn.new)
+        result }
     ensures reason { HasCleanDisk (state S.Store conn.new) →
         IfErr result (HasReason (state S.Store conn.old) (state S.Store conn.new)) }
     ensures survives { Survives (state S.Store conn.old) (state S.Store conn.new) (λ _. Unit {0}) }
-    ensures clean { doubt (state S.Store conn.old).is_clean ≤ doubt (state S.Store conn.new).is_clean }
+    ensures clean { doubt (state S.Store conn.old).is_clean
+        ≤ doubt (state S.Store conn.new).is_clean }
     ensures limit { (state S.Store conn.new).step_limit ≡ (state S.Store conn.old).step_limit }
-    ensures crash { HasCleanDisk (state S.Store conn.new) → (s : State) → StandsFor s (state S.Store conn.old).now → (trees : Trees) → (state S.Store conn.new).may_leave trees → (state S.Store conn.old).may_leave trees }
+    ensures crash { HasCleanDisk (state S.Store conn.new) → (s : State)
+        → StandsFor s (state S.Store conn.old).now → (trees : Trees)
+        → (state S.Store conn.new).may_leave trees → (state S.Store conn.old).may_leave trees }
 {
     conn.query_all(
         "SELECT body, opened, inserted, replaced, deleted, serial FROM streetmap_batches WHERE key = ?1",
@@ -34,17 +40,21 @@ pub fn kept_rows<S: Alter>(conn: &mut Connection<S>, key: &str) -> Result<Vec<Ro
     )
 }
 
-/// What is kept of a collection, inside a transaction: a row of its title and its time property, or none.
+/// What is kept of a collection, inside a transaction: a row of its title and its time property, or
+/// none.
 #[tactic(auto, using(crate::proofs::Reasons::queried_inside))]
 pub fn collection_rows<S: Alter>(
     tx: &mut Transaction<'_, S>,
     collection: &str,
 ) -> Result<Vec<Row>, Error>
     ensures same_reference { tx.new.conn.ghost_name ≡ tx.old.conn.ghost_name }
-    ensures looks { HasCleanDisk (state S.Store tx.new.conn.now) → LooksAll (views.collection_rows collection.now) (state S.Store tx.old.conn.now) (state S.Store tx.new.conn.now) result }
+    ensures looks { HasCleanDisk (state S.Store tx.new.conn.now)
+        → LooksAll (views.collection_rows collection.now) (state S.Store tx.old.conn.now)
+        (state S.Store tx.new.conn.now) result }
     ensures reason { HasCleanDisk (state S.Store tx.new.conn.now) →
         IfErr result (HasReason (state S.Store tx.old.conn.now) (state S.Store tx.new.conn.now)) }
-    ensures survives { Survives (state S.Store tx.old.conn.now) (state S.Store tx.new.conn.now) (λ _. ⊥) }
+    ensures survives { Survives (state S.Store tx.old.conn.now) (state S.Store tx.new.conn.now)
+        (λ _. ⊥) }
 {
     tx.query_all(
         "SELECT title, time FROM streetmap_collections WHERE id = ?1",
@@ -71,10 +81,13 @@ pub fn has_feature<S: Alter>(
     id: &str,
 ) -> Result<bool, Error>
     ensures same_reference { tx.new.conn.ghost_name ≡ tx.old.conn.ghost_name }
-    ensures looks { HasCleanDisk (state S.Store tx.new.conn.now) → Looks (λ s. is_some (feature_at s (collection.now, id.now))) (state S.Store tx.old.conn.now) (state S.Store tx.new.conn.now) result }
+    ensures looks { HasCleanDisk (state S.Store tx.new.conn.now)
+        → Looks (λ s. is_some (feature_at s (collection.now, id.now)))
+        (state S.Store tx.old.conn.now) (state S.Store tx.new.conn.now) result }
     ensures reason { HasCleanDisk (state S.Store tx.new.conn.now) →
         IfErr result (HasReason (state S.Store tx.old.conn.now) (state S.Store tx.new.conn.now)) }
-    ensures survives { Survives (state S.Store tx.old.conn.now) (state S.Store tx.new.conn.now) (λ _. ⊥) }
+    ensures survives { Survives (state S.Store tx.old.conn.now) (state S.Store tx.new.conn.now)
+        (λ _. ⊥) }
 {
     let rows = tx.query_all(
         "SELECT id FROM streetmap_features WHERE collection = ?1 AND id = ?2",

@@ -21,19 +21,27 @@ pub record IsAnswerTo (root : Text) (x : Standing) (e : Exchange) (w : web.Excha
 -- each request was answered for what the keeper stood for behind the one before
 abbrev pub AnsweredInTurn : Text → Standing → List Exchange → Standing → Type 0
 AnsweredInTurn root x [] last = last ≡ x
-AnsweredInTurn root x (e ∷ es) last = (w : web.Exchange) × IsAnswerTo root x e w × AnsweredInTurn root (web.standing_after x w) es last
+AnsweredInTurn root x (e ∷ es) last = (w : web.Exchange) × IsAnswerTo root x e w
+    × AnsweredInTurn root (web.standing_after x w) es last
 
 -- the requests of the web that the exchanges of the one list are, in its order
-abbrev pub requests_of : (root : Text) (x : Standing) (es : List Exchange) (last : Standing) → AnsweredInTurn root x es last → List web.Exchange
+abbrev pub requests_of : (root : Text) (x : Standing) (es : List Exchange) (last : Standing)
+    → AnsweredInTurn root x es last → List web.Exchange
 requests_of root x [] last answered = []
-requests_of root x (e ∷ es) last answered = answered.0 ∷ requests_of root (web.standing_after x answered.0) es last answered.2
+requests_of root x (e ∷ es) last answered = answered.0
+    ∷ requests_of root (web.standing_after x answered.0) es last answered.2
 
--- There is one list of requests with their answers, each answered for what the keeper stood for behind the one before.
--- It is an interleaving of the clients' own lists: it goes on from those before as one of those after. What a client
--- sent is, in order, the requests of its list and what was not answered; what it was sent are their answers, as far as
--- they were sent. The keeper came along these requests: each batch was answered by what `apply` came to, or was never
+-- There is one list of requests with their answers, each answered for what the keeper stood for
+-- behind the one before.
+-- It is an interleaving of the clients' own lists: it goes on from those before as one of those
+-- after. What a client
+-- sent is, in order, the requests of its list and what was not answered; what it was sent are their
+-- answers, as far as
+-- they were sent. The keeper came along these requests: each batch was answered by what `apply`
+-- came to, or was never
 -- asked.
-pub record ServesClients {K : Type 0} (sight : Sight K) (root : Text) (x : Standing) (old new : K) (before after : List (Client TcpStream)) : Type 0 where
+pub record ServesClients {K : Type 0} (sight : Sight K) (root : Text) (x : Standing) (old new : K)
+    (before after : List (Client TcpStream)) : Type 0 where
   pub exchanges : List Exchange
   pub interleaved : GoesOnAs (map exchanges_of before) exchanges (map exchanges_of after)
   pub in_order : All IsOrderly after

@@ -12,7 +12,8 @@ pub record IsJustOpened (seen : Seen) : Type 0 where
   pub unlimited : seen.step_limit ≡ None
   pub sound : IsDatabase seen.now
 
--- the connection rests at a state of these, and at no other; that it rests at one is said as far as it can be without naming it
+-- the connection rests at a state of these, and at no other; that it rests at one is said as far as
+-- it can be without naming it
 pub record OpensWithin (P : State → Type 0) (seen : Seen) : Type 0 where
   pub only : (t : State) → Rests seen t → P t
   pub some : ((t : State) → Rests seen t → ⊥) → ⊥

@@ -46,7 +46,9 @@ HasShut old new None = Unit {0}
 HasShut old new (Some (Device e)) = HasReason old new e
 HasShut old new (Some Damaged) = Unit {0}
 
--- A keeper that is not shut stands for the state of its connection, holds how many batches were accepted, and a stop may leave that state. There is no other such state; both are lemmas, and stand here since the laws of a trait are proved without lemmas.
+-- A keeper that is not shut stands for the state of its connection, holds how many batches were
+-- accepted, and a stop may leave that state. There is no other such state; both are lemmas, and
+-- stand here since the laws of a trait are proved without lemmas.
 pub record Serves (shut : Option Shut) (seen : Seen) (count : ℕ) (s : State) : Type 0 where
   pub unshut : shut ≡ None
   pub rests : Rests seen s
@@ -54,13 +56,17 @@ pub record Serves (shut : Option Shut) (seen : Seen) (count : ℕ) (s : State) :
   pub only : (t : State) → Rests seen t → t ≡ s
   pub left : MayLeave seen (Some s)
 
--- a batch spares the tables of others: where the keeper stands for a state, and its connection is open afterwards, each is as it was
+-- a batch spares the tables of others: where the keeper stands for a state, and its connection is
+-- open afterwards, each is as it was
 abbrev pub SparesOthers : Option Shut → ℕ → Seen → Seen → Type 0
-SparesOthers shut count old new = HasCleanDisk new → (s : State) → Serves shut old count s → LeavesOtherTables old new
+SparesOthers shut count old new = HasCleanDisk new → (s : State) → Serves shut old count s
+    → LeavesOtherTables old new
 
 -- a keeper without a cause is not shut
-pub never_shut : {B : Type 0} (shut : Option Shut) → shut ≡ None → IsSome (option_map cause_in shut) → B
-never_shut shut none is = absurd (subst (λ b. T (not b)) (subst (λ o. IsSome (option_map cause_in o)) none is) tt)
+pub never_shut : {B : Type 0} (shut : Option Shut) → shut ≡ None → IsSome (option_map cause_in shut)
+    → B
+never_shut shut none is = absurd
+    (subst (λ b. T (not b)) (subst (λ o. IsSome (option_map cause_in o)) none is) tt)
 
 -- how many batches were accepted, after a reply
 abbrev pub count_after : Reply → ℕ → ℕ
@@ -78,7 +84,8 @@ fault_by Memory = fault.Memory
 fault_by (Closed (Device e)) = fault.Device
 fault_by (Closed Damaged) = fault.Damaged
 
--- a failed look was settled: after a want of memory the connection is open and holds what was committed, and its tables are not damaged
+-- a failed look was settled: after a want of memory the connection is open and holds what was
+-- committed, and its tables are not damaged
 abbrev pub HasSettled : Seen → Seen → Fault → Type 0
 HasSettled old new fault.Memory = IsUnchanged old new × (new.now ≡ new.committed)
 HasSettled old new fault.Device = Unit {0}
@@ -87,7 +94,8 @@ HasSettled old new fault.Reopen = ⊥
 
 -- how a look that was not answered ends
 abbrev pub EndsLook : ReadFault → Seen → Seen → Fault → Type 0
-EndsLook read.Memory old new result = (result ≡ fault.Memory) × (IsTrue old.is_open → IsUnchanged old new)
+EndsLook read.Memory old new result = (result ≡ fault.Memory)
+    × (IsTrue old.is_open → IsUnchanged old new)
 EndsLook (read.Store e) old new result = IsOfStore e → HasSettled old new result
 EndsLook read.Unread old new result = result ≡ fault.Damaged
 

@@ -10,7 +10,8 @@ ghost use Rattle.streetmap_rows.specs.Failing.{IsOfStore};
 ghost use Rattle.streetmap_writing.specs.Acting.{IsToldByStore};
 ghost use Rattle.streetmap_rows.specs.Keeping.{Rests, MayLeave};
 ghost use Rattle.streetmap_opening.specs.Adopting.{IsAsItWas, LeavesTheSame};
-ghost use Rattle.streetmap_opening.specs.Making.{is_taken, IsReady, KeepsOtherTables, Makes, MayOpen};
+ghost use Rattle.streetmap_opening.specs.Making.{is_taken, IsReady, KeepsOtherTables, Makes};
+ghost use Rattle.streetmap_opening.specs.Making.{MayOpen};
 ghost use Rattle.streetmap_opening.specs.Refusing.{IsTold, IsReasoned};
 ghost use Rattle.streetmap_opening.specs.Reasons.{OpensFor};
 ghost use Rattle.streetmap_opening.specs.Telling.{TellsKeys};
@@ -85,8 +86,10 @@ fn give_up<S: Alter>(conn: &mut Connection<S>, shut: &mut Option<Shut>, fault: R
     requires { conn.old.in_transaction ≡ false }
     ensures idle { conn.new.in_transaction ≡ false }
     ensures survives { Survives (state S.Store conn.old) (state S.Store conn.new) (λ _. ⊥) }
-    ensures faults { shut.old ≡ None → ShutsBy {T = Unit {0}} (Err result) None (option_map cause_in shut.new) }
-    ensures ends { HasCleanDisk (state S.Store conn.new) → EndsLook fault (state S.Store conn.old) (state S.Store conn.new) result }
+    ensures faults { shut.old ≡ None
+        → ShutsBy {T = Unit {0}} (Err result) None (option_map cause_in shut.new) }
+    ensures ends { HasCleanDisk (state S.Store conn.new)
+        → EndsLook fault (state S.Store conn.old) (state S.Store conn.new) result }
     ensures reason { HasCleanDisk (state S.Store conn.new) → shut.old ≡ None → (first : Held S) →
         GaveUp (state S.Store first) (state S.Store conn.old) fault →
         HasShut (state S.Store first) (state S.Store conn.new) shut.new }
@@ -94,7 +97,8 @@ fn give_up<S: Alter>(conn: &mut Connection<S>, shut: &mut Option<Shut>, fault: R
         LeavesCommitted fault (state S.Store conn.old) (state S.Store conn.new) }
     ensures kept { result ≡ Fault.Memory → shut.new ≡ shut.old }
     ensures not_shut_before { result ≢ Fault.Reopen }
-    ensures named { HasCleanDisk (state S.Store conn.new) → IsTrue (is_named shut.old) → IsTrue (is_named shut.new) }
+    ensures named { HasCleanDisk (state S.Store conn.new) → IsTrue (is_named shut.old)
+        → IsTrue (is_named shut.new) }
 {
     let stop = match fault {
         ReadFault::Memory => Stop::Memory,
@@ -108,34 +112,49 @@ impl<S: Alter> TableKeeper<S> {
     /// Makes the four tables in a connection, with the opening state, and keeps it there.
     ///
     /// The connection is to have no step limit and room for the tables (`make_tables`). A stop then
-    /// leaves the opening state; after a refusal the connection, given back, holds what it held, and
-    /// a stop may leave the same as before while it is open.
+    /// leaves the opening state; after a refusal the connection, given back, holds what it held,
+    /// and a stop may leave the same as before while it is open.
     ///
     /// # Errors
     ///
-    /// `Taken` exactly where a table, an index or a view has one of the four names, `Device` where the
-    /// store fails or the schema has no place for the tables, by the error that `make_tables` tells,
-    /// `Memory`.
+    /// `Taken` exactly where a table, an index or a view has one of the four names, `Device` where
+    /// the store fails or the schema has no place for the tables, by the error that `make_tables`
+    /// tells, `Memory`.
     pub fn make(
         alloc: Global,
         mut conn: Connection<S>,
     ) -> Result<TableKeeper<S>, (MakeFault, Connection<S>)>
         requires { conn.in_transaction ≡ false }
         ensures idle { IfErr result (λ refused. refused.1.in_transaction ≡ false) }
-        ensures taken { IsErrAnd result (λ refused. refused.0 ≡ MakeFault.Taken) ↔ IsTrue (is_taken (state S.Store conn).now.schema) }
-        ensures untouched { IfErr result (λ refused. refused.0 ≡ MakeFault.Taken → refused.1 ≡ conn) }
-        ensures clean { MatchResult result (λ keeper. HasCleanDisk (state S.Store keeper.conn) → HasCleanDisk (state S.Store conn)) (λ refused. HasCleanDisk (state S.Store refused.1) → HasCleanDisk (state S.Store conn)) }
+        ensures taken { IsErrAnd result (λ refused. refused.0 ≡ MakeFault.Taken) ↔ IsTrue
+            (is_taken (state S.Store conn).now.schema) }
+        ensures untouched { IfErr result (λ refused. refused.0 ≡ MakeFault.Taken
+            → refused.1 ≡ conn) }
+        ensures clean { MatchResult result (λ keeper. HasCleanDisk (state S.Store keeper.conn)
+            → HasCleanDisk (state S.Store conn)) (λ refused. HasCleanDisk (state S.Store refused.1)
+            → HasCleanDisk (state S.Store conn)) }
         ensures reason { IfErr result (λ refused. HasCleanDisk (state S.Store refused.1) →
             IsReasoned (state S.Store conn) (state S.Store refused.1) refused.0) }
-        ensures made { IfOk result (λ keeper. HasCleanDisk (state S.Store keeper.conn) → IsReady (state S.Store conn) → Serves keeper.shut (state S.Store keeper.conn) keeper.count opening_state × LeavesOnly (MayLeave (state S.Store keeper.conn)) (Some opening_state)) }
-        ensures refused { IfErr result (λ refused. HasCleanDisk (state S.Store refused.1) → IsReady (state S.Store conn) → Makes (state S.Store conn) (state S.Store refused.1) (Err refused.0)) }
-        ensures told { IfErr result (λ refused. HasCleanDisk (state S.Store refused.1) → IsReady (state S.Store conn) → IsTold (state S.Store conn).now.schema refused.0) }
-        ensures same { IfErr result (λ refused. HasCleanDisk (state S.Store refused.1) → IsAsItWas (state S.Store conn) (state S.Store refused.1)) }
+        ensures made { IfOk result (λ keeper. HasCleanDisk (state S.Store keeper.conn)
+            → IsReady (state S.Store conn)
+            → Serves keeper.shut (state S.Store keeper.conn) keeper.count opening_state
+            × LeavesOnly (MayLeave (state S.Store keeper.conn)) (Some opening_state)) }
+        ensures refused { IfErr result (λ refused. HasCleanDisk (state S.Store refused.1)
+            → IsReady (state S.Store conn)
+            → Makes (state S.Store conn) (state S.Store refused.1) (Err refused.0)) }
+        ensures told { IfErr result (λ refused. HasCleanDisk (state S.Store refused.1)
+            → IsReady (state S.Store conn) → IsTold (state S.Store conn).now.schema refused.0) }
+        ensures same { IfErr result (λ refused. HasCleanDisk (state S.Store refused.1)
+            → IsAsItWas (state S.Store conn) (state S.Store refused.1)) }
         ensures leaves { IfErr result (λ refused. HasCleanDisk (state S.Store refused.1) →
             IsTrue (state S.Store conn).is_open → IsTrue (state S.Store refused.1).is_open →
             LeavesTheSame (state S.Store conn) (state S.Store refused.1)) }
-        ensures elsewhere { IfOk result (λ keeper. HasCleanDisk (state S.Store keeper.conn) → IsReady (state S.Store conn) → KeepsOtherTables (state S.Store conn).now (state S.Store keeper.conn).now) }
-        ensures crash { IfErr result (λ refused. HasCleanDisk (state S.Store refused.1) → IsReady (state S.Store conn) → MayOpen (state S.Store conn) (state S.Store refused.1)) }
+        ensures elsewhere { IfOk result (λ keeper. HasCleanDisk (state S.Store keeper.conn)
+            → IsReady (state S.Store conn)
+            → KeepsOtherTables (state S.Store conn).now (state S.Store keeper.conn).now) }
+        ensures crash { IfErr result (λ refused. HasCleanDisk (state S.Store refused.1)
+            → IsReady (state S.Store conn)
+            → MayOpen (state S.Store conn) (state S.Store refused.1)) }
     {
         // Between two transactions it holds what was committed.
         let _idle = conn.is_autocommit();
@@ -150,8 +169,8 @@ impl<S: Alter> TableKeeper<S> {
         }
     }
 
-    /// Opens the tables that a connection has, and keeps their state. Those of format 1 are carried over
-    /// to format 2 first (`open_tables`); where the format is not 1 it writes nothing.
+    /// Opens the tables that a connection has, and keeps their state. Those of format 1 are carried
+    /// over to format 2 first (`open_tables`); where the format is not 1 it writes nothing.
     ///
     /// Whatever the tables are, they are kept only where their format is 2, with the number of
     /// batches that a look tells, or where a row was put into the new features for each row of the
@@ -165,33 +184,57 @@ impl<S: Alter> TableKeeper<S> {
     ///
     /// `NotOurs` where there is no format row of this product, `NewFormat` for a format above 2,
     /// `Damaged` where the format is 1 and a row is none that this product writes, or it is 2 and
-    /// the look at the batches is refused, `Device` where the store fails, or where tables of format
-    /// 1 cannot be carried over, by the error that `open_tables` tells, `Memory`.
+    /// the look at the batches is refused, `Device` where the store fails, or where tables of
+    /// format 1 cannot be carried over, by the error that `open_tables` tells, `Memory`.
     pub fn adopt(
         alloc: Global,
         mut conn: Connection<S>,
     ) -> Result<TableKeeper<S>, (TablesFault, Connection<S>)>
         requires { conn.in_transaction ≡ false }
         ensures idle { IfErr result (λ refused. refused.1.in_transaction ≡ false) }
-        ensures clean { MatchResult result (λ keeper. HasCleanDisk (state S.Store keeper.conn) → HasCleanDisk (state S.Store conn)) (λ refused. HasCleanDisk (state S.Store refused.1) → HasCleanDisk (state S.Store conn)) }
+        ensures clean { MatchResult result (λ keeper. HasCleanDisk (state S.Store keeper.conn)
+            → HasCleanDisk (state S.Store conn)) (λ refused. HasCleanDisk (state S.Store refused.1)
+            → HasCleanDisk (state S.Store conn)) }
         ensures reason { IfErr result (λ refused. HasCleanDisk (state S.Store refused.1) →
             OpensFor (state S.Store conn) (state S.Store refused.1) refused.0) }
         ensures fewer { IfErr result (λ refused. HasCleanDisk (state S.Store refused.1) →
             KeepsNoMore refused.0 (state S.Store conn) (state S.Store refused.1)) }
-        ensures unwritten { MatchResult result (λ keeper. HasCleanDisk (state S.Store keeper.conn) → LeavesUnlessOld (state S.Store conn) (state S.Store keeper.conn)) (λ refused. HasCleanDisk (state S.Store refused.1) → LeavesUnlessOld (state S.Store conn) (state S.Store refused.1)) }
-        ensures same { IfErr result (λ refused. HasCleanDisk (state S.Store refused.1) → IsAsItWas (state S.Store conn) (state S.Store refused.1)) }
+        ensures unwritten { MatchResult result (λ keeper. HasCleanDisk (state S.Store keeper.conn)
+            → LeavesUnlessOld (state S.Store conn) (state S.Store keeper.conn)) (λ refused.
+            HasCleanDisk (state S.Store refused.1)
+            → LeavesUnlessOld (state S.Store conn) (state S.Store refused.1)) }
+        ensures same { IfErr result (λ refused. HasCleanDisk (state S.Store refused.1)
+            → IsAsItWas (state S.Store conn) (state S.Store refused.1)) }
         ensures leaves { IfErr result (λ refused. HasCleanDisk (state S.Store refused.1) →
             IsTrue (state S.Store conn).is_open → IsTrue (state S.Store refused.1).is_open →
             LeavesTheSame (state S.Store conn) (state S.Store refused.1)) }
-        ensures tells { MatchResult result (λ keeper. HasCleanDisk (state S.Store keeper.conn) → OpensBy (state S.Store conn) (Ok keeper.count)) (λ refused. HasCleanDisk (state S.Store refused.1) → OpensBy (state S.Store conn) (Err refused.0)) }
+        ensures tells { MatchResult result (λ keeper. HasCleanDisk (state S.Store keeper.conn)
+            → OpensBy (state S.Store conn) (Ok keeper.count)) (λ refused.
+            HasCleanDisk (state S.Store refused.1) → OpensBy (state S.Store conn) (Err refused.0)) }
         ensures each { IfOk result (λ keeper. HasCleanDisk (state S.Store keeper.conn) →
             TellsKeys (state S.Store conn) keeper.count ⊎ HasCarried S.Store conn keeper.conn) }
-        ensures adopted { IfOk result (λ keeper. HasCleanDisk (state S.Store keeper.conn) → (s : State) → Rests (state S.Store conn) s → Serves keeper.shut (state S.Store keeper.conn) keeper.count s × LeavesOnly (MayLeave (state S.Store keeper.conn)) (Some s)) }
-        ensures refused { IfErr result (λ refused. HasCleanDisk (state S.Store refused.1) → (s : State) → Rests (state S.Store conn) s → Opens s (state S.Store conn) (state S.Store refused.1) (Err refused.0)) }
-        ensures carried { IfOk result (λ keeper. HasCleanDisk (state S.Store keeper.conn) → (s : State) → RestsOld (state S.Store conn) s → Serves keeper.shut (state S.Store keeper.conn) keeper.count s × LeavesOnly (MayLeave (state S.Store keeper.conn)) (Some s)) }
-        ensures refused_old { IfErr result (λ refused. HasCleanDisk (state S.Store refused.1) → (s : State) → RestsOld (state S.Store conn) s → Carries s (state S.Store conn) (state S.Store refused.1) (Err refused.0)) }
-        ensures elsewhere { IfOk result (λ keeper. HasCleanDisk (state S.Store keeper.conn) → (s : State) → RestsOld (state S.Store conn) s → KeepsOtherTables (state S.Store conn).now (state S.Store keeper.conn).now) }
-        ensures crash { MatchResult result (λ keeper. HasCleanDisk (state S.Store keeper.conn) → (s : State) → RestsOld (state S.Store conn) s → MayCarry s (state S.Store conn) (state S.Store keeper.conn)) (λ refused. HasCleanDisk (state S.Store refused.1) → (s : State) → RestsOld (state S.Store conn) s → MayCarry s (state S.Store conn) (state S.Store refused.1)) }
+        ensures adopted { IfOk result (λ keeper. HasCleanDisk (state S.Store keeper.conn)
+            → (s : State) → Rests (state S.Store conn) s
+            → Serves keeper.shut (state S.Store keeper.conn) keeper.count s
+            × LeavesOnly (MayLeave (state S.Store keeper.conn)) (Some s)) }
+        ensures refused { IfErr result (λ refused. HasCleanDisk (state S.Store refused.1)
+            → (s : State) → Rests (state S.Store conn) s
+            → Opens s (state S.Store conn) (state S.Store refused.1) (Err refused.0)) }
+        ensures carried { IfOk result (λ keeper. HasCleanDisk (state S.Store keeper.conn)
+            → (s : State) → RestsOld (state S.Store conn) s
+            → Serves keeper.shut (state S.Store keeper.conn) keeper.count s
+            × LeavesOnly (MayLeave (state S.Store keeper.conn)) (Some s)) }
+        ensures refused_old { IfErr result (λ refused. HasCleanDisk (state S.Store refused.1)
+            → (s : State) → RestsOld (state S.Store conn) s
+            → Carries s (state S.Store conn) (state S.Store refused.1) (Err refused.0)) }
+        ensures elsewhere { IfOk result (λ keeper. HasCleanDisk (state S.Store keeper.conn)
+            → (s : State) → RestsOld (state S.Store conn) s
+            → KeepsOtherTables (state S.Store conn).now (state S.Store keeper.conn).now) }
+        ensures crash { MatchResult result (λ keeper. HasCleanDisk (state S.Store keeper.conn)
+            → (s : State) → RestsOld (state S.Store conn) s
+            → MayCarry s (state S.Store conn) (state S.Store keeper.conn)) (λ refused.
+            HasCleanDisk (state S.Store refused.1) → (s : State) → RestsOld (state S.Store conn) s
+            → MayCarry s (state S.Store conn) (state S.Store refused.1)) }
     {
         // Between two transactions it holds what was committed.
         let _idle = conn.is_autocommit();

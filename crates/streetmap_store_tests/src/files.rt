@@ -1,5 +1,5 @@
-//! Files in memory whose calls stop after so many, and what is done over a connection to them. Here alone their store
-//! is named.
+//! Files in memory whose calls stop after so many, and what is done over a connection to them. Here
+//! alone their store is named.
 ghost use Rattle.std.specs.Prelude.{◌≡◌, false, IfOk, IsTrue};
 ghost use Rattle.sqlite_disk.specs.Memory.{memory_is_usable};
 
@@ -45,7 +45,8 @@ fn file(alloc: Global, bytes: &[u8]) -> Result<Memory, Fail>
     Ok(file)
 }
 
-/// Opens two files for a visit. Answers what came of it, nothing where they were not opened; and what is left of them.
+/// Opens two files for a visit. Answers what came of it, nothing where they were not opened; and
+/// what is left of them.
 fn visit_fused<V: Visit + Drop>(
     alloc: Global,
     log: Memory,

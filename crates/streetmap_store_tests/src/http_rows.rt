@@ -1,4 +1,5 @@
-//! The rows of HTTP over a keeper in memory, over tables, and with an index over each: the answers are the same bytes.
+//! The rows of HTTP over a keeper in memory, over tables, and with an index over each: the answers
+//! are the same bytes.
 use crate::answers::answers;
 use crate::rows::{COUNT, ROWS};
 use serde_json::Value;

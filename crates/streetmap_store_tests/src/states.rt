@@ -1,4 +1,5 @@
-//! Batches, the states that they lead to one by one, and which of these is seen in files that are opened again.
+//! Batches, the states that they lead to one by one, and which of these is seen in files that are
+//! opened again.
 use crate::answers::{answers, is_answered};
 use crate::files::{ALL_CALLS, Fused, Visit, visit_again};
 use sqlite::{Alter, Connection};

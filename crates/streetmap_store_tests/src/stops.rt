@@ -1,5 +1,6 @@
-//! A stop at each call of the files in turn. Of batches, what opens again is the state of a beginning of them, with each
-//! acknowledged one; of carrying format 1 over, it is the state that was there.
+//! A stop at each call of the files in turn. Of batches, what opens again is the state of a
+//! beginning of them, with each acknowledged one; of carrying format 1 over, it is the state that
+//! was there.
 use crate::files::{ALL_CALLS, Calls, Fused, Visit, visit_again, visit_new};
 use crate::states::{COUNT, Look, Seen, act, seen_twice, states};
 use sqlite::{Alter, Connection};
@@ -26,7 +27,8 @@ fn calls(of_log: bool, count: u64) -> Calls {
     }
 }
 
-/// New tables are made, and the batches acted on: how many were answered, none where the tables were not made.
+/// New tables are made, and the batches acted on: how many were answered, none where the tables
+/// were not made.
 #[derive(Drop)]
 struct ActOnAll;
 
@@ -56,8 +58,8 @@ fn may_be_left(seen: Seen, acknowledged: Option<usize>) -> bool {
     }
 }
 
-/// Acts on the batches in new files that take so many calls. Answers whether all were acknowledged; none where what is
-/// left may not be.
+/// Acts on the batches in new files that take so many calls. Answers whether all were acknowledged;
+/// none where what is left may not be.
 fn stopped(alloc: Global, calls: Calls, states: &[Vec<u8>]) -> Result<Option<bool>, Fail> {
     let (told, mut files) = visit_new(alloc, calls, ActOnAll);
     let acknowledged = told.unwrap_or(None);
@@ -131,8 +133,8 @@ impl Visit for Open {
     }
 }
 
-/// Opens copies of files of format 1 that take so many calls. Answers whether they were opened; none where what is left
-/// is another state.
+/// Opens copies of files of format 1 that take so many calls. Answers whether they were opened;
+/// none where what is left is another state.
 fn carried(
     alloc: Global,
     old: &Files<Fused>,

@@ -9,7 +9,8 @@ use Rattle.streetmap_web.specs.Standing.{Outcome, told, starved, failed, of_stat
 use Rattle.streetmap_web.specs.Exchanges.{Exchange, Around, Serves, with_batch, batches_of, last_of}
 use Rattle.streetmap_web.specs.declared.serving.End.{End}
 
--- a batch before others, where the keeper acted on it: it was answered without a fault, or the device failed at it
+-- a batch before others, where the keeper acted on it: it was answered without a fault, or the
+-- device failed at it
 abbrev pub with_acted : AskValue → Outcome → List BatchValue → List BatchValue
 with_acted ask told others = with_batch ask others
 with_acted ask starved others = others
@@ -19,18 +20,24 @@ abbrev pub batches_acted : List Exchange → List BatchValue
 batches_acted [] = []
 batches_acted (e ∷ es) = with_acted e.request.ask e.outcome (batches_acted es)
 
--- the state after a beginning of the batches that contains each acknowledged one, of which there are so many
-pub record IsAfterBeginning (s : State) (batches : List BatchValue) (acknowledged : ℕ) (t : State) : Type 0 where
+-- the state after a beginning of the batches that contains each acknowledged one, of which there
+-- are so many
+pub record IsAfterBeginning (s : State) (batches : List BatchValue) (acknowledged : ℕ)
+    (t : State) : Type 0 where
   pub len : ℕ
   pub contains : acknowledged ≤ len
   pub is : t ≡ after_all s (take len batches)
 
 -- a stop may leave such states alone
 abbrev pub LeavesBeginning : State → List BatchValue → ℕ → (Option State → Type 0) → Type 0
-LeavesBeginning s batches acknowledged left = (o : Option State) → left o → (t : State) × (o ≡ Some t) × IsAfterBeginning s batches acknowledged t
+LeavesBeginning s batches acknowledged left = (o : Option State) → left o → (t : State)
+    × (o ≡ Some t) × IsAfterBeginning s batches acknowledged t
 
--- Over what was served a stop may leave the state of a beginning of the batches acted on that contains each that was answered without a fault.
-abbrev pub ServedLeaves : (root : Text) (end : End) (count : ℕ) (s : State) (a : Around) → Serves root end count (of_state s) a → (Option State → Type 0) → Type 0
+-- Over what was served a stop may leave the state of a beginning of the batches acted on that
+-- contains each that was answered without a fault.
+abbrev pub ServedLeaves : (root : Text) (end : End) (count : ℕ) (s : State) (a : Around)
+    → Serves root end count (of_state s) a → (Option State → Type 0) → Type 0
 ServedLeaves root end count s a serves left =
     let last = last_of serves.turn root _ _ serves.ends in
-    LeavesBeginning s (batches_of serves.exchanges ++ batches_acted last) (length (batches_of serves.exchanges ++ batches_of last)) left
+    LeavesBeginning s (batches_of serves.exchanges ++ batches_acted last)
+    (length (batches_of serves.exchanges ++ batches_of last)) left

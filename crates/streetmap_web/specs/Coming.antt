@@ -8,9 +8,11 @@ use Rattle.streetmap_web.specs.Exchanges.{Exchange, IsExchange, Around, closes, 
 use Rattle.streetmap_web.specs.Exchanges.{standing_after}
 
 -- A request was answered, and led from one keeper to another: a batch was answered by what `apply`
--- came to between them, or the keeper was never asked and is as it was; and where the answer is that
+-- came to between them, or the keeper was never asked and is as it was; and where the answer is
+-- that
 -- the device failed, the store failed.
-pub record Comes {K : Type 0} (sight : Sight K) (root : Text) (x : Standing) (old : K) (e : Exchange)
+pub record Comes {K : Type 0} (sight : Sight K) (root : Text) (x : Standing) (old : K)
+    (e : Exchange)
     (new : K) : Type 0 where
   pub told :
       TellsBatch sight.applies e.request.ask e.request.closes e.request.bare (answer_bytes root x e)
@@ -19,7 +21,8 @@ pub record Comes {K : Type 0} (sight : Sight K) (root : Text) (x : Standing) (ol
 
 -- requests in a row, each over the keeper that the one before left
 abbrev pub ComesAll :
-    {K : Type 0} (sight : Sight K) (root : Text) (x : Standing) (old : K) (es : List Exchange) (new : K)
+    {K : Type 0} (sight : Sight K) (root : Text) (x : Standing) (old : K) (es : List Exchange)
+    (new : K)
     → Type 0
 ComesAll sight root x old [] new = new ≡ old
 ComesAll {K} sight root x old (e ∷ es) new =

@@ -1,5 +1,6 @@
 -- Requests of a stream with their answers.
-use Rattle.std.specs.Prelude.{◌≡◌, ◌≢◌, ℕ, ◌<◌, ◌+◌, ◌++◌, List, [], ◌∷◌, Bool, true, false, length, take, Option, nat_lt, if◌then◌else◌, ⊤}
+use Rattle.std.specs.Prelude.{◌≡◌, ◌≢◌, ℕ, ◌<◌, ◌+◌, ◌++◌, List, [], ◌∷◌, Bool, true, false}
+use Rattle.std.specs.Prelude.{length, take, Option, nat_lt, if◌then◌else◌, ⊤}
 use Rattle.std.specs.List.{flat_map}
 use Rattle.std.specs.Io.KnownBytes.{Consumes, Appends, Keeps, IsAtEnd}
 use Rattle.streetmap_http.specs.Head.{IsHead, IsBlank}
@@ -12,14 +13,17 @@ use Rattle.streetmap_ledger.specs.State.{State}
 use Rattle.streetmap_ledger.specs.Batches.{after_all}
 use Rattle.streetmap_routes.specs.Ask.{AskValue, faulty, batch, ask_of}
 use Rattle.streetmap_web.specs.Response.{ResponseValue, closes_with, response_text}
-use Rattle.streetmap_web.specs.Standing.{Standing, Outcome, told, starved, failed, CanBe, answer_by, after, Leaves, Stays, of_state, shut}
+use Rattle.streetmap_web.specs.Standing.{Standing, Outcome, told, starved, failed, CanBe}
+use Rattle.streetmap_web.specs.Standing.{answer_by, after, Leaves, Stays, of_state, shut}
 use Rattle.streetmap_web.specs.Turns.{begun_in, end_of}
 use Rattle.streetmap_web.specs.declared.serving.End.{End}
 use Rattle.streetmap_web.specs.declared.serving.Turn.{Turn}
-use Rattle.streetmap_web.specs.declared.serving.Turn.TheVariants.{Open, Closed, Ended, Truncated, ReadFailed, WriteFailed}
+use Rattle.streetmap_web.specs.declared.serving.Turn.TheVariants.{Open, Closed, Ended, Truncated}
+use Rattle.streetmap_web.specs.declared.serving.Turn.TheVariants.{ReadFailed, WriteFailed}
 use Rattle.streetmap_bodies.specs.declared.request_fault.RequestFault.TheVariants.{Framing}
 
--- a request: what it asks for, whether it asks to close the connection, and whether its answer has no body
+-- a request: what it asks for, whether it asks to close the connection, and whether its answer has
+-- no body
 pub record RequestValue : Type 0 where
   pub ask : AskValue
   pub closes : Bool
@@ -27,7 +31,12 @@ pub record RequestValue : Type 0 where
 
 -- that of a head and a body
 abbrev pub request_of : HeadValue → Text → RequestValue
-request_of h body = record { ask = ask_of h.method h.target body; closes = h.closes; bare = is_bare h.method }
+request_of h body = record {
+  ask = ask_of h.method h.target body;
+  closes = h.closes;
+  bare = is_bare
+      h.method;
+}
 
 -- one that breaks a rule of framing; the connection closes behind its answer
 abbrev pub broken_request : Bool → FramingFault → RequestValue
@@ -39,11 +48,15 @@ pub record Exchange : Type 0 where
   pub request : RequestValue
   pub outcome : Outcome
 
--- the bytes are this request: a head with its body, or bytes that break a rule of framing; where memory was refused for the body, they are the head alone
+-- the bytes are this request: a head with its body, or bytes that break a rule of framing; where
+-- memory was refused for the body, they are the head alone
 pub data Asks (e : Exchange) : Type 0 where
-  whole : (h : HeadValue) (body : Text) → IsRequest e.bytes h body → e.request ≡ request_of h body → Asks e
-  broken : (bare : Bool) (fault : FramingFault) → Breaks e.bytes bare fault → e.request ≡ broken_request bare fault → Asks e
-  no_room : (h : HeadValue) → IsHead e.bytes → Frames e.bytes (sized h) → e.request ≡ request_of h [] → e.outcome ≡ starved → Asks e
+  whole : (h : HeadValue) (body : Text) → IsRequest e.bytes h body → e.request ≡ request_of h body
+      → Asks e
+  broken : (bare : Bool) (fault : FramingFault) → Breaks e.bytes bare fault
+      → e.request ≡ broken_request bare fault → Asks e
+  no_room : (h : HeadValue) → IsHead e.bytes → Frames e.bytes (sized h)
+      → e.request ≡ request_of h [] → e.outcome ≡ starved → Asks e
 
 -- the answer, over a keeper that stands so
 abbrev pub response : Text → Standing → Exchange → ResponseValue
@@ -69,7 +82,8 @@ pub record IsExchange (x : Standing) (e : Exchange) : Type 0 where
 -- exchanges in a row, each of which leaves the connection open
 abbrev pub GoOn : Text → Standing → List Exchange → Type 0
 GoOn root x [] = ⊤
-GoOn root x (e ∷ es) = IsExchange x e × (closes root x e ≡ false) × GoOn root (standing_after x e) es
+GoOn root x (e ∷ es) = IsExchange x e × (closes root x e ≡ false)
+    × GoOn root (standing_after x e) es
 
 -- the bytes of the requests
 abbrev pub all_requests : List Exchange → Text
@@ -108,7 +122,8 @@ after_batches (shut why) bs = shut why
 
 -- ---- ends
 
--- what a keeper, a reader and a writer are before and after; what was known of the states that a stop
+-- what a keeper, a reader and a writer are before and after; what was known of the states that a
+-- stop
 -- may leave; and along which exchanges the keeper came from the one to the other
 pub record Around : Type 1 where
   pub old_left : Option Text
@@ -121,7 +136,8 @@ pub record Around : Type 1 where
   pub new_leaves : Option State → Type 0
   pub comes : List Exchange → Type 0
 
--- a request was read and acted on: its bytes are off the reader, the keeper stands for what is after it, and a stop may leave that
+-- a request was read and acted on: its bytes are off the reader, the keeper stands for what is
+-- after it, and a stop may leave that
 pub record Acted (x : Standing) (e : Exchange) (a : Around) : Type 0 where
   pub is : IsExchange x e
   pub read : Consumes a.old_left a.new_left e.bytes
@@ -136,11 +152,17 @@ pub record Rested (x : Standing) (a : Around) : Type 0 where
 
 -- what a turn did
 abbrev pub TurnSays : Turn → Text → Standing → Around → Type 0
-TurnSays Open root x a = (e : Exchange) × Acted x e a × Appends a.old_held a.new_held (answer_bytes root x e) × (closes root x e ≡ false)
-TurnSays Closed root x a = (e : Exchange) × Acted x e a × Appends a.old_held a.new_held (answer_bytes root x e) × (closes root x e ≡ true)
-TurnSays (WriteFailed begun) root x a = (e : Exchange) × Acted x e a × (n : ℕ) × (n < length (answer_bytes root x e)) × (begun ≡ nat_lt 0 n) × Appends a.old_held a.new_held (take n (answer_bytes root x e))
-TurnSays Ended root x a = Rested x a × (bytes : Text) × IsBlank bytes × Consumes a.old_left a.new_left bytes × IsAtEnd a.new_left
-TurnSays Truncated root x a = Rested x a × (bytes : Text) × IsUnfinished bytes × Consumes a.old_left a.new_left bytes × IsAtEnd a.new_left
+TurnSays Open root x a = (e : Exchange) × Acted x e a
+    × Appends a.old_held a.new_held (answer_bytes root x e) × (closes root x e ≡ false)
+TurnSays Closed root x a = (e : Exchange) × Acted x e a
+    × Appends a.old_held a.new_held (answer_bytes root x e) × (closes root x e ≡ true)
+TurnSays (WriteFailed begun) root x a = (e : Exchange) × Acted x e a × (n : ℕ)
+    × (n < length (answer_bytes root x e)) × (begun ≡ nat_lt 0 n)
+    × Appends a.old_held a.new_held (take n (answer_bytes root x e))
+TurnSays Ended root x a = Rested x a × (bytes : Text) × IsBlank bytes
+    × Consumes a.old_left a.new_left bytes × IsAtEnd a.new_left
+TurnSays Truncated root x a = Rested x a × (bytes : Text) × IsUnfinished bytes
+    × Consumes a.old_left a.new_left bytes × IsAtEnd a.new_left
 TurnSays ReadFailed root x a = Rested x a
 
 -- the request that was answered in a turn, where one was

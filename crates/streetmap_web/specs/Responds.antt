@@ -1,5 +1,6 @@
 -- What the functions that answer say of their results.
-use Rattle.std.specs.Prelude.{◌≡◌, ◌⊎◌, Bool, true, Option, Some, Result, Ok, Err, string_bytes, ◌++◌, ⊤}
+use Rattle.std.specs.Prelude.{◌≡◌, ◌⊎◌, Bool, true, Option, Some, Result, Ok, Err, string_bytes}
+use Rattle.std.specs.Prelude.{◌++◌, ⊤}
 use Rattle.streetmap_batch.specs.Text.{Text}
 use Rattle.streetmap_batch.specs.BatchValue.{BatchValue}
 use Rattle.streetmap_ledger.specs.State.{State}
@@ -11,8 +12,10 @@ use Rattle.streetmap_ledger.specs.declared.reply.Fault.TheVariants as faults
 use Rattle.streetmap_ledger.specs.declared.reply.Reply.{Reply}
 use Rattle.streetmap_routes.specs.Ask.{AskValue, batch}
 use Rattle.streetmap_web.specs.Response.{ResponseValue, response_in, response_shut, state_in}
-use Rattle.streetmap_web.specs.Response.{asks_state, fault_response, closes_with, response_text, replied}
-use Rattle.streetmap_web.specs.Standing.{Standing, Outcome, failed, answer_by, after, CanBe, Leaves, IsKnown}
+use Rattle.streetmap_web.specs.Response.{asks_state, fault_response, closes_with, response_text}
+use Rattle.streetmap_web.specs.Response.{replied}
+use Rattle.streetmap_web.specs.Standing.{Standing, Outcome, failed, answer_by, after, CanBe}
+use Rattle.streetmap_web.specs.Standing.{Leaves, IsKnown}
 use Rattle.streetmap_web.specs.Sight.{Sight, StandsSo}
 use Rattle.streetmap_http.specs.declared.fault.FramingFault.{FramingFault}
 use Rattle.streetmap_bodies.specs.declared.request_fault.RequestFault.{RequestFault}
@@ -23,18 +26,28 @@ use Rattle.streetmap_web.specs.declared.answer.Answer.TheVariants.{Made, Fixed}
 
 -- an answer without its head, as a value
 abbrev pub response_value : Response → ResponseValue
-response_value b = record { status = b.status; kind = b.kind; allow = b.allow; body = string_bytes b.body }
+response_value b = record {
+  status = b.status;
+  kind = b.kind;
+  allow = b.allow;
+  body = string_bytes
+      b.body;
+}
 
--- a fault over a keeper that stood for a state: memory was refused and it stands so, or the device failed and shut it
+-- a fault over a keeper that stood for a state: memory was refused and it stands so, or the device
+-- failed and shut it
 abbrev pub FaultsIn : State → AskValue → Fault → (State → Type 0) → Option Cause → Type 0
 FaultsIn s ask faults.Memory stands cause = stands s
 FaultsIn s ask faults.Device stands cause = (asks_state ask ≡ true) × (cause ≡ Some causes.Device)
 FaultsIn s ask faults.Damaged stands cause = ⊥
 FaultsIn s ask faults.Reopen stands cause = ⊥
 
--- over a keeper that stood for a state: the answer of the state, or the fault that is to be answered
-abbrev pub RespondsIn : Text → State → AskValue → Result Response Fault → (State → Type 0) → Option Cause → Type 0
-RespondsIn root s ask (Ok response) stands cause = (response_value response ≡ response_in root s ask) × stands (state_in s ask)
+-- over a keeper that stood for a state: the answer of the state, or the fault that is to be
+-- answered
+abbrev pub RespondsIn : Text → State → AskValue → Result Response Fault → (State → Type 0)
+    → Option Cause → Type 0
+RespondsIn root s ask (Ok response) stands cause = (response_value response
+    ≡ response_in root s ask) × stands (state_in s ask)
 RespondsIn root s ask (Err fault) stands cause = FaultsIn s ask fault stands cause
 
 -- a fault over a shut keeper: memory was refused, or it is the answer
@@ -49,8 +62,10 @@ abbrev pub RespondsShut : Text → AskValue → Result Response Fault → Type 0
 RespondsShut root ask (Ok response) = response_value response ≡ response_shut root ask
 RespondsShut root ask (Err fault) = FaultsShut root ask fault
 
--- what a stop may leave behind an answer or a fault, where the keeper stood for a state and a stop could leave it and no other
-abbrev pub AnswerLeaves : {A : Type 0} → State → AskValue → Result A Fault → (Option State → Type 0) → Type 0
+-- what a stop may leave behind an answer or a fault, where the keeper stood for a state and a stop
+-- could leave it and no other
+abbrev pub AnswerLeaves : {A : Type 0} → State → AskValue → Result A Fault → (Option State → Type 0)
+    → Type 0
 AnswerLeaves s ask (Ok answer) left = LeavesOnly left (Some (state_in s ask))
 AnswerLeaves s ask (Err faults.Memory) left = LeavesOnly left (Some s)
 AnswerLeaves s ask (Err faults.Device) left = LeavesEither left (Some s) (Some (state_in s ask))
@@ -72,7 +87,8 @@ abbrev pub answer_text : Answer → Text
 answer_text answer = head_bytes answer ++ body_bytes answer
 
 -- what is asked was answered between two keepers: how it came out, the bytes of its answer, whether
--- the connection closes, what the second keeper stands for, what a stop may leave, and that the store
+-- the connection closes, what the second keeper stands for, what a stop may leave, and that the
+-- store
 -- failed where the device did
 pub record Answers {K : Type 0} (sight : Sight K) (root : Text) (x : Standing) (ask : AskValue)
     (asked bare : Bool) (text : Text) (closes : Bool) (old new : K) : Type 0 where
@@ -87,34 +103,53 @@ pub record Answers {K : Type 0} (sight : Sight K) (root : Text) (x : Standing) (
   pub device : outcome ≡ failed → sight.fails old new
 
 -- an answer, or the fault that is to be answered, over a keeper that stood for a state
-abbrev pub TriesIn : Text → State → AskValue → Bool → Bool → Result (Answer × Bool) Fault → (State → Type 0) → Option Cause → Type 0
+abbrev pub TriesIn : Text → State → AskValue → Bool → Bool → Result (Answer × Bool) Fault
+    → (State → Type 0) → Option Cause → Type 0
 TriesIn root s ask asked bare (Ok r) stands cause =
-    (r.1 ≡ closes_with asked (response_in root s ask)) × (answer_text r.0 ≡ response_text r.1 bare (response_in root s ask)) × stands (state_in s ask)
+    (r.1 ≡ closes_with asked (response_in root s ask))
+    × (answer_text r.0 ≡ response_text r.1 bare (response_in root s ask))
+    × stands (state_in s ask)
 TriesIn root s ask asked bare (Err fault) stands cause = FaultsIn s ask fault stands cause
 
 -- over a shut keeper
 abbrev pub TriesShut : Text → AskValue → Bool → Bool → Result (Answer × Bool) Fault → Type 0
-TriesShut root ask asked bare (Ok r) = (r.1 ≡ closes_with asked (response_shut root ask)) × (answer_text r.0 ≡ response_text r.1 bare (response_shut root ask))
+TriesShut root ask asked bare (Ok r) = (r.1 ≡ closes_with asked (response_shut root ask))
+    × (answer_text r.0 ≡ response_text r.1 bare (response_shut root ask))
 TriesShut root ask asked bare (Err fault) = FaultsShut root ask fault
 
 -- ---- batches
 
--- a batch by what the keeper answered: its reply is the answer, and its fault is to be answered; `unasked` says that the keeper was never asked, and then memory was refused
-abbrev pub BatchResponds : Text → Result Response Fault → (applies : Result Reply Fault → Type 0) → (unasked : Type 0) → Type 0
-BatchResponds key (Ok response) applies unasked = (reply : Reply) × applies (Ok reply) × (response_value response ≡ replied key reply)
-BatchResponds key (Err fault) applies unasked = applies (Err fault) ⊎ (unasked × (fault ≡ faults.Memory))
+-- a batch by what the keeper answered: its reply is the answer, and its fault is to be answered;
+-- `unasked` says that the keeper was never asked, and then memory was refused
+abbrev pub BatchResponds : Text → Result Response Fault → (applies : Result Reply Fault → Type 0)
+    → (unasked : Type 0) → Type 0
+BatchResponds key (Ok response) applies unasked = (reply : Reply) × applies (Ok reply)
+    × (response_value response ≡ replied key reply)
+BatchResponds key (Err fault) applies unasked = applies (Err fault)
+    ⊎ (unasked × (fault ≡ faults.Memory))
 
 -- the same with its head, and whether the connection closes
-abbrev pub BatchTries : Text → Bool → Bool → Result (Answer × Bool) Fault → (applies : Result Reply Fault → Type 0) → (unasked : Type 0) → Type 0
+abbrev pub BatchTries : Text → Bool → Bool → Result (Answer × Bool) Fault
+    → (applies : Result Reply Fault → Type 0) → (unasked : Type 0) → Type 0
 BatchTries key asked bare (Ok r) applies unasked =
-    (reply : Reply) × applies (Ok reply) × (r.1 ≡ closes_with asked (replied key reply)) × (answer_text r.0 ≡ response_text r.1 bare (replied key reply))
-BatchTries key asked bare (Err fault) applies unasked = applies (Err fault) ⊎ (unasked × (fault ≡ faults.Memory))
+    (reply : Reply) × applies (Ok reply) × (r.1 ≡ closes_with asked (replied key reply))
+    × (answer_text r.0 ≡ response_text r.1 bare (replied key reply))
+BatchTries key asked bare (Err fault) applies unasked = applies (Err fault)
+    ⊎ (unasked × (fault ≡ faults.Memory))
 
--- the answer to a batch: the reply of the keeper, whatever it is, or its fault; or that memory was refused, where the keeper was never asked
-pub data BatchAnswers (key : Text) (asked bare : Bool) (text : Text) (closes : Bool) (applies : Result Reply Fault → Type 0) (unasked : Type 0) : Type 0 where
-  by_reply : (reply : Reply) → applies (Ok reply) → closes ≡ closes_with asked (replied key reply) → text ≡ response_text closes bare (replied key reply) → BatchAnswers key asked bare text closes applies unasked
-  by_fault : (fault : Fault) → applies (Err fault) → closes ≡ true → text ≡ response_text true bare (fault_response (Keeper fault)) → BatchAnswers key asked bare text closes applies unasked
-  unasked_of : unasked → closes ≡ true → text ≡ response_text true bare (fault_response (Keeper faults.Memory)) → BatchAnswers key asked bare text closes applies unasked
+-- the answer to a batch: the reply of the keeper, whatever it is, or its fault; or that memory was
+-- refused, where the keeper was never asked
+pub data BatchAnswers (key : Text) (asked bare : Bool) (text : Text) (closes : Bool)
+    (applies : Result Reply Fault → Type 0) (unasked : Type 0) : Type 0 where
+  by_reply : (reply : Reply) → applies (Ok reply) → closes ≡ closes_with asked (replied key reply)
+      → text ≡ response_text closes bare (replied key reply)
+      → BatchAnswers key asked bare text closes applies unasked
+  by_fault : (fault : Fault) → applies (Err fault) → closes ≡ true
+      → text ≡ response_text true bare (fault_response (Keeper fault))
+      → BatchAnswers key asked bare text closes applies unasked
+  unasked_of : unasked → closes ≡ true
+      → text ≡ response_text true bare (fault_response (Keeper faults.Memory))
+      → BatchAnswers key asked bare text closes applies unasked
 
 -- where a batch is asked between two keepers: it is answered as the first answered it, and was left
 -- so; or the keeper was never asked, is as it was, and memory was refused
@@ -129,4 +164,6 @@ TellsBatch applies ask asked bare text closes old new =
 
 -- the answer to a request that breaks this rule of framing, or that memory was refused for it
 abbrev pub RefusesBy : Text → Bool → FramingFault → Type 0
-RefusesBy text bare fault = (answer : RequestFault) × ((answer ≡ Framing fault) ⊎ (answer ≡ Keeper faults.Memory)) × (text ≡ response_text true bare (fault_response answer))
+RefusesBy text bare fault = (answer : RequestFault)
+    × ((answer ≡ Framing fault) ⊎ (answer ≡ Keeper faults.Memory))
+    × (text ≡ response_text true bare (fault_response answer))

@@ -1,5 +1,6 @@
 -- What a request is answered, and the state after it.
-use Rattle.std.specs.Prelude.{ℕ, ◌++◌, [], Bool, true, false, ◌||◌, Option, None, Some, if◌then◌else◌, length, ◌==◌}
+use Rattle.std.specs.Prelude.{ℕ, ◌++◌, [], Bool, true, false, ◌||◌, Option, None, Some}
+use Rattle.std.specs.Prelude.{if◌then◌else◌, length, ◌==◌}
 use Rattle.serde_json.specs.Written.{compact_text}
 use Rattle.streetmap_http.specs.AnswerHead.{head_text}
 use Rattle.streetmap_http.specs.declared.answer_head.AnswerHead.{AnswerHead}
@@ -16,8 +17,12 @@ use Rattle.streetmap_ledger.specs.Summaries.{SummaryValue, summary_in, summaries
 use Rattle.streetmap_ledger.specs.declared.reply.Reply.{Reply}
 use Rattle.streetmap_ledger.specs.declared.reply.Reply.TheVariants.{Accepted, Repeated, Refused}
 use Rattle.streetmap_ledger.specs.declared.reply.Fault.TheVariants.{Reopen}
-use Rattle.streetmap_routes.specs.Ask.{AskValue, faulty, landing_page, api_text, conformance_classes, all_collections, one_collection, page, feature, batch}
-use Rattle.streetmap_bodies.specs.Bodies.{landing_data, api_document, conformance_data, collections_data, collection_data, page_data, linked_feature_data}
+use Rattle.streetmap_routes.specs.Ask.{AskValue, faulty, landing_page, api_text}
+use Rattle.streetmap_routes.specs.Ask.{conformance_classes, all_collections, one_collection, page}
+use Rattle.streetmap_routes.specs.Ask.{feature, batch}
+use Rattle.streetmap_bodies.specs.Bodies.{landing_data, api_document, conformance_data}
+use Rattle.streetmap_bodies.specs.Bodies.{collections_data, collection_data, page_data}
+use Rattle.streetmap_bodies.specs.Bodies.{linked_feature_data}
 use Rattle.streetmap_bodies.specs.Replies.{reply_body}
 use Rattle.streetmap_bodies.specs.RequestFaults.{status_of, allow_of, fault_body}
 use Rattle.streetmap_bodies.specs.declared.request_fault.RequestFault.{RequestFault}
@@ -32,7 +37,13 @@ pub record ResponseValue : Type 0 where
 
 -- an error
 unfoldable pub fault_response : RequestFault → ResponseValue
-fault_response fault = record { status = status_of fault; kind = Json; allow = allow_of fault; body = compact_text (fault_body fault) }
+fault_response fault = record {
+  status = status_of fault;
+  kind = Json;
+  allow = allow_of fault;
+  body
+      = compact_text (fault_body fault);
+}
 
 -- a resource that is there
 abbrev pub found : MediaType → Text → ResponseValue
@@ -65,7 +76,13 @@ reply_status (Refused refusal place) = 409
 
 -- the answer to the batch of this key
 abbrev pub replied : Text → Reply → ResponseValue
-replied key reply = record { status = reply_status reply; kind = Json; allow = None; body = compact_text (reply_body key reply) }
+replied key reply = record {
+  status = reply_status reply;
+  kind = Json;
+  allow = None;
+  body
+      = compact_text (reply_body key reply);
+}
 
 -- what is answered in a state; root is the base of links without its last slash
 abbrev pub response_in : Text → State → AskValue → ResponseValue
@@ -73,13 +90,15 @@ response_in root s (faulty fault) = fault_response fault
 response_in root s landing_page = found Json (compact_text (landing_data root))
 response_in root s api_text = found Html api_document
 response_in root s conformance_classes = found Json (compact_text conformance_data)
-response_in root s all_collections = found Json (compact_text (collections_data root (summaries_in s)))
+response_in root s all_collections = found Json
+    (compact_text (collections_data root (summaries_in s)))
 response_in root s (one_collection name) = found_collection root (summary_in s name)
 response_in root s (page name q) = found_page root name q (page_in s name q)
 response_in root s (feature name id) = found_feature root name (feature_in s name id)
 response_in root s (batch b) = replied b.key (act s b).reply
 
--- what is answered where the keeper is shut: what asks no state as ever, and for the others that it must be opened again
+-- what is answered where the keeper is shut: what asks no state as ever, and for the others that it
+-- must be opened again
 abbrev pub response_shut : Text → AskValue → ResponseValue
 response_shut root (faulty fault) = fault_response fault
 response_shut root landing_page = found Json (compact_text (landing_data root))
@@ -114,7 +133,13 @@ closes_with asked p = asked || (p.status == 500 || p.status == 503)
 
 -- the head of an answer
 abbrev pub head_of : Bool → ResponseValue → AnswerHead
-head_of closes p = record { status = p.status; kind = p.kind; len = length p.body; allow = p.allow; closes = closes }
+head_of closes p = record {
+  status = p.status;
+  kind = p.kind;
+  len = length p.body;
+  allow = p.allow;
+  closes = closes;
+}
 
 -- the body that is sent: none where the answer is bare
 abbrev pub body_of : Bool → Text → Text

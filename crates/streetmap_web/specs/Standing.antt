@@ -7,7 +7,8 @@ use Rattle.streetmap_ledger.specs.declared.reply.Cause.{Cause}
 use Rattle.streetmap_ledger.specs.declared.reply.Cause.TheVariants as causes
 use Rattle.streetmap_ledger.specs.declared.reply.Fault.TheVariants.{Memory, Device}
 use Rattle.streetmap_routes.specs.Ask.{AskValue}
-use Rattle.streetmap_web.specs.Response.{ResponseValue, fault_response, response_in, response_shut, asks_state, state_in}
+use Rattle.streetmap_web.specs.Response.{ResponseValue, fault_response, response_in, response_shut}
+use Rattle.streetmap_web.specs.Response.{asks_state, state_in}
 use Rattle.streetmap_bodies.specs.declared.request_fault.RequestFault.TheVariants.{Keeper}
 
 -- a keeper stands for a state, or it is shut

@@ -12,7 +12,8 @@ use Rattle.streetmap_web.specs.Response.{fault_response, response_text}
 use Rattle.streetmap_bodies.specs.declared.request_fault.RequestFault.{RequestFault}
 use Rattle.streetmap_bodies.specs.declared.request_fault.RequestFault.TheVariants.{Framing, Keeper}
 use Rattle.streetmap_web.specs.declared.serving.Turn.{Turn}
-use Rattle.streetmap_web.specs.declared.serving.Turn.TheVariants.{Open, Closed, Ended, Truncated, ReadFailed, WriteFailed}
+use Rattle.streetmap_web.specs.declared.serving.Turn.TheVariants.{Open, Closed, Ended, Truncated}
+use Rattle.streetmap_web.specs.declared.serving.Turn.TheVariants.{ReadFailed, WriteFailed}
 use Rattle.streetmap_web.specs.declared.serving.End.{End}
 use Rattle.streetmap_web.specs.declared.serving.End.TheVariants as ends
 
@@ -43,10 +44,13 @@ begun_in (WriteFailed begun) = begun
 -- how a body was read into room for it: all of it, or less up to the end of the input
 abbrev pub FillSays : BodyEnd → List ℕ → Option (List ℕ) → Option (List ℕ) → Type 0
 FillSays bodies.Whole room a b = Consumes a b room
-FillSays bodies.Truncated room a b = (part : List ℕ) × (length part < length room) × Consumes a b part × IsAtEnd b
+FillSays bodies.Truncated room a b = (part : List ℕ) × (length part < length room)
+    × Consumes a b part × IsAtEnd b
 FillSays bodies.Failed room a b = Unit {0}
 
 -- the answer to a broken rule, or that memory was refused for it, was sent
 abbrev pub RefuseSays : Turn → Bool → FramingFault → Option (List ℕ) → Option (List ℕ) → Type 0
 RefuseSays turn bare fault a b =
-    (answer : RequestFault) × ((answer ≡ Framing fault) ⊎ (answer ≡ Keeper Memory)) × (sent : Sent) × (turn ≡ turn_after sent true) × SentSays sent (response_text true bare (fault_response answer)) a b
+    (answer : RequestFault) × ((answer ≡ Framing fault) ⊎ (answer ≡ Keeper Memory)) × (sent : Sent)
+    × (turn ≡ turn_after sent true)
+    × SentSays sent (response_text true bare (fault_response answer)) a b

@@ -48,7 +48,8 @@ fn give(rest: &mut &[u8], buf: &mut [u8], most: usize) -> io::Result<usize>
     Ok(count)
 }
 
-/// Is interrupted before each write, takes a byte at a write, and none behind `room`; then it fails, or takes no byte.
+/// Is interrupted before each write, takes a byte at a write, and none behind `room`; then it
+/// fails, or takes no byte.
 #[derive(Drop)]
 pub(crate) struct Sink {
     pub(crate) taken: [u8; 8],

@@ -1,6 +1,8 @@
-//! Memory that is refused in its turn: the answers of ample memory come, or a beginning of them and the fixed 503.
+//! Memory that is refused in its turn: the answers of ample memory come, or a beginning of them and
+//! the fixed 503.
 //!
-//! Run with ample memory this wants the answers; `rt try --test --fail-alloc N` refuses the Nth growth.
+//! Run with ample memory this wants the answers; `rt try --test --fail-alloc N` refuses the Nth
+//! growth.
 use std::io;
 use std::io::Write;
 use std::test::Fail;
@@ -51,7 +53,8 @@ impl Write for Fixed {
     }
 }
 
-/// How many answers a text is: the whole of them, or a beginning and then that memory was refused; none where it is neither.
+/// How many answers a text is: the whole of them, or a beginning and then that memory was refused;
+/// none where it is neither.
 fn answered(text: &[u8]) -> Option<u64> {
     let mut rest = text;
     let mut count = 0u64;

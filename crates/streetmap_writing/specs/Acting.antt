@@ -1,5 +1,6 @@
 -- What becomes of a batch, on a connection whose database is that of a state.
-use Rattle.std.specs.Prelude.{◌≡◌, ℕ, ◌<◌, ◌-◌, ◌^◌, None, Result, Ok, Err, MatchResult, IsTrue, nat_eq, if◌then◌else◌}
+use Rattle.std.specs.Prelude.{◌≡◌, ℕ, ◌<◌, ◌-◌, ◌^◌, None, Result, Ok, Err, MatchResult, IsTrue}
+use Rattle.std.specs.Prelude.{nat_eq, if◌then◌else◌}
 use Rattle.std.specs.FinMap.{get, len}
 use Rattle.std.specs.Cmp.Lexicographic.{pointwise}
 use Rattle.streetmap_batch.specs.Text.{Text}
@@ -28,15 +29,18 @@ pub record Awaits (s : State) (b : BatchValue) (count : ℕ) : Type 0 where
 
 -- what a reply leaves inside the transaction
 abbrev pub LeavesInside : State → BatchValue → Seen → Reply → Type 0
-LeavesInside s b new (Accepted counts serial) = Keeps (act s b).state new.now × IsTrue new.in_transaction
+LeavesInside s b new (Accepted counts serial) = Keeps (act s b).state new.now
+    × IsTrue new.in_transaction
 LeavesInside s b new (Repeated counts serial) = (act s b).state ≡ s
 LeavesInside s b new (Refused why place) = (act s b).state ≡ s
 
 -- a batch inside a transaction
 abbrev pub ActsInside : BatchValue → ℕ → Seen → Seen → Result Reply Error → Type 0
 ActsInside b count old new r =
-    old.step_limit ≡ None → IsTrue old.in_transaction → (s : State) → Keeps s old.now → Awaits s b count
-    → MatchResult r (λ reply. (reply ≡ (act s b).reply) × LeavesInside s b new reply × KeepsRest old new) (λ e. IsOfStore e × KeepsCommit old new)
+    old.step_limit ≡ None → IsTrue old.in_transaction → (s : State) → Keeps s old.now
+    → Awaits s b count
+    → MatchResult r (λ reply. (reply ≡ (act s b).reply) × LeavesInside s b new reply
+    × KeepsRest old new) (λ e. IsOfStore e × KeepsCommit old new)
 
 -- after a reply that changed nothing the connection may have been shut
 abbrev pub IfOpen : Reply → Seen → Type 0 → Type 0
@@ -51,11 +55,14 @@ Ended s b new (Err e) = IsOfStore e × (IsTrue new.is_open → Rests new s)
 
 -- what is answered to a batch whose key is there: the old reply where the texts are one
 abbrev pub kept_answer : Text → AcceptedBatch → Reply
-kept_answer text kept = if pointwise nat_eq kept.text text then Repeated kept.counts kept.serial else Refused KeyUsed None
+kept_answer text kept = if pointwise nat_eq kept.text text then Repeated kept.counts kept.serial
+    else Refused KeyUsed None
 
 -- a look outside of a transaction, which leaves the database
 abbrev pub Rested : {A : Type 0} → (State → A) → Seen → Seen → Result A Error → Type 0
-Rested f old new r = (s : State) → Rests old s → MatchResult r (λ a. (a ≡ f s) × Rests new s) (λ e. IsOfStore e × (IsTrue new.is_open → Rests new s))
+Rested f old new r = (s : State) → Rests old s
+    → MatchResult r (λ a. (a ≡ f s) × Rests new s) (λ e. IsOfStore e
+    × (IsTrue new.is_open → Rests new s))
 
 -- where the connection is open, every other table is as it was
 abbrev pub LeavesOtherTables : Seen → Seen → Type 0

@@ -24,10 +24,13 @@ pub fn act_inside<S: Alter>(
     requires its_text { text.now ≡ batch_text (batch_value batch.now) }
     requires room { count < 2 ^ 63 - 1 }
     ensures same_reference { tx.new.conn.ghost_name ≡ tx.old.conn.ghost_name }
-    ensures acts { HasCleanDisk (state S.Store tx.new.conn.now) → ActsInside (batch_value batch.now) count (state S.Store tx.old.conn.now) (state S.Store tx.new.conn.now) result }
+    ensures acts { HasCleanDisk (state S.Store tx.new.conn.now)
+        → ActsInside (batch_value batch.now) count (state S.Store tx.old.conn.now)
+        (state S.Store tx.new.conn.now) result }
     ensures reason { HasCleanDisk (state S.Store tx.new.conn.now) →
         IfErr result (HasReason (state S.Store tx.old.conn.now) (state S.Store tx.new.conn.now)) }
-    ensures survives { Survives (state S.Store tx.old.conn.now) (state S.Store tx.new.conn.now) (λ _. ⊥) }
+    ensures survives { Survives (state S.Store tx.old.conn.now) (state S.Store tx.new.conn.now)
+        (λ _. ⊥) }
 {
     batch.facts();
     if let Some((place, why)) = edit_each(tx, alloc, batch.edits())? {

@@ -10,7 +10,8 @@ ghost use Rattle.streetmap_batch.specs.BatchView.{batch_value};
 ghost use Rattle.streetmap_rows.specs.Failing.{HasReason};
 ghost use Rattle.streetmap_rows.specs.Settling.{StopsFor};
 ghost use Rattle.streetmap_rows.specs.Keeping.{Rests, MayBecome};
-ghost use Rattle.streetmap_writing.specs.Acting.{Awaits, Applied, Ended, LeavesOtherTables, IsToldByStore};
+ghost use Rattle.streetmap_writing.specs.Acting.{Awaits, Applied, Ended, LeavesOtherTables};
+ghost use Rattle.streetmap_writing.specs.Acting.{IsToldByStore};
 
 use crate::acting::act_inside;
 use crate::kept::kept_reply;
@@ -34,13 +35,20 @@ fn act_alone<S: Alter>(
     requires its_text { text.now ≡ batch_text (batch_value batch.now) }
     requires room { count < 2 ^ 63 - 1 }
     ensures idle { conn.new.in_transaction ≡ false }
-    ensures clean { doubt (state S.Store conn.old).is_clean ≤ doubt (state S.Store conn.new).is_clean }
+    ensures clean { doubt (state S.Store conn.old).is_clean
+        ≤ doubt (state S.Store conn.new).is_clean }
     ensures reason { HasCleanDisk (state S.Store conn.new) →
         IfErr result (HasReason (state S.Store conn.old) (state S.Store conn.new)) }
     ensures survives { Survives (state S.Store conn.old) (state S.Store conn.new) (λ _. Unit {0}) }
-    ensures ended { HasCleanDisk (state S.Store conn.new) → (s : State) → Rests (state S.Store conn.old) s → Awaits s (batch_value batch.now) count → Ended s (batch_value batch.now) (state S.Store conn.new) result }
-    ensures elsewhere { HasCleanDisk (state S.Store conn.new) → (s : State) → Rests (state S.Store conn.old) s → Awaits s (batch_value batch.now) count → LeavesOtherTables (state S.Store conn.old) (state S.Store conn.new) }
-    ensures crash { HasCleanDisk (state S.Store conn.new) → (s : State) → Rests (state S.Store conn.old) s → Awaits s (batch_value batch.now) count → MayBecome s (batch_value batch.now) (state S.Store conn.old) (state S.Store conn.new) }
+    ensures ended { HasCleanDisk (state S.Store conn.new) → (s : State)
+        → Rests (state S.Store conn.old) s → Awaits s (batch_value batch.now) count
+        → Ended s (batch_value batch.now) (state S.Store conn.new) result }
+    ensures elsewhere { HasCleanDisk (state S.Store conn.new) → (s : State)
+        → Rests (state S.Store conn.old) s → Awaits s (batch_value batch.now) count
+        → LeavesOtherTables (state S.Store conn.old) (state S.Store conn.new) }
+    ensures crash { HasCleanDisk (state S.Store conn.new) → (s : State)
+        → Rests (state S.Store conn.old) s → Awaits s (batch_value batch.now) count
+        → MayBecome s (batch_value batch.now) (state S.Store conn.old) (state S.Store conn.new) }
 {
     let mut tx = conn.transaction();
     match act_inside(&mut tx, alloc, count, batch, text) {
@@ -74,13 +82,20 @@ fn act_by_key<S: Alter>(
     requires idle { conn.old.in_transaction ≡ false }
     requires its_text { text.now ≡ batch_text (batch_value batch.now) }
     ensures idle { conn.new.in_transaction ≡ false }
-    ensures clean { doubt (state S.Store conn.old).is_clean ≤ doubt (state S.Store conn.new).is_clean }
+    ensures clean { doubt (state S.Store conn.old).is_clean
+        ≤ doubt (state S.Store conn.new).is_clean }
     ensures reason { HasCleanDisk (state S.Store conn.new) →
         IfErr result (HasReason (state S.Store conn.old) (state S.Store conn.new)) }
     ensures survives { Survives (state S.Store conn.old) (state S.Store conn.new) (λ _. Unit {0}) }
-    ensures ended { HasCleanDisk (state S.Store conn.new) → (s : State) → Rests (state S.Store conn.old) s → len s.keys ≡ count → Ended s (batch_value batch.now) (state S.Store conn.new) result }
-    ensures elsewhere { HasCleanDisk (state S.Store conn.new) → (s : State) → Rests (state S.Store conn.old) s → len s.keys ≡ count → LeavesOtherTables (state S.Store conn.old) (state S.Store conn.new) }
-    ensures crash { HasCleanDisk (state S.Store conn.new) → (s : State) → Rests (state S.Store conn.old) s → len s.keys ≡ count → MayBecome s (batch_value batch.now) (state S.Store conn.old) (state S.Store conn.new) }
+    ensures ended { HasCleanDisk (state S.Store conn.new) → (s : State)
+        → Rests (state S.Store conn.old) s → len s.keys ≡ count
+        → Ended s (batch_value batch.now) (state S.Store conn.new) result }
+    ensures elsewhere { HasCleanDisk (state S.Store conn.new) → (s : State)
+        → Rests (state S.Store conn.old) s → len s.keys ≡ count
+        → LeavesOtherTables (state S.Store conn.old) (state S.Store conn.new) }
+    ensures crash { HasCleanDisk (state S.Store conn.new) → (s : State)
+        → Rests (state S.Store conn.old) s → len s.keys ≡ count
+        → MayBecome s (batch_value batch.now) (state S.Store conn.old) (state S.Store conn.new) }
 {
     if let Some(reply) = kept_reply(conn, batch.key(), text)? {
         return Ok(reply);
@@ -95,10 +110,11 @@ fn act_by_key<S: Alter>(
 ///
 /// # Errors
 ///
-/// `Memory` where memory was refused, nothing changed and the connection is open; `Closed(Device(error))`
-/// where the store failed or has no room, by its error. After memory was refused, and before a reply that
-/// changed nothing is told, the connection is looked at by `probe`: where that look fails it is
-/// `Closed(Device(error))` by the error of the look, which may be that memory was refused to it.
+/// `Memory` where memory was refused, nothing changed and the connection is open;
+/// `Closed(Device(error))` where the store failed or has no room, by its error. After memory was
+/// refused, and before a reply that changed nothing is told, the connection is looked at by
+/// `probe`: where that look fails it is `Closed(Device(error))` by the error of the look, which may
+/// be that memory was refused to it.
 #[tactic(auto, using(crate::proofs::Told::told_by_cause, crate::proofs::Told::told_settled))]
 pub fn apply_batch<S: Alter>(
     alloc: Global,
@@ -108,14 +124,21 @@ pub fn apply_batch<S: Alter>(
 ) -> Result<Reply, Stop>
     requires { conn.old.in_transaction ≡ false }
     ensures idle { conn.new.in_transaction ≡ false }
-    ensures clean { doubt (state S.Store conn.old).is_clean ≤ doubt (state S.Store conn.new).is_clean }
+    ensures clean { doubt (state S.Store conn.old).is_clean
+        ≤ doubt (state S.Store conn.new).is_clean }
     ensures reason { HasCleanDisk (state S.Store conn.new) →
         IfErr result (StopsFor (state S.Store conn.old) (state S.Store conn.new)) }
     ensures survives { Survives (state S.Store conn.old) (state S.Store conn.new) (λ _. Unit {0}) }
     ensures told { HasCleanDisk (state S.Store conn.new) → IfErr result IsToldByStore }
-    ensures acts { HasCleanDisk (state S.Store conn.new) → (s : State) → Rests (state S.Store conn.old) s → len s.keys ≡ count → Applied s (batch_value batch.now) (state S.Store conn.new) result }
-    ensures elsewhere { HasCleanDisk (state S.Store conn.new) → (s : State) → Rests (state S.Store conn.old) s → len s.keys ≡ count → LeavesOtherTables (state S.Store conn.old) (state S.Store conn.new) }
-    ensures crash { HasCleanDisk (state S.Store conn.new) → (s : State) → Rests (state S.Store conn.old) s → len s.keys ≡ count → MayBecome s (batch_value batch.now) (state S.Store conn.old) (state S.Store conn.new) }
+    ensures acts { HasCleanDisk (state S.Store conn.new) → (s : State)
+        → Rests (state S.Store conn.old) s → len s.keys ≡ count
+        → Applied s (batch_value batch.now) (state S.Store conn.new) result }
+    ensures elsewhere { HasCleanDisk (state S.Store conn.new) → (s : State)
+        → Rests (state S.Store conn.old) s → len s.keys ≡ count
+        → LeavesOtherTables (state S.Store conn.old) (state S.Store conn.new) }
+    ensures crash { HasCleanDisk (state S.Store conn.new) → (s : State)
+        → Rests (state S.Store conn.old) s → len s.keys ≡ count
+        → MayBecome s (batch_value batch.now) (state S.Store conn.old) (state S.Store conn.new) }
 {
     let Ok(text) = batch.text(alloc) else {
         return Err(Stop::Memory);

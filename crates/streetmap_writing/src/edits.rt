@@ -21,10 +21,13 @@ use streetmap_rows::{collection_rows, delete_feature, has_feature, insert_collec
 /// Whether there is a collection with this id.
 fn has_collection<S: Alter>(tx: &mut Transaction<'_, S>, collection: &str) -> Result<bool, Error>
     ensures same_reference { tx.new.conn.ghost_name ≡ tx.old.conn.ghost_name }
-    ensures looks { HasCleanDisk (state S.Store tx.new.conn.now) → Looks (λ s. is_some (get s.collections collection.now)) (state S.Store tx.old.conn.now) (state S.Store tx.new.conn.now) result }
+    ensures looks { HasCleanDisk (state S.Store tx.new.conn.now)
+        → Looks (λ s. is_some (get s.collections collection.now)) (state S.Store tx.old.conn.now)
+        (state S.Store tx.new.conn.now) result }
     ensures reason { HasCleanDisk (state S.Store tx.new.conn.now) →
         IfErr result (HasReason (state S.Store tx.old.conn.now) (state S.Store tx.new.conn.now)) }
-    ensures survives { Survives (state S.Store tx.old.conn.now) (state S.Store tx.new.conn.now) (λ _. ⊥) }
+    ensures survives { Survives (state S.Store tx.old.conn.now) (state S.Store tx.new.conn.now)
+        (λ _. ⊥) }
 {
     let rows = collection_rows(tx, collection)?;
     Ok(!rows.is_empty())
@@ -39,10 +42,13 @@ fn open_in<S: Alter>(
     time: Option<&str>,
 ) -> Result<Option<Refusal>, Error>
     ensures same_reference { tx.new.conn.ghost_name ≡ tx.old.conn.ghost_name }
-    ensures edits { HasCleanDisk (state S.Store tx.new.conn.now) → Edits (edit.«open» collection.now title.now (option_copied time.entry)) (state S.Store tx.old.conn.now) (state S.Store tx.new.conn.now) result }
+    ensures edits { HasCleanDisk (state S.Store tx.new.conn.now)
+        → Edits (edit.«open» collection.now title.now (option_copied time.entry))
+        (state S.Store tx.old.conn.now) (state S.Store tx.new.conn.now) result }
     ensures reason { HasCleanDisk (state S.Store tx.new.conn.now) →
         IfErr result (HasReason (state S.Store tx.old.conn.now) (state S.Store tx.new.conn.now)) }
-    ensures survives { Survives (state S.Store tx.old.conn.now) (state S.Store tx.new.conn.now) (λ _. ⊥) }
+    ensures survives { Survives (state S.Store tx.old.conn.now) (state S.Store tx.new.conn.now)
+        (λ _. ⊥) }
 {
     if has_collection(tx, collection)? {
         return Ok(Some(Refusal::CollectionExists));
@@ -59,10 +65,13 @@ fn insert_in<S: Alter>(
     feature: &Feature,
 ) -> Result<Option<Refusal>, Error>
     ensures same_reference { tx.new.conn.ghost_name ≡ tx.old.conn.ghost_name }
-    ensures edits { HasCleanDisk (state S.Store tx.new.conn.now) → Edits (edit.insert collection.now feature.now) (state S.Store tx.old.conn.now) (state S.Store tx.new.conn.now) result }
+    ensures edits { HasCleanDisk (state S.Store tx.new.conn.now)
+        → Edits (edit.insert collection.now feature.now) (state S.Store tx.old.conn.now)
+        (state S.Store tx.new.conn.now) result }
     ensures reason { HasCleanDisk (state S.Store tx.new.conn.now) →
         IfErr result (HasReason (state S.Store tx.old.conn.now) (state S.Store tx.new.conn.now)) }
-    ensures survives { Survives (state S.Store tx.old.conn.now) (state S.Store tx.new.conn.now) (λ _. ⊥) }
+    ensures survives { Survives (state S.Store tx.old.conn.now) (state S.Store tx.new.conn.now)
+        (λ _. ⊥) }
 {
     let Some(property) = time_property(tx, collection)? else {
         return Ok(Some(Refusal::NoCollection));
@@ -81,10 +90,13 @@ fn replace_in<S: Alter>(
     feature: &Feature,
 ) -> Result<Option<Refusal>, Error>
     ensures same_reference { tx.new.conn.ghost_name ≡ tx.old.conn.ghost_name }
-    ensures edits { HasCleanDisk (state S.Store tx.new.conn.now) → Edits (edit.replace collection.now feature.now) (state S.Store tx.old.conn.now) (state S.Store tx.new.conn.now) result }
+    ensures edits { HasCleanDisk (state S.Store tx.new.conn.now)
+        → Edits (edit.replace collection.now feature.now) (state S.Store tx.old.conn.now)
+        (state S.Store tx.new.conn.now) result }
     ensures reason { HasCleanDisk (state S.Store tx.new.conn.now) →
         IfErr result (HasReason (state S.Store tx.old.conn.now) (state S.Store tx.new.conn.now)) }
-    ensures survives { Survives (state S.Store tx.old.conn.now) (state S.Store tx.new.conn.now) (λ _. ⊥) }
+    ensures survives { Survives (state S.Store tx.old.conn.now) (state S.Store tx.new.conn.now)
+        (λ _. ⊥) }
 {
     let Some(property) = time_property(tx, collection)? else {
         return Ok(Some(Refusal::NoCollection));
@@ -104,10 +116,13 @@ fn delete_in<S: Alter>(
     id: &str,
 ) -> Result<Option<Refusal>, Error>
     ensures same_reference { tx.new.conn.ghost_name ≡ tx.old.conn.ghost_name }
-    ensures edits { HasCleanDisk (state S.Store tx.new.conn.now) → Edits (edit.delete collection.now id.now) (state S.Store tx.old.conn.now) (state S.Store tx.new.conn.now) result }
+    ensures edits { HasCleanDisk (state S.Store tx.new.conn.now)
+        → Edits (edit.delete collection.now id.now) (state S.Store tx.old.conn.now)
+        (state S.Store tx.new.conn.now) result }
     ensures reason { HasCleanDisk (state S.Store tx.new.conn.now) →
         IfErr result (HasReason (state S.Store tx.old.conn.now) (state S.Store tx.new.conn.now)) }
-    ensures survives { Survives (state S.Store tx.old.conn.now) (state S.Store tx.new.conn.now) (λ _. ⊥) }
+    ensures survives { Survives (state S.Store tx.old.conn.now) (state S.Store tx.new.conn.now)
+        (λ _. ⊥) }
 {
     if !has_collection(tx, collection)? {
         return Ok(Some(Refusal::NoCollection));
@@ -136,10 +151,13 @@ fn edit_in<S: Alter>(
     edit: &Edit,
 ) -> Result<Option<Refusal>, Error>
     ensures same_reference { tx.new.conn.ghost_name ≡ tx.old.conn.ghost_name }
-    ensures edits { HasCleanDisk (state S.Store tx.new.conn.now) → Edits (edit_value edit.now) (state S.Store tx.old.conn.now) (state S.Store tx.new.conn.now) result }
+    ensures edits { HasCleanDisk (state S.Store tx.new.conn.now)
+        → Edits (edit_value edit.now) (state S.Store tx.old.conn.now)
+        (state S.Store tx.new.conn.now) result }
     ensures reason { HasCleanDisk (state S.Store tx.new.conn.now) →
         IfErr result (HasReason (state S.Store tx.old.conn.now) (state S.Store tx.new.conn.now)) }
-    ensures survives { Survives (state S.Store tx.old.conn.now) (state S.Store tx.new.conn.now) (λ _. ⊥) }
+    ensures survives { Survives (state S.Store tx.old.conn.now) (state S.Store tx.new.conn.now)
+        (λ _. ⊥) }
 {
     match edit {
         Edit::Open {
@@ -166,10 +184,13 @@ pub fn edit_each<S: Alter>(
     edits: &[Edit],
 ) -> Result<Option<(u64, Refusal)>, Error>
     ensures same_reference { tx.new.conn.ghost_name ≡ tx.old.conn.ghost_name }
-    ensures edits { HasCleanDisk (state S.Store tx.new.conn.now) → EditsAll (map edit_value edits.now) (state S.Store tx.old.conn.now) (state S.Store tx.new.conn.now) result }
+    ensures edits { HasCleanDisk (state S.Store tx.new.conn.now)
+        → EditsAll (map edit_value edits.now) (state S.Store tx.old.conn.now)
+        (state S.Store tx.new.conn.now) result }
     ensures reason { HasCleanDisk (state S.Store tx.new.conn.now) →
         IfErr result (HasReason (state S.Store tx.old.conn.now) (state S.Store tx.new.conn.now)) }
-    ensures survives { Survives (state S.Store tx.old.conn.now) (state S.Store tx.new.conn.now) (λ _. ⊥) }
+    ensures survives { Survives (state S.Store tx.old.conn.now) (state S.Store tx.new.conn.now)
+        (λ _. ⊥) }
 {
     let mut place: u64 = 1;
     'edits: for edit in edits {

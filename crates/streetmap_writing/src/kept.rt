@@ -44,8 +44,8 @@ fn counts_in(row: &Row) -> Result<Counts, Error>
     })
 }
 
-/// The answer to a batch with this text, by the row that is kept for its key: what was answered before
-/// where the texts are one, and else that the key was used.
+/// The answer to a batch with this text, by the row that is kept for its key: what was answered
+/// before where the texts are one, and else that the key was used.
 fn reply_in(row: &Row, text: &str) -> Result<Reply, Error>
     ensures spared { IfErr result SparesDisk }
     ensures reads { (kept : AcceptedBatch) → row.now ≡ kept_view kept →
@@ -69,13 +69,20 @@ pub fn kept_reply<S: Alter>(
 ) -> Result<Option<Reply>, Error>
     requires { conn.old.in_transaction ≡ false }
     ensures idle { conn.new.in_transaction ≡ false }
-    ensures clean { doubt (state S.Store conn.old).is_clean ≤ doubt (state S.Store conn.new).is_clean }
+    ensures clean { doubt (state S.Store conn.old).is_clean
+        ≤ doubt (state S.Store conn.new).is_clean }
     ensures reason { HasCleanDisk (state S.Store conn.new) →
         IfErr result (HasReason (state S.Store conn.old) (state S.Store conn.new)) }
     ensures survives { Survives (state S.Store conn.old) (state S.Store conn.new) (λ _. Unit {0}) }
-    ensures looks { HasCleanDisk (state S.Store conn.new) → Rested (λ s. option_map (kept_answer text.now) (get s.keys key.now)) (state S.Store conn.old) (state S.Store conn.new) result }
-    ensures same { HasCleanDisk (state S.Store conn.new) → (s : State) → Rests (state S.Store conn.old) s → IsTrue (state S.Store conn.new).is_open → (state S.Store conn.new).now ≡ (state S.Store conn.old).now }
-    ensures crash { HasCleanDisk (state S.Store conn.new) → (s : State) → Rests (state S.Store conn.old) s → (trees : Trees) → (state S.Store conn.new).may_leave trees → (state S.Store conn.old).may_leave trees }
+    ensures looks { HasCleanDisk (state S.Store conn.new)
+        → Rested (λ s. option_map (kept_answer text.now) (get s.keys key.now))
+        (state S.Store conn.old) (state S.Store conn.new) result }
+    ensures same { HasCleanDisk (state S.Store conn.new) → (s : State)
+        → Rests (state S.Store conn.old) s → IsTrue (state S.Store conn.new).is_open
+        → (state S.Store conn.new).now ≡ (state S.Store conn.old).now }
+    ensures crash { HasCleanDisk (state S.Store conn.new) → (s : State)
+        → Rests (state S.Store conn.old) s → (trees : Trees)
+        → (state S.Store conn.new).may_leave trees → (state S.Store conn.old).may_leave trees }
 {
     let rows = match kept_rows(conn, key) {
         Ok(rows) => rows,

@@ -31,7 +31,8 @@ fn text_of(alloc: Global, feature: &Feature) -> Result<String, AllocError>
 ///
 /// # Errors
 ///
-/// The error of the store; or, where the tables are not those of a state, that the statement was refused.
+/// The error of the store; or, where the tables are not those of a state, that the statement was
+/// refused.
 pub fn put_feature<S: Alter>(
     tx: &mut Transaction<'_, S>,
     alloc: Global,
@@ -40,17 +41,24 @@ pub fn put_feature<S: Alter>(
     feature: &Feature,
 ) -> Result<Option<Refusal>, Error>
     ensures same_reference { tx.new.conn.ghost_name ≡ tx.old.conn.ghost_name }
-    ensures puts { HasCleanDisk (state S.Store tx.new.conn.now) → Puts collection.now (option_copied property.entry) feature.now (state S.Store tx.old.conn.now) (state S.Store tx.new.conn.now) result }
+    ensures puts { HasCleanDisk (state S.Store tx.new.conn.now)
+        → Puts collection.now (option_copied property.entry) feature.now
+        (state S.Store tx.old.conn.now) (state S.Store tx.new.conn.now) result }
     ensures ran { HasCleanDisk (state S.Store tx.new.conn.now) →
         IsTrue (state S.Store tx.old.conn.now).in_transaction →
         IfOk result (λ refusal. refusal ≡ None →
         RanInsert (collection.now, feature.now.id) (feature_text feature.now)
         (state S.Store tx.old.conn.now) (state S.Store tx.new.conn.now)) }
-    ensures inside { HasCleanDisk (state S.Store tx.new.conn.now) → IsTrue (state S.Store tx.old.conn.now).in_transaction → OnOk result (IsTrue (state S.Store tx.new.conn.now).in_transaction) }
-    ensures kept { HasCleanDisk (state S.Store tx.new.conn.now) → IsTrue (state S.Store tx.old.conn.now).in_transaction → KeepsCommit (state S.Store tx.old.conn.now) (state S.Store tx.new.conn.now) }
+    ensures inside { HasCleanDisk (state S.Store tx.new.conn.now)
+        → IsTrue (state S.Store tx.old.conn.now).in_transaction
+        → OnOk result (IsTrue (state S.Store tx.new.conn.now).in_transaction) }
+    ensures kept { HasCleanDisk (state S.Store tx.new.conn.now)
+        → IsTrue (state S.Store tx.old.conn.now).in_transaction
+        → KeepsCommit (state S.Store tx.old.conn.now) (state S.Store tx.new.conn.now) }
     ensures reason { HasCleanDisk (state S.Store tx.new.conn.now) →
         IfErr result (HasReason (state S.Store tx.old.conn.now) (state S.Store tx.new.conn.now)) }
-    ensures survives { Survives (state S.Store tx.old.conn.now) (state S.Store tx.new.conn.now) (λ _. ⊥) }
+    ensures survives { Survives (state S.Store tx.old.conn.now) (state S.Store tx.new.conn.now)
+        (λ _. ⊥) }
 {
     let Ok(seconds) = seconds_under(feature, property) else {
         return Ok(Some(Refusal::BadTime));

@@ -19,10 +19,13 @@ pub fn time_property<S: Alter>(
     collection: &str,
 ) -> Result<Option<Option<String>>, Error>
     ensures same_reference { tx.new.conn.ghost_name ≡ tx.old.conn.ghost_name }
-    ensures finds { HasCleanDisk (state S.Store tx.new.conn.now) → FindsTime collection.now (state S.Store tx.old.conn.now) (state S.Store tx.new.conn.now) result }
+    ensures finds { HasCleanDisk (state S.Store tx.new.conn.now)
+        → FindsTime collection.now (state S.Store tx.old.conn.now) (state S.Store tx.new.conn.now)
+        result }
     ensures reason { HasCleanDisk (state S.Store tx.new.conn.now) →
         IfErr result (HasReason (state S.Store tx.old.conn.now) (state S.Store tx.new.conn.now)) }
-    ensures survives { Survives (state S.Store tx.old.conn.now) (state S.Store tx.new.conn.now) (λ _. ⊥) }
+    ensures survives { Survives (state S.Store tx.old.conn.now) (state S.Store tx.new.conn.now)
+        (λ _. ⊥) }
 {
     let rows = collection_rows(tx, collection)?;
     let Some(row) = rows.first() else {
@@ -38,7 +41,8 @@ pub fn seconds_under(
     property: Option<&str>,
 ) -> Result<Option<(i64, i64)>, TimeFault>
     ensures told { IfOk result (IsTimed (option_copied property.entry) feature.now) }
-    ensures refused { OnErr result (timed (option_copied property.entry) feature.now ≡ Err BadTime) }
+    ensures refused { OnErr result (timed (option_copied property.entry) feature.now
+        ≡ Err BadTime) }
 {
     feature.facts();
     match feature.time_under(property)? {
