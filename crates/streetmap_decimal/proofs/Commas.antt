@@ -1,12 +1,10 @@
 -- The text of a shift.
-use Rattle.std.proofs.Common.{◌≡◌, ℕ, suc, ◌+◌, ◌≤◌, List, [], ◌∷◌, ◌++◌, length, ℤ, Ok, Some, None, refl, sym, ap, subst, ◌∙◌, arith, length-append, length-drop, take_all, take, drop, ◌-◌, Result}
+use Rattle.std.proofs.Common.{◌≡◌, ℕ, ◌+◌, List, [], ◌∷◌, length, ℤ, refl, ap, subst, ◌∙◌, arith, length-append, length-drop, take_all, take, drop, ◌-◌, Result}
 use Rattle.std.specs.List.{before_first, after_first, position_or_len}
-use Rattle.std.proofs.lemmas.Option.{none-some}
 use Rattle.streetmap_decimal.specs.declared.fault.DecimalFault.{DecimalFault}
 use Rattle.streetmap_decimal.specs.NumberText.{Means}
 use Rattle.streetmap_decimal.specs.Decimal.{ReadsCount}
 use Rattle.streetmap_decimal.specs.Options.{is_comma, IsShift}
-use Rattle.streetmap_decimal.proofs.Grammar.{parts_again}
 
 -- no number is empty
 never_empty : (m e : ℤ) → Means [] m e → ⊥

@@ -1,5 +1,5 @@
 -- What is rounded on both sides of a number is the nearest to the number itself.
-use Rattle.std.proofs.Common.{◌≡◌, ℕ, zero, suc, ◌+◌, ◌*◌, ◌^◌, ◌<◌, ◌≤◌, Bool, true, false, List, Result, Ok, Err, Some, ℤ, pos, negsuc, ◌+ℤ◌, ◌-ℤ◌, ◌*ℤ◌, ◌≤ℤ◌, ◌<ℤ◌, refl, sym, ap, subst, ◌∙◌, arith}
+use Rattle.std.proofs.Common.{◌≡◌, ℕ, suc, ◌+◌, ◌*◌, ◌^◌, ◌<◌, ◌≤◌, Bool, true, false, List, Result, Ok, Err, ℤ, pos, negsuc, ◌+ℤ◌, ◌-ℤ◌, ◌*ℤ◌, ◌≤ℤ◌, ◌<ℤ◌, refl, sym, ap, subst, ◌∙◌, arith}
 use Rattle.std.specs.Prelude.{unsigned_abs, int_lt, IfOk}
 use Rattle.std.proofs.lemmas.Int.{ints, unsigned_abs-mul}
 use Rattle.std.proofs.Math.Nat.{mul-le-mul_right}
@@ -7,7 +7,7 @@ use Rattle.streetmap_decimal.specs.declared.fault.DecimalFault.{DecimalFault}
 use Rattle.streetmap_decimal.specs.declared.rounding.Rounding.{Rounding}
 use Rattle.streetmap_decimal.specs.declared.rounding.Rounding.TheVariants.{Exact, Nearest}
 use Rattle.streetmap_decimal.specs.NumberText.{signed}
-use Rattle.streetmap_decimal.specs.Decimal.{IsCount, IsShifted, IsFloor, IsCeiling, with_sign_of}
+use Rattle.streetmap_decimal.specs.Decimal.{IsCount, IsShifted, IsFloor, IsCeiling}
 use Rattle.streetmap_decimal.specs.Grid.{IsNearestOf, IsNearest, placed, Places, PlacesText}
 use Rattle.streetmap_decimal.specs.Nearest.{IsNearestTo, IsNearestToText}
 use Rattle.streetmap_decimal.proofs.Powers.{pow_some, nat_cancel}
@@ -38,9 +38,9 @@ scaled_nearest parts p z g some h =
     let low : unsigned_abs (z *ℤ pos p) ≡ unsigned_abs z * p = unsigned_abs-mul z (pos p) in (
       omega (arith, e, mul-le-mul_right {m = 2 * d} {n = parts} p h.0),
       λ t.
-        let half : 2 * d ≡ parts = nat_cancel (2 * d) parts p some (omega (arith, e, t)) in
-        let less = h.1 half in
-        omega (arith, size, low, some, mul-le-mul_right {m = unsigned_abs z + 1} {n = unsigned_abs (g *ℤ pos parts)} p (omega (arith, less))),
+          let half : 2 * d ≡ parts = nat_cancel (2 * d) parts p some (omega (arith, e, t)) in
+          let less = h.1 half in
+          omega (arith, size, low, some, mul-le-mul_right {m = unsigned_abs z + 1} {n = unsigned_abs (g *ℤ pos parts)} p (omega (arith, less))),
     )
 
 -- ---- between two numbers

@@ -1,6 +1,6 @@
 -- No two answers.
-use Rattle.std.proofs.Common.{◌≡◌, inl, inr, ℕ, suc, ◌^◌, ◌≤◌, List, ℤ, pos, negsuc, ◌+ℤ◌, ◌*ℤ◌, ◌≤ℤ◌, Result, Ok, Err, refl, sym, ap, subst, ◌∙◌, arith}
-use Rattle.std.specs.Prelude.{int_lt, unsigned_abs, ◌+◌, ◌-◌, ◌*◌, ◌<◌, Option, Some, None}
+use Rattle.std.proofs.Common.{◌≡◌, ℕ, suc, ◌^◌, ◌≤◌, List, ℤ, pos, negsuc, ◌+ℤ◌, ◌*ℤ◌, ◌≤ℤ◌, Result, Ok, Err, refl, sym, ap, subst, ◌∙◌, arith}
+use Rattle.std.specs.Prelude.{int_lt, unsigned_abs, ◌+◌, ◌-◌, ◌*◌, ◌<◌, Some, None}
 use Rattle.std.proofs.lemmas.Int.{ints}
 use Rattle.std.proofs.lemmas.Option.{same_Some}
 use Rattle.streetmap_grid.specs.Range.{IsCoordinate}
@@ -10,7 +10,7 @@ use Rattle.streetmap_decimal.specs.declared.rounding.Rounding.{Rounding}
 use Rattle.streetmap_decimal.specs.declared.rounding.Rounding.TheVariants.{Exact, Nearest}
 use Rattle.streetmap_decimal.specs.NumberText.{Means, mantissa, exponent}
 use Rattle.streetmap_decimal.specs.Decimal.{Reads, ReadsCount, IsShifted, Counts, IsFloor, IsCeiling, Sides, Encloses, with_sign_of}
-use Rattle.streetmap_decimal.specs.Grid.{IsNearest, IsWholeNumber, IsBeyond, RoundsTo, Stands, Agrees, Places, PlacesText, placed}
+use Rattle.streetmap_decimal.specs.Grid.{IsNearest, IsWholeNumber, RoundsTo, Stands, Agrees, Places, PlacesText, placed}
 use Rattle.streetmap_decimal.proofs.Grammar.{parts_again}
 use Rattle.streetmap_decimal.proofs.Powers.{pow_some, between_multiples}
 use Rattle.streetmap_decimal.proofs.Signs.{sign_of, signed-mul}

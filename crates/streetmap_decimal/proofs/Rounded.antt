@@ -1,13 +1,11 @@
 -- The nearest whole number is one.
-use Rattle.std.proofs.Common.{◌≡◌, true, false, not, ℕ, ◌*◌, ◌^◌, ◌≤◌, ℤ, pos, ◌-ℤ◌, ◌*ℤ◌, Option, Some, None, Result, Ok, Err, refl, sym, ap, subst, ◌∙◌, arith}
-use Rattle.std.specs.Prelude.{unsigned_abs}
+use Rattle.std.proofs.Common.{◌≡◌, true, false, not, ℤ, Option, Some, None, Err, refl, sym, ap, subst, ◌∙◌, arith}
 use Rattle.std.specs.Option.{ok_or, option_eq}
 use Rattle.std.specs.Ordering.{int_eq}
 use Rattle.std.proofs.lemmas.Bool.{false≢true, not-false}
 use Rattle.std.proofs.lemmas.Bool.Decides.{Decides-int_eq}
 use Rattle.std.proofs.lemmas.Int.{ints}
 use Rattle.streetmap_grid.specs.Range.{IsCoordinate}
-use Rattle.streetmap_decimal.specs.declared.fault.DecimalFault.{DecimalFault}
 use Rattle.streetmap_decimal.specs.declared.fault.DecimalFault.TheVariants.{TooManyDigits, OutOfGrid}
 use Rattle.streetmap_decimal.specs.Grid.{IsNearest, IsBeyond, RoundsTo, Agrees}
 

@@ -199,7 +199,10 @@ mod tests {
             place("1000", "-500000.125,0", "412345.678", Rounding::Exact),
             Ok(912345803)
         );
-        assert_eq!(rt; place("1000", "0,0", "-1.5e3", Rounding::Exact), Ok(-1500000));
+        assert_eq!(rt;
+            place("1000", "0,0", "-1.5e3", Rounding::Exact),
+            Ok(-1500000)
+        );
         assert_eq!(rt; place("1", "0,0", "-0.5", Rounding::Nearest), Ok(-1));
         assert_eq!(rt; place("1", "0,0", "2.5", Rounding::Nearest), Ok(3));
         assert_eq!(rt; place("1", "0,0", "-2.5", Rounding::Nearest), Ok(-3));

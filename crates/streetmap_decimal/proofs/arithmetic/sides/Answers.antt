@@ -1,4 +1,4 @@
-use Rattle.std.proofs.Common.{◌*◌, ◌+◌, ◌/◌, ◌<◌, ◌≤◌, ◌^◌, ℕ, sym, subst, arith}
+use Rattle.std.proofs.Common.{◌*◌, ◌+◌, ◌/◌, ◌<◌, ◌≤◌, ℕ, subst, arith}
 use Rattle.streetmap_decimal.proofs.Powers.{pow_fits, pow_some, pow_rises, floor_of, whole_ceiling, rest_ceiling}
 use Rattle.streetmap_decimal.proofs.arithmetic.sides.Goals as goal
 

@@ -1,4 +1,4 @@
-use Rattle.std.proofs.Common.{◌≡◌, ◌<◌, ◌^◌, rules, ap, ◌∙◌, ℕ, ℤ, pos, FitsSigned}
+use Rattle.std.proofs.Common.{◌<◌, ◌^◌, rules, ap, ◌∙◌, pos, FitsSigned}
 use Rattle.std.specs.Prelude.{unsigned_abs, int_lt}
 use Rattle.std.specs.Int.{w128}
 use Rattle.std.proofs.lemmas.Int.{to_z-of_z}

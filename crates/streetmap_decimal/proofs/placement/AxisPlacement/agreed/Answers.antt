@@ -1,4 +1,4 @@
-use Rattle.std.proofs.Common.{rules, subst, sym, Result, ℤ, ◌∙◌, ◌≡◌}
+use Rattle.std.proofs.Common.{subst, sym, Result, ℤ, ◌∙◌, ◌≡◌}
 use Rattle.std.specs.Int.{w128}
 use Rattle.std.proofs.lemmas.Int.{to_z-of_z}
 use Rattle.streetmap_decimal.specs.declared.fault.DecimalFault.{DecimalFault}

@@ -1,8 +1,8 @@
-use Rattle.std.proofs.Common.{rules, subst, ap, sym, ◌∙◌, ◌≤◌, ◌^◌, ℕ, ℤ, pos, FitsSigned}
+use Rattle.std.proofs.Common.{rules, subst, ap, ◌∙◌, ◌≤◌, ◌^◌, ℤ, FitsSigned}
 use Rattle.std.specs.Prelude.{unsigned_abs}
 use Rattle.std.specs.Int.{w128}
 use Rattle.std.proofs.lemmas.Int.{to_z-of_z}
-use Rattle.streetmap_decimal.specs.Grid.{RoundsTo, Stands, placed}
+use Rattle.streetmap_decimal.specs.Grid.{Stands, placed}
 use Rattle.streetmap_decimal.proofs.NearestFacts.{beyond}
 use Rattle.streetmap_decimal.proofs.placement.AxisPlacement.standing.Goals as goal
 

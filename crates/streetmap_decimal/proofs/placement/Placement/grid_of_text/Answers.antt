@@ -1,7 +1,7 @@
 use Rattle.std.proofs.Common.{subst, ℤ}
 use Rattle.streetmap_decimal.specs.Axes.{shift_of}
 use Rattle.streetmap_decimal.specs.Decimal.{Reads}
-use Rattle.streetmap_decimal.specs.Grid.{Places, PlacesText}
+use Rattle.streetmap_decimal.specs.Grid.{Places}
 use Rattle.streetmap_decimal.proofs.Exactly.{if_nearest}
 use Rattle.streetmap_decimal.proofs.Steps.{then_next}
 use Rattle.streetmap_decimal.proofs.placement.Placement.grid_of_text.Goals as goal

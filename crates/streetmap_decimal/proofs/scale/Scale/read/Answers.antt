@@ -1,8 +1,7 @@
-use Rattle.std.proofs.Common.{◌≡◌, ◌∙◌, ap, rules, arith, subst, ℤ, pos, false, FitsSigned}
+use Rattle.std.proofs.Common.{◌≡◌, rules, subst, pos, false, FitsSigned}
 use Rattle.std.specs.Prelude.{int_le}
 use Rattle.std.specs.Int.{w128}
-use Rattle.std.proofs.lemmas.Int.{ints, to_z-of_z}
-use Rattle.std.proofs.lemmas.Bool.Decides.{nat_tests}
+use Rattle.std.proofs.lemmas.Int.{to_z-of_z}
 use Rattle.streetmap_decimal.specs.Decimal.{ReadsCount}
 use Rattle.streetmap_decimal.proofs.Once.{counts_same, counts_not}
 use Rattle.streetmap_decimal.proofs.Signs.{not_above}

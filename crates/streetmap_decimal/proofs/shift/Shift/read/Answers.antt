@@ -1,8 +1,7 @@
-use Rattle.std.proofs.Common.{◌≡◌, rules, arith, subst, sym, ◌∙◌, ℤ, List, ℕ, Result, Ok, Err, FitsSigned}
+use Rattle.std.proofs.Common.{rules, subst, sym, ◌∙◌, ℤ, Ok, Err, FitsSigned}
 use Rattle.std.specs.Int.{w128}
 use Rattle.std.specs.List.{before_first, after_first}
 use Rattle.std.proofs.lemmas.Int.{to_z-of_z}
-use Rattle.streetmap_decimal.specs.declared.fault.DecimalFault.{DecimalFault}
 use Rattle.streetmap_decimal.specs.Decimal.{ReadsCount}
 use Rattle.streetmap_decimal.specs.Options.{is_comma}
 use Rattle.streetmap_decimal.proofs.Once.{counts_not}
