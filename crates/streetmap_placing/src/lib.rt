@@ -13,6 +13,7 @@
 #![tactic(auto)]
 
 mod fault;
+pub mod laws;
 mod number;
 mod numbers;
 mod placing;

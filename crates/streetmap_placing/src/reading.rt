@@ -76,3 +76,90 @@ fn parsed<'a>(alloc: Global, reader: &mut Reader<'a>) -> Result<json::Value<'a>,
         Err(_) => Err(PlacingFault::NotJson),
     }
 }
+
+#[cfg(test)]
+mod tests {
+    use super::*;
+    use std::test::Fail;
+    use streetmap_decimal::{Rounding, Scale, Shift};
+
+    const METRES: &str = r#"{"type":"Feature","id":7.0,"geometry":{"type":"LineString","coordinates":
+        [[412000.1235,5811000.5,31.25],[412001,5811001.0004]]},"properties":{"lanes":2.0,"width":3.50}}"#;
+
+    fn metres(fractions: Fractions) -> Numbers {
+        Numbers::new(
+            Scale::read(b"1000").ok(),
+            Shift::read(b"412000,5811000").ok(),
+            Rounding::Nearest,
+            fractions,
+        )
+    }
+
+    fn is_read_as(
+        alloc: Global,
+        text: &str,
+        numbers: &Numbers,
+        expected: &str,
+    ) -> Result<bool, Fail> {
+        let value = read_placed(alloc, text.as_bytes(), numbers)?;
+        Ok(value == read_json(alloc, expected.as_bytes())?)
+    }
+
+    fn fault_of(alloc: Global, text: &str, numbers: &Numbers) -> Option<PlacingFault> {
+        read_placed(alloc, text.as_bytes(), numbers).err()
+    }
+
+    #[test]
+    fn coordinates_are_placed(rt: HostRuntime) -> Result<(), Fail> {
+        let alloc = rt.alloc();
+        let placed = r#"{"type":"Feature","id":7,"geometry":{"type":"LineString","coordinates":
+            [[124,500,31250],[1000,1000]]},"properties":{"lanes":2,"width":"3.50"}}"#;
+        assert!(rt; is_read_as(alloc, METRES, &metres(Fractions::Text), placed)?);
+        let kept = r#"{"type":"Feature","id":7,"geometry":{"type":"LineString","coordinates":
+            [[124,500,31250],[1000,1000]]},"properties":{"lanes":2,"width":3.5}}"#;
+        assert!(rt; is_read_as(alloc, METRES, &metres(Fractions::Number), kept)?);
+        Ok(())
+    }
+
+    #[test]
+    fn a_collection_of_geometries_is_placed(rt: HostRuntime) -> Result<(), Fail> {
+        let alloc = rt.alloc();
+        let text = r#"{"geometry":{"geometries":[{"coordinates":[412001,5811000]}]},"bbox":[1.5,2]}"#;
+        let placed = r#"{"geometry":{"geometries":[{"coordinates":[1000,0]}]},"bbox":[1.5,2]}"#;
+        assert!(rt; is_read_as(alloc, text, &metres(Fractions::Text), placed)?);
+        Ok(())
+    }
+
+    #[test]
+    fn other_counts_stay(rt: HostRuntime) -> Result<(), Fail> {
+        let alloc = rt.alloc();
+        let text = r#"{"geometry":{"coordinates":[[1.5],[1.5,2.5,3.5,4.5]]}}"#;
+        assert!(rt; is_read_as(alloc, text, &metres(Fractions::Text), text)?);
+        Ok(())
+    }
+
+    #[test]
+    fn nothing_asked_for_is_nothing_done(rt: HostRuntime) -> Result<(), Fail> {
+        let alloc = rt.alloc();
+        let none = Numbers::new(None, None, Rounding::Exact, Fractions::Number);
+        assert!(rt; is_read_as(alloc, METRES, &none, METRES)?);
+        Ok(())
+    }
+
+    #[test]
+    fn faults_come_in_the_order_of_the_text(rt: HostRuntime) -> Result<(), Fail> {
+        let alloc = rt.alloc();
+        let exact = Numbers::new(None, None, Rounding::Nearest, Fractions::Text);
+        let text = r#"{"geometry":{"coordinates":[[1e18,1],[1,0.49999999999999999999]]}}"#;
+        assert_eq!(rt; fault_of(alloc, text, &exact), Some(PlacingFault::OutOfGrid));
+        let text = r#"{"geometry":{"coordinates":[[1,0.49999999999999999999],[1e18,1]]}}"#;
+        assert_eq!(rt; fault_of(alloc, text, &exact), Some(PlacingFault::TooManyDigits));
+        let text = r#"{"geometry":{"coordinates":[[1e18,1],]}}"#;
+        assert_eq!(rt; fault_of(alloc, text, &exact), Some(PlacingFault::NotJson));
+        let whole = Numbers::new(Scale::read(b"1").ok(), None, Rounding::Exact, Fractions::Text);
+        let text = r#"{"geometry":{"coordinates":[0.5,1]}}"#;
+        assert_eq!(rt; fault_of(alloc, text, &whole), Some(PlacingFault::Fraction));
+        assert_eq!(rt; PlacingFault::Fraction.code(), "fraction");
+        Ok(())
+    }
+}
