@@ -1,7 +1,7 @@
 -- No two outcomes.
-use Rattle.std.proofs.Common.{◌≡◌, inl, inr, ℕ, suc, List, Option, Some, None, Result, Ok, Err, refl, sym, ap, subst, ◌∙◌}
+use Rattle.std.proofs.Common.{◌≡◌, inl, inr, ℕ, suc, List, Option, Some, None, Result, Ok, Err, sym, ap, subst, ◌∙◌}
 use Rattle.json.specs.Json as json
-use Rattle.serde_json.specs.Data.{Data, array, object, Items, item, Members, no_members, put}
+use Rattle.serde_json.specs.Data.{array, object, item, Members, no_members, put}
 use Rattle.streetmap_decimal.specs.Axes.{shift_of}
 use Rattle.streetmap_decimal.specs.declared.axis.Axis.{Axis}
 use Rattle.streetmap_decimal.specs.declared.placement.Placement.{Placement}

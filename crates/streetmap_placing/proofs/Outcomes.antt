@@ -1,5 +1,5 @@
 -- Outcomes, the one after the other.
-use Rattle.std.proofs.Common.{◌≡◌, inl, inr, Result, Ok, Err, refl}
+use Rattle.std.proofs.Common.{inl, inr, Result, Ok, Err, refl}
 use Rattle.streetmap_placing.specs.Placed.{Then, Made, Answers}
 use Rattle.streetmap_placing.specs.declared.fault.PlacingFault.{PlacingFault}
 use Rattle.streetmap_placing.specs.declared.fault.PlacingFault.TheVariants.{Memory, NotJson, TooManyDigits, OutOfGrid, Fraction}

@@ -1,5 +1,5 @@
 -- What the values within a feature become.
-use Rattle.std.specs.Prelude.{◌≡◌, ◌⊎◌, ℕ, suc, List, ℤ, Bool, true, false, Option, Some, None, option_map, unwrap_or, if◌then◌else◌, Result, Ok, Err}
+use Rattle.std.specs.Prelude.{◌≡◌, ◌⊎◌, ℕ, suc, List, ℤ, Bool, false, Option, Some, None, option_map, unwrap_or, if◌then◌else◌, Result, Ok, Err}
 use Rattle.json.specs.Json as json
 use Rattle.serde_json.specs.Data.{Data, null, boolean, number, string, array, object, Items, no_items, item, Members, no_members, put}
 use Rattle.serde_json.specs.Find.{as_number, is_float, of_integer}

@@ -28,11 +28,7 @@ pub(crate) fn number_value(
 }
 
 // A coordinate, placed in the grid.
-fn placed_number(
-    placement: &Placement,
-    axis: Axis,
-    text: &str,
-) -> Result<Value, PlacingFault>
+fn placed_number(placement: &Placement, axis: Axis, text: &str) -> Result<Value, PlacingFault>
     ensures { Answers view result (IsPlaced placement.now axis text.now) }
 {
     match placement.grid_of_text(axis, text.as_bytes()) {

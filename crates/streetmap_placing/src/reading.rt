@@ -29,11 +29,7 @@ const MAX_DEPTH: usize = 127;
 /// first fault in the order of the text: `NotJson` for a number too large for a float, where it stays a
 /// number, and `TooManyDigits`, `OutOfGrid` and `Fraction` for a coordinate, as
 /// [`streetmap_decimal::Placement::grid_of_text`] has them. `Memory` where memory was refused.
-pub fn read_placed(
-    alloc: Global,
-    text: &[u8],
-    numbers: &Numbers,
-) -> Result<Value, PlacingFault>
+pub fn read_placed(alloc: Global, text: &[u8], numbers: &Numbers) -> Result<Value, PlacingFault>
     ensures { Answers view result (IsReadAs numbers.now.placement numbers.now.fractions text.now) }
 {
     match (&numbers.placement, numbers.fractions) {
@@ -83,7 +79,8 @@ mod tests {
     use std::test::Fail;
     use streetmap_decimal::{Rounding, Scale, Shift};
 
-    const METRES: &str = r#"{"type":"Feature","id":7.0,"geometry":{"type":"LineString","coordinates":
+    const METRES: &str =
+        r#"{"type":"Feature","id":7.0,"geometry":{"type":"LineString","coordinates":
         [[412000.1235,5811000.5,31.25],[412001,5811001.0004]]},"properties":{"lanes":2.0,"width":3.50}}"#;
 
     fn metres(fractions: Fractions) -> Numbers {
@@ -124,7 +121,8 @@ mod tests {
     #[test]
     fn a_collection_of_geometries_is_placed(rt: HostRuntime) -> Result<(), Fail> {
         let alloc = rt.alloc();
-        let text = r#"{"geometry":{"geometries":[{"coordinates":[412001,5811000]}]},"bbox":[1.5,2]}"#;
+        let text =
+            r#"{"geometry":{"geometries":[{"coordinates":[412001,5811000]}]},"bbox":[1.5,2]}"#;
         let placed = r#"{"geometry":{"geometries":[{"coordinates":[1000,0]}]},"bbox":[1.5,2]}"#;
         assert!(rt; is_read_as(alloc, text, &metres(Fractions::Text), placed)?);
         Ok(())
@@ -151,12 +149,23 @@ mod tests {
         let alloc = rt.alloc();
         let exact = Numbers::new(None, None, Rounding::Nearest, Fractions::Text);
         let text = r#"{"geometry":{"coordinates":[[1e18,1],[1,0.49999999999999999999]]}}"#;
-        assert_eq!(rt; fault_of(alloc, text, &exact), Some(PlacingFault::OutOfGrid));
+        assert_eq!(rt;
+            fault_of(alloc, text, &exact),
+            Some(PlacingFault::OutOfGrid)
+        );
         let text = r#"{"geometry":{"coordinates":[[1,0.49999999999999999999],[1e18,1]]}}"#;
-        assert_eq!(rt; fault_of(alloc, text, &exact), Some(PlacingFault::TooManyDigits));
+        assert_eq!(rt;
+            fault_of(alloc, text, &exact),
+            Some(PlacingFault::TooManyDigits)
+        );
         let text = r#"{"geometry":{"coordinates":[[1e18,1],]}}"#;
         assert_eq!(rt; fault_of(alloc, text, &exact), Some(PlacingFault::NotJson));
-        let whole = Numbers::new(Scale::read(b"1").ok(), None, Rounding::Exact, Fractions::Text);
+        let whole = Numbers::new(
+            Scale::read(b"1").ok(),
+            None,
+            Rounding::Exact,
+            Fractions::Text,
+        );
         let text = r#"{"geometry":{"coordinates":[0.5,1]}}"#;
         assert_eq!(rt; fault_of(alloc, text, &whole), Some(PlacingFault::Fraction));
         assert_eq!(rt; PlacingFault::Fraction.code(), "fraction");

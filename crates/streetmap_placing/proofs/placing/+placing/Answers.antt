@@ -1,12 +1,12 @@
-use Rattle.std.proofs.Common.{◌≡◌, ◌+◌, ◌∷◌, [], ◌++◌, ℕ, List, drop, length, map, Ok, Err, Result, Vec, Global, string_bytes, sym, ap, subst, ◌∙◌, arith, rules}
+use Rattle.std.proofs.Common.{◌≡◌, ◌+◌, ◌∷◌, List, drop, Ok, Err, Vec, Global, string_bytes, sym, ap, subst, ◌∙◌, arith, rules}
 use Rattle.std.proofs.lemmas.List.{drop_more}
-use Rattle.json.specs.Value.{value_view, items_view as json_items, members_view as json_members}
+use Rattle.json.specs.Value.{value_view, items_view as json_items}
 use Rattle.json.specs.declared.value.Value.{Value as Tree}
-use Rattle.serde_json.specs.Data.{Items, Members, put}
+use Rattle.serde_json.specs.Data.{put}
 use Rattle.serde_json.specs.View.{view, items_view, members_view}
 use Rattle.serde_json.specs.declared.value.Value.{Value}
 use Rattle.serde_json.proofs.Views.{members_view-insert_entry}
-use Rattle.streetmap_placing.specs.Placed.{Answers, Becomes, ItemsBecome, MembersBecome, items_count}
+use Rattle.streetmap_placing.specs.Placed.{Answers, Becomes, ItemsBecome, items_count}
 use Rattle.streetmap_placing.specs.Roles.{element_role}
 use Rattle.streetmap_placing.proofs.Outcomes.{handed_on}
 use Rattle.streetmap_placing.proofs.Walk.{count_of, items_step, items_fault, items_end, members_step}
@@ -31,7 +31,7 @@ placed_items-returns-in_err-value t c =
     subst (λ r. Answers shown r (ItemsBecome p f role (items_count (json_items all)) 0 (json_items all))) (sym same)
     (handed_on view shown fault (Becomes p f w (value_view x)) (ItemsBecome p f role (items_count (json_items all)) 0 (json_items all))
     (λ e k. subst (λ (ys : List (Tree Global)). ItemsBecome p f role (items_count (json_items ys)) 0 (json_items ys) (Err e)) c.deref-item-items.ensures.value
-        (items_fault p f role xs l.index x w l.placed.items e l.invariant here is k))
+    (items_fault p f role xs l.index x w l.placed.items e l.invariant here is k))
     c.in_err-value.ensures)
 
 pub placed_items-loop-index-preserved : goal.placed_items-loop-index-preserved

@@ -1,4 +1,4 @@
-use Rattle.std.proofs.Common.{◌≡◌, drop, map, vec_len, Result}
+use Rattle.std.proofs.Common.{drop, map, Result}
 use Rattle.json.specs.Value.{items_view as json_items, members_view as json_members}
 use Rattle.serde_json.specs.Data.{Items, Members, no_members}
 use Rattle.serde_json.specs.View.{view, members_view}

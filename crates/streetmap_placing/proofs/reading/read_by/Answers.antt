@@ -1,10 +1,7 @@
-use Rattle.std.proofs.Common.{◌≡◌, true, false, ℕ, List, Bool, Err, None, refl, subst}
-use Rattle.std.proofs.lemmas.Bool.{false≢true}
+use Rattle.std.proofs.Common.{◌≡◌, true, false, ℕ, List, Bool, None, refl}
 use Rattle.std.proofs.lemmas.Str.{is_utf8-from_IsUtf8, IsUtf8-from_is_utf8}
 use Rattle.std.specs.Str.{is_utf8}
-use Rattle.json.specs.Json.{Json}
-use Rattle.streetmap_placing.specs.Text.{utf8_tree, TextBecomes}
-use Rattle.streetmap_placing.specs.declared.fault.PlacingFault.TheVariants.{NotJson}
+use Rattle.streetmap_placing.specs.Text.{utf8_tree}
 use Rattle.streetmap_placing.proofs.reading.read_by.Goals as goal
 
 none_at : (text : List ℕ) (b : Bool) → is_utf8 text ≡ b → (b ≡ true → ⊥) → utf8_tree text ≡ None
