@@ -15,12 +15,14 @@ pow_fits k h = omega (arith, pow_rises k 37 (omega arith))
 
 -- one or more, times so large a power, is no smaller than the limit
 pub times_large : (n k j : ℕ) → 1 ≤ n → j ≤ k → 10 ^ j ≤ n * 10 ^ k
-times_large n k j some h = omega (arith, pow_rises j k h, mul-le-mul_right {m = 1} {n = n} (10 ^ k) some)
+times_large n k j some h =
+    omega (arith, pow_rises j k h, mul-le-mul_right {m = 1} {n = n} (10 ^ k) some)
 
 -- a smaller number than the power is no multiple of it, unless it is zero
 pub no_multiple : (n k m : ℕ) → 1 ≤ n → n < 10 ^ k → n ≢ m * 10 ^ k
 no_multiple n k zero some small e = omega arith
-no_multiple n k (suc m) some small e = omega (arith, mul-le-mul_right {m = 1} {n = suc m} (10 ^ k) (omega arith))
+no_multiple n k (suc m) some small e = omega
+    (arith, mul-le-mul_right {m = 1} {n = suc m} (10 ^ k) (omega arith))
 
 -- a quotient without a rest
 pub whole_quotient : (n d : ℕ) → n % d ≡ 0 → n ≡ n / d * d
@@ -33,7 +35,8 @@ multiple_mod n d m e = ap (λ k. k % d) e ∙ mul-mod_left m d
 -- one digit more
 pub one_more : (v b i c : ℕ) → v < b * 10 ^ i → c < 10 → v * 10 + c < b * 10 ^ (i + 1)
 one_more v b i c h small =
-    let e : b * 10 ^ (i + 1) ≡ (b * 10 ^ i) * 10 = rw (add-one, pow-suc) (sym (mul_assoc b (10 ^ i) 10)) in
+    let e : b * 10 ^ (i + 1) ≡ (b * 10 ^ i) * 10 =
+    rw (add-one, pow-suc) (sym (mul_assoc b (10 ^ i) 10)) in
     omega (arith, e)
 
 -- a number between two multiples that follow one another is below the second
@@ -58,4 +61,9 @@ pub nat_le_cancel : (a b p : ℕ) → 1 ≤ p → a * p ≤ b * p → a ≤ b
 nat_le_cancel a b p some h = between_multiples a b (a * p) p (omega arith) (omega (arith, h))
 
 pub nat_cancel : (a b p : ℕ) → 1 ≤ p → a * p ≡ b * p → a ≡ b
-nat_cancel a b p some e = omega (arith, nat_le_cancel a b p some (omega (arith, e)), nat_le_cancel b a p some (omega (arith, e)))
+nat_cancel a b p some e =
+    omega (
+      arith,
+      nat_le_cancel a b p some (omega (arith, e)),
+      nat_le_cancel b a p some (omega (arith, e)),
+    )

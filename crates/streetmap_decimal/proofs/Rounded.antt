@@ -22,12 +22,14 @@ rounds_once z None (Some h) i j = absurd (not_beyond z h j i)
 rounds_once z None None i j = refl
 
 -- both sides come to the same
-pub agrees_ok : (y z : ℤ) (o : Option ℤ) → RoundsTo y o → RoundsTo z o → Agrees y z (ok_or o OutOfGrid)
+pub agrees_ok : (y z : ℤ) (o : Option ℤ) → RoundsTo y o → RoundsTo z o
+    → Agrees y z (ok_or o OutOfGrid)
 agrees_ok y z (Some g) h i = (h, i)
 agrees_ok y z None h i = (h, i)
 
 -- or do not
-pub agrees_err : (y z : ℤ) (a b : Option ℤ) → RoundsTo y a → RoundsTo z b → (b ≡ a → ⊥) → Agrees y z (Err TooManyDigits)
+pub agrees_err : (y z : ℤ) (a b : Option ℤ) → RoundsTo y a → RoundsTo z b → (b ≡ a → ⊥)
+    → Agrees y z (Err TooManyDigits)
 agrees_err y z a b h i differ = λ o j k. differ (rounds_once z b o i k ∙ rounds_once y o a j h)
 
 -- ---- what the code's comparison says
@@ -43,7 +45,8 @@ same_options None = refl
 same_options (Some x) = (Decides-int_eq x x).1 refl
 
 pub differ : (a b : Option ℤ) → not (option_eq int_eq b a) ≡ true → b ≡ a → ⊥
-differ a b e same = false≢true (sym (ap not (same_options a)) ∙ sym (ap (λ x. not (option_eq int_eq x a)) same) ∙ e)
+differ a b e same =
+    false≢true (sym (ap not (same_options a)) ∙ sym (ap (λ x. not (option_eq int_eq x a)) same) ∙ e)
 
 pub do_not_differ : (a b : Option ℤ) → not (option_eq int_eq b a) ≡ false → b ≡ a
 do_not_differ a b e = equal_options b a (not-false (option_eq int_eq b a) e)

@@ -33,25 +33,37 @@ pub abs_add : (z : ℤ) (n : ℕ) → unsigned_abs (z +ℤ pos n) ≤ unsigned_a
 abs_add z n = grind (arith, ints)
 
 -- a sum as the code computes it
-pub raised : (z : ℤ) (n : ℕ) → FitsSigned w128 z → unsigned_abs z < 10 ^ 38 → n < 256 → cast_signed w128 (cast_unsigned w128 (cast_signed w128 (cast_unsigned w128 z) +ℤ cast_signed w128 n)) ≡ z +ℤ pos n
+pub raised : (z : ℤ) (n : ℕ) → FitsSigned w128 z → unsigned_abs z < 10 ^ 38 → n < 256
+    → cast_signed w128
+    (cast_unsigned w128 (cast_signed w128 (cast_unsigned w128 z) +ℤ cast_signed w128 n)) ≡ z +ℤ pos
+    n
 raised z n f small short =
     let inner : cast_signed w128 (cast_unsigned w128 z) +ℤ cast_signed w128 n ≡ z +ℤ pos n =
-    ap (λ k. k +ℤ cast_signed w128 n) (to_z-of_z w128 z f) ∙ ap (λ k. z +ℤ k) (to_z_pos w128 n (omega arith)) in
-    ap (λ k. cast_signed w128 (cast_unsigned w128 k)) inner ∙ to_z-of_z w128 (z +ℤ pos n) (fits (z +ℤ pos n) (omega (arith, abs_add z n)))
+    ap (λ k. k +ℤ cast_signed w128 n) (to_z-of_z w128 z f)
+    ∙ ap (λ k. z +ℤ k) (to_z_pos w128 n (omega arith)) in
+    ap (λ k. cast_signed w128 (cast_unsigned w128 k)) inner
+    ∙ to_z-of_z w128 (z +ℤ pos n) (fits (z +ℤ pos n) (omega (arith, abs_add z n)))
 
 pub abs_difference : (y z : ℤ) → unsigned_abs (y -ℤ z) ≤ unsigned_abs y + unsigned_abs z
 abs_difference y z = grind (arith, ints)
 
 -- a difference as the code computes it
-pub lowered : (y z : ℤ) → FitsSigned w128 y → FitsSigned w128 z → unsigned_abs y < 10 ^ 36 → unsigned_abs z < 10 ^ 36 → cast_signed w128 (cast_unsigned w128 (cast_signed w128 (cast_unsigned w128 y) -ℤ cast_signed w128 (cast_unsigned w128 z))) ≡ y -ℤ z
+pub lowered : (y z : ℤ) → FitsSigned w128 y → FitsSigned w128 z → unsigned_abs y < 10 ^ 36
+    → unsigned_abs z < 10 ^ 36 → cast_signed w128
+    (cast_unsigned w128
+    (cast_signed w128 (cast_unsigned w128 y) -ℤ cast_signed w128 (cast_unsigned w128 z))) ≡ y -ℤ z
 lowered y z f g small short =
-    let inner : cast_signed w128 (cast_unsigned w128 y) -ℤ cast_signed w128 (cast_unsigned w128 z) ≡ y -ℤ z =
-    ap (λ k. k -ℤ cast_signed w128 (cast_unsigned w128 z)) (to_z-of_z w128 y f) ∙ ap (λ k. y -ℤ k) (to_z-of_z w128 z g) in
-    ap (λ k. cast_signed w128 (cast_unsigned w128 k)) inner ∙ to_z-of_z w128 (y -ℤ z) (fits (y -ℤ z) (omega (arith, abs_difference y z)))
+    let inner : cast_signed w128 (cast_unsigned w128 y) -ℤ cast_signed w128
+    (cast_unsigned w128 z) ≡ y -ℤ z =
+    ap (λ k. k -ℤ cast_signed w128 (cast_unsigned w128 z)) (to_z-of_z w128 y f)
+    ∙ ap (λ k. y -ℤ k) (to_z-of_z w128 z g) in
+    ap (λ k. cast_signed w128 (cast_unsigned w128 k)) inner
+    ∙ to_z-of_z w128 (y -ℤ z) (fits (y -ℤ z) (omega (arith, abs_difference y z)))
 
 -- what does not fit is large
 pub unfit : (z : ℤ) → (FitsSigned w128 z → ⊥) → 2 ^ 127 ≤ unsigned_abs z
-unfit z never = elim (cases_lt (unsigned_abs z) (2 ^ 127)) [ inl h ↦ absurd (never (fits z h)) | inr h ↦ h ]
+unfit z never = elim (cases_lt (unsigned_abs z) (2 ^ 127))
+    [ inl h ↦ absurd (never (fits z h)) | inr h ↦ h ]
 
 above_zero : (n : ℤ) → pos 0 <ℤ n → int_le (pos 1) n ≡ true
 above_zero n h = grind (arith, ints, nat_tests)

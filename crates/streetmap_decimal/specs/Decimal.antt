@@ -5,8 +5,8 @@ use Rattle.streetmap_decimal.specs.declared.fault.DecimalFault.TheVariants.{NotA
 use Rattle.streetmap_decimal.specs.NumberText.{Means, signed}
 
 -- a step and the next, which goes on from what the first gave; the first fault ends both
-abbrev pub Then : {A B : Type 0} → (Result A DecimalFault → Type 0) → (A → Result B DecimalFault → Type 0)
-    → Result B DecimalFault → Type 0
+abbrev pub Then : {A B : Type 0} → (Result A DecimalFault → Type 0)
+    → (A → Result B DecimalFault → Type 0) → Result B DecimalFault → Type 0
 Then {A} First Next (Ok b) = (a : A) × (First (Ok a) × Next a (Ok b))
 Then {A} First Next (Err f) = First (Err f) ⊎ ((a : A) × (First (Ok a) × Next a (Err f)))
 

@@ -24,7 +24,8 @@ IsWholeNumber z g = z ≡ g *ℤ pos one
 abbrev pub IsNearestOf : (parts : ℕ) → (z g : ℤ) → Type 0
 IsNearestOf parts z g =
     (2 * unsigned_abs (g *ℤ pos parts -ℤ z) ≤ parts)
-    × (2 * unsigned_abs (g *ℤ pos parts -ℤ z) ≡ parts → unsigned_abs z < unsigned_abs (g *ℤ pos parts))
+    × (2 * unsigned_abs (g *ℤ pos parts -ℤ z) ≡ parts
+    → unsigned_abs z < unsigned_abs (g *ℤ pos parts))
 
 abbrev pub IsNearest : (z g : ℤ) → Type 0
 IsNearest z g = IsNearestOf one z g

@@ -11,7 +11,8 @@ IsScale text s = ReadsCount scale_places text (Ok s) × (pos 0 <ℤ s)
 abbrev pub is_comma : ℕ → Bool
 is_comma b = b == 44
 
--- before its first comma the text is a number that is x times 10 ^ -18, and behind it one that is y times 10 ^ -18
+-- before its first comma the text is a number that is x times 10 ^ -18, and behind it one that is y
+-- times 10 ^ -18
 abbrev pub IsShift : List ℕ → ℤ → ℤ → Type 0
 IsShift text x y =
     ReadsCount coordinate_places (before_first is_comma text) (Ok x)

@@ -75,7 +75,8 @@ pub(crate) fn divided(number: u128, power: u128) -> Option<u128>
 pub(crate) fn sides(number: u128, power: u128) -> (u128, u128)
     requires { number < 10 ^ 38 }
     ensures lower { (result.0 * 10 ^ power ≤ number) × (number < (result.0 + 1) * 10 ^ power) }
-    ensures upper { (number ≤ result.1 * 10 ^ power) × (result.1 * 10 ^ power < number + 10 ^ power) }
+    ensures upper { (number ≤ result.1 * 10 ^ power)
+        × (result.1 * 10 ^ power < number + 10 ^ power) }
 {
     if number == 0 {
         return (0, 0);

@@ -32,17 +32,17 @@ impl Placement {
     ghost use Rattle.streetmap_decimal.specs.Grid.{PlacesText};
     ghost use Rattle.streetmap_decimal.specs.Nearest.{IsNearestToText};
 
-    /// The number of the grid, in millimetres, of a coordinate of the map from its text: (n - shift)
-    /// * scale, and a height times the scale alone.
+    /// The number of the grid, in millimetres, of a coordinate of the map from its text: (n -
+    /// shift) * scale, and a height times the scale alone.
     ///
     /// # Errors
     ///
     /// `TooManyDigits` where the text has more than 38 characters, else `NotANumber` where it is no
     /// number (RFC 8259, section 6). Then, where the result has to be whole: `TooManyDigits` where
-    /// the number has digits behind the 18th decimal place, `OutOfGrid` where it is 10^18 or more or
-    /// the nearest whole number is no coordinate, and `Fraction` where the result is not whole. Where
-    /// it is rounded: `OutOfGrid` where the number is 10^18 or more, or beyond the grid on both sides
-    /// of the gap behind the 18th place, and `TooManyDigits` where the two sides differ.
+    /// the number has digits behind the 18th decimal place, `OutOfGrid` where it is 10^18 or more
+    /// or the nearest whole number is no coordinate, and `Fraction` where the result is not whole.
+    /// Where it is rounded: `OutOfGrid` where the number is 10^18 or more, or beyond the grid on
+    /// both sides of the gap behind the 18th place, and `TooManyDigits` where the two sides differ.
     pub fn grid_of_text(&self, axis: Axis, text: &[u8]) -> Result<i64, DecimalFault>
         ensures places { PlacesText (shift_of axis self.now.shift) self.now.scale.count
             self.now.rounding text.now result }

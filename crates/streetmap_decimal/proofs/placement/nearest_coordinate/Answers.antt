@@ -10,6 +10,11 @@ pub returns-then-nearest-gt-GREATEST_COORDINATE : goal.returns-then-nearest-gt-G
 returns-then-nearest-gt-GREATEST_COORDINATE c =
     let z = c.args.placed in
     let b = int_lt z (pos 0) in
-    let magnitude = c.unsigned_abs.ensures.value ∙ ap unsigned_abs (to_z-of_z w128 z c.ranges.placed) in
-    let far : 1_000_000_000 < rounded (unsigned_abs z) = subst (λ (n : ℕ). 1_000_000_000 < rounded n) magnitude c.if-nearest-gt-GREATEST_COORDINATE.true in
-    (signed b (rounded (unsigned_abs z)), (nearest_is z, out_of_grid b (rounded (unsigned_abs z)) far))
+    let magnitude = c.unsigned_abs.ensures.value
+    ∙ ap unsigned_abs (to_z-of_z w128 z c.ranges.placed) in
+    let far : 1_000_000_000 < rounded (unsigned_abs z) =
+    subst (λ (n : ℕ). 1_000_000_000 < rounded n) magnitude
+    c.if-nearest-gt-GREATEST_COORDINATE.true in (
+      signed b (rounded (unsigned_abs z)),
+      (nearest_is z, out_of_grid b (rounded (unsigned_abs z)) far),
+    )

@@ -25,8 +25,10 @@ returns c =
       (
         h,
         (
-          to_z-of_z w128 c.signed.result r ∙ c.signed.ensures ∙ ap (λ z. signed (int_lt z (pos 0)) u) sign,
-          to_z-of_z w128 c.signed-2.result q ∙ c.signed-2.ensures ∙ ap (λ z. signed (int_lt z (pos 0)) v) sign,
+          to_z-of_z w128 c.signed.result r ∙ c.signed.ensures
+              ∙ ap (λ z. signed (int_lt z (pos 0)) u) sign,
+          to_z-of_z w128 c.signed-2.result q ∙ c.signed-2.ensures
+              ∙ ap (λ z. signed (int_lt z (pos 0)) v) sign,
         ),
       ),
     )

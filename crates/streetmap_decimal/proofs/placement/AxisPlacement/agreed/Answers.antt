@@ -11,9 +11,12 @@ returns-then-ne c =
     let p = c.args.self.now in
     let a = c.nearest-number.result in
     let b = c.nearest.result in
-    let near = subst (λ (n : ℤ). RoundsTo (placed p.shift p.scale n) a) (to_z-of_z w128 c.args.near c.ranges.near) c.nearest-number.ensures in
-    let far = subst (λ (n : ℤ). RoundsTo (placed p.shift p.scale n) b) (to_z-of_z w128 c.args.far c.ranges.far) c.nearest.ensures in
-    agrees_err (placed p.shift p.scale c.args.near) (placed p.shift p.scale c.args.far) a b near far (differ a b (sym c.ne.ensures ∙ c.if-ne.true))
+    let near = subst (λ (n : ℤ). RoundsTo (placed p.shift p.scale n) a)
+    (to_z-of_z w128 c.args.near c.ranges.near) c.nearest-number.ensures in
+    let far = subst (λ (n : ℤ). RoundsTo (placed p.shift p.scale n) b)
+    (to_z-of_z w128 c.args.far c.ranges.far) c.nearest.ensures in
+    agrees_err (placed p.shift p.scale c.args.near) (placed p.shift p.scale c.args.far) a b near far
+    (differ a b (sym c.ne.ensures ∙ c.if-ne.true))
 
 pub returns : goal.returns
 returns c =
@@ -22,7 +25,10 @@ returns c =
     let z = placed p.shift p.scale c.args.far in
     let a = c.nearest-number.result in
     let b = c.nearest.result in
-    let near = subst (λ (n : ℤ). RoundsTo (placed p.shift p.scale n) a) (to_z-of_z w128 c.args.near c.ranges.near) c.nearest-number.ensures in
-    let far = subst (λ (n : ℤ). RoundsTo (placed p.shift p.scale n) b) (to_z-of_z w128 c.args.far c.ranges.far) c.nearest.ensures in
+    let near = subst (λ (n : ℤ). RoundsTo (placed p.shift p.scale n) a)
+    (to_z-of_z w128 c.args.near c.ranges.near) c.nearest-number.ensures in
+    let far = subst (λ (n : ℤ). RoundsTo (placed p.shift p.scale n) b)
+    (to_z-of_z w128 c.args.far c.ranges.far) c.nearest.ensures in
     let same : b ≡ a = do_not_differ a b (sym c.ne.ensures ∙ c.if-ne.false) in
-    subst (λ (r : Result ℤ DecimalFault). Agrees y z r) (sym c.ok_or.ensures.value) (agrees_ok y z a near (subst (RoundsTo z) same far))
+    subst (λ (r : Result ℤ DecimalFault). Agrees y z r) (sym c.ok_or.ensures.value)
+    (agrees_ok y z a near (subst (RoundsTo z) same far))

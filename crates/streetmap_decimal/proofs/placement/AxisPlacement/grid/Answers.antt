@@ -14,7 +14,8 @@ agreed-requires-clause-far c =
     let k = c.in_ok-near-in-Nearest in
     let d = c.args.coordinate.now in
     let f : FitsSigned w128 k.far = search rules in
-    subst (λ (z : ℤ). unsigned_abs z ≤ 10 ^ 36) (sym (to_z-of_z w128 k.far f)) (far_bound 18 d.mantissa d.exponent (k.near, k.far) k.ensures)
+    subst (λ (z : ℤ). unsigned_abs z ≤ 10 ^ 36) (sym (to_z-of_z w128 k.far f))
+    (far_bound 18 d.mantissa d.exponent (k.near, k.far) k.ensures)
 
 pub returns-in_ok-near-in-Nearest : goal.returns-in_ok-near-in-Nearest
 returns-in_ok-near-in-Nearest c =
@@ -27,5 +28,8 @@ returns-in_ok-near-in-Nearest c =
     let near = to_z-of_z w128 k.near f in
     let far = to_z-of_z w128 k.far g in
     let h = rw (near, far) at c.agreed.ensures in
-    subst (λ (rounding : Rounding). Places p.shift p.scale rounding d.mantissa d.exponent r) (sym c.in-Nearest.is)
-    (then_next (Encloses 18 d.mantissa d.exponent) (λ s. Agrees (placed p.shift p.scale s.0) (placed p.shift p.scale s.1)) (k.near, k.far) r k.ensures h)
+    subst (λ (rounding : Rounding). Places p.shift p.scale rounding d.mantissa d.exponent r)
+    (sym c.in-Nearest.is)
+    (then_next (Encloses 18 d.mantissa d.exponent)
+    (λ s. Agrees (placed p.shift p.scale s.0) (placed p.shift p.scale s.1)) (k.near, k.far) r
+    k.ensures h)

@@ -20,4 +20,5 @@ returns-in-None c =
     let p = c.args.self.now in
     let count = to_z-of_z w128 c.args.count c.ranges.count in
     beyond (placed p.shift p.scale c.args.count)
-    (subst (λ (n : ℤ). 2 ^ 127 ≤ unsigned_abs (placed p.shift p.scale n)) count c.in-None.ensures.none)
+    (subst (λ (n : ℤ). 2 ^ 127 ≤ unsigned_abs (placed p.shift p.scale n)) count
+    c.in-None.ensures.none)

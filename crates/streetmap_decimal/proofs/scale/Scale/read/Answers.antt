@@ -15,4 +15,5 @@ returns-in_default c =
     λ s h. not_above s n h.1 (counts_same 9 c.args.text.now s n h.0 c.in-Ok.ensures) low
 
 pub returns-in_default-2 : goal.returns-in_default-2
-returns-in_default-2 c = λ s h. counts_not 9 c.args.text.now s c.in_default.field-0 h.0 (subst (ReadsCount 9 c.args.text.now) c.in_default.is c.count_of_text.ensures)
+returns-in_default-2 c = λ s h. counts_not 9 c.args.text.now s c.in_default.field-0 h.0
+    (subst (ReadsCount 9 c.args.text.now) c.in_default.is c.count_of_text.ensures)
