@@ -1,0 +1,46 @@
+-- The text of a shift.
+use Rattle.std.proofs.Common.{◌≡◌, ℕ, ◌+◌, List, [], ◌∷◌, length, ℤ, refl, ap, subst, ◌∙◌, arith, length-append, length-drop, take_all, take, drop, ◌-◌, Result}
+use Rattle.std.specs.List.{before_first, after_first, position_or_len}
+use Rattle.streetmap_decimal.specs.declared.fault.DecimalFault.{DecimalFault}
+use Rattle.streetmap_decimal.specs.NumberText.{Means}
+use Rattle.streetmap_decimal.specs.Decimal.{ReadsCount}
+use Rattle.streetmap_decimal.specs.Options.{is_comma, IsShift}
+
+-- no number is empty
+never_empty : (m e : ℤ) → Means [] m e → ⊥
+never_empty m e h =
+    let len = simp length-append at (ap length h.is_text.text_is) in
+    omega (arith, len, h.is_text.whole_is.0.0)
+
+empty_text : (text : List ℕ) (m e : ℤ) → text ≡ [] → Means text m e → ⊥
+empty_text text m e none h = never_empty m e (subst (λ (t : List ℕ). Means t m e) none h)
+
+empty_behind : (text : List ℕ) → position_or_len is_comma text ≡ length text
+    → length (after_first is_comma text) ≡ 0
+empty_behind text e = omega (arith, length-drop (position_or_len is_comma text + 1) text)
+
+nothing : (text : List ℕ) → length text ≡ 0 → text ≡ []
+nothing [] e = refl
+nothing (b ∷ bs) e = absurd (omega (arith, e))
+
+-- without a comma there is no shift
+pub no_comma : (text : List ℕ) (x y : ℤ) → position_or_len is_comma text ≡ length text
+    → IsShift text x y → ⊥
+no_comma text x y e h =
+    empty_text (after_first is_comma text) h.1.0.0 h.1.0.1 (nothing _ (empty_behind text e))
+    h.1.1.0.1
+
+-- the slices that the code reads
+pub before_comma : (text : List ℕ) (n : ℕ) → n ≡ position_or_len is_comma text
+    → take n text ≡ before_first is_comma text
+before_comma text n e = ap (λ (k : ℕ). take k text) e
+
+pub behind_comma : (text : List ℕ) (n : ℕ) → n ≡ position_or_len is_comma text
+    → take (length text - (n + 1)) (drop (n + 1) text) ≡ after_first is_comma text
+behind_comma text n e =
+    take_all (length text - (n + 1)) (drop (n + 1) text) (omega (arith, length-drop (n + 1) text))
+    ∙ ap (λ (k : ℕ). drop (k + 1) text) e
+
+pub counted : (s t : List ℕ) (r q : Result ℤ DecimalFault) → s ≡ t → r ≡ q → ReadsCount 18 s r
+    → ReadsCount 18 t q
+counted s t r q e f h = subst (λ (u : List ℕ). ReadsCount 18 u q) e (subst (ReadsCount 18 s) f h)

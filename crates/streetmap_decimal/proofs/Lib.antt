@@ -1,0 +1,14 @@
+pub mod Powers
+pub mod Digits
+pub mod Fronts
+pub mod Grammar
+pub mod Signs
+pub mod ReadableFacts
+pub mod Shifting
+pub mod Enclosing
+pub mod NearestFacts
+pub mod Rounded
+pub mod Steps
+pub mod Once
+pub mod Exactly
+pub mod Commas

@@ -1,0 +1,11 @@
+pub mod NumberText
+pub mod Reading
+pub mod Views
+pub mod Readable
+pub mod Decimal
+pub mod DecimalViews
+pub mod Options
+pub mod Axes
+pub mod Grid
+pub mod Nearest
+pub mod Faults

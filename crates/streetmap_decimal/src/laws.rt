@@ -1,0 +1,37 @@
+//! Laws of the definitions that the contracts cite.
+ghost use Rattle.std.specs.Prelude.{◌≡◌, ℕ, ◌^◌, ℤ, pos, ◌≤ℤ◌, List, Result, Ok};
+ghost use Rattle.streetmap_grid.specs.Range.{IsCoordinate};
+ghost use Rattle.streetmap_decimal.specs.NumberText.{Means};
+ghost use Rattle.streetmap_decimal.specs.Grid.{IsNearest, Places, PlacesText};
+ghost use Rattle.streetmap_decimal.specs.Nearest.{IsNearestToText};
+ghost use Rattle.streetmap_decimal.specs.declared.fault.DecimalFault.{DecimalFault};
+ghost use Rattle.streetmap_decimal.specs.declared.rounding.Rounding.{Rounding};
+
+/// A text means one mantissa and one exponent at most.
+pub fn text_means_one_decimal()
+    ensures { (text : List ℕ) (m e n f : ℤ) → Means text m e → Means text n f → (m ≡ n) × (e ≡ f) }
+{}
+
+/// One whole number is the nearest.
+pub fn one_number_is_nearest()
+    ensures { (z g h : ℤ) → IsNearest z g → IsNearest z h → g ≡ h }
+{}
+
+/// Where the shift is 0 and the scale 1, a coordinate that is whole stays as it is.
+pub fn whole_number_stays()
+    ensures { (rounding : Rounding) (g : ℤ) → IsCoordinate g
+        → Places (pos 0) (pos (10 ^ 9)) rounding g (pos 0) (Ok g) }
+{}
+
+/// A text comes to one number of the grid, or to one fault: no two of the conditions hold at once.
+pub fn text_is_placed_once()
+    ensures { (shift scale : ℤ) (rounding : Rounding) (text : List ℕ) (r s : Result ℤ DecimalFault)
+        → PlacesText shift scale rounding text r → PlacesText shift scale rounding text s → r ≡ s }
+{}
+
+/// What a text comes to is the nearest whole number to its exact value, half away from zero, also
+/// where it has digits behind the 18th decimal place.
+pub fn placed_text_is_nearest()
+    ensures { (shift scale : ℤ) (rounding : Rounding) (text : List ℕ) (g : ℤ) → pos 0 ≤ℤ scale
+        → PlacesText shift scale rounding text (Ok g) → IsNearestToText shift scale text g }
+{}

@@ -1,0 +1,286 @@
+//! From a map's coordinates to the whole numbers of the grid.
+ghost use Rattle.std.specs.Prelude.{◌≡◌, ◌<◌, ◌≤◌, ◌^◌, IfOk, IfSome, IfNone, pos, ◌<ℤ◌, unsigned_abs};
+ghost use Rattle.streetmap_decimal.specs.Grid.{placed, RoundsTo, Stands};
+
+use crate::arithmetic::signed;
+use crate::axis::Axis;
+use crate::decimal::{COORDINATE_PLACES, Decimal};
+use crate::fault::DecimalFault;
+use crate::rounding::Rounding;
+use crate::scale::Scale;
+use crate::shift::Shift;
+
+/// One, in the unit of a coordinate times a scale.
+const ONE: u128 = 1_000_000_000_000_000_000_000_000_000;
+
+/// The greatest coordinate of the grid, in millimetres.
+const GREATEST_COORDINATE: u128 = 1_000_000_000;
+
+/// Where a map lies in the grid: a coordinate n of the map is (n - shift) * scale there.
+#[derive(Clone, Copy, Debug, PartialEq, Eq)]
+pub struct Placement {
+    /// Which position of the map is the grid's 0,0.
+    pub shift: Shift,
+    /// How many millimetres one unit of the map is.
+    pub scale: Scale,
+    /// What becomes of a result that is not whole.
+    pub rounding: Rounding,
+}
+
+impl Placement {
+    ghost use Rattle.streetmap_decimal.specs.Axes.{shift_of};
+    ghost use Rattle.streetmap_decimal.specs.Grid.{PlacesText};
+    ghost use Rattle.streetmap_decimal.specs.Nearest.{IsNearestToText};
+
+    /// The number of the grid, in millimetres, of a coordinate of the map from its text: (n -
+    /// shift) * scale, and a height times the scale alone.
+    ///
+    /// # Errors
+    ///
+    /// `TooManyDigits` where the text has more than 38 characters, else `NotANumber` where it is no
+    /// number (RFC 8259, section 6). Then, where the result has to be whole: `TooManyDigits` where
+    /// the number has digits behind the 18th decimal place, `OutOfGrid` where it is 10^18 or more
+    /// or the nearest whole number is no coordinate, and `Fraction` where the result is not whole.
+    /// Where it is rounded: `OutOfGrid` where the number is 10^18 or more, or beyond the grid on
+    /// both sides of the gap behind the 18th place, and `TooManyDigits` where the two sides differ.
+    pub fn grid_of_text(&self, axis: Axis, text: &[u8]) -> Result<i64, DecimalFault>
+        ensures places { PlacesText (shift_of axis self.now.shift) self.now.scale.count
+            self.now.rounding text.now result }
+        // What is answered is the nearest whole number to the exact value, half away from zero.
+        ensures nearest { IfOk result (λ g. IsNearestToText (shift_of axis self.now.shift)
+            self.now.scale.count text.now g) }
+    {
+        let coordinate = Decimal::read(text)?;
+        self.axis(axis).grid(&coordinate, self.rounding)
+    }
+
+    // The shift and the scale of one coordinate.
+    fn axis(&self, axis: Axis) -> AxisPlacement
+        ensures shift { result.shift ≡ shift_of axis self.now.shift }
+        ensures scale { result.scale ≡ self.now.scale.count }
+    {
+        let shift = match axis {
+            Axis::Easting => self.shift.easting,
+            Axis::Northing => self.shift.northing,
+            Axis::Height => 0,
+        };
+        AxisPlacement {
+            shift,
+            scale: self.scale.count,
+        }
+    }
+}
+
+/// The shift and the scale of one coordinate.
+#[derive(Clone, Copy, Debug, PartialEq, Eq)]
+pub(crate) struct AxisPlacement {
+    /// The shift, counted in 10^-18.
+    pub shift: i128,
+    /// The scale, counted in 10^-9.
+    pub scale: i128,
+    pub ghost shift_in: { unsigned_abs shift < 10 ^ 36 },
+    pub ghost scale_in: { unsigned_abs scale < 10 ^ 36 },
+    pub ghost above_zero: { pos 0 <ℤ scale },
+}
+
+impl AxisPlacement {
+    ghost use Rattle.streetmap_decimal.specs.Grid.{Agrees, Places};
+
+    /// The number of the grid of a coordinate of the map.
+    pub fn grid(&self, coordinate: &Decimal, rounding: Rounding) -> Result<i64, DecimalFault>
+        ensures { Places self.now.shift self.now.scale rounding
+            coordinate.now.mantissa coordinate.now.exponent result }
+    {
+        match rounding {
+            Rounding::Exact => {
+                let count = coordinate.count(COORDINATE_PLACES)?;
+                self.standing(count)
+            }
+            Rounding::Nearest => {
+                let (near, far) = coordinate.enclosing(COORDINATE_PLACES)?;
+                self.agreed(near, far)
+            }
+        }
+    }
+
+    // The number of the grid of a count that has to come to a whole number.
+    fn standing(&self, count: i128) -> Result<i64, DecimalFault>
+        requires { unsigned_abs count ≤ 10 ^ 36 }
+        ensures { Stands (placed self.now.shift self.now.scale count) result }
+    {
+        match self.placed(count) {
+            Some(placed) => whole_number(placed),
+            None => Err(DecimalFault::OutOfGrid),
+        }
+    }
+
+    // The number of the grid that two counts both come to.
+    fn agreed(&self, near: i128, far: i128) -> Result<i64, DecimalFault>
+        requires near { unsigned_abs near ≤ 10 ^ 36 }
+        requires far { unsigned_abs far ≤ 10 ^ 36 }
+        ensures { Agrees (placed self.now.shift self.now.scale near)
+            (placed self.now.shift self.now.scale far) result }
+    {
+        let number = self.nearest(near);
+        if self.nearest(far) != number {
+            return Err(DecimalFault::TooManyDigits);
+        }
+        number.ok_or(DecimalFault::OutOfGrid)
+    }
+
+    // The coordinate that a count is nearest to.
+    fn nearest(&self, count: i128) -> Option<i64>
+        requires { unsigned_abs count ≤ 10 ^ 36 }
+        ensures { RoundsTo (placed self.now.shift self.now.scale count) result }
+    {
+        match self.placed(count) {
+            Some(placed) => nearest_coordinate(placed),
+            None => None,
+        }
+    }
+
+    // (count - shift) * scale, where that is below 2^127.
+    fn placed(&self, count: i128) -> Option<i128>
+        requires { unsigned_abs count ≤ 10 ^ 36 }
+        ensures some { IfSome result (λ z. z ≡ placed self.now.shift self.now.scale count) }
+        ensures none { IfNone result
+            (2 ^ 127 ≤ unsigned_abs (placed self.now.shift self.now.scale count)) }
+    {
+        (count - self.shift).checked_mul(self.scale)
+    }
+}
+
+/// The nearest coordinate to so many parts of one, half away from zero.
+fn nearest_coordinate(placed: i128) -> Option<i64>
+    ensures { RoundsTo placed result }
+{
+    let nearest = (placed.unsigned_abs() + ONE / 2) / ONE;
+    if nearest > GREATEST_COORDINATE {
+        return None;
+    }
+    Some(signed(placed < 0, nearest) as i64)
+}
+
+/// The coordinate that so many parts of one are.
+fn whole_number(placed: i128) -> Result<i64, DecimalFault>
+    ensures { Stands placed result }
+{
+    match nearest_coordinate(placed) {
+        None => Err(DecimalFault::OutOfGrid),
+        Some(_) if placed.unsigned_abs() % ONE != 0 => Err(DecimalFault::Fraction),
+        Some(number) => Ok(number),
+    }
+}
+
+#[cfg(test)]
+mod tests {
+    use super::*;
+    use crate::fault::OptionFault;
+    use std::test::Fail;
+
+    fn place(
+        scale: &str,
+        shift: &str,
+        text: &str,
+        rounding: Rounding,
+    ) -> Result<i64, DecimalFault> {
+        let placement = Placement {
+            shift: Shift::read(shift.as_bytes()).unwrap_or(Shift::none()),
+            scale: Scale::read(scale.as_bytes()).unwrap_or(Scale::one()),
+            rounding,
+        };
+        placement.grid_of_text(Axis::Easting, text.as_bytes())
+    }
+
+    // The expected values are those of Python's `fractions`.
+    #[test]
+    fn rounds_as_fractions_do(rt: HostRuntime) -> Result<(), Fail> {
+        assert_eq!(rt;
+            place("1000", "-500000.125,0", "412345.678", Rounding::Exact),
+            Ok(912345803)
+        );
+        assert_eq!(rt;
+            place("1000", "0,0", "-1.5e3", Rounding::Exact),
+            Ok(-1500000)
+        );
+        assert_eq!(rt; place("1", "0,0", "-0.5", Rounding::Nearest), Ok(-1));
+        assert_eq!(rt; place("1", "0,0", "2.5", Rounding::Nearest), Ok(3));
+        assert_eq!(rt; place("1", "0,0", "-2.5", Rounding::Nearest), Ok(-3));
+        assert_eq!(rt; place("1", "0,0", "0.49999999", Rounding::Nearest), Ok(0));
+        assert_eq!(rt; place("1", "1,0", "0.5", Rounding::Nearest), Ok(-1));
+        assert_eq!(rt; place("0.3048", "0,0", "1000", Rounding::Nearest), Ok(305));
+        assert_eq!(rt;
+            place("1000", "0,0", "1000000.0004", Rounding::Nearest),
+            Ok(1000000000)
+        );
+        assert_eq!(rt;
+            place("1000", "0,0", "-1.1368683772161603e-13", Rounding::Nearest),
+            Ok(0)
+        );
+        assert_eq!(rt;
+            place("1", "0,0", "0.4999999999999999999", Rounding::Nearest),
+            Err(DecimalFault::TooManyDigits)
+        );
+        assert_eq!(rt;
+            place("1", "0,0", "0.5000000000000000001", Rounding::Nearest),
+            Ok(1)
+        );
+        Ok(())
+    }
+
+    #[test]
+    fn refuses_as_fractions_do(rt: HostRuntime) -> Result<(), Fail> {
+        assert_eq!(rt;
+            place("1", "0,0", "-0.5", Rounding::Exact),
+            Err(DecimalFault::Fraction)
+        );
+        assert_eq!(rt;
+            place("1000", "0,0", "1000000.0005", Rounding::Nearest),
+            Err(DecimalFault::OutOfGrid)
+        );
+        assert_eq!(rt;
+            place("1", "0,0", "01", Rounding::Exact),
+            Err(DecimalFault::NotANumber)
+        );
+        assert_eq!(rt;
+            place("1", "0,0", "1e-19", Rounding::Exact),
+            Err(DecimalFault::TooManyDigits)
+        );
+        assert_eq!(rt; place("1", "0,0", "1e-19", Rounding::Nearest), Ok(0));
+        assert_eq!(rt;
+            place("1", "0,0", "1e18", Rounding::Nearest),
+            Err(DecimalFault::OutOfGrid)
+        );
+        assert_eq!(rt; place("1", "-1e17,0", "-1e17", Rounding::Exact), Ok(0));
+        assert_eq!(rt;
+            place("0.000000001", "0,0", "4.99999999e8", Rounding::Nearest),
+            Ok(0)
+        );
+        Ok(())
+    }
+
+    #[test]
+    fn heights_are_not_shifted(rt: HostRuntime) -> Result<(), Fail> {
+        let placement = Placement {
+            shift: Shift::read(b"100,7").unwrap_or(Shift::none()),
+            scale: Scale::read(b"10").unwrap_or(Scale::one()),
+            rounding: Rounding::Exact,
+        };
+        assert_eq!(rt; placement.grid_of_text(Axis::Northing, b"8.5"), Ok(15));
+        assert_eq!(rt; placement.grid_of_text(Axis::Height, b"8.5"), Ok(85));
+        Ok(())
+    }
+
+    #[test]
+    fn options_are_refused(rt: HostRuntime) -> Result<(), Fail> {
+        assert_eq!(rt; Scale::read(b"0"), Err(OptionFault::BadScale));
+        assert_eq!(rt; Scale::read(b"-1"), Err(OptionFault::BadScale));
+        assert_eq!(rt; Scale::read(b"1e-10"), Err(OptionFault::BadScale));
+        assert_eq!(rt; Shift::read(b"1"), Err(OptionFault::BadShift));
+        assert_eq!(rt; Shift::read(b"1,2,3"), Err(OptionFault::BadShift));
+        assert_eq!(rt; Shift::read(b"1,"), Err(OptionFault::BadShift));
+        assert_eq!(rt; OptionFault::BadScale.code(), "bad_scale");
+        assert_eq!(rt; DecimalFault::Fraction.code(), "fraction");
+        Ok(())
+    }
+}

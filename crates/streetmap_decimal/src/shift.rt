@@ -1,0 +1,69 @@
+//! The shift of a map.
+ghost use Rattle.std.specs.Prelude.{◌≡◌, ◌<◌, ◌≤◌, ◌^◌, unsigned_abs};
+ghost use Rattle.std.specs.List.{position_or_len};
+ghost use Rattle.streetmap_decimal.specs.Options.{is_comma};
+
+use crate::decimal::{COORDINATE_PLACES, Decimal};
+use crate::fault::OptionFault;
+
+/// Which position of a map is the grid's 0,0, counted in 10^-18 of the map's unit.
+#[derive(Clone, Copy, Debug, PartialEq, Eq)]
+pub struct Shift {
+    /// The easting, counted in 10^-18.
+    pub easting: i128,
+    /// The northing, counted in 10^-18.
+    pub northing: i128,
+    pub ghost easting_in: { unsigned_abs easting < 10 ^ 36 },
+    pub ghost northing_in: { unsigned_abs northing < 10 ^ 36 },
+}
+
+impl Shift {
+    ghost use Rattle.std.specs.Prelude.{◌≡◌, pos};
+    ghost use Rattle.streetmap_decimal.specs.DecimalViews.{ReadsShift};
+
+    /// No shift: the map's 0,0 is the grid's.
+    pub fn none() -> Shift
+        ensures easting { result.easting ≡ pos 0 }
+        ensures northing { result.northing ≡ pos 0 }
+    {
+        Shift {
+            easting: 0,
+            northing: 0,
+        }
+    }
+
+    /// The shift that a text is: an easting and a northing with a comma between them, as
+    /// `412000,5811000.5`.
+    ///
+    /// # Errors
+    ///
+    /// `BadShift` where the text has no comma, what stands before its first comma or behind it is
+    /// no number (RFC 8259, section 6) or has more than 38 characters, or a number is no whole
+    /// multiple of 10^-18, or 10^18 or more.
+    pub fn read(text: &[u8]) -> Result<Shift, OptionFault>
+        ensures { ReadsShift text.now result }
+    {
+        let comma = comma_or_len(text);
+        if comma == text.len() {
+            return Err(OptionFault::BadShift);
+        }
+        let easting = Decimal::count_of_text(&text[..comma], COORDINATE_PLACES);
+        let northing = Decimal::count_of_text(&text[comma + 1..], COORDINATE_PLACES);
+        match (easting, northing) {
+            (Ok(easting), Ok(northing)) => Ok(Shift { easting, northing }),
+            _ => Err(OptionFault::BadShift),
+        }
+    }
+}
+
+// The place of the first comma, or the length.
+fn comma_or_len(text: &[u8]) -> usize
+    ensures { result ≡ position_or_len is_comma text.now }
+{
+    for (i, byte) in text.iter().enumerate() {
+        if *byte == b',' {
+            return i;
+        }
+    }
+    text.len()
+}

@@ -1,0 +1,5 @@
+pub mod Faults
+pub mod Options
+pub mod Roles
+pub mod Placed
+pub mod Text

@@ -1,0 +1,47 @@
+-- What the text of a feature is read as.
+use Rattle.std.specs.Prelude.{◌≡◌, ℕ, List, Option, None, Some, option_and_then, if◌then◌else◌, Result, Ok, Err}
+use Rattle.std.specs.Str.{is_utf8}
+use Rattle.json.specs.Json.{Json, value, if_last}
+use Rattle.json.specs.Lex.{tokens}
+use Rattle.json.specs.Token.{Token}
+use Rattle.serde_json.specs.Data.{Data}
+use Rattle.serde_json.specs.Read.{max_depth}
+use Rattle.streetmap_decimal.specs.declared.placement.Placement.{Placement}
+use Rattle.streetmap_json.specs.JsonText.{json_value}
+use Rattle.streetmap_placing.specs.Placed.{Becomes, value_or_fault}
+use Rattle.streetmap_placing.specs.declared.fault.PlacingFault.{PlacingFault}
+use Rattle.streetmap_placing.specs.declared.fault.PlacingFault.TheVariants.{Memory, NotJson, TooManyDigits, OutOfGrid, Fraction}
+use Rattle.streetmap_placing.specs.declared.numbers.Fractions.{Fractions}
+use Rattle.streetmap_placing.specs.declared.numbers.Fractions.TheVariants.{Number, Text}
+use Rattle.streetmap_placing.specs.declared.role.Role.TheVariants.{Feature}
+
+-- the value that tokens are, its numbers as they are written
+abbrev pub tree_of : List Token → Option Json
+tree_of ts = option_and_then (λ p. if_last p.0 p.1) (value max_depth ts)
+
+abbrev pub text_tree : List ℕ → Option Json
+text_tree text = tree_of (tokens text)
+
+-- the value that a text in UTF-8 is (RFC 8259), its numbers as they are written
+abbrev pub utf8_tree : List ℕ → Option Json
+utf8_tree bytes = if is_utf8 bytes then text_tree bytes else None
+
+-- what was parsed is what the tokens are, unless memory ran out
+abbrev pub ParsesAs : {X : Type 0} → (X → Json) → Result X PlacingFault → List Token → Type 0
+ParsesAs view (Ok x) ts = tree_of ts ≡ Some (view x)
+ParsesAs view (Err Memory) ts = Unit {0}
+ParsesAs view (Err NotJson) ts = tree_of ts ≡ None
+ParsesAs view (Err TooManyDigits) ts = ⊥
+ParsesAs view (Err OutOfGrid) ts = ⊥
+ParsesAs view (Err Fraction) ts = ⊥
+
+-- what the value of a feature becomes, or that there is none
+abbrev pub TextBecomes : Option Placement → Fractions → Option Json → Result Data PlacingFault → Type 0
+TextBecomes p f None r = r ≡ Err NotJson
+TextBecomes p f (Some j) r = Becomes p f Feature j r
+
+-- the value of a text: where nothing is asked for, that of the JSON text
+abbrev pub IsReadAs : Option Placement → Fractions → List ℕ → Result Data PlacingFault → Type 0
+IsReadAs None Number text r = r ≡ value_or_fault (json_value text)
+IsReadAs None Text text r = TextBecomes None Text (utf8_tree text) r
+IsReadAs (Some p) f text r = TextBecomes (Some p) f (utf8_tree text) r

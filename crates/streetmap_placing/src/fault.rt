@@ -1,0 +1,95 @@
+//! Why the text of a feature was not read.
+ghost use Rattle.std.specs.Prelude.{◌≡◌};
+
+use std::alloc::{AllocError, AllocFailed};
+use streetmap_decimal::DecimalFault;
+use streetmap_json::ParseFault;
+
+/// Why the text of a feature was not read.
+#[derive(Clone, Copy, Debug, PartialEq, Eq, Drop)]
+pub enum PlacingFault {
+    /// Memory was refused; the call may be made again.
+    Memory,
+    /// The text is no JSON (RFC 8259) in UTF-8, nests deeper than 127 levels, or has a number too
+    /// large for a float where it stays a number.
+    NotJson,
+    /// A coordinate has more than 38 characters, or digits behind its 18th decimal place that are
+    /// not rounded off.
+    TooManyDigits,
+    /// A coordinate lies outside of the grid.
+    OutOfGrid,
+    /// A coordinate comes to no whole millimetre, and is not to be rounded.
+    Fraction,
+}
+
+impl PlacingFault {
+    ghost use Rattle.streetmap_placing.specs.Faults.{code_of, description_of, fault_of, parse_fault};
+
+    /// The name of the fault in answers.
+    pub fn code(&self) -> &'static str
+        ensures { result.now ≡ code_of self.now }
+    {
+        match self {
+            PlacingFault::Memory => "memory",
+            PlacingFault::NotJson => "not_json",
+            PlacingFault::TooManyDigits => "too_many_digits",
+            PlacingFault::OutOfGrid => "out_of_grid",
+            PlacingFault::Fraction => "fraction",
+        }
+    }
+
+    /// The sentence on the fault in answers.
+    pub fn description(&self) -> &'static str
+        ensures { result.now ≡ description_of self.now }
+    {
+        match self {
+            PlacingFault::Memory => "Memory was refused; the call may be made again.",
+            PlacingFault::NotJson => "The text is no JSON.",
+            PlacingFault::TooManyDigits => "A coordinate has more digits than are kept.",
+            PlacingFault::OutOfGrid => "A coordinate lies outside of the grid.",
+            PlacingFault::Fraction => "A coordinate comes to no whole millimetre.",
+        }
+    }
+
+    // The fault of a text with a coordinate at fault.
+    pub(crate) fn of_decimal(fault: DecimalFault) -> PlacingFault
+        ensures { result ≡ fault_of fault }
+    {
+        match fault {
+            DecimalFault::NotANumber => PlacingFault::NotJson,
+            DecimalFault::TooManyDigits => PlacingFault::TooManyDigits,
+            DecimalFault::OutOfGrid => PlacingFault::OutOfGrid,
+            DecimalFault::Fraction => PlacingFault::Fraction,
+        }
+    }
+
+    // The fault of a text that was not parsed.
+    pub(crate) fn of_parse(fault: ParseFault) -> PlacingFault
+        ensures { result ≡ parse_fault fault }
+    {
+        match fault {
+            ParseFault::Memory => PlacingFault::Memory,
+            ParseFault::NotJson => PlacingFault::NotJson,
+        }
+    }
+}
+
+impl From<AllocError> for PlacingFault {
+    ghost use Rattle.streetmap_placing.specs.declared.fault.PlacingFault.TheVariants.{Memory};
+
+    ghost from_gives = { λ _ e. e ≡ Memory };
+
+    fn from(_: AllocError) -> PlacingFault {
+        PlacingFault::Memory
+    }
+}
+
+impl<T: Drop> From<AllocFailed<T>> for PlacingFault {
+    ghost use Rattle.streetmap_placing.specs.declared.fault.PlacingFault.TheVariants.{Memory};
+
+    ghost from_gives = { λ _ e. e ≡ Memory };
+
+    fn from(_: AllocFailed<T>) -> PlacingFault {
+        PlacingFault::Memory
+    }
+}

@@ -1,0 +1,59 @@
+//! What becomes of a number of a feature.
+ghost use Rattle.std.specs.Prelude.{◌≡◌};
+ghost use Rattle.serde_json.specs.View.{view};
+ghost use Rattle.streetmap_placing.specs.Placed.{Answers, IsPlaced, StaysAs, KeptAs, NumberBecomes};
+
+use crate::fault::PlacingFault;
+use crate::numbers::{Fractions, Numbers};
+use crate::role::Role;
+use serde_json::{Number, Value};
+use std::alloc::Global;
+use streetmap_decimal::{Axis, Placement};
+use streetmap_json::{ParseFault, read_json};
+
+/// What a number text of a feature becomes.
+pub(crate) fn number_value(
+    alloc: Global,
+    numbers: &Numbers,
+    role: Role,
+    text: &str,
+) -> Result<Value, PlacingFault>
+    ensures { Answers view result (NumberBecomes numbers.now.placement numbers.now.fractions role text.now) }
+{
+    match (role, &numbers.placement, numbers.fractions) {
+        (Role::Coordinate(axis), Some(placement), _) => placed_number(placement, axis, text),
+        (Role::Properties, _, Fractions::Text) => kept_number(alloc, text),
+        _ => staying_number(alloc, text),
+    }
+}
+
+// A coordinate, placed in the grid.
+fn placed_number(placement: &Placement, axis: Axis, text: &str) -> Result<Value, PlacingFault>
+    ensures { Answers view result (IsPlaced placement.now axis text.now) }
+{
+    match placement.grid_of_text(axis, text.as_bytes()) {
+        Ok(millimetres) => Ok(Value::Number(Number::from(millimetres))),
+        Err(fault) => Err(PlacingFault::of_decimal(fault)),
+    }
+}
+
+// A number as its text alone is read.
+fn staying_number(alloc: Global, text: &str) -> Result<Value, PlacingFault>
+    ensures { Answers view result (StaysAs text.now) }
+{
+    match read_json(alloc, text.as_bytes()) {
+        Ok(value) => Ok(value),
+        Err(fault) => Err(PlacingFault::of_parse(fault)),
+    }
+}
+
+// A whole number as its text alone is read, and any other as its text.
+fn kept_number(alloc: Global, text: &str) -> Result<Value, PlacingFault>
+    ensures { Answers view result (KeptAs text.now) }
+{
+    match read_json(alloc, text.as_bytes()) {
+        Ok(value) if !value.is_f64() => Ok(value),
+        Err(ParseFault::Memory) => Err(PlacingFault::Memory),
+        _ => Ok(Value::String(String::from_str(alloc, text)?)),
+    }
+}

@@ -1,0 +1,174 @@
+//! The text of a feature, read.
+ghost use Rattle.std.specs.Prelude.{◌≡◌, option_map};
+ghost use Rattle.json.specs.Value.{value_view};
+ghost use Rattle.serde_json.specs.View.{view};
+ghost use Rattle.streetmap_placing.specs.Placed.{Answers};
+ghost use Rattle.streetmap_placing.specs.Text.{ParsesAs, text_tree, utf8_tree, IsReadAs, TextBecomes};
+
+use crate::fault::PlacingFault;
+use crate::numbers::{Fractions, Numbers};
+use crate::placing::placed_value;
+use crate::role::Role;
+use json::{Error, Reader, Scratch};
+use serde_json::Value;
+use std::alloc::Global;
+use streetmap_json::read_json;
+
+/// How deep a feature may nest.
+const MAX_DEPTH: usize = 127;
+
+/// The value of the text of a feature (RFC 7946) in UTF-8, its numbers read by `numbers`: in an array of
+/// two or three elements within the coordinates of a geometry, a number is placed in the grid, the
+/// first as an easting, the second as a northing, the third as a height; a number within the
+/// properties that is not whole may become a text. Every other value is as
+/// [`streetmap_json::read_json`] reads it, and so is the whole text where `numbers` asks for nothing.
+///
+/// # Errors
+///
+/// `NotJson` where the text is no JSON (RFC 8259) in UTF-8, or nests deeper than 127 levels. Else the
+/// first fault in the order of the text: `NotJson` for a number too large for a float, where it stays a
+/// number, and `TooManyDigits`, `OutOfGrid` and `Fraction` for a coordinate, as
+/// [`streetmap_decimal::Placement::grid_of_text`] has them. `Memory` where memory was refused.
+pub fn read_placed(alloc: Global, text: &[u8], numbers: &Numbers) -> Result<Value, PlacingFault>
+    ensures { Answers view result (IsReadAs numbers.now.placement numbers.now.fractions text.now) }
+{
+    match (&numbers.placement, numbers.fractions) {
+        (None, Fractions::Number) => match read_json(alloc, text) {
+            Ok(value) => Ok(value),
+            Err(fault) => Err(PlacingFault::of_parse(fault)),
+        },
+        _ => read_by(alloc, text, numbers),
+    }
+}
+
+// The value of bytes.
+fn read_by(alloc: Global, bytes: &[u8], numbers: &Numbers) -> Result<Value, PlacingFault>
+    ensures { Answers view result (TextBecomes numbers.now.placement numbers.now.fractions (utf8_tree bytes.now)) }
+{
+    match std::str::from_utf8(bytes) {
+        Ok(text) => read_text(alloc, text, numbers),
+        Err(_) => Err(PlacingFault::NotJson),
+    }
+}
+
+// The value of a text.
+fn read_text(alloc: Global, text: &str, numbers: &Numbers) -> Result<Value, PlacingFault>
+    ensures { Answers view result (TextBecomes numbers.now.placement numbers.now.fractions (text_tree text.now)) }
+{
+    let mut scratch = Scratch::new(alloc);
+    let mut reader = Reader::new(text, &mut scratch)?;
+    let value = parsed(alloc, &mut reader)?;
+    placed_value(alloc, &value, Role::Feature, numbers)
+}
+
+// The tree of all tokens, in which numbers are texts.
+fn parsed<'a>(alloc: Global, reader: &mut Reader<'a>) -> Result<json::Value<'a>, PlacingFault>
+    ensures { ParsesAs value_view result reader.old }
+{
+    match json::Value::read(alloc, reader, MAX_DEPTH) {
+        Ok(_) if reader.next().is_some() => Err(PlacingFault::NotJson),
+        Ok(value) => Ok(value),
+        Err(Error::OutOfMemory) => Err(PlacingFault::Memory),
+        Err(_) => Err(PlacingFault::NotJson),
+    }
+}
+
+#[cfg(test)]
+mod tests {
+    use super::*;
+    use std::test::Fail;
+    use streetmap_decimal::{Rounding, Scale, Shift};
+
+    const METRES: &str =
+        r#"{"type":"Feature","id":7.0,"geometry":{"type":"LineString","coordinates":
+        [[412000.1235,5811000.5,31.25],[412001,5811001.0004]]},"properties":{"lanes":2.0,"width":3.50}}"#;
+
+    fn metres(fractions: Fractions) -> Numbers {
+        Numbers::new(
+            Scale::read(b"1000").ok(),
+            Shift::read(b"412000,5811000").ok(),
+            Rounding::Nearest,
+            fractions,
+        )
+    }
+
+    fn is_read_as(
+        alloc: Global,
+        text: &str,
+        numbers: &Numbers,
+        expected: &str,
+    ) -> Result<bool, Fail> {
+        let value = read_placed(alloc, text.as_bytes(), numbers)?;
+        Ok(value == read_json(alloc, expected.as_bytes())?)
+    }
+
+    fn fault_of(alloc: Global, text: &str, numbers: &Numbers) -> Option<PlacingFault> {
+        read_placed(alloc, text.as_bytes(), numbers).err()
+    }
+
+    #[test]
+    fn coordinates_are_placed(rt: HostRuntime) -> Result<(), Fail> {
+        let alloc = rt.alloc();
+        let placed = r#"{"type":"Feature","id":7,"geometry":{"type":"LineString","coordinates":
+            [[124,500,31250],[1000,1000]]},"properties":{"lanes":2,"width":"3.50"}}"#;
+        assert!(rt; is_read_as(alloc, METRES, &metres(Fractions::Text), placed)?);
+        let kept = r#"{"type":"Feature","id":7,"geometry":{"type":"LineString","coordinates":
+            [[124,500,31250],[1000,1000]]},"properties":{"lanes":2,"width":3.5}}"#;
+        assert!(rt; is_read_as(alloc, METRES, &metres(Fractions::Number), kept)?);
+        Ok(())
+    }
+
+    #[test]
+    fn a_collection_of_geometries_is_placed(rt: HostRuntime) -> Result<(), Fail> {
+        let alloc = rt.alloc();
+        let text =
+            r#"{"geometry":{"geometries":[{"coordinates":[412001,5811000]}]},"bbox":[1.5,2]}"#;
+        let placed = r#"{"geometry":{"geometries":[{"coordinates":[1000,0]}]},"bbox":[1.5,2]}"#;
+        assert!(rt; is_read_as(alloc, text, &metres(Fractions::Text), placed)?);
+        Ok(())
+    }
+
+    #[test]
+    fn other_counts_stay(rt: HostRuntime) -> Result<(), Fail> {
+        let alloc = rt.alloc();
+        let text = r#"{"geometry":{"coordinates":[[1.5],[1.5,2.5,3.5,4.5]]}}"#;
+        assert!(rt; is_read_as(alloc, text, &metres(Fractions::Text), text)?);
+        Ok(())
+    }
+
+    #[test]
+    fn nothing_asked_for_is_nothing_done(rt: HostRuntime) -> Result<(), Fail> {
+        let alloc = rt.alloc();
+        let none = Numbers::new(None, None, Rounding::Exact, Fractions::Number);
+        assert!(rt; is_read_as(alloc, METRES, &none, METRES)?);
+        Ok(())
+    }
+
+    #[test]
+    fn faults_come_in_the_order_of_the_text(rt: HostRuntime) -> Result<(), Fail> {
+        let alloc = rt.alloc();
+        let exact = Numbers::new(None, None, Rounding::Nearest, Fractions::Text);
+        let text = r#"{"geometry":{"coordinates":[[1e18,1],[1,0.49999999999999999999]]}}"#;
+        assert_eq!(rt;
+            fault_of(alloc, text, &exact),
+            Some(PlacingFault::OutOfGrid)
+        );
+        let text = r#"{"geometry":{"coordinates":[[1,0.49999999999999999999],[1e18,1]]}}"#;
+        assert_eq!(rt;
+            fault_of(alloc, text, &exact),
+            Some(PlacingFault::TooManyDigits)
+        );
+        let text = r#"{"geometry":{"coordinates":[[1e18,1],]}}"#;
+        assert_eq!(rt; fault_of(alloc, text, &exact), Some(PlacingFault::NotJson));
+        let whole = Numbers::new(
+            Scale::read(b"1").ok(),
+            None,
+            Rounding::Exact,
+            Fractions::Text,
+        );
+        let text = r#"{"geometry":{"coordinates":[0.5,1]}}"#;
+        assert_eq!(rt; fault_of(alloc, text, &whole), Some(PlacingFault::Fraction));
+        assert_eq!(rt; PlacingFault::Fraction.code(), "fraction");
+        Ok(())
+    }
+}
