@@ -147,19 +147,43 @@ def is_of(line: str, path: str, function: Function) -> bool:
     return at is not None and at[1] == function.file and int(at[2]) in function.lines
 
 
-def refusal(crate: str, edit: Edit, output: str) -> str | None:
-    """The first line that refuses a function of the edit at a goal of its own, if one does."""
+def errors_of(path: str, lines: list[str]) -> list[str]:
+    """The lines that refuse an answer of a function, by its path below the crate."""
+    proofs = f"./proofs/{path.replace('::', '/')}/"
+    told = [it for it in lines if it.startswith(proofs) and ": error" in it]
+    return [it for it in told if not LOST_NAME.search(it)]
+
+
+def refusal(crate: str, edit: Edit, output: str, is_apart: bool) -> str | None:
+    """The first line that refuses a function of the edit at a goal of its own, if one does. A
+    function that calls one which is not proved counts where an answer of its own is refused, and
+    no function that no edit touches has such an answer (`is_apart`)."""
+    lines = output.splitlines()
     for path, status, behind in STATUS.findall(output):
         inside = path.removeprefix(f"{crate}::")
         # A goal of its own is open: an answer is refused, or none is found and none is written.
         is_own = status == "not proved" or behind.startswith(": expected answers")
         function = next((it for it in edit.functions or () if it.is_called(inside)), None)
-        if function is None or not is_own or "it calls" in behind:
+        if function is None or not is_own:
             continue
-        told = [it for it in output.splitlines() if is_of(it, inside, function)]
+        if "it calls" in behind and not (is_apart and errors_of(inside, lines)):
+            continue
+        told = [it for it in lines if is_of(it, inside, function)]
         told.sort(key=lambda it: bool(LOST_NAME.search(it)))
         return told[0] if told else f"fn {path}: {status}{behind}"
     return None
+
+
+def only_edited(crate: str, edits: list[Edit], output: str) -> bool:
+    """Whether each function with a refused answer is one that an edit changes."""
+    edited = [function for edit in edits for function in edit.functions or ()]
+    lines = output.splitlines()
+    for path, status, _ in STATUS.findall(output):
+        inside = path.removeprefix(f"{crate}::")
+        if status == "not proved" and errors_of(inside, lines):
+            if not any(it.is_called(inside) for it in edited):
+                return False
+    return True
 
 
 def try_together(
@@ -178,7 +202,8 @@ def try_together(
         ran = rt.checked(crate, texts, flags, kept)
         if ran.returncode != 1 or any(rt.unread(it, texts) for it in ran.stdout.splitlines()):
             return refused, checks
-        new = {it.path: refusal(crate.name, it, ran.stdout) for it in together}
+        is_apart = only_edited(crate.name, together, ran.stdout)
+        new = {it.path: refusal(crate.name, it, ran.stdout, is_apart) for it in together}
         refused |= {path: line for path, line in new.items() if line}
         if not any(new.values()):
             return refused, checks
