@@ -1,9 +1,11 @@
 //! The keeper of a file: here alone its store is named.
-use crate::fault::ProgramFault;
-use crate::tasks::{Task, read_batch};
+use crate::exchange::read_batch;
+use crate::tasks::Task;
+use crate::{fault, loading};
 use sqlite::Unknown;
 use std::fs::exists;
-use streetmap_command::Import;
+use streetmap_command::{Import, LoadAsked};
+use streetmap_faults::ProgramFault;
 
 /// Whether there is a file of that name.
 fn is_there(rt: &HostRuntime, path: &str) -> Result<bool, ProgramFault> {
@@ -14,7 +16,7 @@ fn is_there(rt: &HostRuntime, path: &str) -> Result<bool, ProgramFault> {
 fn make(rt: &HostRuntime, path: &str) -> Result<(), ProgramFault> {
     match streetmap_files::create(rt, path, Unknown) {
         Ok(_keeper) => Ok(()),
-        Err((fault, _)) => Err(ProgramFault::from(fault)),
+        Err((refused, _)) => Err(fault::of_create(&refused)),
     }
 }
 
@@ -31,7 +33,7 @@ pub(crate) fn create(rt: &HostRuntime, path: &str) -> Result<(), ProgramFault> {
 fn run_over(rt: &HostRuntime, path: &str, task: Task<'_>) -> Result<(), ProgramFault> {
     match streetmap_files::open(rt, path, Unknown) {
         Ok(keeper) => task.run(rt, keeper),
-        Err((fault, _)) => Err(ProgramFault::from(fault)),
+        Err((refused, _)) => Err(fault::of_open(&refused)),
     }
 }
 
@@ -52,5 +54,41 @@ pub(crate) fn import(rt: &HostRuntime, path: &str, asked: Import<'_>) -> Result<
         run_over(rt, path, Task::Import(batch))
     } else {
         Err(ProgramFault::NoFile)
+    }
+}
+
+/// Puts the features of a text into a collection of a file by batches, or prints these.
+pub(crate) fn load(rt: &HostRuntime, path: &str, asked: LoadAsked<'_>) -> Result<(), ProgramFault> {
+    let is_file = is_there(rt, path)?;
+    let load = loading::read(rt, asked)?;
+    look_for(rt, asked.text)?;
+    if asked.print && (asked.opens || !asked.skip) {
+        loading::print(rt, load, asked)
+    } else if is_file {
+        run_over(rt, path, Task::Load { load, asked })
+    } else {
+        Err(ProgramFault::NoFile)
+    }
+}
+
+/// Applies the lines of a text, or of standard input, to a file.
+pub(crate) fn apply(rt: &HostRuntime, path: &str, text: Option<&str>) -> Result<(), ProgramFault> {
+    if is_there(rt, path)? {
+        look_for(rt, text)?;
+        run_over(rt, path, Task::Apply { text })
+    } else {
+        Err(ProgramFault::NoFile)
+    }
+}
+
+/// Looks whether a text is there, where one is named.
+fn look_for(rt: &HostRuntime, text: Option<&str>) -> Result<(), ProgramFault> {
+    let Some(path) = text else {
+        return Ok(());
+    };
+    match exists(rt, path) {
+        Ok(true) => Ok(()),
+        Ok(false) => Err(ProgramFault::NoText),
+        Err(error) => Err(fault::of_text(&error)),
     }
 }

@@ -1,31 +1,37 @@
 //! The program `streetmap`: features of a map office, kept in a file, served over HTTP, imported
 //! and exported, or read and changed by lines.
 //!
-//! Modules, in the order of reading: `fault` (what is printed, and the exit status), `tasks` (what
-//! the commands do over the keeper of a file), `files` (that keeper), `texts` (the text that is
-//! imported), `progress` (how far an import or an export is). The command line, and what the
-//! commands do in turn, stand in the crates below.
+//! Modules, in the order of reading: `files` (the keeper of a file), `tasks` (what the commands do
+//! over it), and one for each group of commands: `serving` (`serve`, `pipe`), `exchange` (`import`,
+//! `export`), with `texts` and `progress` below it, `checking` (`check`), `lines` (`lines`).
+//! `fault` turns faults of the crates below into that of the program. The command line, what is
+//! printed for a fault, and what the commands do in turn, stand in those crates.
 #![tactic(auto)]
 
-pub mod fault;
+mod batches;
+mod checking;
+mod exchange;
+mod fault;
 mod files;
+mod lines;
+mod loading;
 mod progress;
+mod serving;
 mod tasks;
 mod texts;
 
-use crate::fault::ProgramFault;
 use crate::tasks::Task;
 use std::env;
-use std::io::{BufReader, BufWriter, writer};
 use std::process::ExitCode;
-use streetmap_command::{Command, read_command};
-use streetmap_lines::{LinesFault, lines};
+use streetmap_command::{Command, VERSION, read_command};
+use streetmap_faults::ProgramFault;
+use streetmap_loading::{End, TextFault};
 use streetmap_routes::Base;
 
 /// Does what the command line asks for.
 fn run(rt: &HostRuntime) -> Result<(), ProgramFault> {
     let mut words = Vec::new(rt.alloc());
-    for word in env::args(rt).map_err(|error| ProgramFault::of_words(&error))? {
+    for word in env::args(rt).map_err(|error| fault::of_words(&error))? {
         words.push(word).map_err(|_| ProgramFault::Memory)?;
     }
     perform(rt, read_command(rt.alloc(), words.as_slice())?)
@@ -34,7 +40,8 @@ fn run(rt: &HostRuntime) -> Result<(), ProgramFault> {
 /// Does what a command asks for. A base of links is judged before the file is looked for.
 fn perform(rt: &HostRuntime, command: Command<'_>) -> Result<(), ProgramFault> {
     match command {
-        Command::Lines => Ok(run_lines(rt)?),
+        Command::Version => print_version(rt),
+        Command::Lines => Ok(lines::run(rt)?),
         Command::Create { file } => files::create(rt, file),
         Command::Pipe { file, base } => {
             let base = Base::new(rt.alloc(), base.as_str())?;
@@ -62,33 +69,27 @@ fn perform(rt: &HostRuntime, command: Command<'_>) -> Result<(), ProgramFault> {
             },
         ),
         Command::Check { file } => files::run(rt, file, Task::Check),
+        Command::Load { file, load } => files::load(rt, file, load),
+        Command::Batches { file, after } => files::run(rt, file, Task::Batches { after }),
+        Command::Apply { file, text } => files::apply(rt, file, text),
     }
 }
 
-/// Answers the lines of standard input on standard output.
-fn run_lines(rt: &HostRuntime) -> Result<(), LinesFault> {
-    let mut reader = match BufReader::new(rt.alloc(), rt.reader()) {
-        Ok(reader) => reader,
-        Err(error) => return Err(LinesFault::of_read(&error)),
-    };
-    let mut output = match BufWriter::new(rt.alloc(), writer(rt)) {
-        Ok(output) => output,
-        Err(error) => return Err(LinesFault::of_write(&error)),
-    };
-    lines(rt.alloc(), &mut reader, &mut output)
+/// Prints the name of the program and its version.
+fn print_version(rt: &HostRuntime) -> Result<(), ProgramFault> {
+    println!(rt; "streetmap {VERSION}").map_err(|_| ProgramFault::WriteFailed)
 }
 
-/// Prints the fault that a command ended with, with the place and the cause where there are such.
+/// Prints the line of a fault, and of a text that is no sequence of features also what makes one.
+/// Features that were passed over have their lines already.
 fn print_fault(rt: &HostRuntime, fault: ProgramFault) {
-    let code = fault.code();
-    let _ = match (fault.place(), fault.cause()) {
-        (Some(place), Some(cause)) => {
-            let cause = cause.code();
-            eprintln!(rt; "streetmap: {code} {place} {cause}")
-        }
-        (Some(place), None) => eprintln!(rt; "streetmap: {code} {place}"),
-        _ => eprintln!(rt; "streetmap: {code}"),
-    };
+    if !matches!(fault, ProgramFault::PassedOver) {
+        let _ = eprintln!(rt; "{fault}");
+    }
+    if let ProgramFault::Load(End::AtFault(TextFault::NotASequence)) = fault {
+        let description = fault.description();
+        let _ = eprintln!(rt; "{description}");
+    }
 }
 
 fn main(rt: HostRuntime) -> ExitCode {

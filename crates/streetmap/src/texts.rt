@@ -1,10 +1,11 @@
 //! The text that is imported.
 ghost use Rattle.std.specs.Prelude.{◌≡◌, IfOk, IfSome, take};
 
-use crate::fault::ProgramFault;
+use crate::fault;
 use std::alloc::Global;
 use std::fs::File;
 use std::io::Read;
+use streetmap_faults::ProgramFault;
 
 /// The most bytes that are read of a text: one more than `streetmap_exchange::MAX_TEXT`, so that a
 /// text that is too large is seen to be so, and is not read to its end.
@@ -19,7 +20,7 @@ fn read_first<R: Read + Drop>(alloc: Global, reader: R) -> Result<Vec<u8>, Progr
     let mut text = Vec::new(alloc);
     match first.read_to_end(&mut text) {
         Ok(_) => Ok(text),
-        Err(error) => Err(ProgramFault::of_text(&error)),
+        Err(error) => Err(fault::of_text(&error)),
     }
 }
 
@@ -27,6 +28,6 @@ fn read_first<R: Read + Drop>(alloc: Global, reader: R) -> Result<Vec<u8>, Progr
 pub(crate) fn read(rt: &HostRuntime, path: &str) -> Result<Vec<u8>, ProgramFault> {
     match File::open(rt, path) {
         Ok(file) => read_first(rt.alloc(), file),
-        Err(error) => Err(ProgramFault::of_text(&error)),
+        Err(error) => Err(fault::of_text(&error)),
     }
 }

@@ -1,5 +1,6 @@
 pub mod Statements
 pub mod Seeing
+pub mod Faults
 pub mod Folding
 pub mod Good
 pub mod Held

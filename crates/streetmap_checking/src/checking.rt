@@ -31,12 +31,40 @@ pub struct Totals {
 /// Why a check told no totals.
 #[derive(Debug, Drop)]
 pub enum CheckFault {
-    /// The rows are those of no ledger.
+    /// `damaged`: the rows are those of no ledger.
     Damaged,
-    /// The store failed, or has no room: the error that told it.
+    /// `device`: the store failed, or has no room: the error that told it.
     Device(Error),
-    /// Memory was refused.
+    /// `memory`: memory was refused.
     Memory,
+}
+
+impl CheckFault {
+    ghost use Rattle.streetmap_checking.specs.Faults.{code_of, description_of};
+
+    /// Its name.
+    #[tactic(auto, unfolding(crate::specs::Faults::code_of))]
+    pub fn code(&self) -> &'static str
+        ensures { result.now ≡ code_of self.now }
+    {
+        match self {
+            CheckFault::Damaged => "damaged",
+            CheckFault::Device(_) => "device",
+            CheckFault::Memory => "memory",
+        }
+    }
+
+    /// A sentence on it.
+    #[tactic(auto, unfolding(crate::specs::Faults::description_of))]
+    pub fn description(&self) -> &'static str
+        ensures { result.now ≡ description_of self.now }
+    {
+        match self {
+            CheckFault::Damaged => "The store holds a row that cannot be read.",
+            CheckFault::Device(_) => "The store failed and must be opened again.",
+            CheckFault::Memory => "Memory was refused; the call may be made again.",
+        }
+    }
 }
 
 /// The totals, or why there are none.

@@ -1,14 +1,36 @@
 -- A command as a value.
 use Rattle.std.specs.Prelude.{string_bytes}
 use Rattle.streetmap_command.specs.declared.command.Command.{Command}
-use Rattle.streetmap_command.specs.declared.command.Command.TheVariants.{Lines, Create, Pipe}
-use Rattle.streetmap_command.specs.declared.command.Command.TheVariants.{Serve, Import, Export}
-use Rattle.streetmap_command.specs.declared.command.Command.TheVariants.{Check}
-use Rattle.streetmap_command.specs.Program.{CommandValue, lines_command, create_command}
-use Rattle.streetmap_command.specs.Program.{pipe_command, serve_command, import_command}
-use Rattle.streetmap_command.specs.Program.{export_command, check_command}
+use Rattle.streetmap_command.specs.declared.command.Command.TheVariants.{Version, Lines, Create}
+use Rattle.streetmap_command.specs.declared.command.Command.TheVariants.{Pipe, Serve}
+use Rattle.streetmap_command.specs.declared.command.Command.TheVariants.{Import, Export, Check}
+use Rattle.streetmap_command.specs.declared.command.Command.TheVariants.{Load, Batches, Apply}
+use Rattle.streetmap_command.specs.declared.words.LoadAsked.{LoadAsked}
+use Rattle.std.specs.Prelude.{option_map}
+use Rattle.streetmap_command.specs.Program.{CommandValue, version_command, lines_command}
+use Rattle.streetmap_command.specs.Program.{create_command, pipe_command, serve_command}
+use Rattle.streetmap_command.specs.Program.{import_command, export_command, check_command}
+use Rattle.streetmap_command.specs.Program.{load_command, batches_command, apply_command, LoadWords}
+
+-- the options of a load as values
+abbrev pub load_value : LoadAsked → LoadWords
+load_value l = record {
+  text = option_map (λ s. s.now) l.text;
+  key = l.key.now;
+  collection = l.collection.now;
+  each = l.each;
+  opens = l.opens;
+  title = option_map (λ s. s.now) l.title;
+  time = option_map (λ s. s.now) l.time;
+  replace = l.replace;
+  skip = l.skip;
+  check = l.check;
+  print = l.print;
+  progress = l.progress;
+}
 
 abbrev pub command_value : Command → CommandValue
+command_value Version = version_command
 command_value Lines = lines_command
 command_value (Create file) = create_command file.now
 command_value (Pipe file base) = pipe_command file.now (string_bytes base)
@@ -18,3 +40,6 @@ command_value (Import file i) =
     import_command file.now i.text.now i.key.now i.collection.now i.replace i.progress
 command_value (Export file collection progress) = export_command file.now collection.now progress
 command_value (Check file) = check_command file.now
+command_value (Load file load) = load_command file.now (load_value load)
+command_value (Batches file after) = batches_command file.now after
+command_value (Apply file text) = apply_command file.now (option_map (λ s. s.now) text)

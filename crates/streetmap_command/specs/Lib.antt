@@ -1,2 +1,3 @@
+pub mod CommandFaults
 pub mod CommandView
 pub mod Program

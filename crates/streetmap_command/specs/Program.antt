@@ -1,11 +1,13 @@
 -- The command line, as `clap` reads it.
-use Rattle.std.specs.Prelude.{ℕ, Bool, false, codes, decimal, List, Option, Some, None, length}
-use Rattle.std.specs.Prelude.{unwrap_or, option_map, option_and_then, if◌then◌else◌, nat_lt}
-use Rattle.std.specs.Prelude.{nat_le, true, ◌&&◌, ◌++◌}
+use Rattle.std.specs.Prelude.{◌||◌, not}
+use Rattle.std.specs.Prelude.{◌≡◌, [], ◌∷◌, ℕ, Bool, false, codes, decimal, List, Option, Some}
+use Rattle.std.specs.Prelude.{None, length, unwrap_or, option_map, option_and_then, if◌then◌else◌}
+use Rattle.std.specs.Prelude.{nat_lt, nat_le, true, ◌&&◌, ◌++◌}
 use Rattle.std.specs.Str.{bytes_eq, all_ascii_digits}
 use Rattle.std.specs.Str.Parse.{digits_value}
-use Rattle.clap.specs.Words.{App, Rule, Row, Text, new_app, new_rule, with_rule, with_subcommand}
-use Rattle.clap.specs.Words.{first_of, takes, subcommand_of}
+use Rattle.clap.specs.Words.{App, Rule, Row, Text, Kinds, IsAmong, new_app, new_rule, with_rule}
+use Rattle.clap.specs.Words.{with_subcommand, first_of, takes, fault_of, subcommand_of}
+use Rattle.clap.specs.declared.error.kind.ErrorKind.TheVariants as kinds
 use Rattle.clap.specs.declared.builder.action.ArgAction.TheVariants.{Set, SetTrue}
 
 -- a value that has to be given, by its place alone
@@ -14,6 +16,10 @@ positional name = record (new_rule name) { required = true; action = Some Set }
 
 abbrev pub file : Rule
 file = positional (codes "file")
+
+-- a value by its place alone, which may be left out
+abbrev pub optional : Text → Rule
+optional name = record (new_rule name) { action = Some Set }
 
 -- an option with a value, which may be left out
 abbrev pub option : Text → Rule
@@ -56,15 +62,61 @@ export = with_rule (with_rule (with_rule (new_app (codes "export")) file)
 abbrev pub check : App
 check = with_rule (new_app (codes "check")) file
 
+-- FILE, and the serial behind which batches are printed
+abbrev pub batches : App
+batches = with_rule (with_rule (new_app (codes "batches")) file) (option (codes "after"))
+
+-- FILE and TEXT
+abbrev pub apply : App
+apply = with_rule (with_rule (new_app (codes "apply")) file) (optional (codes "text"))
+
+-- a command with these arguments more
+abbrev pub with_rules : App → List Rule → App
+with_rules a [] = a
+with_rules a (r ∷ rs) = with_rules (with_rule a r) rs
+
+-- FILE and TEXT, the key, the collection, how many edits a batch has, the opening of the
+-- collection, how features are put in, and what is done in place of that
+abbrev pub load : App
+load = with_rules (new_app (codes "load"))
+    (file ∷ optional (codes "text")
+    ∷ required_option (codes "key") ∷ required_option (codes "collection") ∷ option (codes "each")
+    ∷ flag (codes "open") ∷ option (codes "title") ∷ option (codes "time")
+    ∷ flag (codes "replace") ∷ flag (codes "skip") ∷ flag (codes "check") ∷ flag (codes "print")
+    ∷ flag (codes "progress") ∷ [])
+
+-- a command that has a version, so that `--version` and `-V` ask for it
+abbrev pub versioned : App → App
+versioned a = record a { top = record a.top { has_version = true } }
+
 -- the program with its subcommands
 abbrev pub program : App
-program = with_subcommand (with_subcommand
-    (with_subcommand (with_subcommand
-    (with_subcommand (with_subcommand (with_subcommand (new_app (codes "streetmap")) lines.top)
-    create.top) pipe.top) serve.top) import.top) export.top) check.top
+program =
+    let none = versioned (new_app (codes "streetmap")) in
+    let three = with_subcommand (with_subcommand (with_subcommand none lines.top) create.top)
+    pipe.top in
+    let five = with_subcommand (with_subcommand three serve.top) import.top in
+    let seven = with_subcommand (with_subcommand five export.top) check.top in
+    with_subcommand (with_subcommand (with_subcommand seven load.top) batches.top) apply.top
+
+-- the load of a text of features, as it is asked for
+pub record LoadWords : Type 0 where
+  pub text : Option Text
+  pub key : Text
+  pub collection : Text
+  pub each : ℕ
+  pub opens : Bool
+  pub title : Option Text
+  pub time : Option Text
+  pub replace : Bool
+  pub skip : Bool
+  pub check : Bool
+  pub print : Bool
+  pub progress : Bool
 
 -- what a command line asks for
 pub data CommandValue : Type 0 where
+  version_command : CommandValue
   lines_command : CommandValue
   create_command : (file : Text) → CommandValue
   pipe_command : (file base : Text) → CommandValue
@@ -73,6 +125,9 @@ pub data CommandValue : Type 0 where
   import_command : (file text key collection : Text) (replace progress : Bool) → CommandValue
   export_command : (file collection : Text) (progress : Bool) → CommandValue
   check_command : (file : Text) → CommandValue
+  load_command : (file : Text) (load : LoadWords) → CommandValue
+  batches_command : (file : Text) (after : ℕ) → CommandValue
+  apply_command : (file : Text) (text : Option Text) → CommandValue
 
 -- decimal digits that write a number from 1 to `most`
 abbrev pub number_up_to : ℕ → Text → Option ℕ
@@ -155,6 +210,63 @@ export_by rows = export_given (first_of (codes "file") rows) (first_of (codes "c
 abbrev pub check_by : List Row → Option CommandValue
 check_by rows = option_map check_command (first_of (codes "file") rows)
 
+-- 1 to 10,000 edits a batch, or 1,000 where no number is given
+abbrev pub each_given : Option Text → Option ℕ
+each_given None = Some 1000
+each_given (Some text) = number_up_to 10000 text
+
+-- the load that is given beside the key, the collection and the edits a batch
+abbrev pub load_words : List Row → Text → Text → ℕ → LoadWords
+load_words rows key collection each = record {
+  text = first_of (codes "text") rows;
+  key = key;
+  collection = collection;
+  each = each;
+  opens = is_set (first_of (codes "open") rows);
+  title = first_of (codes "title") rows;
+  time = first_of (codes "time") rows;
+  replace = is_set (first_of (codes "replace") rows);
+  skip = is_set (first_of (codes "skip") rows);
+  check = is_set (first_of (codes "check") rows);
+  print = is_set (first_of (codes "print") rows);
+  progress = is_set (first_of (codes "progress") rows);
+}
+
+abbrev pub is_given : Option Text → Bool
+is_given None = false
+is_given (Some text) = true
+
+-- a title and a time go with an opening, and what is only checked is not printed
+abbrev pub agrees : LoadWords → Bool
+agrees w = (w.opens || (not (is_given w.title) && not (is_given w.time)))
+    && not (w.check && w.print)
+
+abbrev pub load_of : Text → LoadWords → Option CommandValue
+load_of file words = if agrees words then Some (load_command file words) else None
+
+abbrev pub options_given : List Row → Option LoadWords
+options_given rows =
+    option_and_then (λ k. option_and_then (λ c.
+    option_map (λ n. load_words rows k c n) (each_given (first_of (codes "each") rows)))
+    (first_of (codes "collection") rows)) (first_of (codes "key") rows)
+
+abbrev pub load_by : List Row → Option CommandValue
+load_by rows = option_and_then (λ f. option_and_then (λ w. load_of f w) (options_given rows))
+    (first_of (codes "file") rows)
+
+-- behind a serial up to 2^32 - 1, or behind none
+abbrev pub after_given : Option Text → Option ℕ
+after_given None = Some 0
+after_given (Some text) = if bytes_eq text (codes "0") then Some 0 else number_up_to 4294967295 text
+
+abbrev pub batches_by : List Row → Option CommandValue
+batches_by rows = option_and_then (λ f. option_map (λ n. batches_command f n)
+    (after_given (first_of (codes "after") rows))) (first_of (codes "file") rows)
+
+abbrev pub apply_by : List Row → Option CommandValue
+apply_by rows = option_map (λ f. apply_command f (first_of (codes "text") rows))
+    (first_of (codes "file") rows)
+
 -- by the subcommand's name and what is given with it
 abbrev pub command_named : Text → List Row → Option CommandValue
 command_named name rows =
@@ -164,10 +276,25 @@ command_named name rows =
     else (if bytes_eq name (codes "serve") then serve_by rows
     else (if bytes_eq name (codes "import") then import_by rows
     else (if bytes_eq name (codes "export") then export_by rows
-    else (if bytes_eq name (codes "check") then check_by rows else None))))))
+    else (if bytes_eq name (codes "check") then check_by rows
+    else (if bytes_eq name (codes "load") then load_by rows
+    else (if bytes_eq name (codes "batches") then batches_by rows
+    else (if bytes_eq name (codes "apply") then apply_by rows else None)))))))))
 
 abbrev pub command_by : Option (Text × List Row) → Option CommandValue
 command_by found = option_and_then (λ p. command_named p.0 p.1) found
+
+-- `clap` finds no fault in the words, and this is the command that they ask for; or it finds one,
+-- the
+-- request for the version, and this is it
+abbrev pub Finds : Kinds → Option CommandValue → CommandValue → Type 0
+Finds [] asked command = Some command ≡ asked
+Finds (k ∷ ks) asked command =
+    IsAmong kinds.DisplayVersion (k ∷ ks) × (command ≡ version_command)
+
+abbrev pub IsFoundIn : List Text → CommandValue → Type 0
+IsFoundIn words command =
+    Finds (fault_of program words) (command_by (subcommand_of program words)) command
 
 -- what the words ask for, of which the first is the program's name: nothing where `clap` does not
 -- take them, or where they name no command

@@ -1,17 +1,19 @@
 //! The command line.
-ghost use Rattle.std.specs.Prelude.{◌≡◌, ◌≢◌, [], map, IfOk, IfErr, Some, string_bytes, IsSome};
-ghost use Rattle.std.specs.Prelude.{IfSome, ◌≤◌, unwrap_or, option_map};
+ghost use Rattle.std.specs.Prelude.{◌≡◌, ◌≢◌, ◌∷◌, [], map, codes, IfOk, IfErr, Some, string_bytes};
+ghost use Rattle.std.specs.Prelude.{IsSome, IfSome, ◌≤◌, unwrap_or, option_map, Ok, Err};
 ghost use Rattle.clap.specs.Words.{fault_of as fault_of_words, subcommand_of, subcommand_rows_of};
 ghost use Rattle.clap.specs.Words.{kind_of, rows_of, found_of, first_of};
 ghost use Rattle.std.specs.List.{list_all};
 ghost use Rattle.std.specs.Char.{is_ascii_digit};
 ghost use Rattle.streetmap_command.specs.Program.{program, command_by, create_by, pipe_by};
-ghost use Rattle.streetmap_command.specs.Program.{serve_by, import_by, export_by, check_by};
-ghost use Rattle.streetmap_command.specs.Program.{number_up_to, port_given, count_given};
-ghost use Rattle.streetmap_command.specs.Program.{clients_given, is_set, asked_by};
+ghost use Rattle.streetmap_command.specs.Program.{serve_by};
+ghost use Rattle.streetmap_command.specs.Program.{import_by, export_by, check_by, number_up_to};
+ghost use Rattle.streetmap_command.specs.Program.{port_given, count_given, clients_given, is_set};
+ghost use Rattle.streetmap_command.specs.Program.{asked_by, IsFoundIn};
 ghost use Rattle.streetmap_command.specs.CommandView.{command_value};
 
 use crate::parser::make_parser;
+use crate::words::{LoadAsked, read_apply, read_batches, read_load};
 use clap::error::ErrorKind;
 use clap::{ArgMatches, Error};
 use std::alloc::{AllocError, Global};
@@ -51,6 +53,8 @@ pub struct Import<'a> {
 /// What the program is to do.
 #[derive(Debug, Drop)]
 pub enum Command<'a> {
+    /// `streetmap --version`: print the name of the program and its version.
+    Version,
     /// `streetmap lines`: answer the lines of standard input, over a ledger in memory.
     Lines,
     /// `streetmap create FILE`: make an empty file.
@@ -81,20 +85,62 @@ pub enum Command<'a> {
         collection: &'a str,
         progress: bool,
     },
-    /// `streetmap check FILE`: tell whether the rows of a file are those of a state, and how many
-    /// there are.
+    /// `streetmap check FILE`: say whether the rows of a file are those of a state, and how many there
+    /// are.
     Check {
         file: &'a str,
+    },
+    /// `streetmap load FILE TEXT`: put the features of a text, a feature a line, into a collection
+    /// by batches.
+    Load {
+        file: &'a str,
+        load: LoadAsked<'a>,
+    },
+    /// `streetmap batches FILE`: print the kept batches whose serial is above `after`.
+    Batches {
+        file: &'a str,
+        after: u32,
+    },
+    /// `streetmap apply FILE TEXT`: apply the lines of a text, or of standard input, as batches.
+    Apply {
+        file: &'a str,
+        text: Option<&'a str>,
     },
 }
 
 /// Why words are no command.
 #[derive(Clone, Copy, Debug, PartialEq, Eq)]
 pub enum CommandFault {
-    /// The words are none that the program takes.
+    /// `usage`: the words are none that the program takes.
     Usage,
-    /// Memory was refused.
+    /// `memory`: memory was refused.
     Memory,
+}
+
+impl CommandFault {
+    ghost use Rattle.streetmap_command.specs.CommandFaults.{code_of, description_of};
+
+    /// Its name.
+    #[tactic(auto, unfolding(crate::specs::CommandFaults::code_of))]
+    pub fn code(&self) -> &'static str
+        ensures { result.now ≡ code_of self.now }
+    {
+        match self {
+            CommandFault::Usage => "usage",
+            CommandFault::Memory => "memory",
+        }
+    }
+
+    /// A sentence on it.
+    #[tactic(auto, unfolding(crate::specs::CommandFaults::description_of))]
+    pub fn description(&self) -> &'static str
+        ensures { result.now ≡ description_of self.now }
+    {
+        match self {
+            CommandFault::Usage => "The program does not take these words.",
+            CommandFault::Memory => "Memory was refused; the call may be made again.",
+        }
+    }
 }
 
 impl From<AllocError> for CommandFault {
@@ -115,7 +161,7 @@ fn is_digits(text: &str) -> bool
 }
 
 /// The number from 1 to `most` that decimal digits write.
-fn read_number(text: &str, most: u32) -> Option<u32>
+pub(crate) fn read_number(text: &str, most: u32) -> Option<u32>
     ensures value { result ≡ number_up_to most text.now }
     ensures bound { IfSome result (λ n. n ≤ most) }
 {
@@ -131,14 +177,14 @@ fn read_number(text: &str, most: u32) -> Option<u32>
 }
 
 /// The value that is given for a name.
-fn value_of<'a>(found: &ArgMatches<'a>, name: &str) -> Option<&'a str>
+pub(crate) fn value_of<'a>(found: &ArgMatches<'a>, name: &str) -> Option<&'a str>
     ensures { option_map (λ s. s.now) result ≡ first_of name.now (rows_of (found_of found.now)) }
 {
     found.get_str(name)
 }
 
 /// Whether a flag is given.
-fn has_flag(found: &ArgMatches<'_>, name: &str) -> bool
+pub(crate) fn has_flag(found: &ArgMatches<'_>, name: &str) -> bool
     ensures { result ≡ is_set (first_of name.now (rows_of (found_of found.now))) }
 {
     matches!(value_of(found, name), Some("true"))
@@ -298,18 +344,26 @@ fn command_of<'a>(alloc: Global, matches: &ArgMatches<'a>) -> Result<Command<'a>
         "import" => read_import(found),
         "export" => read_export(found),
         "check" => read_check(found),
+        "load" => read_load(found),
+        "batches" => read_batches(found),
+        "apply" => read_apply(found),
         _ => Err(CommandFault::Usage),
     }
 }
 
-fn fault_of(error: &Error) -> CommandFault
-    ensures memory { kind_of error.now ≡ ErrorKind.OutOfMemory → result ≡ CommandFault.Memory }
-    ensures usage { kind_of error.now ≢ ErrorKind.OutOfMemory → result ≡ CommandFault.Usage }
+/// What is asked for where `clap` gives no matches: the version, or nothing.
+fn without_matches<'a>(error: &Error) -> Result<Command<'a>, CommandFault>
+    ensures memory { kind_of error.now ≡ ErrorKind.OutOfMemory →
+        result ≡ Err CommandFault.Memory }
+    ensures version { kind_of error.now ≡ ErrorKind.DisplayVersion →
+        result ≡ Ok Command.Version }
+    ensures found { IfOk result (λ c. (c ≡ Command.Version)
+        × (kind_of error.now ≡ ErrorKind.DisplayVersion)) }
 {
-    if error.kind() == ErrorKind::OutOfMemory {
-        CommandFault::Memory
-    } else {
-        CommandFault::Usage
+    match error.kind() {
+        ErrorKind::OutOfMemory => Err(CommandFault::Memory),
+        ErrorKind::DisplayVersion => Ok(Command::Version),
+        _ => Err(CommandFault::Usage),
     }
 }
 
@@ -320,14 +374,17 @@ fn fault_of(error: &Error) -> CommandFault
 /// `Usage` where `clap` does not take the words or a port or a count is out of its range, and
 /// `Memory` where memory was refused.
 pub fn read_command<'a>(alloc: Global, words: &'a [String]) -> Result<Command<'a>, CommandFault>
-    // What is read is what the words ask for, and `clap` finds no fault in them.
-    ensures found { IfOk result (λ c. Some (command_value c)
-        ≡ command_by (subcommand_of program (map string_bytes words.entry.now))) }
-    ensures faultless { IfOk result (λ _. fault_of_words program (map string_bytes words.entry.now)
-        ≡ []) }
+    // What is read is what the words ask for, and `clap` finds no fault in them; or it is the
+    // version, and `clap` finds that the words ask for it.
+    ensures found { IfOk result (λ c.
+        IsFoundIn (map string_bytes words.entry.now) (command_value c)) }
     // Words that ask for a command are refused for memory alone.
-    ensures asked { IfErr result (λ e. IsSome (asked_by (map string_bytes words.entry.now))
-        → e ≡ CommandFault.Memory) }
+    ensures asked { IfErr result (λ e.
+        IsSome (asked_by (map string_bytes words.entry.now)) → e ≡ CommandFault.Memory) }
+    // So are words that ask for the version.
+    ensures version { IfErr result (λ e.
+        fault_of_words program (map string_bytes words.entry.now) ≡ ErrorKind.DisplayVersion ∷ [] →
+        e ≡ CommandFault.Memory) }
 {
     let parser = match make_parser(alloc) {
         Ok(parser) => parser,
@@ -335,6 +392,12 @@ pub fn read_command<'a>(alloc: Global, words: &'a [String]) -> Result<Command<'a
     };
     match parser.try_get_matches_from(words) {
         Ok(matches) => command_of(alloc, &matches),
-        Err(error) => Err(fault_of(&error)),
+        Err(error) => without_matches(&error),
     }
 }
+
+/// The words `streetmap --version` ask for the version.
+pub fn version_is_asked()
+    ensures { fault_of_words program (codes "streetmap" ∷ codes "--version" ∷ []) ≡
+        ErrorKind.DisplayVersion ∷ [] }
+{}

@@ -1,12 +1,18 @@
 //! The command line, as it is described to `clap`.
-ghost use Rattle.std.specs.Prelude.{◌≡◌, IfOk, false};
-ghost use Rattle.clap.specs.Words.{App, Rule, app_of, rule_of, with_rule, with_subcommand};
+ghost use Rattle.std.specs.Prelude.{◌≡◌, IfOk, false, codes};
+ghost use Rattle.clap.specs.Words.{App, Rule, app_of, rule_of, new_app, with_rule, with_subcommand};
 ghost use Rattle.clap.specs.declared.builder.command.Command.TheViews.{out-Command as fields_of};
+ghost use Rattle.streetmap_command.specs.Program.{optional, load, batches, apply};
 ghost use Rattle.streetmap_command.specs.Program.{program, positional, option, required_option};
-ghost use Rattle.streetmap_command.specs.Program.{flag, create, pipe, serve, import, export, check};
+ghost use Rattle.streetmap_command.specs.Program.{flag};
+ghost use Rattle.streetmap_command.specs.Program.{create, pipe, serve, import, export, check};
+ghost use Rattle.streetmap_command.specs.Program.{versioned};
 
 use clap::{Arg, ArgAction, Command};
 use std::alloc::{AllocError, Global};
+
+/// The version of the program.
+pub const VERSION: &str = "0.1.0";
 
 /// A value that has to be given, by its place alone.
 fn positional_arg<'a>(alloc: Global, name: &'a str) -> Arg<'a>
@@ -14,6 +20,14 @@ fn positional_arg<'a>(alloc: Global, name: &'a str) -> Arg<'a>
     ensures local { result.global ≡ false }
 {
     Arg::new(alloc, name).required(true).action(ArgAction::Set)
+}
+
+/// A value by its place alone, which may be left out.
+fn optional_arg<'a>(alloc: Global, name: &'a str) -> Arg<'a>
+    ensures rule { rule_of result ≡ optional name.entry.now }
+    ensures local { result.global ≡ false }
+{
+    Arg::new(alloc, name).action(ArgAction::Set)
 }
 
 /// An option with a value.
@@ -122,15 +136,61 @@ fn make_check<'a>(alloc: Global) -> Result<Command<'a>, AllocError>
     Command::new(alloc, "check").arg(positional_arg(alloc, "file"))
 }
 
+fn make_batches<'a>(alloc: Global) -> Result<Command<'a>, AllocError>
+    ensures app { IfOk result (λ c. app_of c ≡ batches) }
+    ensures local { IfOk result (λ c. (fields_of c).has_globals ≡ false) }
+{
+    let command = Command::new(alloc, "batches").arg(positional_arg(alloc, "file"));
+    with_argument(command, option_arg(alloc, "after"))
+}
+
+fn make_apply<'a>(alloc: Global) -> Result<Command<'a>, AllocError>
+    ensures app { IfOk result (λ c. app_of c ≡ apply) }
+    ensures local { IfOk result (λ c. (fields_of c).has_globals ≡ false) }
+{
+    let command = Command::new(alloc, "apply").arg(positional_arg(alloc, "file"));
+    with_argument(command, optional_arg(alloc, "text"))
+}
+
+fn make_load<'a>(alloc: Global) -> Result<Command<'a>, AllocError>
+    ensures app { IfOk result (λ c. app_of c ≡ load) }
+    ensures local { IfOk result (λ c. (fields_of c).has_globals ≡ false) }
+{
+    let command = Command::new(alloc, "load").arg(positional_arg(alloc, "file"));
+    let command = with_argument(command, optional_arg(alloc, "text"));
+    let command = with_argument(command, required_arg(alloc, "key"));
+    let command = with_argument(command, required_arg(alloc, "collection"));
+    let command = with_argument(command, option_arg(alloc, "each"));
+    let command = with_argument(command, flag_arg(alloc, "open"));
+    let command = with_argument(command, option_arg(alloc, "title"));
+    let command = with_argument(command, option_arg(alloc, "time"));
+    let command = with_argument(command, flag_arg(alloc, "replace"));
+    let command = with_argument(command, flag_arg(alloc, "skip"));
+    let command = with_argument(command, flag_arg(alloc, "check"));
+    let command = with_argument(command, flag_arg(alloc, "print"));
+    with_argument(command, flag_arg(alloc, "progress"))
+}
+
+/// The program, with its version and no command yet.
+fn make_program<'a>(alloc: Global) -> Command<'a>
+    ensures app { app_of result ≡ versioned (new_app (codes "streetmap")) }
+    ensures local { (fields_of result).has_globals ≡ false }
+{
+    Command::new(alloc, "streetmap").version(VERSION)
+}
+
 /// The program's command line.
 pub(crate) fn make_parser<'a>(alloc: Global) -> Result<Command<'a>, AllocError>
     ensures { IfOk result (λ c. app_of c ≡ program) }
 {
-    let command = Command::new(alloc, "streetmap").subcommand(Command::new(alloc, "lines"));
+    let command = make_program(alloc).subcommand(Command::new(alloc, "lines"));
     let command = with_subcommand(command, make_create(alloc));
     let command = with_subcommand(command, make_pipe(alloc));
     let command = with_subcommand(command, make_serve(alloc));
     let command = with_subcommand(command, make_import(alloc));
     let command = with_subcommand(command, make_export(alloc));
-    with_subcommand(command, make_check(alloc))
+    let command = with_subcommand(command, make_check(alloc));
+    let command = with_subcommand(command, make_load(alloc));
+    let command = with_subcommand(command, make_batches(alloc));
+    with_subcommand(command, make_apply(alloc))
 }

@@ -4,6 +4,7 @@ pub mod Clients
 pub mod Connections
 pub mod Counts
 pub mod Cuts
+pub mod Faults
 pub mod History
 pub mod Interleaving
 pub mod Leads

@@ -6,7 +6,7 @@ ghost use Rattle.streetmap_connections.specs.Counts.{count_of, CountsOn};
 ghost use Rattle.streetmap_connections.specs.Slots.{clients_in, past_of, ended_in, EndsLate};
 
 use crate::client::{Client, Work};
-use crate::limits::{LEAST_IDLE, Limits};
+use crate::limits::Limits;
 use crate::service::Service;
 use crate::slot::Slot;
 use crate::stream::Stream;
@@ -128,7 +128,7 @@ impl<S: Stream + Drop> Clients<S> {
     }
 
     /// The place for the next client: one that is free, or that of the client that is idle the
-    /// longest, for more than a second.
+    /// longest, for longer than the limits ask.
     pub fn place_for_next(&self, now: u64) -> Option<usize>
         ensures gives_way { IfSome result (λ place. GivesWayAt self.now.slots.items place) }
         ensures free_first { IfSome result (λ place. IsFreeAt self.now.slots.items place
@@ -136,7 +136,8 @@ impl<S: Stream + Drop> Clients<S> {
         ensures longest { IfSome result (λ place. IsFreeAt self.now.slots.items place
             ⊎ IsLongestIdleAt now self.now.slots.items place) }
         ensures full { IfNone result (All IsTaken self.now.slots.items) }
-        ensures none_idle { IfNone result (NoneIdlesBeyond now LEAST_IDLE self.now.slots.items) }
+        ensures none_idle { IfNone result
+            (NoneIdlesBeyond now self.now.limits.least_idle self.now.slots.items) }
     {
         match self.first_free() {
             Some(place) => Some(place),
@@ -163,11 +164,12 @@ impl<S: Stream + Drop> Clients<S> {
     fn longest_idle(&self, now: u64) -> Option<usize>
         ensures gives_way { IfSome result (λ place. GivesWayAt self.now.slots.items place) }
         ensures longest { IfSome result (λ place. IsLongestIdleAt now self.now.slots.items place) }
-        ensures none_idle { IfNone result (NoneIdlesBeyond now LEAST_IDLE self.now.slots.items) }
+        ensures none_idle { IfNone result
+            (NoneIdlesBeyond now self.now.limits.least_idle self.now.slots.items) }
     {
         let slots = self.slots.as_slice();
         let mut found = None;
-        let mut longest = LEAST_IDLE;
+        let mut longest = self.limits.least_idle;
         for (place, slot) in slots.iter().enumerate() {
             let idle = slot.idle_for(now);
             if idle > longest {

@@ -9,9 +9,6 @@ pub const MOST_INPUT: usize = 16_384 + 8_388_608;
 /// sent.
 pub(crate) const MOST_HEAD: usize = 16_384;
 
-/// The milliseconds for which a client is idle at least before another is let in in its place.
-pub const LEAST_IDLE: u64 = 1_000;
-
 /// What the clients of a server may take.
 #[derive(Drop, Clone, Copy)]
 pub struct Limits {
@@ -20,24 +17,44 @@ pub struct Limits {
     /// The milliseconds that a client may take to send a whole request, or to take a byte of an
     /// answer.
     pub patience: u64,
+    /// The milliseconds for which a client is idle at least before another is let in in its place.
+    pub least_idle: u64,
     /// The bytes of input that wait for an answer, over all clients: where there are more, a
     /// client's input is read only up to the length of a head.
     pub most_waiting: usize,
 }
 
 impl Limits {
-    /// So many clients, half a minute, and 64 MiB.
+    /// So many clients at once, half a minute, a second, and 64 MiB.
     pub fn of(clients: usize) -> Limits
         ensures { result ≡ record {
           clients = clients;
           patience = 30_000;
-          most_waiting
-              = 67_108_864;
+          least_idle = 1_000;
+          most_waiting = 67_108_864;
         } }
     {
         Limits {
             clients,
             patience: 30_000,
+            least_idle: 1_000,
+            most_waiting: 67_108_864,
+        }
+    }
+
+    /// One client after the other: each has half a minute, also where the next one waits.
+    pub fn in_turn() -> Limits
+        ensures { result ≡ record {
+          clients = 1;
+          patience = 30_000;
+          least_idle = 30_000;
+          most_waiting = 67_108_864;
+        } }
+    {
+        Limits {
+            clients: 1,
+            patience: 30_000,
+            least_idle: 30_000,
             most_waiting: 67_108_864,
         }
     }

@@ -25,10 +25,36 @@ const LONGEST_WAIT: u64 = 1_000;
 /// Why the serving ended early.
 #[derive(Debug, Drop, Clone, Copy, PartialEq, Eq)]
 pub enum ServeFault {
-    /// No client could be accepted, or the sockets could not be waited for.
+    /// `net`: no client could be accepted, or the sockets could not be waited for.
     Net,
-    /// Memory was refused before a client was accepted or read.
+    /// `memory`: memory was refused before a client was accepted or read.
     Memory,
+}
+
+impl ServeFault {
+    ghost use Rattle.streetmap_connections.specs.Faults.{code_of, description_of};
+
+    /// Its name.
+    #[tactic(auto, unfolding(crate::specs::Faults::code_of))]
+    pub fn code(&self) -> &'static str
+        ensures { result.now ≡ code_of self.now }
+    {
+        match self {
+            ServeFault::Net => "net",
+            ServeFault::Memory => "memory",
+        }
+    }
+
+    /// A sentence on it.
+    #[tactic(auto, unfolding(crate::specs::Faults::description_of))]
+    pub fn description(&self) -> &'static str
+        ensures { result.now ≡ description_of self.now }
+    {
+        match self {
+            ServeFault::Net => "No connection can be accepted.",
+            ServeFault::Memory => "Memory was refused; the call may be made again.",
+        }
+    }
 }
 
 impl From<io::Error> for ServeFault {

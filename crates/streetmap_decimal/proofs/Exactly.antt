@@ -16,7 +16,7 @@ use Rattle.streetmap_decimal.proofs.Shifting.{shifted-signed}
 use Rattle.streetmap_grid.proofs.Whole.{mul_mono-right, mul-assoc, mul-add, mul-neg}
 use lib.IntN.{*ℤ_comm, neg_ℤ}
 
--- ---- in smaller parts
+-- ---- in smaller units
 
 sub-mul : (a z p : ℤ) → (a -ℤ z) *ℤ p ≡ a *ℤ p -ℤ z *ℤ p
 sub-mul a z p =
@@ -30,27 +30,27 @@ sub-mul a z p =
       *ℤ_comm z p,
     )
 
-parts-mul : (parts p : ℕ) (g : ℤ) → g *ℤ pos (parts * p) ≡ (g *ℤ pos parts) *ℤ pos p
-parts-mul parts p g = sym (mul-assoc g (pos parts) (pos p))
+units-mul : (units p : ℕ) (g : ℤ) → g *ℤ pos (units * p) ≡ (g *ℤ pos units) *ℤ pos p
+units-mul units p g = sym (mul-assoc g (pos units) (pos p))
 
-apart_scaled : (parts p : ℕ) (z g : ℤ) → unsigned_abs
-    (g *ℤ pos (parts * p) -ℤ z *ℤ pos p) ≡ unsigned_abs (g *ℤ pos parts -ℤ z) * p
-apart_scaled parts p z g =
-    ap (λ (x : ℤ). unsigned_abs (x -ℤ z *ℤ pos p)) (parts-mul parts p g)
-    ∙ ap unsigned_abs (sym (sub-mul (g *ℤ pos parts) z (pos p)))
-    ∙ unsigned_abs-mul (g *ℤ pos parts -ℤ z) (pos p)
+apart_scaled : (units p : ℕ) (z g : ℤ) → unsigned_abs
+    (g *ℤ pos (units * p) -ℤ z *ℤ pos p) ≡ unsigned_abs (g *ℤ pos units -ℤ z) * p
+apart_scaled units p z g =
+    ap (λ (x : ℤ). unsigned_abs (x -ℤ z *ℤ pos p)) (units-mul units p g)
+    ∙ ap unsigned_abs (sym (sub-mul (g *ℤ pos units) z (pos p)))
+    ∙ unsigned_abs-mul (g *ℤ pos units -ℤ z) (pos p)
 
-pub scaled_nearest : (parts p : ℕ) (z g : ℤ) → 1 ≤ p → IsNearestOf parts z g
-    → IsNearestOf (parts * p) (z *ℤ pos p) g
-scaled_nearest parts p z g some h =
-    let d = unsigned_abs (g *ℤ pos parts -ℤ z) in
-    let e = apart_scaled parts p z g in
-    let size : unsigned_abs (g *ℤ pos (parts * p)) ≡ unsigned_abs (g *ℤ pos parts) * p =
-    ap unsigned_abs (parts-mul parts p g) ∙ unsigned_abs-mul (g *ℤ pos parts) (pos p) in
+pub scaled_nearest : (units p : ℕ) (z g : ℤ) → 1 ≤ p → IsNearestOf units z g
+    → IsNearestOf (units * p) (z *ℤ pos p) g
+scaled_nearest units p z g some h =
+    let d = unsigned_abs (g *ℤ pos units -ℤ z) in
+    let e = apart_scaled units p z g in
+    let size : unsigned_abs (g *ℤ pos (units * p)) ≡ unsigned_abs (g *ℤ pos units) * p =
+    ap unsigned_abs (units-mul units p g) ∙ unsigned_abs-mul (g *ℤ pos units) (pos p) in
     let low : unsigned_abs (z *ℤ pos p) ≡ unsigned_abs z * p = unsigned_abs-mul z (pos p) in (
-      omega (arith, e, mul-le-mul_right {m = 2 * d} {n = parts} p h.0),
+      omega (arith, e, mul-le-mul_right {m = 2 * d} {n = units} p h.0),
       λ t.
-          let half : 2 * d ≡ parts = nat_cancel (2 * d) parts p some (omega (arith, e, t)) in
+          let half : 2 * d ≡ units = nat_cancel (2 * d) units p some (omega (arith, e, t)) in
           let less = h.1 half in
           omega (
             arith,
@@ -58,24 +58,24 @@ scaled_nearest parts p z g some h =
             low,
             some,
             mul-le-mul_right {m = unsigned_abs z + 1}
-                {n = unsigned_abs (g *ℤ pos parts)} p (omega (arith, less)),
+                {n = unsigned_abs (g *ℤ pos units)} p (omega (arith, less)),
           ),
     )
 
 -- ---- between two numbers
 
-on_line : (parts : ℕ) (y z x a : ℤ) → y ≤ℤ x → x ≤ℤ z → 2 * unsigned_abs (a -ℤ y) ≤ parts
-    → (2 * unsigned_abs (a -ℤ y) ≡ parts → unsigned_abs y < unsigned_abs a)
-    → 2 * unsigned_abs (a -ℤ z) ≤ parts
-    → (2 * unsigned_abs (a -ℤ z) ≡ parts → unsigned_abs z < unsigned_abs a)
-    → (2 * unsigned_abs (a -ℤ x) ≤ parts) ×
-    (2 * unsigned_abs (a -ℤ x) ≡ parts → unsigned_abs x < unsigned_abs a)
-on_line parts y z x a low high h i j k = (grind (arith, ints), λ t. grind (arith, ints))
+on_line : (units : ℕ) (y z x a : ℤ) → y ≤ℤ x → x ≤ℤ z → 2 * unsigned_abs (a -ℤ y) ≤ units
+    → (2 * unsigned_abs (a -ℤ y) ≡ units → unsigned_abs y < unsigned_abs a)
+    → 2 * unsigned_abs (a -ℤ z) ≤ units
+    → (2 * unsigned_abs (a -ℤ z) ≡ units → unsigned_abs z < unsigned_abs a)
+    → (2 * unsigned_abs (a -ℤ x) ≤ units) ×
+    (2 * unsigned_abs (a -ℤ x) ≡ units → unsigned_abs x < unsigned_abs a)
+on_line units y z x a low high h i j k = (grind (arith, ints), λ t. grind (arith, ints))
 
-pub between_nearest : (parts : ℕ) (y z x g : ℤ) → y ≤ℤ x → x ≤ℤ z → IsNearestOf parts y g
-    → IsNearestOf parts z g → IsNearestOf parts x g
-between_nearest parts y z x g low high h i =
-    on_line parts y z x (g *ℤ pos parts) low high h.0 h.1 i.0 i.1
+pub between_nearest : (units : ℕ) (y z x g : ℤ) → y ≤ℤ x → x ≤ℤ z → IsNearestOf units y g
+    → IsNearestOf units z g → IsNearestOf units x g
+between_nearest units y z x g low high h i =
+    on_line units y z x (g *ℤ pos units) low high h.0 h.1 i.0 i.1
 
 -- ---- of a count
 
@@ -90,7 +90,7 @@ placed_scaled shift scale n p =
 in_order : (t scale a b : ℤ) → pos 0 ≤ℤ scale → a ≤ℤ b → ((a -ℤ t) *ℤ scale) ≤ℤ ((b -ℤ t) *ℤ scale)
 in_order t scale a b up h = mul_mono-right scale (a -ℤ t) (b -ℤ t) up (omega (arith, ints))
 
--- the counts y and z, and m between them in smaller parts
+-- the counts y and z, and m between them in smaller units
 finer : (shift scale m g : ℤ) (p : ℕ) (y z : ℤ) → 1 ≤ p → pos 0 ≤ℤ scale → (y *ℤ pos p) ≤ℤ m
     → m ≤ℤ (z *ℤ pos p) → IsNearest (placed shift scale y) g → IsNearest (placed shift scale z) g
     → IsNearestOf (10 ^ 27 * p) ((m -ℤ shift *ℤ pos p) *ℤ scale) g
@@ -118,7 +118,7 @@ enclosed true shift scale m g p u v some up e low high h i =
     (omega (arith, ints, signed-mul true v p, e)) (omega (arith, ints, signed-mul true u p, e))
     i h
 
--- a whole count needs no smaller parts
+-- a whole count needs no smaller units
 whole_exactly : (shift scale m e g u : ℤ) → IsCount 18 m e u → IsNearest (placed shift scale u) g
     → IsNearestTo shift scale m e g
 whole_exactly shift scale m e g u count near =

@@ -11,7 +11,7 @@ use Rattle.streetmap_decimal.specs.declared.rounding.Rounding.TheVariants.{Exact
 use Rattle.streetmap_decimal.specs.NumberText.{Means, mantissa, exponent}
 use Rattle.streetmap_decimal.specs.Decimal.{Reads, ReadsCount, IsShifted, Counts, IsFloor, IsCeiling, Sides, Encloses, with_sign_of}
 use Rattle.streetmap_decimal.specs.Grid.{IsNearest, IsWholeNumber, RoundsTo, Stands, Agrees, Places, PlacesText, placed}
-use Rattle.streetmap_decimal.proofs.Grammar.{parts_again}
+use Rattle.streetmap_decimal.proofs.Grammar.{components_again}
 use Rattle.streetmap_decimal.proofs.Powers.{pow_some, between_multiples}
 use Rattle.streetmap_decimal.proofs.Signs.{sign_of, signed-mul}
 use Rattle.streetmap_decimal.proofs.Steps.{then_once, same_ok, not_both, same_err}
@@ -21,8 +21,9 @@ use lib.IntN.{*ℤ_comm}
 
 pub means_once : (text : List ℕ) (m e n f : ℤ) → Means text m e → Means text n f → (m ≡ n) × (e ≡ f)
 means_once text m e n f h k =
-    let same : h.parts ≡ k.parts = same_Some _ _
-    (sym (parts_again text h.parts h.is_text) ∙ parts_again text k.parts k.is_text) in (
+    let same : h.components ≡ k.components = same_Some _ _
+    (sym (components_again text h.components h.is_text)
+    ∙ components_again text k.components k.is_text) in (
       h.mantissa_is ∙ ap mantissa same ∙ sym k.mantissa_is,
       h.exponent_is ∙ ap exponent same
           ∙ sym k.exponent_is,

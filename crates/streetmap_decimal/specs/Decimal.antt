@@ -1,7 +1,10 @@
 -- What a text is read as, and a decimal counted in a small unit.
-use Rattle.std.specs.Prelude.{◌≡◌, ◌⊎◌, ℕ, ◌+◌, ◌<◌, ◌≤◌, ◌*◌, ◌^◌, suc, List, length, ℤ, pos, negsuc, ◌+ℤ◌, ◌*ℤ◌, unsigned_abs, int_lt, Result, Ok, Err}
+use Rattle.std.specs.Prelude.{◌≡◌, ◌⊎◌, ℕ, ◌+◌, ◌<◌, ◌≤◌, ◌*◌, ◌^◌, suc, List, length, ℤ, pos}
+use Rattle.std.specs.Prelude.{negsuc, ◌+ℤ◌, ◌*ℤ◌, unsigned_abs, int_lt, Result, Ok, Err}
 use Rattle.streetmap_decimal.specs.declared.fault.DecimalFault.{DecimalFault}
-use Rattle.streetmap_decimal.specs.declared.fault.DecimalFault.TheVariants.{NotANumber, TooManyDigits, OutOfGrid, Fraction}
+use Rattle.streetmap_decimal.specs.declared.fault.DecimalFault.TheVariants.{NotANumber}
+use Rattle.streetmap_decimal.specs.declared.fault.DecimalFault.TheVariants.{TooManyDigits}
+use Rattle.streetmap_decimal.specs.declared.fault.DecimalFault.TheVariants.{OutOfGrid, Fraction}
 use Rattle.streetmap_decimal.specs.NumberText.{Means, signed}
 
 -- a step and the next, which goes on from what the first gave; the first fault ends both

@@ -1,7 +1,9 @@
 -- The names and sentences of the faults.
 use Rattle.std.specs.Prelude.{ℕ, List, codes}
 use Rattle.streetmap_decimal.specs.declared.fault.DecimalFault.{DecimalFault}
-use Rattle.streetmap_decimal.specs.declared.fault.DecimalFault.TheVariants.{NotANumber, TooManyDigits, OutOfGrid, Fraction}
+use Rattle.streetmap_decimal.specs.declared.fault.DecimalFault.TheVariants.{NotANumber}
+use Rattle.streetmap_decimal.specs.declared.fault.DecimalFault.TheVariants.{TooManyDigits}
+use Rattle.streetmap_decimal.specs.declared.fault.DecimalFault.TheVariants.{OutOfGrid, Fraction}
 use Rattle.streetmap_decimal.specs.declared.fault.OptionFault.{OptionFault}
 use Rattle.streetmap_decimal.specs.declared.fault.OptionFault.TheVariants.{BadScale, BadShift}
 

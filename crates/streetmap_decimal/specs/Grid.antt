@@ -1,8 +1,11 @@
 -- The whole number of the grid that a coordinate comes to.
-use Rattle.std.specs.Prelude.{◌≡◌, ℕ, ◌<◌, ◌≤◌, ◌*◌, ◌^◌, List, ℤ, pos, ◌-ℤ◌, ◌*ℤ◌, unsigned_abs, Option, Some, None, Result, Ok, Err}
+use Rattle.std.specs.Prelude.{◌≡◌, ℕ, ◌<◌, ◌≤◌, ◌*◌, ◌^◌, List, ℤ, pos, ◌-ℤ◌, ◌*ℤ◌, unsigned_abs}
+use Rattle.std.specs.Prelude.{Option, Some, None, Result, Ok, Err}
 use Rattle.streetmap_grid.specs.Range.{IsCoordinate}
 use Rattle.streetmap_decimal.specs.declared.fault.DecimalFault.{DecimalFault}
-use Rattle.streetmap_decimal.specs.declared.fault.DecimalFault.TheVariants.{NotANumber, TooManyDigits, OutOfGrid, Fraction}
+use Rattle.streetmap_decimal.specs.declared.fault.DecimalFault.TheVariants.{NotANumber}
+use Rattle.streetmap_decimal.specs.declared.fault.DecimalFault.TheVariants.{TooManyDigits}
+use Rattle.streetmap_decimal.specs.declared.fault.DecimalFault.TheVariants.{OutOfGrid, Fraction}
 use Rattle.streetmap_decimal.specs.declared.rounding.Rounding.{Rounding}
 use Rattle.streetmap_decimal.specs.declared.rounding.Rounding.TheVariants.{Exact, Nearest}
 use Rattle.streetmap_decimal.specs.Decimal.{Then, Reads, Counts, Encloses, coordinate_places}
@@ -15,17 +18,17 @@ placed shift scale n = (n -ℤ shift) *ℤ scale
 abbrev pub one : ℕ
 one = 10 ^ 27
 
--- z parts of a whole one are the whole number g
+-- z, counted in 10 ^ -27, is the whole number g
 abbrev pub IsWholeNumber : (z g : ℤ) → Type 0
 IsWholeNumber z g = z ≡ g *ℤ pos one
 
--- g is at most a half away from z parts of a whole one, and where it is a half, the one that is
--- farther from zero
-abbrev pub IsNearestOf : (parts : ℕ) → (z g : ℤ) → Type 0
-IsNearestOf parts z g =
-    (2 * unsigned_abs (g *ℤ pos parts -ℤ z) ≤ parts)
-    × (2 * unsigned_abs (g *ℤ pos parts -ℤ z) ≡ parts
-    → unsigned_abs z < unsigned_abs (g *ℤ pos parts))
+-- g is at most a half away from z, counted in units of which a whole one has so many, and where it
+-- is a half, the one that is farther from zero
+abbrev pub IsNearestOf : (units : ℕ) → (z g : ℤ) → Type 0
+IsNearestOf units z g =
+    (2 * unsigned_abs (g *ℤ pos units -ℤ z) ≤ units)
+    × (2 * unsigned_abs (g *ℤ pos units -ℤ z) ≡ units
+    → unsigned_abs z < unsigned_abs (g *ℤ pos units))
 
 abbrev pub IsNearest : (z g : ℤ) → Type 0
 IsNearest z g = IsNearestOf one z g
@@ -39,7 +42,7 @@ abbrev pub RoundsTo : ℤ → Option ℤ → Type 0
 RoundsTo z (Some g) = IsNearest z g × IsCoordinate g
 RoundsTo z None = IsBeyond z
 
--- z parts of one are this coordinate, with nothing left
+-- z, counted in 10 ^ -27, is this coordinate, with nothing left
 abbrev pub Stands : ℤ → Result ℤ DecimalFault → Type 0
 Stands z (Ok g) = RoundsTo z (Some g) × IsWholeNumber z g
 Stands z (Err OutOfGrid) = IsBeyond z

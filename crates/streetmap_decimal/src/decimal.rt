@@ -22,11 +22,12 @@ pub(crate) struct Decimal {
 
 impl Decimal {
     ghost use Rattle.std.specs.Prelude.{◌<◌, ◌^◌};
-    ghost use Rattle.streetmap_decimal.specs.Decimal.{Counts, Encloses, Reads, ReadsCount, Shifts, Sides};
+    ghost use Rattle.streetmap_decimal.specs.Decimal.{Counts, Encloses, Reads, ReadsCount, Shifts};
+    ghost use Rattle.streetmap_decimal.specs.Decimal.{Sides};
     ghost use Rattle.streetmap_decimal.specs.DecimalViews.{decimal_view};
     ghost use Rattle.streetmap_decimal.specs.NumberText.{mantissa, exponent};
     ghost use Rattle.streetmap_decimal.specs.Readable.{IsReadable};
-    ghost use Rattle.streetmap_decimal.specs.Views.{parts_view};
+    ghost use Rattle.streetmap_decimal.specs.Views.{components_view};
 
     /// The number of a text (RFC 8259, section 6), as `-500000.125` or `1.5e3`.
     ///
@@ -51,8 +52,8 @@ impl Decimal {
 
     // The digits before the exponent, as one whole number.
     fn mantissa_of(number: &Number<'_>) -> i128
-        requires { IsReadable (parts_view number.now) }
-        ensures value { result ≡ mantissa (parts_view number.now) }
+        requires { IsReadable (components_view number.now) }
+        ensures value { result ≡ mantissa (components_view number.now) }
         ensures bound { unsigned_abs result < 10 ^ 38 }
     {
         let whole = digits_value(0, number.whole);
@@ -61,8 +62,8 @@ impl Decimal {
 
     // The exponent, one less for each digit of the fraction.
     fn exponent_of(number: &Number<'_>) -> i128
-        requires { IsReadable (parts_view number.now) }
-        ensures value { result ≡ exponent (parts_view number.now) }
+        requires { IsReadable (components_view number.now) }
+        ensures value { result ≡ exponent (components_view number.now) }
         ensures bound { unsigned_abs result < 10 ^ 38 }
     {
         let magnitude = digits_value(0, number.exponent);

@@ -1,5 +1,6 @@
 //! From a map's coordinates to the whole numbers of the grid.
-ghost use Rattle.std.specs.Prelude.{◌≡◌, ◌<◌, ◌≤◌, ◌^◌, IfOk, IfSome, IfNone, pos, ◌<ℤ◌, unsigned_abs};
+ghost use Rattle.std.specs.Prelude.{◌≡◌, ◌<◌, ◌≤◌, ◌^◌, IfOk, IfSome, IfNone, pos, ◌<ℤ◌};
+ghost use Rattle.std.specs.Prelude.{unsigned_abs};
 ghost use Rattle.streetmap_decimal.specs.Grid.{placed, RoundsTo, Stands};
 
 use crate::arithmetic::signed;
@@ -150,7 +151,7 @@ impl AxisPlacement {
     }
 }
 
-/// The nearest coordinate to so many parts of one, half away from zero.
+/// The nearest coordinate to a count of 10^-27, half away from zero.
 fn nearest_coordinate(placed: i128) -> Option<i64>
     ensures { RoundsTo placed result }
 {
@@ -161,7 +162,7 @@ fn nearest_coordinate(placed: i128) -> Option<i64>
     Some(signed(placed < 0, nearest) as i64)
 }
 
-/// The coordinate that so many parts of one are.
+/// The coordinate that a count of 10^-27 is.
 fn whole_number(placed: i128) -> Result<i64, DecimalFault>
     ensures { Stands placed result }
 {

@@ -1,5 +1,5 @@
 -- An export goes on page by page.
-use Rattle.std.proofs.Common.{◌≡◌, ℕ, List, [], ◌∷◌, ◌++◌, map, Bool, true, false, ◌||◌, not, Option, None, Some, Result, Ok, Err, length, codes, refl, sym, ap, subst, ◌∙◌, arith, append_assoc, append-nil}
+use Rattle.std.proofs.Common.{◌≡◌, ℕ, List, [], ◌∷◌, ◌++◌, map, Bool, true, false, ◌||◌, not, Option, None, Some, Result, Ok, Err, length, codes, refl, sym, ap, subst, ◌∙◌, arith, append_assoc, append-nil, length-append, ◌<◌, inl, inr}
 use Rattle.std.specs.Prelude.{IfErr, OnOk, OnErr, ◌==◌}
 use Rattle.streetmap_geojson.specs.FeatureView.{feature_value}
 use Rattle.std.specs.Option.{option_map}
@@ -22,10 +22,14 @@ use Rattle.streetmap_ledger.specs.Walks.{page_behind, IsWalk, ends, goes_on, sho
 use Rattle.streetmap_ledger.proofs.Walking.{walks_show_all}
 use Rattle.streetmap_ledger.specs.declared.reply.Fault.TheVariants.{Memory, Device, Damaged, Reopen}
 use Rattle.streetmap_exchange.specs.declared.fault.ExportFault.{ExportFault}
-use Rattle.streetmap_exchange.specs.declared.fault.ExportFault.TheVariants.{NoCollection, Stopped, WriteFailed}
-use Rattle.streetmap_exchange.specs.ExportFaults.{IsWriteFault}
-use Rattle.streetmap_exchange.specs.Exports.{export_text, features_in, AppendsFirst, WritesAll, WritesSome, WritesSomeIf, Exports, ShowsPart, part_query, part_text}
+use Rattle.streetmap_exchange.specs.declared.fault.ExportFault.TheVariants.{NoCollection, Stopped}
+use Rattle.streetmap_exchange.specs.declared.fault.ExportFault.TheVariants.{WriteFailed, FlushFailed}
+use Rattle.streetmap_exchange.specs.ExportFaults.{IsWriteFault, IsEndFault}
+use Rattle.streetmap_exchange.specs.Exports.{export_text, features_in, AppendsFirst, AppendsLess, WritesAll}
+use Rattle.streetmap_exchange.specs.Exports.{WritesSome, WritesLess, WritesSomeIf, Exports, ShowsPart}
+use Rattle.streetmap_exchange.specs.Exports.{part_query, part_text}
 use Rattle.streetmap_exchange.proofs.WriteLemmas.{first_longer, first_behind, first_all}
+use Rattle.streetmap_exchange.proofs.WriteLemmas.{less_longer, less_behind, less_none}
 
 -- ---- the text in parts
 
@@ -196,6 +200,7 @@ record Left (s : State) (name : Text) (later : Bool) (page : PageValue) (before 
   features : List FeatureValue
   told : features_in s name ≡ Some features
   text : export_text features ≡ before ++ (part_text later page.features ++ rest)
+  some : 0 < length rest
 
 left_of : (s : State) (name : Text) (old a : Option (List ℕ)) (later : Bool) (page : PageValue) → (u : Underway s name old a later page) → (rest : List ℕ) × Left s name later page (opening ++ part_text false u.front) rest
 left_of s name old a later page u =
@@ -209,6 +214,7 @@ left_of s name old a later page u =
         told = ap (option_map (λ (c : Collection). values c.features)) u.there;
         text = text_split u.front page.features m.0 fs (ap (λ gs. u.front ++ gs) (sym shows) ∙ u.whole)
             ∙ ap (λ x. (opening ++ part_text false u.front) ++ (part_text x page.features ++ rest)) (sym u.behind);
+        some = omega (arith, length-append (part_text (is_any u.front || is_any page.features) m.0) closing);
       },
     )
 
@@ -223,6 +229,7 @@ left_last s name old a later page u none =
       told = ap (option_map (λ (c : Collection). values c.features)) u.there;
       text = text_split u.front page.features [] fs (ap (λ gs. u.front ++ gs) (sym shows) ∙ u.whole)
           ∙ ap (λ x. (opening ++ part_text false u.front) ++ (part_text x page.features ++ closing)) (sym u.behind);
+      some = omega arith;
     }
 
 all_of : (o : Option (List FeatureValue)) (fs : List FeatureValue) (old new : Option (List ℕ)) → o ≡ Some fs → Appends old new (export_text fs) → WritesAll o old new
@@ -230,6 +237,9 @@ all_of o fs old new is w = subst (λ (p : Option (List FeatureValue)). WritesAll
 
 some_of : (o : Option (List FeatureValue)) (fs : List FeatureValue) (old new : Option (List ℕ)) → o ≡ Some fs → AppendsFirst old new (export_text fs) → WritesSome o old new
 some_of o fs old new is w = subst (λ (p : Option (List FeatureValue)). WritesSome p old new) (sym is) w
+
+less_of : (o : Option (List FeatureValue)) (fs : List FeatureValue) (old new : Option (List ℕ)) → o ≡ Some fs → AppendsLess old new (export_text fs) → WritesLess o old new
+less_of o fs old new is w = subst (λ (p : Option (List FeatureValue)). WritesLess p old new) (sym is) w
 
 -- the last page and the end are written
 pub finished : (s : State) (name : Text) (old a b c : Option (List ℕ)) (later : Bool) (page : PageValue) → Underway s name old a later page → page.next ≡ None
@@ -255,6 +265,30 @@ breaks_off s name old a b later page u w =
     let part = part_text later page.features in
     some_of (features_in s name) l.1.features old b l.1.told (subst (AppendsFirst old b) (sym l.1.text) (first_behind old a b (opening ++ part_text false u.front) (part ++ l.0) u.written (first_longer a b part l.0 w)))
 
+-- a beginning of the page is written, and not all of it
+pub breaks_off_less : (s : State) (name : Text) (old a b : Option (List ℕ)) (later : Bool) (page : PageValue) → Underway s name old a later page
+    → AppendsLess a b (part_text later page.features) → WritesLess (features_in s name) old b
+breaks_off_less s name old a b later page u w =
+    let l = left_of s name old a later page u in
+    let part = part_text later page.features in
+    less_of (features_in s name) l.1.features old b l.1.told (subst (AppendsLess old b) (sym l.1.text) (less_behind old a b (opening ++ part_text false u.front) (part ++ l.0) u.written (less_longer a b part l.0 w)))
+
+-- the page is not written yet, so not all of the text is
+pub stands_less : (s : State) (name : Text) (old a : Option (List ℕ)) (later : Bool) (page : PageValue) → Underway s name old a later page → WritesLess (features_in s name) old a
+stands_less s name old a later page u =
+    let l = left_of s name old a later page u in
+    let part = part_text later page.features in
+    let some : 0 < length (part ++ l.0) = omega (arith, length-append part l.0, l.1.some) in
+    less_of (features_in s name) l.1.features old a l.1.told (subst (AppendsLess old a) (sym l.1.text) (less_behind old a a (opening ++ part_text false u.front) (part ++ l.0) u.written (less_none a (part ++ l.0) some)))
+
+-- the last page is written, and a beginning of the end, and not all of it
+pub ends_less : (s : State) (name : Text) (old a b c : Option (List ℕ)) (later : Bool) (page : PageValue) → Underway s name old a later page → page.next ≡ None
+    → Appends a b (part_text later page.features) → AppendsLess b c closing → WritesLess (features_in s name) old c
+ends_less s name old a b c later page u none w v =
+    let l = left_last s name old a later page u none in
+    let both = less_behind a b c (part_text later page.features) closing w v in
+    less_of (features_in s name) l.features old c l.told (subst (AppendsLess old c) (sym l.text) (less_behind old a c (opening ++ part_text false u.front) (part_text later page.features ++ closing) u.written both))
+
 -- the page is not written yet
 pub stands_still : (s : State) (name : Text) (old a : Option (List ℕ)) (later : Bool) (page : PageValue) → Underway s name old a later page → WritesSome (features_in s name) old a
 stands_still s name old a later page u = breaks_off s name old a a later page u ([], refl, Appends-nil a)
@@ -266,6 +300,14 @@ begins_early s name old new page h w =
     let fs = values c.0.features in
     some_of (features_in s name) fs old new (ap (option_map (λ (d : Collection). values d.features)) c.1)
     (subst (AppendsFirst old new) (sym (text_in_parts fs)) (first_longer old new opening (part_text false fs ++ closing) w))
+
+-- and not all of it
+pub begins_less : (s : State) (name : Text) (old new : Option (List ℕ)) (page : PageValue) → page_in s name (part_query None) ≡ Some page → AppendsLess old new opening → WritesLess (features_in s name) old new
+begins_less s name old new page h w =
+    let c = collection_of s name None page h in
+    let fs = values c.0.features in
+    less_of (features_in s name) fs old new (ap (option_map (λ (d : Collection). values d.features)) c.1)
+    (subst (AppendsLess old new) (sym (text_in_parts fs)) (less_longer old new opening (part_text false fs ++ closing) w))
 
 -- the page is written, and no other
 pub stands_between : (s : State) (name : Text) (old a b : Option (List ℕ)) (later : Bool) (page : PageValue) → Underway s name old a later page
@@ -283,25 +325,44 @@ none_if None old = Keeps-refl old
 none_if (Some fs) old = ([], refl, Appends-nil old)
 
 -- by a write that failed
-write_ends-by : (T : Type 0) (s : State) (name : Text) (e : ExportFault) (old new : Option (List ℕ)) (stands : State → Type 0) → IsWriteFault e → WritesSome (features_in s name) old new → stands s → Exports {T = T} s name (Err e) old new stands
-write_ends-by T s name NoCollection old new stands f w h = absurd f
-write_ends-by T s name WriteFailed old new stands f w h = (w, h)
-write_ends-by T s name (Stopped Memory) old new stands f w h = (some_if (features_in s name) old new w, h)
-write_ends-by T s name (Stopped Device) old new stands f w h = absurd f
-write_ends-by T s name (Stopped Damaged) old new stands f w h = absurd f
-write_ends-by T s name (Stopped Reopen) old new stands f w h = absurd f
+write_ends-by : (T : Type 0) (s : State) (name : Text) (e : ExportFault) (old new : Option (List ℕ)) (stands : State → Type 0) → IsWriteFault e → WritesSome (features_in s name) old new
+    → (e ≡ WriteFailed → WritesLess (features_in s name) old new) → stands s → Exports {T = T} s name (Err e) old new stands
+write_ends-by T s name NoCollection old new stands f w less h = absurd f
+write_ends-by T s name WriteFailed old new stands f w less h = (less refl, h)
+write_ends-by T s name FlushFailed old new stands f w less h = absurd f
+write_ends-by T s name (Stopped Memory) old new stands f w less h = (some_if (features_in s name) old new w, h)
+write_ends-by T s name (Stopped Device) old new stands f w less h = absurd f
+write_ends-by T s name (Stopped Damaged) old new stands f w less h = absurd f
+write_ends-by T s name (Stopped Reopen) old new stands f w less h = absurd f
+
+-- or by a flush behind it
+end_ends-by : (T : Type 0) (s : State) (name : Text) (e : ExportFault) (old new : Option (List ℕ)) (stands : State → Type 0) → IsEndFault e → WritesSome (features_in s name) old new
+    → (e ≡ WriteFailed → WritesLess (features_in s name) old new) → (e ≡ FlushFailed → WritesAll (features_in s name) old new) → stands s → Exports {T = T} s name (Err e) old new stands
+end_ends-by T s name FlushFailed old new stands f w less whole h = (whole refl, h)
+end_ends-by T s name NoCollection old new stands (inl f) w less whole h = absurd f
+end_ends-by T s name NoCollection old new stands (inr f) w less whole h = absurd f
+end_ends-by T s name WriteFailed old new stands f w less whole h = (less refl, h)
+end_ends-by T s name (Stopped Memory) old new stands f w less whole h = (some_if (features_in s name) old new w, h)
+end_ends-by T s name (Stopped Device) old new stands (inl f) w less whole h = absurd f
+end_ends-by T s name (Stopped Device) old new stands (inr f) w less whole h = absurd f
+end_ends-by T s name (Stopped Damaged) old new stands (inl f) w less whole h = absurd f
+end_ends-by T s name (Stopped Damaged) old new stands (inr f) w less whole h = absurd f
+end_ends-by T s name (Stopped Reopen) old new stands (inl f) w less whole h = absurd f
+end_ends-by T s name (Stopped Reopen) old new stands (inr f) w less whole h = absurd f
 
 is_there : (o : Option Collection) (after : Option Text) (old new : Option (List ℕ)) → option_map (λ (c : Collection). page_over (part_query after) (values c.features)) o ≡ None → WritesSome (option_map (λ (c : Collection). values c.features) o) old new → ⊥
 is_there None after old new h w = w
 is_there (Some c) after old new h w = cc
 
-pub write_ends : {T : Type 0} (s : State) (name : Text) (r : Result T ExportFault) (e : ExportFault) (old new : Option (List ℕ)) (stands : State → Type 0) → r ≡ Err e → IsWriteFault e → WritesSome (features_in s name) old new → stands s → Exports s name r old new stands
-write_ends {T} s name r e old new stands is f w h = subst (λ (x : Result T ExportFault). Exports s name x old new stands) (sym is) (write_ends-by T s name e old new stands f w h)
+pub write_ends : {T : Type 0} (s : State) (name : Text) (r : Result T ExportFault) (e : ExportFault) (old new : Option (List ℕ)) (stands : State → Type 0) → r ≡ Err e → IsWriteFault e → WritesSome (features_in s name) old new
+    → (e ≡ WriteFailed → WritesLess (features_in s name) old new) → stands s → Exports s name r old new stands
+write_ends {T} s name r e old new stands is f w less h = subst (λ (x : Result T ExportFault). Exports s name x old new stands) (sym is) (write_ends-by T s name e old new stands f w less h)
 
 -- by a page that was not shown, behind others
 page_ends-by : (T : Type 0) (s : State) (name : Text) (after : Option Text) (e : ExportFault) (old new : Option (List ℕ)) (stands : State → Type 0) → ShowsPart s name after (Err e) stands → WritesSome (features_in s name) old new → Exports {T = T} s name (Err e) old new stands
 page_ends-by T s name after NoCollection old new stands h w = absurd (is_there (get s.collections name) after old new h.0 w)
 page_ends-by T s name after WriteFailed old new stands h w = absurd h
+page_ends-by T s name after FlushFailed old new stands h w = absurd h
 page_ends-by T s name after (Stopped Memory) old new stands h w = (some_if (features_in s name) old new w, h)
 page_ends-by T s name after (Stopped Device) old new stands h w = some_if (features_in s name) old new w
 page_ends-by T s name after (Stopped Damaged) old new stands h w = absurd h
@@ -318,6 +379,7 @@ not_there (Some c) after h = cc
 first_ends-by : (T : Type 0) (s : State) (name : Text) (e : ExportFault) (old : Option (List ℕ)) (stands : State → Type 0) → ShowsPart s name None (Err e) stands → Exports {T = T} s name (Err e) old old stands
 first_ends-by T s name NoCollection old stands h = (not_there (get s.collections name) None h.0, Keeps-refl old, h.1)
 first_ends-by T s name WriteFailed old stands h = absurd h
+first_ends-by T s name FlushFailed old stands h = absurd h
 first_ends-by T s name (Stopped Memory) old stands h = (none_if (features_in s name) old, h)
 first_ends-by T s name (Stopped Device) old stands h = none_if (features_in s name) old
 first_ends-by T s name (Stopped Damaged) old stands h = absurd h
@@ -328,9 +390,13 @@ first_ends {T} s name r e old stands is h = subst (λ (x : Result T ExportFault)
 
 -- by what stands behind the features
 pub end_exports : {T : Type 0} (s : State) (name : Text) (old a b c : Option (List ℕ)) (later : Bool) (page : PageValue) (r : Result T ExportFault) (stands : State → Type 0) → Underway s name old a later page → page.next ≡ None
-    → Appends a b (part_text later page.features) → OnOk r (Appends b c closing) → OnErr r (AppendsFirst b c closing) → IfErr r IsWriteFault → stands s → Exports s name r old c stands
-end_exports s name old a b c later page (Ok done) stands u none w ok err f h = (finished s name old a b c later page u none w ok, h)
-end_exports {T} s name old a b c later page (Err e) stands u none w ok err f h = write_ends-by T s name e old c stands f (ends_early s name old a b c later page u none w err) h
+    → Appends a b (part_text later page.features) → OnOk r (Appends b c closing) → OnErr r (AppendsFirst b c closing)
+    → (r ≡ Err WriteFailed → AppendsLess b c closing) → (r ≡ Err FlushFailed → Appends b c closing) → IfErr r IsEndFault → stands s → Exports s name r old c stands
+end_exports s name old a b c later page (Ok done) stands u none w ok err less whole f h = (finished s name old a b c later page u none w ok, h)
+end_exports {T} s name old a b c later page (Err e) stands u none w ok err less whole f h =
+    end_ends-by T s name e old c stands f (ends_early s name old a b c later page u none w err)
+    (λ is. ends_less s name old a b c later page u none w (less (ap (λ x. Err x) is)))
+    (λ is. finished s name old a b c later page u none w (whole (ap (λ x. Err x) is))) h
 
 -- the features of a page, as they were handed on
 pub page_part : (later : Bool) (fs gs : List FeatureValue) → fs ≡ gs → part_text later (map feature_value fs) ≡ part_text later gs

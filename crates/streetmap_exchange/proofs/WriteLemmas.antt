@@ -1,12 +1,12 @@
 -- What is written of a text, whole or in part.
-use Rattle.std.proofs.Common.{◌≡◌, ℕ, ◌-◌, ◌≤◌, List, [], ◌++◌, length, take, drop, refl, sym, ap, subst, ◌∙◌, arith, append_assoc, length-append, length-drop, take_all, take-append-drop, Option, Result, Ok, Err, OnErr, OnOk}
-use Rattle.std.proofs.Math.Seq.{take-append-add, take-length}
+use Rattle.std.proofs.Common.{◌≡◌, ℕ, ◌-◌, ◌≤◌, ◌<◌, List, [], ◌++◌, length, take, drop, refl, sym, ap, subst, ◌∙◌, arith, append_assoc, length-append, length-drop, take_all, take-append-drop, Option, Result, Ok, Err, OnErr, OnOk}
+use Rattle.std.proofs.Math.Seq.{take-append-add, take-append_seam, take-length}
 use Rattle.std.proofs.lemmas.List.{take-append-le}
 use Rattle.std.proofs.KnownBytes.{Appends-nil, Appends-trans, Appends-kept}
 use Rattle.std.proofs.Transfers.{starts_with_length}
 use Rattle.std.specs.Io.{StartsWith}
 use Rattle.std.specs.Io.KnownBytes.{Appends, Keeps}
-use Rattle.streetmap_exchange.specs.Exports.{AppendsFirst}
+use Rattle.streetmap_exchange.specs.Exports.{AppendsFirst, AppendsLess}
 
 -- ---- beginnings
 
@@ -36,6 +36,25 @@ first_behind a b c xs ys p h = (xs ++ h.0, starts-behind xs ys h.0 h.1, Appends-
 pub first_all : (a b : Option (List ℕ)) (xs : List ℕ) → Appends a b xs → AppendsFirst a b xs
 first_all a b xs h = (xs, take-length xs, h)
 
+-- ---- beginnings that are not all
+
+pub less_longer : (a b : Option (List ℕ)) (xs ys : List ℕ) → AppendsLess a b xs → AppendsLess a b (xs ++ ys)
+less_longer a b xs ys h =
+    (h.0, starts-longer xs ys h.0 h.1, omega (arith, h.2, length-append xs ys), h.3)
+
+pub less_behind : (a b c : Option (List ℕ)) (xs ys : List ℕ) → Appends a b xs → AppendsLess b c ys
+    → AppendsLess a c (xs ++ ys)
+less_behind a b c xs ys p h = (
+  xs ++ h.0,
+  starts-behind xs ys h.0 h.1,
+  omega (arith, h.2, length-append xs ys, length-append xs h.0),
+  Appends-trans a b c xs h.0 p h.3,
+)
+
+-- nothing of a text is not all of it
+pub less_none : (a : Option (List ℕ)) (xs : List ℕ) → 0 < length xs → AppendsLess a a xs
+less_none a xs some = ([], refl, some, Appends-nil a)
+
 -- ---- bytes that are written in part
 
 pub record IsPartWritten (a b : Option (List ℕ)) (bytes rest : List ℕ) : Type 0 where
@@ -62,3 +81,10 @@ part_sliced a b c bytes rest n p h =
 
 pub part_kept : (a b c : Option (List ℕ)) (bytes rest : List ℕ) → IsPartWritten a b bytes rest → Keeps b c → IsPartWritten a c bytes rest
 part_kept a b c bytes rest p h = record { front = p.front; whole = p.whole; written = Appends-kept a b c p.front p.written h }
+
+-- where some bytes are left
+pub part_less : (a b : Option (List ℕ)) (bytes rest : List ℕ) → IsPartWritten a b bytes rest
+    → 0 < length rest → AppendsLess a b bytes
+part_less a b bytes rest p some =
+    subst (AppendsLess a b) (sym p.whole)
+    (p.front, take-append_seam p.front rest, omega (arith, some, length-append p.front rest), p.written)

@@ -1,18 +1,27 @@
--- Why an export ends early: the names of the refusals, and what comes of its parts.
-use Rattle.std.specs.Prelude.{◌≡◌, Option, None, Result, Ok, Err, codes, ⊤}
+-- Why an export ends early: the names and sentences of the refusals, and what comes of its parts.
+use Rattle.std.specs.Prelude.{◌≡◌, ◌⊎◌, Option, None, Result, Ok, Err, codes, ⊤}
 use Rattle.streetmap_batch.specs.Text.{Text}
 use Rattle.streetmap_ledger.specs.Keep.{ShutsBy}
-use Rattle.streetmap_ledger.specs.Refusals.{fault_code}
+use Rattle.streetmap_ledger.specs.Refusals.{fault_code, fault_description}
 use Rattle.streetmap_ledger.specs.declared.reply.Cause.{Cause}
 use Rattle.streetmap_ledger.specs.declared.reply.Fault.TheVariants.{Memory}
 use Rattle.streetmap_exchange.specs.declared.fault.ExportFault.{ExportFault}
 use Rattle.streetmap_exchange.specs.declared.fault.ExportFault.TheVariants.{NoCollection, Stopped}
 use Rattle.streetmap_exchange.specs.declared.fault.ExportFault.TheVariants.{WriteFailed}
+use Rattle.streetmap_exchange.specs.declared.fault.ExportFault.TheVariants.{FlushFailed}
 
 unfoldable pub export_code_of : ExportFault → Text
 export_code_of NoCollection = codes "no_collection"
 export_code_of (Stopped fault) = fault_code fault
 export_code_of WriteFailed = codes "write_failed"
+export_code_of FlushFailed = codes "write_failed"
+
+-- the sentence of a refusal
+unfoldable pub export_description_of : ExportFault → Text
+export_description_of NoCollection = codes "The collection is not there."
+export_description_of (Stopped fault) = fault_description fault
+export_description_of WriteFailed = codes "The text could not be written."
+export_description_of FlushFailed = codes "The text could not be written."
 
 -- what may come of a write: memory is refused, or the write fails
 abbrev pub IsWriteFault : ExportFault → Type 0
@@ -20,6 +29,19 @@ IsWriteFault NoCollection = ⊥
 IsWriteFault (Stopped Memory) = ⊤
 IsWriteFault (Stopped _) = ⊥
 IsWriteFault WriteFailed = ⊤
+IsWriteFault FlushFailed = ⊥
+
+-- what may come of a flush: memory is refused, or the flush fails
+abbrev pub IsFlushFault : ExportFault → Type 0
+IsFlushFault NoCollection = ⊥
+IsFlushFault (Stopped Memory) = ⊤
+IsFlushFault (Stopped _) = ⊥
+IsFlushFault WriteFailed = ⊥
+IsFlushFault FlushFailed = ⊤
+
+-- what may come of a write with a flush behind it
+abbrev pub IsEndFault : ExportFault → Type 0
+IsEndFault fault = IsWriteFault fault ⊎ IsFlushFault fault
 
 -- a shut keeper answers `Reopen` and no other does; `Device` and `Damaged` shut it
 abbrev pub ExportShuts : {T : Type 0} → Result T ExportFault → Option Cause → Option Cause → Type 0
@@ -27,3 +49,4 @@ ExportShuts (Ok x) old new = (old ≡ None) × (new ≡ None)
 ExportShuts (Err NoCollection) old new = (old ≡ None) × (new ≡ None)
 ExportShuts (Err (Stopped fault)) old new = ShutsBy {T = Unit {0}} (Err fault) old new
 ExportShuts (Err WriteFailed) old new = (old ≡ None) × (new ≡ None)
+ExportShuts (Err FlushFailed) old new = (old ≡ None) × (new ≡ None)

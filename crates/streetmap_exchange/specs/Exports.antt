@@ -1,6 +1,6 @@
 -- What an export of a collection writes.
-use Rattle.std.specs.Prelude.{◌≡◌, ℕ, Bool, true, List, [], ◌∷◌, ◌++◌, Option, None, Some, Result}
-use Rattle.std.specs.Prelude.{Ok, Err, IsSomeAnd}
+use Rattle.std.specs.Prelude.{◌≡◌, ◌<◌, length, ℕ, Bool, true, List, [], ◌∷◌, ◌++◌, Option, None}
+use Rattle.std.specs.Prelude.{Some, Result, Ok, Err, IsSomeAnd}
 use Rattle.std.specs.Option.{option_map}
 use Rattle.std.specs.FinMap.{get, values}
 use Rattle.std.specs.Io.{StartsWith}
@@ -18,6 +18,7 @@ use Rattle.streetmap_ledger.specs.declared.reply.Fault.TheVariants.{Memory, Devi
 use Rattle.streetmap_exchange.specs.declared.fault.ExportFault.{ExportFault}
 use Rattle.streetmap_exchange.specs.declared.fault.ExportFault.TheVariants.{NoCollection, Stopped}
 use Rattle.streetmap_exchange.specs.declared.fault.ExportFault.TheVariants.{WriteFailed}
+use Rattle.streetmap_exchange.specs.declared.fault.ExportFault.TheVariants.{FlushFailed}
 
 -- the compact text of the FeatureCollection, and a line feed
 abbrev pub export_text : List FeatureValue → List ℕ
@@ -31,6 +32,12 @@ features_in s name = option_map (λ (c : Collection). values c.features) (get s.
 abbrev pub AppendsFirst : Option (List ℕ) → Option (List ℕ) → List ℕ → Type 0
 AppendsFirst old new bytes = (first : List ℕ) × StartsWith bytes first × Appends old new first
 
+-- the first of these bytes were written, not all of them, and nothing else
+abbrev pub AppendsLess : Option (List ℕ) → Option (List ℕ) → List ℕ → Type 0
+AppendsLess old new bytes =
+    (first : List ℕ) × StartsWith bytes first × (length first < length bytes)
+    × Appends old new first
+
 -- the text of a collection that is there was written
 abbrev pub WritesAll : Option (List FeatureValue) → Option (List ℕ) → Option (List ℕ) → Type 0
 WritesAll features old new = IsSomeAnd features (λ fs. Appends old new (export_text fs))
@@ -38,6 +45,10 @@ WritesAll features old new = IsSomeAnd features (λ fs. Appends old new (export_
 -- a beginning of that text was written
 abbrev pub WritesSome : Option (List FeatureValue) → Option (List ℕ) → Option (List ℕ) → Type 0
 WritesSome features old new = IsSomeAnd features (λ fs. AppendsFirst old new (export_text fs))
+
+-- a beginning of that text was written, and not all of it
+abbrev pub WritesLess : Option (List FeatureValue) → Option (List ℕ) → Option (List ℕ) → Type 0
+WritesLess features old new = IsSomeAnd features (λ fs. AppendsLess old new (export_text fs))
 
 -- a beginning of the text, where the collection is there, and else nothing
 abbrev pub WritesSomeIf : Option (List FeatureValue) → Option (List ℕ) → Option (List ℕ) → Type 0
@@ -50,7 +61,8 @@ abbrev pub Exports : {T : Type 0} → State → Text → Result T ExportFault �
 Exports s name (Ok done) old new stands = WritesAll (features_in s name) old new × stands s
 Exports s name (Err NoCollection) old new stands = (features_in s name ≡ None) × Keeps old new
     × stands s
-Exports s name (Err WriteFailed) old new stands = WritesSome (features_in s name) old new × stands s
+Exports s name (Err WriteFailed) old new stands = WritesLess (features_in s name) old new × stands s
+Exports s name (Err FlushFailed) old new stands = WritesAll (features_in s name) old new × stands s
 Exports s name (Err (Stopped Memory)) old new stands = WritesSomeIf (features_in s name) old new
     × stands s
 Exports s name (Err (Stopped Device)) old new stands = WritesSomeIf (features_in s name) old new
@@ -71,6 +83,7 @@ ShowsPart s name after (Ok page) stands = (page_in s name (part_query after)
 ShowsPart s name after (Err NoCollection) stands = (page_in s name (part_query after) ≡ None)
     × stands s
 ShowsPart s name after (Err WriteFailed) stands = ⊥
+ShowsPart s name after (Err FlushFailed) stands = ⊥
 ShowsPart s name after (Err (Stopped Memory)) stands = stands s
 ShowsPart s name after (Err (Stopped Device)) stands = Unit {0}
 ShowsPart s name after (Err (Stopped Damaged)) stands = ⊥

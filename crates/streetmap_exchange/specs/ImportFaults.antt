@@ -1,5 +1,5 @@
--- Why a text is not read into a batch: the names of the refusals, and what a reader answers beside
--- what it reads.
+-- Why a text is not read into a batch: the names and sentences of the refusals, and what a reader
+-- answers beside what it reads.
 use Rattle.std.specs.Prelude.{◌≡◌, ℕ, codes, Option, None, Some, Result, Ok, Err}
 use Rattle.streetmap_geojson.specs.declared.fault.Fault.{Fault}
 use Rattle.streetmap_batch.specs.Text.{Text}
@@ -20,6 +20,17 @@ code_of WrongType = codes "wrong_type"
 code_of (BadFeature place cause) = codes "bad_feature"
 code_of TooManyEdits = codes "too_many_edits"
 code_of Memory = codes "memory"
+
+-- the sentence of a refusal
+unfoldable pub description_of : ImportFault → Text
+description_of BadKey = codes "The key of the batch cannot be read."
+description_of BadBatch = codes "The batch cannot be read."
+description_of TextTooLarge = codes "The text has more than 8388608 bytes."
+description_of NotJson = codes "The text is no JSON."
+description_of WrongType = codes "The text is no FeatureCollection."
+description_of (BadFeature place cause) = codes "A feature of the batch cannot be read."
+description_of TooManyEdits = codes "The batch has more than 10000 edits."
+description_of Memory = codes "Memory was refused; the call may be made again."
 
 -- the place of the feature at fault, counted from 1
 abbrev pub place_of : ImportFault → Option ℕ

@@ -59,8 +59,9 @@ fn write_pages<K: Keeper, W: Write, P: Progress>(
 /// # Errors
 ///
 /// `NoCollection` where the collection is not there, and then nothing is written; a fault of the
-/// keeper, want of memory, or a write that failed, and then a beginning of the text is. After 2^64
-/// - 1 pages it ends as after a failed write.
+/// keeper or want of memory, and then a beginning of the text is; `WriteFailed` where a write
+/// failed, and then less than the text is, but for a flush, which is `FlushFailed`: then all of it
+/// is. After 2^64 - 1 pages it ends as after a failed write.
 pub fn export<K: Keeper, W: Write, P: Progress>(
     alloc: Global,
     keeper: &mut K,
@@ -71,7 +72,8 @@ pub fn export<K: Keeper, W: Write, P: Progress>(
     ensures began_clean { K.is_clean keeper.new → K.is_clean keeper.old }
     // A shut keeper answers `Reopen` and no other does; `Device` and `Damaged` shut it.
     ensures faults { ExportShuts result (K.cause keeper.old) (K.cause keeper.new) }
-    // What is written is the text of the collection, or a beginning of it, and the state stays.
+    // What is written is the text of the collection, or a beginning of it, and the state stays. It
+    // is less than the text where a write failed, and the text where only a flush did.
     ensures exports { K.is_clean keeper.new → (s : State) → K.stands keeper.old s
         → Exports s collection.now result (W.contents writer.old) (W.contents writer.new)
         (K.stands keeper.new) }

@@ -29,7 +29,8 @@ pub enum ImportFault {
 }
 
 impl ImportFault {
-    ghost use Rattle.streetmap_exchange.specs.ImportFaults.{code_of, place_of, cause_of, of_batch};
+    ghost use Rattle.streetmap_exchange.specs.ImportFaults.{code_of, description_of};
+    ghost use Rattle.streetmap_exchange.specs.ImportFaults.{place_of, cause_of, of_batch};
 
     /// The name of the refusal.
     #[tactic(auto, unfolding(crate::specs::ImportFaults::code_of))]
@@ -45,6 +46,24 @@ impl ImportFault {
             ImportFault::BadFeature { place: _, cause: _ } => "bad_feature",
             ImportFault::TooManyEdits => "too_many_edits",
             ImportFault::Memory => "memory",
+        }
+    }
+
+    /// The sentence of the refusal.
+    #[tactic(auto, unfolding(crate::specs::ImportFaults::description_of))]
+    pub fn description(&self) -> &'static str
+        ensures { result.now ≡ description_of self.now }
+    {
+        match self {
+            ImportFault::BadKey => "The key of the batch cannot be read.",
+            ImportFault::BadBatch => "The batch cannot be read.",
+            ImportFault::TextTooLarge => "The text has more than 8388608 bytes.",
+            ImportFault::NotJson => "The text is no JSON.",
+            ImportFault::WrongType => "The text is no FeatureCollection.",
+            ImportFault::BadFeature { place: _, cause: _ } =>
+                "A feature of the batch cannot be read.",
+            ImportFault::TooManyEdits => "The batch has more than 10000 edits.",
+            ImportFault::Memory => "Memory was refused; the call may be made again.",
         }
     }
 
@@ -115,8 +134,8 @@ pub enum ImportStop {
 }
 
 impl ImportStop {
-    ghost use Rattle.streetmap_exchange.specs.ImportStops.{stop_code_of, stop_place_of};
-    ghost use Rattle.streetmap_exchange.specs.ImportStops.{stop_cause_of};
+    ghost use Rattle.streetmap_exchange.specs.ImportStops.{stop_code_of, stop_description_of};
+    ghost use Rattle.streetmap_exchange.specs.ImportStops.{stop_place_of, stop_cause_of};
 
     /// Its name.
     #[tactic(auto, unfolding(crate::specs::ImportStops::stop_code_of))]
@@ -127,6 +146,18 @@ impl ImportStop {
             ImportStop::NotRead(fault) => fault.code(),
             ImportStop::Refused(refusal, _) => refusal.code(),
             ImportStop::Stopped(fault) => fault.code(),
+        }
+    }
+
+    /// A sentence on it.
+    #[tactic(auto, unfolding(crate::specs::ImportStops::stop_description_of))]
+    pub fn description(&self) -> &'static str
+        ensures { result.now ≡ stop_description_of self.now }
+    {
+        match self {
+            ImportStop::NotRead(fault) => fault.description(),
+            ImportStop::Refused(refusal, _) => refusal.description(),
+            ImportStop::Stopped(fault) => fault.description(),
         }
     }
 
@@ -169,12 +200,15 @@ pub enum ExportFault {
     NoCollection,
     /// The keeper did not answer, or memory was refused.
     Stopped(KeeperFault),
-    /// The text could not be written.
+    /// The text could not be written to its end.
     WriteFailed,
+    /// The text was written, and a flush of the writer failed.
+    FlushFailed,
 }
 
 impl ExportFault {
-    ghost use Rattle.streetmap_exchange.specs.ExportFaults.{export_code_of, IsWriteFault};
+    ghost use Rattle.streetmap_exchange.specs.ExportFaults.{export_code_of, export_description_of};
+    ghost use Rattle.streetmap_exchange.specs.ExportFaults.{IsWriteFault, IsFlushFault};
 
     /// The name of the refusal.
     #[tactic(auto, unfolding(crate::specs::ExportFaults::export_code_of))]
@@ -184,7 +218,19 @@ impl ExportFault {
         match self {
             ExportFault::NoCollection => "no_collection",
             ExportFault::Stopped(fault) => fault.code(),
-            ExportFault::WriteFailed => "write_failed",
+            ExportFault::WriteFailed | ExportFault::FlushFailed => "write_failed",
+        }
+    }
+
+    /// The sentence of the refusal.
+    #[tactic(auto, unfolding(crate::specs::ExportFaults::export_description_of))]
+    pub fn description(&self) -> &'static str
+        ensures { result.now ≡ export_description_of self.now }
+    {
+        match self {
+            ExportFault::NoCollection => "The collection is not there.",
+            ExportFault::Stopped(fault) => fault.description(),
+            ExportFault::WriteFailed | ExportFault::FlushFailed => "The text could not be written.",
         }
     }
 
@@ -196,6 +242,17 @@ impl ExportFault {
             ExportFault::Stopped(KeeperFault::Memory)
         } else {
             ExportFault::WriteFailed
+        }
+    }
+
+    /// The fault of a flush that failed. A buffer that finds no memory fails so too.
+    pub(crate) fn of_flush(error: &Error) -> ExportFault
+        ensures { IsFlushFault result }
+    {
+        if error.kind() == ErrorKind::OutOfMemory {
+            ExportFault::Stopped(KeeperFault::Memory)
+        } else {
+            ExportFault::FlushFailed
         }
     }
 }

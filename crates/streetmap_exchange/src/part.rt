@@ -1,5 +1,5 @@
 //! Parts of an export: its pages, and their texts.
-ghost use Rattle.std.specs.Prelude.{◌≡◌, ◌++◌, OnOk, OnErr, IfErr, IsErrOf, map, string_bytes};
+ghost use Rattle.std.specs.Prelude.{◌≡◌, ◌++◌, Err, OnOk, OnErr, IfErr, IsErrOf, map, string_bytes};
 ghost use Rattle.std.specs.Prelude.{codes};
 ghost use Rattle.std.specs.Io.KnownBytes.{Appends};
 ghost use Rattle.streetmap_geojson.specs.FeatureView.{feature_value};
@@ -7,8 +7,8 @@ ghost use Rattle.streetmap_ledger.specs.Keep.{LeavesOnly, AsBefore};
 ghost use Rattle.streetmap_ledger.specs.PageView.{page_value};
 ghost use Rattle.streetmap_ledger.specs.State.{State};
 ghost use Rattle.streetmap_ledger.specs.declared.reply.Fault.TheVariants.{Reopen};
-ghost use Rattle.streetmap_exchange.specs.ExportFaults.{IsWriteFault, ExportShuts};
-ghost use Rattle.streetmap_exchange.specs.Exports.{AppendsFirst, ShowsPart, part_text};
+ghost use Rattle.streetmap_exchange.specs.ExportFaults.{IsWriteFault, IsEndFault, ExportShuts};
+ghost use Rattle.streetmap_exchange.specs.Exports.{AppendsFirst, AppendsLess, ShowsPart, part_text};
 
 use crate::fault::ExportFault;
 use std::alloc::{AllocError, Global};
@@ -87,6 +87,8 @@ pub(crate) fn write_bytes<W: Write>(writer: &mut W, bytes: &[u8]) -> Result<(), 
     ensures ok { OnOk result (Appends (W.contents writer.old) (W.contents writer.new) bytes.now) }
     ensures err { OnErr result (AppendsFirst (W.contents writer.old) (W.contents writer.new)
         bytes.now) }
+    ensures less { result ≡ Err ExportFault.WriteFailed →
+        AppendsLess (W.contents writer.old) (W.contents writer.new) bytes.now }
     ensures fault { IfErr result IsWriteFault }
 {
     let mut rest = bytes;
@@ -101,7 +103,11 @@ pub(crate) fn write_bytes<W: Write>(writer: &mut W, bytes: &[u8]) -> Result<(), 
             Err(error) => return Err(ExportFault::of_write(&error)),
         }
     }
-    Err(ExportFault::WriteFailed)
+    if rest.is_empty() {
+        Ok(())
+    } else {
+        Err(ExportFault::WriteFailed)
+    }
 }
 
 /// Writes features as they stand in an array.
@@ -115,6 +121,9 @@ pub(crate) fn write_part<W: Write>(
         (part_text later (map feature_value features.now))) }
     ensures err { OnErr result (AppendsFirst (W.contents writer.old) (W.contents writer.new)
         (part_text later (map feature_value features.now))) }
+    ensures less { result ≡ Err ExportFault.WriteFailed →
+        AppendsLess (W.contents writer.old) (W.contents writer.new)
+        (part_text later (map feature_value features.now)) }
     ensures fault { IfErr result IsWriteFault }
 {
     let mut text = String::new(alloc);
@@ -126,11 +135,17 @@ pub(crate) fn write_part<W: Write>(
 pub(crate) fn write_end<W: Write>(writer: &mut W) -> Result<(), ExportFault>
     ensures ok { OnOk result (Appends (W.contents writer.old) (W.contents writer.new) (codes "],\"type\":\"FeatureCollection\"}\n")) }
     ensures err { OnErr result (AppendsFirst (W.contents writer.old) (W.contents writer.new) (codes "],\"type\":\"FeatureCollection\"}\n")) }
-    ensures fault { IfErr result IsWriteFault }
+    ensures less { result ≡ Err ExportFault.WriteFailed →
+        AppendsLess (W.contents writer.old) (W.contents writer.new)
+        (codes "],\"type\":\"FeatureCollection\"}\n") }
+    ensures flush { result ≡ Err ExportFault.FlushFailed →
+        Appends (W.contents writer.old) (W.contents writer.new)
+        (codes "],\"type\":\"FeatureCollection\"}\n") }
+    ensures fault { IfErr result IsEndFault }
 {
     write_bytes(writer, b"],\"type\":\"FeatureCollection\"}\n")?;
     match writer.flush() {
         Ok(()) => Ok(()),
-        Err(error) => Err(ExportFault::of_write(&error)),
+        Err(error) => Err(ExportFault::of_flush(&error)),
     }
 }

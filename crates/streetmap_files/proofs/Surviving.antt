@@ -18,13 +18,12 @@ use Rattle.streetmap_web.specs.Exchanges.{Around, Serves}
 use Rattle.streetmap_web.specs.declared.serving.End.{End}
 use Rattle.streetmap_web.proofs.Beginnings.{served_leaves}
 use Rattle.streetmap_web.specs.Sight.{Sight}
-use Rattle.streetmap_serving.specs.Surviving.{SurvivesInTurn}
 use Rattle.mio.specs.declared.net.stream.TcpStream.{TcpStream}
 use Rattle.streetmap_connections.specs.declared.client.Client.{Client}
 use Rattle.streetmap_serving.specs.SurvivingClients.{SurvivesClients}
 use Rattle.streetmap_store.specs.Sparing.{LeavesStates}
 use Rattle.streetmap_files.specs.Surviving.{Holds}
-use Rattle.streetmap_files.specs.Surviving.{IsOfOne, Survives, ServesTables, ServesTablesInTurn, ServesTablesAtOnce}
+use Rattle.streetmap_files.specs.Surviving.{IsOfOne, Survives, ServesTables, ServesTablesAtOnce}
 
 -- where a stop may leave these states alone, a database that is opened again is of one of them
 pub opens : (seen : Seen) (P : State → Type 0) → ((o : Option State) → MayLeave seen o → (t : State) × (o ≡ Some t) × P t) → (db : Database) → seen.may_leave db.trees → IsDatabase db → IsOfOne P db
@@ -91,16 +90,6 @@ pub served_survives : (root : Text) (end : End) (count : ℕ) (s : State) (a : A
 served_survives root end count s a seen serves known bound = record {
   serves = serves;
   survives = opens seen _ λ o left. served_leaves root end count s a serves known o (bound o left);
-}
-
--- and of connections in turn
-pub turns_survive : {K : Type 0} (sight : Sight K) (root : Text) (n : ℕ) (s : State) (old new : K) (seen : Seen) → SurvivesInTurn sight root n s old new
-    → ((o : Option State) → MayLeave seen o → sight.may_leave new o) → ServesTablesInTurn sight root n s old new seen
-turns_survive sight root n s old new seen it bound = record {
-  batches = it.batches;
-  answered = it.answered;
-  brings = it.brings;
-  survives = opens seen _ λ o left. it.leaves o (bound o left);
 }
 
 -- and of many clients at once

@@ -14,7 +14,6 @@ use Rattle.streetmap_web.specs.declared.serving.End.{End}
 use Rattle.mio.specs.declared.net.stream.TcpStream.{TcpStream}
 use Rattle.streetmap_connections.specs.declared.client.Client.{Client}
 use Rattle.streetmap_serving.specs.SurvivingClients.{SurvivesClients, acted_over, answered_over}
-use Rattle.streetmap_serving.specs.Surviving.{Brings}
 
 -- The database is that of one of these states: it is of no other, and it cannot be that it is of
 -- none.
@@ -42,15 +41,6 @@ pub record ServesTables (root : Text) (end : End) (count : ℕ) (s : State) (a :
   pub survives : let last = last_of serves.turn root _ _ serves.ends in
       Survives s (batches_of serves.exchanges ++ batches_acted last)
       (length (batches_of serves.exchanges ++ batches_of last)) seen
-
--- Over tables of a state so many connections were served in turn, and a stop leaves the state of a
--- beginning of all the batches acted on that contains each that was answered without a fault.
-pub record ServesTablesInTurn {K : Type 0} (sight : Sight K) (root : Text) (n : ℕ) (s : State)
-    (old new : K) (seen : Seen) : Type 0 where
-  pub batches : List BatchValue
-  pub answered : ℕ
-  pub brings : Brings sight root n old new batches answered
-  pub survives : Survives s batches answered seen
 
 -- Over tables of a state many clients were served at once, and a stop leaves the state of a
 -- beginning of the batches of all clients, in the one order in which they were answered, that

@@ -14,6 +14,4 @@ mod session;
 
 pub use fault::{CreateFault, Left, OpenFault};
 pub use file::{FileKeeper, FilesLeft, create, open};
-pub use session::{
-    run_over_tables, serve_clients_over_tables, serve_count_over_tables, serve_over_tables,
-};
+pub use session::{run_over_tables, serve_clients_over_tables, serve_over_tables};

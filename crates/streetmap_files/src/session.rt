@@ -17,11 +17,10 @@ ghost use Rattle.streetmap_routes.specs.BaseView.{root_of};
 ghost use Rattle.streetmap_web.specs.Coming.{around};
 ghost use Rattle.streetmap_web.specs.Standing.{of_state};
 ghost use Rattle.streetmap_web.specs.Exchanges.{Serves as ServesStream};
-ghost use Rattle.streetmap_serving.specs.Connections.{ServesInTurn};
 ghost use Rattle.streetmap_serving.specs.ServingClients.{ServesClients};
-ghost use Rattle.streetmap_connections.specs.Served.{clients_of};
-ghost use Rattle.streetmap_files.specs.Surviving.{Survives, ServesTables, ServesTablesInTurn};
-ghost use Rattle.streetmap_files.specs.Surviving.{ServesTablesAtOnce, Holds};
+ghost use Rattle.streetmap_connections.specs.Served.{clients_of, ended_of};
+ghost use Rattle.streetmap_files.specs.Surviving.{Survives, ServesTables, ServesTablesAtOnce};
+ghost use Rattle.streetmap_files.specs.Surviving.{Holds};
 ghost use Rattle.streetmap_files.specs.Tables.{tables_sight};
 
 use mio::net::TcpStream;
@@ -34,7 +33,7 @@ use streetmap_connections::{Clients, ServeFault};
 use streetmap_index::IndexedKeeper;
 use streetmap_ledger::{Batch, Run, run};
 use streetmap_routes::Base;
-use streetmap_serving::{KeeperService, serve_clients, serve_count};
+use streetmap_serving::{KeeperService, serve_clients};
 use streetmap_store::TableKeeper;
 use streetmap_web::{Served, serve};
 
@@ -130,47 +129,6 @@ pub fn serve_over_tables<S: Alter, R: BufRead, W: Write>(
     serve(alloc, keeper, base, reader, writer)
 }
 
-/// Serves so many connections of a listener over tables, with an index in memory, one after the
-/// other (`streetmap_serving::serve_count`).
-///
-/// After a stop, before or within any write, whatever is opened again holds the state of a
-/// beginning of the batches of all connections, in order, that contains each that was answered
-/// without a fault.
-///
-/// # Errors
-///
-/// `Net` where no connection can be accepted, and `Memory` where there is no room to read one.
-pub fn serve_count_over_tables<S: Alter>(
-    alloc: Global,
-    listener: &TcpListener,
-    count: u64,
-    keeper: &mut IndexedKeeper<TableKeeper<S>>,
-    base: &Base,
-) -> Result<(), ServeFault>
-    ensures serves { HasCleanDisk (state S.Store keeper.new.keeper.conn) →
-        (n : ℕ) × (n ≤ count) × (IsOk result → n ≡ count) ×
-        ServesInTurn
-        (tables_sight (λ k. k.keeper) (λ t. t.shut) (λ t. state S.Store t.conn) (λ t. t.count)
-        (λ k. k.index))
-        (root_of base.now) n keeper.old keeper.new }
-    ensures survives { HasCleanDisk (state S.Store keeper.new.keeper.conn) → (s : State) →
-        Serves keeper.old.keeper.shut (state S.Store keeper.old.keeper.conn)
-        keeper.old.keeper.count s → IsIndexOf keeper.old.index s →
-        LeavesOnly (MayLeave (state S.Store keeper.old.keeper.conn)) (Some s) →
-        (n : ℕ) × (n ≤ count) × (IsOk result → n ≡ count) ×
-        ServesTablesInTurn
-        (tables_sight (λ k. k.keeper) (λ t. t.shut) (λ t. state S.Store t.conn) (λ t. t.count)
-        (λ k. k.index))
-        (root_of base.now) n s keeper.old keeper.new (state S.Store keeper.new.keeper.conn) }
-    ensures spared { Spares
-        keeper.old.keeper.shut keeper.old.keeper.count
-        (state S.Store keeper.old.keeper.conn)
-        keeper.new.keeper.shut keeper.new.keeper.count
-        (state S.Store keeper.new.keeper.conn) }
-{
-    serve_count(alloc, listener, count, keeper, base)
-}
-
 /// Serves clients of a listener over tables, with an index in memory, many at once, until so many
 /// of them ended (`streetmap_serving::serve_clients`).
 ///
@@ -207,6 +165,7 @@ pub fn serve_clients_over_tables<R: Net + Clock, S: Alter, W: Write>(
         (root_of service.old.base) s service.old.keeper service.new.keeper
         (clients_of clients.old) (clients_of clients.new)
         (state S.Store service.new.keeper.keeper.conn) }
+    ensures counted { IsOk result → count ≤ length (ended_of clients.new) }
     ensures spared { Spares
         service.old.keeper.keeper.shut service.old.keeper.keeper.count
         (state S.Store service.old.keeper.keeper.conn)

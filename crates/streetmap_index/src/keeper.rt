@@ -11,6 +11,7 @@ use crate::page::page_with;
 use crate::telling::{collection_with, collections_with};
 use std::alloc::Global;
 use streetmap_geojson::Feature;
+use streetmap_kept::{KeepsBatches, KeptBatch};
 use streetmap_ledger::{Batch, Fault, FeatureOutline, Keeper, Page, Reply, Summary};
 use streetmap_query::Query;
 
@@ -304,6 +305,38 @@ impl<K: Keeper> Keeper for IndexedKeeper<K> {
     fn outlines(&mut self, collection: &str) -> Result<Option<Vec<FeatureOutline>>, Fault> {
         match self.keeper.outlines(collection) {
             Ok(outlines) => Ok(outlines),
+            Err(fault) => {
+                self.heed(fault);
+                Err(fault)
+            }
+        }
+    }
+}
+
+impl<K: KeepsBatches> KeepsBatches for IndexedKeeper<K> {
+    fn batch_count(&mut self) -> Result<u64, Fault> {
+        match self.keeper.batch_count() {
+            Ok(count) => Ok(count),
+            Err(fault) => {
+                self.heed(fault);
+                Err(fault)
+            }
+        }
+    }
+
+    fn batch(&mut self, serial: u64) -> Result<Option<KeptBatch>, Fault> {
+        match self.keeper.batch(serial) {
+            Ok(batch) => Ok(batch),
+            Err(fault) => {
+                self.heed(fault);
+                Err(fault)
+            }
+        }
+    }
+
+    fn batches(&mut self, alloc: Global, after: u64, room: usize) -> Result<Vec<KeptBatch>, Fault> {
+        match self.keeper.batches(alloc, after, room) {
+            Ok(batches) => Ok(batches),
             Err(fault) => {
                 self.heed(fault);
                 Err(fault)

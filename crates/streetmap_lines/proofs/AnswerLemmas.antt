@@ -1,5 +1,5 @@
 -- What is written for lines.
-use Rattle.std.proofs.Common.{◌≡◌, ℕ, ◌+◌, ◌≤◌, List, [], ◌∷◌, ◌++◌, length, take, drop, refl, sym, ap, subst, ◌∙◌, arith, append_assoc, append-nil, length-append, length-drop, take_all, ◌-◌, take-append-drop, Option, Some, None, option_map, IfSome, OnSome, IsSomeAnd, Result, Ok, Err, OnErr, OnOk, ◌≢◌, String, string_bytes, Global}
+use Rattle.std.proofs.Common.{◌≡◌, ℕ, ◌+◌, ◌≤◌, ◌<◌, List, [], ◌∷◌, ◌++◌, length, take, drop, refl, sym, ap, subst, ◌∙◌, arith, append_assoc, append-nil, length-append, length-drop, take_all, ◌-◌, take-append-drop, Option, Some, None, option_map, IfSome, OnSome, IsSomeAnd, Result, Ok, Err, OnErr, OnOk, ◌≢◌, String, string_bytes, Global}
 use Rattle.std.proofs.Math.Seq.{take-append_seam, take-append-add, take-length}
 use Rattle.std.proofs.lemmas.List.{take-append-le}
 use Rattle.std.proofs.KnownBytes.{Appends-nil, Appends-trans, Appends-kept}
@@ -16,7 +16,8 @@ use Rattle.std.specs.declared.alloc.AllocError.{AllocError}
 use Rattle.streetmap_lines.specs.AnswerView.{LineSays}
 use Rattle.streetmap_lines.specs.Answers.{answer_to}
 use Rattle.streetmap_lines.specs.Request.{request_in}
-use Rattle.streetmap_lines.specs.Lines.{line_answer, state_after, answer_text, answers_of, first_too_long, AppendsFirst, AnswersFirst}
+use Rattle.streetmap_lines.specs.Lines.{line_answer, state_after, answer_text, answers_of, first_too_long}
+use Rattle.streetmap_lines.specs.Lines.{AppendsFirst, AppendsLess, AnswersFirst}
 use Rattle.streetmap_lines.specs.Reading.{IsFirstLine, WhereKnown}
 
 -- ---- beginnings
@@ -47,6 +48,21 @@ first_behind a b c xs ys p h = (xs ++ h.0, starts-behind xs ys h.0 h.1, Appends-
 pub first_all : (a b : Option (List ℕ)) (xs : List ℕ) → Appends a b xs → AppendsFirst a b xs
 first_all a b xs h = (xs, take-length xs, h)
 
+-- ---- beginnings that are not all
+
+pub less_longer : (a b : Option (List ℕ)) (xs ys : List ℕ) → AppendsLess a b xs → AppendsLess a b (xs ++ ys)
+less_longer a b xs ys h =
+    (h.0, starts-longer xs ys h.0 h.1, omega (arith, h.2, length-append xs ys), h.3)
+
+pub less_behind : (a b c : Option (List ℕ)) (xs ys : List ℕ) → Appends a b xs → AppendsLess b c ys
+    → AppendsLess a c (xs ++ ys)
+less_behind a b c xs ys p h = (
+  xs ++ h.0,
+  starts-behind xs ys h.0 h.1,
+  omega (arith, h.2, length-append xs ys, length-append xs h.0),
+  Appends-trans a b c xs h.0 p h.3,
+)
+
 -- ---- bytes that are written in part
 
 pub record IsPartWritten (a b : Option (List ℕ)) (bytes rest : List ℕ) : Type 0 where
@@ -73,6 +89,13 @@ part_sliced a b c bytes rest n p h =
 
 pub part_kept : (a b c : Option (List ℕ)) (bytes rest : List ℕ) → IsPartWritten a b bytes rest → Keeps b c → IsPartWritten a c bytes rest
 part_kept a b c bytes rest p h = record { front = p.front; whole = p.whole; written = Appends-kept a b c p.front p.written h }
+
+-- where some bytes are left
+pub part_less : (a b : Option (List ℕ)) (bytes rest : List ℕ) → IsPartWritten a b bytes rest
+    → 0 < length rest → AppendsLess a b bytes
+part_less a b bytes rest p some =
+    subst (AppendsLess a b) (sym p.whole)
+    (p.front, take-append_seam p.front rest, omega (arith, some, length-append p.front rest), p.written)
 
 -- ---- answers
 
@@ -239,3 +262,21 @@ answered_partly (Some input) (Some rest) None old w v line s h f p = absurd f
 answered_partly (Some input) (Some rest) (Some later) old w v line s h f p =
     rest-written input rest old w v s h
     (subst (λ ls. AppendsFirst w v (answers_of s ls)) (sym f.first) (first_longer w v (answer_text (line_answer s line)) (answers_of (state_after s line) (lines later)) p))
+
+-- and not all of them
+less-written : (input rest : List ℕ) (old w v : Option (List ℕ)) (s : State) → IsAnswered input rest old w s → AppendsLess w v (answers_of s (lines rest))
+    → AppendsLess old v (answers_of opening_state (lines input))
+less-written input rest old w v s h f =
+    subst (AppendsLess old v)
+    (ap (λ x. answers_of opening_state h.done ++ answers_of x (lines rest)) h.state ∙ sym (answers_of-append opening_state h.done (lines rest)) ∙ ap (answers_of opening_state) (sym h.all))
+    (less_behind old w v (answers_of opening_state h.done) (answers_of s (lines rest)) h.written f)
+
+pub answered_less : (a b c old w v : Option (List ℕ)) (line : List ℕ) (s : State) → WhereKnown a b (λ input rest. IsAnswered input rest old w s)
+    → WhereKnown b c (λ input rest. IsFirstLine input line rest) → AppendsLess w v (answer_text (line_answer s line))
+    → IfSome a (λ input. AppendsLess old v (answers_of opening_state (lines input)))
+answered_less None b c old w v line s h f p = tt
+answered_less (Some input) None c old w v line s h f p = absurd h
+answered_less (Some input) (Some rest) None old w v line s h f p = absurd f
+answered_less (Some input) (Some rest) (Some later) old w v line s h f p =
+    less-written input rest old w v s h
+    (subst (λ ls. AppendsLess w v (answers_of s ls)) (sym f.first) (less_longer w v (answer_text (line_answer s line)) (answers_of (state_after s line) (lines later)) p))

@@ -1,21 +1,50 @@
--- What may end the answering of lines.
-use Rattle.std.specs.Prelude.{⊤}
+-- What may end the answering of lines: the names and sentences, and what comes of its parts.
+use Rattle.std.specs.Prelude.{◌⊎◌, ⊤, ℕ, List, codes}
 use Rattle.streetmap_lines.specs.declared.fault.LinesFault.{LinesFault}
 use Rattle.streetmap_lines.specs.declared.fault.LinesFault.TheVariants.{LineTooLong, ReadFailed}
-use Rattle.streetmap_lines.specs.declared.fault.LinesFault.TheVariants.{WriteFailed, Memory}
+use Rattle.streetmap_lines.specs.declared.fault.LinesFault.TheVariants.{WriteFailed}
+use Rattle.streetmap_lines.specs.declared.fault.LinesFault.TheVariants.{FlushFailed, Memory}
+
+unfoldable pub code_of : LinesFault → List ℕ
+code_of LineTooLong = codes "line_too_long"
+code_of ReadFailed = codes "read_failed"
+code_of WriteFailed = codes "write_failed"
+code_of FlushFailed = codes "write_failed"
+code_of Memory = codes "memory"
+
+unfoldable pub description_of : LinesFault → List ℕ
+description_of LineTooLong = codes "A line has more than 8388608 bytes."
+description_of ReadFailed = codes "The input could not be read."
+description_of WriteFailed = codes "An answer could not be written."
+description_of FlushFailed = codes "An answer could not be written."
+description_of Memory = codes "Memory was refused; the call may be made again."
 
 -- what may come of a write: memory is refused, or the write fails
 abbrev pub IsWriteFault : LinesFault → Type 0
 IsWriteFault LineTooLong = ⊥
 IsWriteFault ReadFailed = ⊥
 IsWriteFault WriteFailed = ⊤
+IsWriteFault FlushFailed = ⊥
 IsWriteFault Memory = ⊤
+
+-- what may come of a flush: memory is refused, or the flush fails
+abbrev pub IsFlushFault : LinesFault → Type 0
+IsFlushFault LineTooLong = ⊥
+IsFlushFault ReadFailed = ⊥
+IsFlushFault WriteFailed = ⊥
+IsFlushFault FlushFailed = ⊤
+IsFlushFault Memory = ⊤
+
+-- what may come of an answer: that of a write, or of the flush behind it
+abbrev pub IsAnswerFault : LinesFault → Type 0
+IsAnswerFault fault = IsWriteFault fault ⊎ IsFlushFault fault
 
 -- what may come of a read: memory is refused, or the read fails
 abbrev pub IsReadFault : LinesFault → Type 0
 IsReadFault LineTooLong = ⊥
 IsReadFault ReadFailed = ⊤
 IsReadFault WriteFailed = ⊥
+IsReadFault FlushFailed = ⊥
 IsReadFault Memory = ⊤
 
 -- what may come of reading a line: it is too long, memory is refused, or the read fails
@@ -23,4 +52,5 @@ abbrev pub IsLineFault : LinesFault → Type 0
 IsLineFault LineTooLong = ⊤
 IsLineFault ReadFailed = ⊤
 IsLineFault WriteFailed = ⊥
+IsLineFault FlushFailed = ⊥
 IsLineFault Memory = ⊤

@@ -1,6 +1,6 @@
 -- The lines of the input, and what is written for them.
-use Rattle.std.specs.Prelude.{ℕ, Bool, List, [], ◌∷◌, ◌++◌, Option, None, Some, length, nat_lt}
-use Rattle.std.specs.Prelude.{take, ◌==◌}
+use Rattle.std.specs.Prelude.{ℕ, ◌<◌, Bool, List, [], ◌∷◌, ◌++◌, Option, None, Some, length}
+use Rattle.std.specs.Prelude.{nat_lt, take, ◌==◌}
 use Rattle.std.specs.List.{slice_split, position}
 use Rattle.std.specs.Io.{StartsWith}
 use Rattle.std.specs.Io.KnownBytes.{Appends}
@@ -52,6 +52,12 @@ first_too_long input = position is_too_long (raw_lines input)
 -- the first of these bytes were written, and nothing else
 abbrev pub AppendsFirst : Option (List ℕ) → Option (List ℕ) → List ℕ → Type 0
 AppendsFirst old new bytes = (first : List ℕ) × StartsWith bytes first × Appends old new first
+
+-- the first of these bytes were written, not all of them, and nothing else
+abbrev pub AppendsLess : Option (List ℕ) → Option (List ℕ) → List ℕ → Type 0
+AppendsLess old new bytes =
+    (first : List ℕ) × StartsWith bytes first × (length first < length bytes)
+    × Appends old new first
 
 -- the answers to the first of these lines were written, and nothing else
 abbrev pub AnswersFirst : Option (List ℕ) → Option (List ℕ) → State → List (List ℕ) → Type 0

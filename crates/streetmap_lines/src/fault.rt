@@ -1,7 +1,8 @@
 //! Why lines are not answered to their end.
 ghost use Rattle.std.specs.Prelude.{◌≡◌, ◌≢◌};
 ghost use Rattle.std.specs.IoError.{error_kind};
-ghost use Rattle.streetmap_lines.specs.Faults.{IsReadFault, IsWriteFault};
+ghost use Rattle.streetmap_lines.specs.Faults.{code_of, description_of};
+ghost use Rattle.streetmap_lines.specs.Faults.{IsReadFault, IsWriteFault, IsFlushFault};
 
 use std::alloc::AllocError;
 use std::io::{Error, ErrorKind};
@@ -9,17 +10,45 @@ use std::io::{Error, ErrorKind};
 /// Why the answering of lines ends before the input does.
 #[derive(Clone, Copy, Debug, PartialEq, Eq)]
 pub enum LinesFault {
-    /// A line of input has more than 8,388,608 bytes, its line feed not counted.
+    /// `line_too_long`: a line of input has more than 8,388,608 bytes, its line feed not counted.
     LineTooLong,
-    /// The input could not be read.
+    /// `read_failed`: the input could not be read.
     ReadFailed,
-    /// An answer could not be written.
+    /// `write_failed`: an answer could not be written to its end.
     WriteFailed,
-    /// Memory was refused.
+    /// `write_failed`: an answer was written, and a flush of the writer failed.
+    FlushFailed,
+    /// `memory`: memory was refused.
     Memory,
 }
 
 impl LinesFault {
+    /// Its name.
+    #[tactic(auto, unfolding(crate::specs::Faults::code_of))]
+    pub fn code(&self) -> &'static str
+        ensures { result.now ≡ code_of self.now }
+    {
+        match self {
+            LinesFault::LineTooLong => "line_too_long",
+            LinesFault::ReadFailed => "read_failed",
+            LinesFault::WriteFailed | LinesFault::FlushFailed => "write_failed",
+            LinesFault::Memory => "memory",
+        }
+    }
+
+    /// A sentence on it.
+    #[tactic(auto, unfolding(crate::specs::Faults::description_of))]
+    pub fn description(&self) -> &'static str
+        ensures { result.now ≡ description_of self.now }
+    {
+        match self {
+            LinesFault::LineTooLong => "A line has more than 8388608 bytes.",
+            LinesFault::ReadFailed => "The input could not be read.",
+            LinesFault::WriteFailed | LinesFault::FlushFailed => "An answer could not be written.",
+            LinesFault::Memory => "Memory was refused; the call may be made again.",
+        }
+    }
+
     /// The fault of a read that failed. A buffer that finds no memory fails so too.
     pub fn of_read(error: &Error) -> LinesFault
         ensures memory { error_kind error.now ≡ ErrorKind.OutOfMemory → result ≡ LinesFault.Memory }
@@ -45,6 +74,17 @@ impl LinesFault {
             LinesFault::Memory
         } else {
             LinesFault::WriteFailed
+        }
+    }
+
+    /// The fault of a flush that failed. A buffer that finds no memory fails so too.
+    pub(crate) fn of_flush(error: &Error) -> LinesFault
+        ensures { IsFlushFault result }
+    {
+        if error.kind() == ErrorKind::OutOfMemory {
+            LinesFault::Memory
+        } else {
+            LinesFault::FlushFailed
         }
     }
 }

@@ -6,9 +6,10 @@ ghost use Rattle.std.specs.Str.Lines.{lines, strip_carriage_return};
 ghost use Rattle.std.specs.Io.KnownBytes.{Appends, IsAtEnd};
 ghost use Rattle.streetmap_memory.specs.Plain.{IsPlain, plain_state};
 ghost use Rattle.streetmap_ledger.specs.State.{opening_state};
-ghost use Rattle.streetmap_lines.specs.Faults.{IsLineFault, IsWriteFault};
+ghost use Rattle.streetmap_lines.specs.Faults.{IsLineFault, IsWriteFault, IsAnswerFault};
 ghost use Rattle.streetmap_lines.specs.Lines.{line_answer, state_after, answer_text, answers_of};
-ghost use Rattle.streetmap_lines.specs.Lines.{first_too_long, AppendsFirst, AnswersFirst};
+ghost use Rattle.streetmap_lines.specs.Lines.{first_too_long, AppendsFirst, AppendsLess};
+ghost use Rattle.streetmap_lines.specs.Lines.{AnswersFirst};
 ghost use Rattle.streetmap_lines.specs.Reading.{HasNoLineFeed, TakesShown, TakesLine};
 
 use crate::answer::answer_line;
@@ -135,6 +136,8 @@ fn write_bytes<W: Write>(writer: &mut W, bytes: &[u8]) -> Result<(), LinesFault>
     ensures ok { OnOk result (Appends (W.contents writer.old) (W.contents writer.new) bytes.now) }
     ensures err { OnErr result (AppendsFirst (W.contents writer.old) (W.contents writer.new)
         bytes.now) }
+    ensures less { result ≡ Err LinesFault.WriteFailed →
+        AppendsLess (W.contents writer.old) (W.contents writer.new) bytes.now }
     ensures fault { IfErr result IsWriteFault }
 {
     let mut rest = bytes;
@@ -149,7 +152,11 @@ fn write_bytes<W: Write>(writer: &mut W, bytes: &[u8]) -> Result<(), LinesFault>
             Err(error) => return Err(LinesFault::of_write(&error)),
         }
     }
-    Err(LinesFault::WriteFailed)
+    if rest.is_empty() {
+        Ok(())
+    } else {
+        Err(LinesFault::WriteFailed)
+    }
 }
 
 /// Writes an answer and a line feed, and lets the reader of the answers see them.
@@ -158,13 +165,17 @@ fn write_line<W: Write>(writer: &mut W, answer: &str) -> Result<(), LinesFault>
         (answer.now ++ 10 ∷ [])) }
     ensures err { OnErr result (AppendsFirst (W.contents writer.old) (W.contents writer.new)
         (answer.now ++ 10 ∷ [])) }
-    ensures fault { IfErr result IsWriteFault }
+    ensures less { result ≡ Err LinesFault.WriteFailed →
+        AppendsLess (W.contents writer.old) (W.contents writer.new) (answer.now ++ 10 ∷ []) }
+    ensures flush { result ≡ Err LinesFault.FlushFailed →
+        Appends (W.contents writer.old) (W.contents writer.new) (answer.now ++ 10 ∷ []) }
+    ensures fault { IfErr result IsAnswerFault }
 {
     write_bytes(writer, answer.as_bytes())?;
     write_bytes(writer, b"\n")?;
     match writer.flush() {
         Ok(()) => Ok(()),
-        Err(error) => Err(LinesFault::of_write(&error)),
+        Err(error) => Err(LinesFault::of_flush(&error)),
     }
 }
 
@@ -183,7 +194,15 @@ fn write_answer<W: Write>(
     ensures err { IsPlain keeper.old (plain_state keeper.old)
         → OnErr result (AppendsFirst (W.contents writer.old) (W.contents writer.new)
         (answer_text (line_answer (plain_state keeper.old) line.now))) }
-    ensures fault { IfErr result IsWriteFault }
+    ensures less { IsPlain keeper.old (plain_state keeper.old) →
+        result ≡ Err LinesFault.WriteFailed →
+        AppendsLess (W.contents writer.old) (W.contents writer.new)
+        (answer_text (line_answer (plain_state keeper.old) line.now)) }
+    ensures flush { IsPlain keeper.old (plain_state keeper.old) →
+        result ≡ Err LinesFault.FlushFailed →
+        Appends (W.contents writer.old) (W.contents writer.new)
+        (answer_text (line_answer (plain_state keeper.old) line.now)) }
+    ensures fault { IfErr result IsAnswerFault }
 {
     match answer_line(alloc, keeper, line)? {
         Some(answer) => write_line(writer, answer.as_str()),
@@ -197,9 +216,10 @@ fn write_answer<W: Write>(
 /// # Errors
 ///
 /// `LineTooLong` at a line of more than 8,388,608 bytes, where the answers to all lines before it
-/// are written; `ReadFailed`, where those to some of the first lines are; `WriteFailed` or
-/// `Memory`, where what was written is a beginning of the answers. After 2^64 - 1 lines it ends as
-/// after a failed read.
+/// are written; `ReadFailed`, and `FlushFailed` where a flush failed, where those to some of the
+/// first lines are; `WriteFailed`, where what was written is a beginning of the answers, and not
+/// all of them; `Memory`, where it is a beginning. After 2^64 - 1 lines it ends as after a failed
+/// read.
 pub fn lines<R: BufRead, W: Write>(
     alloc: Global,
     reader: &mut R,
@@ -225,6 +245,15 @@ pub fn lines<R: BufRead, W: Write>(
     // Some of the first lines are answered, each whole, and no other.
     ensures read_failed { result ≡ Err LinesFault.ReadFailed
         → IfSome (R.remaining reader.old) (λ input.
+        AnswersFirst (W.contents writer.old) (W.contents writer.new) opening_state (lines input)) }
+    // Some of the answers are not written, or not to their end.
+    ensures write_failed { result ≡ Err LinesFault.WriteFailed →
+        IfSome (R.remaining reader.old) (λ input.
+        AppendsLess (W.contents writer.old) (W.contents writer.new)
+        (answers_of opening_state (lines input))) }
+    // Some of the first lines are answered, each whole, and no other.
+    ensures flush_failed { result ≡ Err LinesFault.FlushFailed →
+        IfSome (R.remaining reader.old) (λ input.
         AnswersFirst (W.contents writer.old) (W.contents writer.new) opening_state (lines input)) }
     // What was written is the beginning of the answers.
     ensures err { OnErr result (IfSome (R.remaining reader.old) (λ input.

@@ -6,10 +6,11 @@
 //! later one is refused.
 //!
 //! In the order of reading: `extents`, `kept`, `cutter`, `collection`, `undo`, `acted`,
-//! `collections`, `edits`, `plain`.
+//! `collections`, `edits`, `batches` (by their serials), `plain`.
 #![tactic(auto)]
 
 mod acted;
+mod batches;
 mod collection;
 mod collections;
 mod cutter;

@@ -1,14 +1,17 @@
 //! A keeper in memory.
-ghost use Rattle.std.specs.Prelude.{◌≡◌, ◌+◌, Option, Some, None, Vec, IfOk, OnOk, OnErr, IsErrOf};
-ghost use Rattle.std.specs.Prelude.{string_bytes};
+ghost use Rattle.std.specs.Prelude.{◌≡◌, ◌+◌, ℕ, Option, Some, None, Vec, IfOk, OnOk, OnErr};
+ghost use Rattle.std.specs.Prelude.{IsErrOf, string_bytes};
 ghost use Rattle.std.specs.FinMap.{get, insert};
 ghost use Rattle.std.specs.Option.{option_map};
 ghost use Rattle.std.specs.declared.alloc.Global.{Global};
 ghost use Rattle.streetmap_query.specs.Views.{query_value};
 ghost use Rattle.streetmap_ledger.specs.State.{opening_state};
+ghost use Rattle.streetmap_ledger.specs.WellFormed.{IsState};
 ghost use Rattle.streetmap_ledger.specs.Batches.{act};
 ghost use Rattle.streetmap_batch.specs.BatchText.{batch_text};
 ghost use Rattle.streetmap_batch.specs.BatchView.{batch_value};
+ghost use Rattle.streetmap_kept.specs.Kept.{batch_count, batch_in, AreNext};
+ghost use Rattle.streetmap_kept.specs.View.{keyed_batch, keyed_batches};
 ghost use Rattle.streetmap_memory.specs.Slots.{map_of};
 ghost use Rattle.streetmap_ledger.specs.Pages.{page_in, feature_in};
 ghost use Rattle.streetmap_ledger.specs.PageView.{page_value};
@@ -20,6 +23,7 @@ ghost use Rattle.streetmap_ledger.specs.SummaryView.{summary_value, summary_valu
 ghost use Rattle.streetmap_memory.specs.Plain.{plain_state, outcome_of, IsOutcome, IsPlain};
 ghost use Rattle.streetmap_ledger.specs.declared.reply.Fault.TheVariants.{Memory};
 
+use crate::batches::batch_with;
 use crate::collection::PlainCollection;
 use crate::collections::summaries;
 use crate::edits::act_all;
@@ -29,6 +33,7 @@ use std::alloc::{AllocError, Global};
 use std::collections::BTreeMap;
 use streetmap_batch::Batch;
 use streetmap_geojson::Feature;
+use streetmap_kept::KeepsBatches;
 use streetmap_ledger::{Counts, Fault, FeatureOutline, Keeper, Page, Refusal, Reply, Summary};
 use streetmap_query::Query;
 
@@ -169,6 +174,34 @@ impl PlainKeeper {
         summaries(self.alloc, &self.collections)
     }
 
+    fn count_of(&self) -> u64
+        ensures { result ≡ batch_count (plain_state self.now) }
+    {
+        self.keys.len() as u64
+    }
+
+    fn batch_of(&self, serial: u64) -> Result<Option<streetmap_kept::KeptBatch>, AllocError>
+        ensures { IfOk result (λ batch.
+            option_map keyed_batch batch ≡ batch_in (plain_state self.now) serial) }
+    {
+        batch_with(self.alloc, &self.keys, serial)
+    }
+
+    fn batches_of(
+        &self,
+        alloc: Global,
+        after: u64,
+    ) -> Result<Vec<streetmap_kept::KeptBatch>, AllocError>
+        ensures { IsState (plain_state self.now) → IfOk result (λ found. (room : ℕ) →
+            AreNext (plain_state self.now) after room (keyed_batches found.items)) }
+    {
+        let mut found = Vec::new(alloc);
+        if let Some(batch) = self.batch_of(after.saturating_add(1))? {
+            found.push(batch)?;
+        }
+        Ok(found)
+    }
+
     fn apply_batch(&mut self, batch: &Batch) -> Result<Reply, AllocError>
         ensures reply { IfOk result (λ reply. reply
             ≡ (act (plain_state self.old) (batch_value batch.now)).reply) }
@@ -265,6 +298,31 @@ impl Keeper for PlainKeeper {
     fn outlines(&mut self, collection: &str) -> Result<Option<Vec<FeatureOutline>>, Fault> {
         match self.outlines_of(collection) {
             Ok(outlines) => Ok(outlines),
+            Err(_) => Err(Fault::Memory),
+        }
+    }
+}
+
+impl KeepsBatches for PlainKeeper {
+    fn batch_count(&mut self) -> Result<u64, Fault> {
+        Ok(self.count_of())
+    }
+
+    fn batch(&mut self, serial: u64) -> Result<Option<streetmap_kept::KeptBatch>, Fault> {
+        match self.batch_of(serial) {
+            Ok(batch) => Ok(batch),
+            Err(_) => Err(Fault::Memory),
+        }
+    }
+
+    fn batches(
+        &mut self,
+        alloc: Global,
+        after: u64,
+        _room: usize,
+    ) -> Result<Vec<streetmap_kept::KeptBatch>, Fault> {
+        match self.batches_of(alloc, after) {
+            Ok(batches) => Ok(batches),
             Err(_) => Err(Fault::Memory),
         }
     }

@@ -1,6 +1,7 @@
 pub mod Adopting
 pub mod Carrying
 pub mod Dropping
+pub mod Faults
 pub mod Made
 pub mod Making
 pub mod Old

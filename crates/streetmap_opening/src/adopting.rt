@@ -19,18 +19,52 @@ use streetmap_rows::{Shut, Stop, is_of_store, probe, settle};
 /// Why tables were not opened.
 #[derive(Debug, Drop)]
 pub enum AdoptFault {
-    /// There is no format row of this product.
+    /// `not_ours`: there is no format row of this product.
     NotOurs,
-    /// The format is 1.
+    /// `old_format`: the format is 1.
     OldFormat,
-    /// The format is above 2.
+    /// `new_format`: the format is above 2.
     NewFormat,
-    /// The format is 2, and the look at the batches is refused.
+    /// `damaged`: the format is 2, and the look at the batches is refused.
     Damaged,
-    /// The store failed, or has no room: the error that told it.
+    /// `device`: the store failed, or has no room: the error that told it.
     Device(Error),
-    /// Memory was refused.
+    /// `memory`: memory was refused.
     Memory,
+}
+
+impl AdoptFault {
+    ghost use Rattle.streetmap_opening.specs.Faults.{adopt_code, adopt_description};
+
+    /// Its name.
+    #[tactic(auto, unfolding(crate::specs::Faults::adopt_code))]
+    pub fn code(&self) -> &'static str
+        ensures { result.now ≡ adopt_code self.now }
+    {
+        match self {
+            AdoptFault::NotOurs => "not_ours",
+            AdoptFault::OldFormat => "old_format",
+            AdoptFault::NewFormat => "new_format",
+            AdoptFault::Damaged => "damaged",
+            AdoptFault::Device(_) => "device",
+            AdoptFault::Memory => "memory",
+        }
+    }
+
+    /// A sentence on it.
+    #[tactic(auto, unfolding(crate::specs::Faults::adopt_description))]
+    pub fn description(&self) -> &'static str
+        ensures { result.now ≡ adopt_description self.now }
+    {
+        match self {
+            AdoptFault::NotOurs => "The file is none of this product.",
+            AdoptFault::OldFormat => "The file has format 1.",
+            AdoptFault::NewFormat => "The file has a format above 2.",
+            AdoptFault::Damaged => "The store holds a row that cannot be read.",
+            AdoptFault::Device(_) => "The store failed and must be opened again.",
+            AdoptFault::Memory => "Memory was refused; the call may be made again.",
+        }
+    }
 }
 
 /// What is found in a connection.

@@ -26,12 +26,41 @@ use streetmap_rows::{is_memory, probe};
 /// Why tables were not made.
 #[derive(Debug, Drop)]
 pub enum MakeFault {
-    /// A table, an index or a view has one of the four names.
+    /// `taken`: a table, an index or a view has one of the four names.
     Taken,
-    /// The store failed, or has no room for the tables: the error that told it.
+    /// `device`: the store failed, or has no room for the tables: the error that told it.
     Device(Error),
-    /// Memory was refused.
+    /// `memory`: memory was refused.
     Memory,
+}
+
+impl MakeFault {
+    ghost use Rattle.streetmap_opening.specs.Faults.{make_code, make_description};
+
+    /// Its name.
+    #[tactic(auto, unfolding(crate::specs::Faults::make_code))]
+    pub fn code(&self) -> &'static str
+        ensures { result.now ≡ make_code self.now }
+    {
+        match self {
+            MakeFault::Taken => "taken",
+            MakeFault::Device(_) => "device",
+            MakeFault::Memory => "memory",
+        }
+    }
+
+    /// A sentence on it.
+    #[tactic(auto, unfolding(crate::specs::Faults::make_description))]
+    pub fn description(&self) -> &'static str
+        ensures { result.now ≡ make_description self.now }
+    {
+        match self {
+            MakeFault::Taken =>
+                "A table, an index or a view of the file has one of the names of the tables.",
+            MakeFault::Device(_) => "The store failed and must be opened again.",
+            MakeFault::Memory => "Memory was refused; the call may be made again.",
+        }
+    }
 }
 
 /// Whether a table, an index or a view has this name.

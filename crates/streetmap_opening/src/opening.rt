@@ -22,18 +22,50 @@ use std::alloc::Global;
 /// Why tables were not opened.
 #[derive(Debug, Drop)]
 pub enum TablesFault {
-    /// There is no format row of this product.
+    /// `not_ours`: there is no format row of this product.
     NotOurs,
-    /// The format is above 2.
+    /// `new_format`: the format is above 2.
     NewFormat,
-    /// The format is 1, and a row is none that this product writes; or it is 2, and the look at the
-    /// batches is refused.
+    /// `damaged`: the format is 1, and a row is none that this product writes; or it is 2, and the
+    /// look at the batches is refused.
     Damaged,
-    /// The store failed, or has no room: the error that told it. In format 1 also that a statement
-    /// which makes its tables anew was refused.
+    /// `device`: the store failed, or has no room: the error that told it. In format 1 also that a
+    /// statement which makes its tables anew was refused.
     Device(Error),
-    /// Memory was refused.
+    /// `memory`: memory was refused.
     Memory,
+}
+
+impl TablesFault {
+    ghost use Rattle.streetmap_opening.specs.Faults.{tables_code, tables_description};
+
+    /// Its name.
+    #[tactic(auto, unfolding(crate::specs::Faults::tables_code))]
+    pub fn code(&self) -> &'static str
+        ensures { result.now ≡ tables_code self.now }
+    {
+        match self {
+            TablesFault::NotOurs => "not_ours",
+            TablesFault::NewFormat => "new_format",
+            TablesFault::Damaged => "damaged",
+            TablesFault::Device(_) => "device",
+            TablesFault::Memory => "memory",
+        }
+    }
+
+    /// A sentence on it.
+    #[tactic(auto, unfolding(crate::specs::Faults::tables_description))]
+    pub fn description(&self) -> &'static str
+        ensures { result.now ≡ tables_description self.now }
+    {
+        match self {
+            TablesFault::NotOurs => "The file is none of this product.",
+            TablesFault::NewFormat => "The file has a format above 2.",
+            TablesFault::Damaged => "The store holds a row that cannot be read.",
+            TablesFault::Device(_) => "The store failed and must be opened again.",
+            TablesFault::Memory => "Memory was refused; the call may be made again.",
+        }
+    }
 }
 
 /// Opens the tables that a connection has, and tells how many batches they have accepted. Those of

@@ -1,11 +1,13 @@
--- The names and sentences of the faults, and the faults of coordinates and of JSON texts among them.
+-- The names and sentences of the faults; the faults of coordinates and of JSON texts among them.
 use Rattle.std.specs.Prelude.{ℕ, List, codes}
 use Rattle.streetmap_decimal.specs.declared.fault.DecimalFault.{DecimalFault}
 use Rattle.streetmap_decimal.specs.declared.fault.DecimalFault.TheVariants as decimals
 use Rattle.streetmap_json.specs.declared.fault.ParseFault.{ParseFault}
 use Rattle.streetmap_json.specs.declared.fault.ParseFault.TheVariants as parses
 use Rattle.streetmap_placing.specs.declared.fault.PlacingFault.{PlacingFault}
-use Rattle.streetmap_placing.specs.declared.fault.PlacingFault.TheVariants.{Memory, NotJson, TooManyDigits, OutOfGrid, Fraction}
+use Rattle.streetmap_placing.specs.declared.fault.PlacingFault.TheVariants.{Memory, NotJson}
+use Rattle.streetmap_placing.specs.declared.fault.PlacingFault.TheVariants.{TooManyDigits}
+use Rattle.streetmap_placing.specs.declared.fault.PlacingFault.TheVariants.{OutOfGrid, Fraction}
 
 -- the name of a fault
 abbrev pub code_of : PlacingFault → List ℕ

@@ -1,7 +1,9 @@
 -- What the values within a feature become.
-use Rattle.std.specs.Prelude.{◌≡◌, ◌⊎◌, ℕ, suc, List, ℤ, Bool, false, Option, Some, None, option_map, unwrap_or, if◌then◌else◌, Result, Ok, Err}
+use Rattle.std.specs.Prelude.{◌≡◌, ◌⊎◌, ℕ, suc, List, ℤ, Bool, false, Option, Some, None}
+use Rattle.std.specs.Prelude.{option_map, unwrap_or, if◌then◌else◌, Result, Ok, Err}
 use Rattle.json.specs.Json as json
-use Rattle.serde_json.specs.Data.{Data, null, boolean, number, string, array, object, Items, no_items, item, Members, no_members, put}
+use Rattle.serde_json.specs.Data.{Data, null, boolean, number, string, array, object, Items}
+use Rattle.serde_json.specs.Data.{no_items, item, Members, no_members, put}
 use Rattle.serde_json.specs.Find.{as_number, is_float, of_integer}
 use Rattle.streetmap_decimal.specs.Axes.{shift_of}
 use Rattle.streetmap_decimal.specs.Grid.{PlacesText}
@@ -12,26 +14,33 @@ use Rattle.streetmap_json.specs.JsonText.{json_value}
 use Rattle.streetmap_placing.specs.Faults.{fault_of}
 use Rattle.streetmap_placing.specs.Roles.{member_role, element_role}
 use Rattle.streetmap_placing.specs.declared.fault.PlacingFault.{PlacingFault}
-use Rattle.streetmap_placing.specs.declared.fault.PlacingFault.TheVariants.{Memory, NotJson, TooManyDigits, OutOfGrid, Fraction}
+use Rattle.streetmap_placing.specs.declared.fault.PlacingFault.TheVariants.{Memory, NotJson}
+use Rattle.streetmap_placing.specs.declared.fault.PlacingFault.TheVariants.{TooManyDigits}
+use Rattle.streetmap_placing.specs.declared.fault.PlacingFault.TheVariants.{OutOfGrid, Fraction}
+use Rattle.streetmap_placing.specs.declared.numbers.Numbers.{Numbers}
 use Rattle.streetmap_placing.specs.declared.numbers.Fractions.{Fractions}
 use Rattle.streetmap_placing.specs.declared.numbers.Fractions.TheVariants.{Number, Text}
 use Rattle.streetmap_placing.specs.declared.role.Role.{Role}
-use Rattle.streetmap_placing.specs.declared.role.Role.TheVariants.{Feature, Geometry, Geometries, Coordinates, Coordinate, Properties, Other}
+use Rattle.streetmap_placing.specs.declared.role.Role.TheVariants.{Feature, Geometry, Geometries}
+use Rattle.streetmap_placing.specs.declared.role.Role.TheVariants.{Coordinates, Coordinate}
+use Rattle.streetmap_placing.specs.declared.role.Role.TheVariants.{Properties, Other}
 
 -- ---- outcomes: a value, or the first fault
 
 -- a step and the next, which goes on from what the first gave; the first fault ends both
-abbrev pub Then : {A B : Type 0} → (Result A PlacingFault → Type 0) → (A → Result B PlacingFault → Type 0)
-    → Result B PlacingFault → Type 0
+abbrev pub Then : {A B : Type 0} → (Result A PlacingFault → Type 0)
+    → (A → Result B PlacingFault → Type 0) → Result B PlacingFault → Type 0
 Then {A} First Next (Ok b) = (a : A) × (First (Ok a) × Next a (Ok b))
 Then {A} First Next (Err f) = First (Err f) ⊎ ((a : A) × (First (Ok a) × Next a (Err f)))
 
 -- the same, where the next step only makes something of what the first gave
-abbrev pub Made : {A B : Type 0} → (A → B) → (Result A PlacingFault → Type 0) → Result B PlacingFault → Type 0
+abbrev pub Made : {A B : Type 0} → (A → B) → (Result A PlacingFault → Type 0)
+    → Result B PlacingFault → Type 0
 Made make First = Then First (λ a r. r ≡ Ok (make a))
 
 -- what was answered is the outcome, unless memory ran out
-abbrev pub Answers : {X Y : Type 0} → (X → Y) → Result X PlacingFault → (Result Y PlacingFault → Type 0) → Type 0
+abbrev pub Answers : {X Y : Type 0} → (X → Y) → Result X PlacingFault
+    → (Result Y PlacingFault → Type 0) → Type 0
 Answers view (Ok x) Outcome = Outcome (Ok (view x))
 Answers view (Err Memory) Outcome = Unit {0}
 Answers view (Err NotJson) Outcome = Outcome (Err NotJson)
@@ -54,7 +63,8 @@ coordinate_or_fault (Err f) = Err (fault_of f)
 -- a coordinate, placed in the grid
 abbrev pub IsPlaced : Placement → Axis → List ℕ → Result Data PlacingFault → Type 0
 IsPlaced p axis text r =
-    (g : Result ℤ DecimalFault) × (PlacesText (shift_of axis p.shift) p.scale.count p.rounding text g
+    (g : Result ℤ DecimalFault)
+    × (PlacesText (shift_of axis p.shift) p.scale.count p.rounding text g
     × (r ≡ coordinate_or_fault g))
 
 -- a number as its text alone is read
@@ -75,16 +85,20 @@ KeptAs text r = r ≡ Ok (kept text (json_value text))
 
 -- a coordinate is placed where there is a placement, a number within properties kept as the option
 -- says, and every other number stays
-abbrev pub NumberBecomes : Option Placement → Fractions → Role → List ℕ → Result Data PlacingFault → Type 0
-NumberBecomes None fractions (Coordinate axis) text = StaysAs text
-NumberBecomes (Some p) fractions (Coordinate axis) text = IsPlaced p axis text
-NumberBecomes placement Number Properties text = StaysAs text
-NumberBecomes placement Text Properties text = KeptAs text
-NumberBecomes placement fractions Feature text = StaysAs text
-NumberBecomes placement fractions Geometry text = StaysAs text
-NumberBecomes placement fractions Geometries text = StaysAs text
-NumberBecomes placement fractions Coordinates text = StaysAs text
-NumberBecomes placement fractions Other text = StaysAs text
+abbrev pub NumberBy : Option Placement → Fractions → Role → List ℕ
+    → Result Data PlacingFault → Type 0
+NumberBy None fractions (Coordinate axis) text = StaysAs text
+NumberBy (Some p) fractions (Coordinate axis) text = IsPlaced p axis text
+NumberBy placement Number Properties text = StaysAs text
+NumberBy placement Text Properties text = KeptAs text
+NumberBy placement fractions Feature text = StaysAs text
+NumberBy placement fractions Geometry text = StaysAs text
+NumberBy placement fractions Geometries text = StaysAs text
+NumberBy placement fractions Coordinates text = StaysAs text
+NumberBy placement fractions Other text = StaysAs text
+
+abbrev pub NumberBecomes : Numbers → Role → List ℕ → Result Data PlacingFault → Type 0
+NumberBecomes n = NumberBy n.placement n.fractions
 
 -- ---- a value
 
@@ -95,26 +109,26 @@ items_count (json.item j js) = suc (items_count js)
 
 -- each value from left to right; of the members with one name the last stays
 abbrev mutual
-  pub Becomes : Option Placement → Fractions → Role → json.Json → Result Data PlacingFault → Type 0
-  Becomes p f role json.null = λ r. r ≡ Ok null
-  Becomes p f role (json.boolean b) = λ r. r ≡ Ok (boolean b)
-  Becomes p f role (json.number text) = NumberBecomes p f role text
-  Becomes p f role (json.string s) = λ r. r ≡ Ok (string s)
-  Becomes p f role (json.array js) = Made array (ItemsBecome p f role (items_count js) 0 js)
-  Becomes p f role (json.object ms) = Made object (MembersBecome p f role ms no_members)
+  pub Becomes : Numbers → Role → json.Json → Result Data PlacingFault → Type 0
+  Becomes n role json.null = λ r. r ≡ Ok null
+  Becomes n role (json.boolean b) = λ r. r ≡ Ok (boolean b)
+  Becomes n role (json.number text) = NumberBecomes n role text
+  Becomes n role (json.string s) = λ r. r ≡ Ok (string s)
+  Becomes n role (json.array js) = Made array (ItemsBecome n role (items_count js) 0 js)
+  Becomes n role (json.object ms) = Made object (MembersBecome n role ms no_members)
 
   -- the elements of an array of so many, from that index on
-  pub ItemsBecome : Option Placement → Fractions → Role → (count index : ℕ) → json.Items
+  pub ItemsBecome : Numbers → Role → (count index : ℕ) → json.Items
       → Result Items PlacingFault → Type 0
-  ItemsBecome p f role count index json.no_items = λ r. r ≡ Ok no_items
-  ItemsBecome p f role count index (json.item j js) =
-      Then (Becomes p f (element_role role count index) j)
-      (λ d. Made (item d) (ItemsBecome p f role count (suc index) js))
+  ItemsBecome n role count index json.no_items = λ r. r ≡ Ok no_items
+  ItemsBecome n role count index (json.item j js) =
+      Then (Becomes n (element_role role count index) j)
+      (λ d. Made (item d) (ItemsBecome n role count (suc index) js))
 
   -- the members, put among those found
-  pub MembersBecome : Option Placement → Fractions → Role → json.Members → (found : Members)
+  pub MembersBecome : Numbers → Role → json.Members → (found : Members)
       → Result Members PlacingFault → Type 0
-  MembersBecome p f role json.no_members found = λ r. r ≡ Ok found
-  MembersBecome p f role (json.member name j ms) found =
-      Then (Becomes p f (member_role role name) j)
-      (λ d. MembersBecome p f role ms (put name d found))
+  MembersBecome n role json.no_members found = λ r. r ≡ Ok found
+  MembersBecome n role (json.member name j ms) found =
+      Then (Becomes n (member_role role name) j)
+      (λ d. MembersBecome n role ms (put name d found))

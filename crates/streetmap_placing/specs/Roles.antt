@@ -2,7 +2,9 @@
 use Rattle.std.specs.Prelude.{ℕ, List, codes, bytes_eq, ◌==◌, ◌&&◌, ◌||◌, if◌then◌else◌}
 use Rattle.streetmap_decimal.specs.declared.axis.Axis.TheVariants.{Easting, Northing, Height}
 use Rattle.streetmap_placing.specs.declared.role.Role.{Role}
-use Rattle.streetmap_placing.specs.declared.role.Role.TheVariants.{Feature, Geometry, Geometries, Coordinates, Coordinate, Properties, Other}
+use Rattle.streetmap_placing.specs.declared.role.Role.TheVariants.{Feature, Geometry, Geometries}
+use Rattle.streetmap_placing.specs.declared.role.Role.TheVariants.{Coordinates, Coordinate}
+use Rattle.streetmap_placing.specs.declared.role.Role.TheVariants.{Properties, Other}
 
 -- a feature has a geometry and properties, a geometry coordinates or geometries, and what stands
 -- within properties are properties

@@ -1,5 +1,6 @@
 -- What the text of a feature is read as.
-use Rattle.std.specs.Prelude.{◌≡◌, ℕ, List, Option, None, Some, option_and_then, if◌then◌else◌, Result, Ok, Err}
+use Rattle.std.specs.Prelude.{◌≡◌, ℕ, List, Option, None, Some, option_and_then, if◌then◌else◌}
+use Rattle.std.specs.Prelude.{Bool, true, false, Result, Ok, Err}
 use Rattle.std.specs.Str.{is_utf8}
 use Rattle.json.specs.Json.{Json, value, if_last}
 use Rattle.json.specs.Lex.{tokens}
@@ -10,7 +11,10 @@ use Rattle.streetmap_decimal.specs.declared.placement.Placement.{Placement}
 use Rattle.streetmap_json.specs.JsonText.{json_value}
 use Rattle.streetmap_placing.specs.Placed.{Becomes, value_or_fault}
 use Rattle.streetmap_placing.specs.declared.fault.PlacingFault.{PlacingFault}
-use Rattle.streetmap_placing.specs.declared.fault.PlacingFault.TheVariants.{Memory, NotJson, TooManyDigits, OutOfGrid, Fraction}
+use Rattle.streetmap_placing.specs.declared.fault.PlacingFault.TheVariants.{Memory, NotJson}
+use Rattle.streetmap_placing.specs.declared.fault.PlacingFault.TheVariants.{TooManyDigits}
+use Rattle.streetmap_placing.specs.declared.fault.PlacingFault.TheVariants.{OutOfGrid, Fraction}
+use Rattle.streetmap_placing.specs.declared.numbers.Numbers.{Numbers}
 use Rattle.streetmap_placing.specs.declared.numbers.Fractions.{Fractions}
 use Rattle.streetmap_placing.specs.declared.numbers.Fractions.TheVariants.{Number, Text}
 use Rattle.streetmap_placing.specs.declared.role.Role.TheVariants.{Feature}
@@ -36,12 +40,21 @@ ParsesAs view (Err OutOfGrid) ts = ⊥
 ParsesAs view (Err Fraction) ts = ⊥
 
 -- what the value of a feature becomes, or that there is none
-abbrev pub TextBecomes : Option Placement → Fractions → Option Json → Result Data PlacingFault → Type 0
-TextBecomes p f None r = r ≡ Err NotJson
-TextBecomes p f (Some j) r = Becomes p f Feature j r
+abbrev pub TextBecomes : Numbers → Option Json → Result Data PlacingFault → Type 0
+TextBecomes n None r = r ≡ Err NotJson
+TextBecomes n (Some j) r = Becomes n Feature j r
 
--- the value of a text: where nothing is asked for, that of the JSON text
-abbrev pub IsReadAs : Option Placement → Fractions → List ℕ → Result Data PlacingFault → Type 0
-IsReadAs None Number text r = r ≡ value_or_fault (json_value text)
-IsReadAs None Text text r = TextBecomes None Text (utf8_tree text) r
-IsReadAs (Some p) f text r = TextBecomes (Some p) f (utf8_tree text) r
+-- whether anything is asked for
+abbrev pub asks : Option Placement → Fractions → Bool
+asks None Number = false
+asks None Text = true
+asks (Some p) f = true
+
+-- where something is asked for, what the value of the feature becomes, and else that of the JSON
+-- text
+abbrev pub ReadsBy : Bool → Numbers → List ℕ → Result Data PlacingFault → Type 0
+ReadsBy true n text r = TextBecomes n (utf8_tree text) r
+ReadsBy false n text r = r ≡ value_or_fault (json_value text)
+
+abbrev pub IsReadAs : Numbers → List ℕ → Result Data PlacingFault → Type 0
+IsReadAs n = ReadsBy (asks n.placement n.fractions) n

@@ -23,7 +23,8 @@ pub enum PlacingFault {
 }
 
 impl PlacingFault {
-    ghost use Rattle.streetmap_placing.specs.Faults.{code_of, description_of, fault_of, parse_fault};
+    ghost use Rattle.streetmap_placing.specs.Faults.{code_of, description_of, fault_of};
+    ghost use Rattle.streetmap_placing.specs.Faults.{parse_fault};
 
     /// The name of the fault in answers.
     pub fn code(&self) -> &'static str

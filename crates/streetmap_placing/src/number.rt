@@ -18,7 +18,7 @@ pub(crate) fn number_value(
     role: Role,
     text: &str,
 ) -> Result<Value, PlacingFault>
-    ensures { Answers view result (NumberBecomes numbers.now.placement numbers.now.fractions role text.now) }
+    ensures { Answers view result (NumberBecomes numbers.now role text.now) }
 {
     match (role, &numbers.placement, numbers.fractions) {
         (Role::Coordinate(axis), Some(placement), _) => placed_number(placement, axis, text),

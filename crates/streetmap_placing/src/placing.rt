@@ -1,9 +1,11 @@
 //! The values within a feature, with their numbers placed.
 ghost use Rattle.std.specs.Prelude.{◌≡◌};
-ghost use Rattle.json.specs.Value.{value_view, items_view as json_items, members_view as json_members};
+ghost use Rattle.json.specs.Value.{value_view, items_view as json_items};
+ghost use Rattle.json.specs.Value.{members_view as json_members};
 ghost use Rattle.serde_json.specs.Data.{no_members};
 ghost use Rattle.serde_json.specs.View.{view, items_view, members_view};
-ghost use Rattle.streetmap_placing.specs.Placed.{Answers, Becomes, ItemsBecome, MembersBecome, items_count};
+ghost use Rattle.streetmap_placing.specs.Placed.{Answers, Becomes, ItemsBecome, MembersBecome};
+ghost use Rattle.streetmap_placing.specs.Placed.{items_count};
 
 use crate::fault::PlacingFault;
 use crate::number::number_value;
@@ -20,7 +22,7 @@ pub(crate) fn placed_value(
     role: Role,
     numbers: &Numbers,
 ) -> Result<Value, PlacingFault>
-    ensures { Answers view result (Becomes numbers.now.placement numbers.now.fractions role (value_view value.now)) }
+    ensures { Answers view result (Becomes numbers.now role (value_view value.now)) }
 {
     match value {
         json::Value::Null => Ok(Value::Null),
@@ -44,8 +46,8 @@ fn placed_items(
     role: Role,
     numbers: &Numbers,
 ) -> Result<Vec<Value>, PlacingFault>
-    ensures { Answers (λ v. items_view v.items) result (ItemsBecome numbers.now.placement
-        numbers.now.fractions role (items_count (json_items items.now.items)) 0 (json_items items.now.items)) }
+    ensures { Answers (λ v. items_view v.items) result (ItemsBecome numbers.now role
+        (items_count (json_items items.now.items)) 0 (json_items items.now.items)) }
 {
     let mut placed = Vec::with_capacity(alloc, items.len())?;
     for (index, item) in items.iter().enumerate() {
@@ -64,8 +66,8 @@ fn placed_members(
     role: Role,
     numbers: &Numbers,
 ) -> Result<Map<String, Value>, PlacingFault>
-    ensures { Answers (λ m. members_view m.entries) result (MembersBecome numbers.now.placement
-        numbers.now.fractions role (json_members members.now.items) no_members) }
+    ensures { Answers (λ m. members_view m.entries) result
+        (MembersBecome numbers.now role (json_members members.now.items) no_members) }
 {
     let mut placed = Map::new(alloc);
     for (name, member) in members {

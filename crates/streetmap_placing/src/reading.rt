@@ -3,7 +3,8 @@ ghost use Rattle.std.specs.Prelude.{◌≡◌, option_map};
 ghost use Rattle.json.specs.Value.{value_view};
 ghost use Rattle.serde_json.specs.View.{view};
 ghost use Rattle.streetmap_placing.specs.Placed.{Answers};
-ghost use Rattle.streetmap_placing.specs.Text.{ParsesAs, text_tree, utf8_tree, IsReadAs, TextBecomes};
+ghost use Rattle.streetmap_placing.specs.Text.{ParsesAs, text_tree, utf8_tree, IsReadAs};
+ghost use Rattle.streetmap_placing.specs.Text.{TextBecomes};
 
 use crate::fault::PlacingFault;
 use crate::numbers::{Fractions, Numbers};
@@ -17,20 +18,21 @@ use streetmap_json::read_json;
 /// How deep a feature may nest.
 const MAX_DEPTH: usize = 127;
 
-/// The value of the text of a feature (RFC 7946) in UTF-8, its numbers read by `numbers`: in an array of
-/// two or three elements within the coordinates of a geometry, a number is placed in the grid, the
-/// first as an easting, the second as a northing, the third as a height; a number within the
-/// properties that is not whole may become a text. Every other value is as
-/// [`streetmap_json::read_json`] reads it, and so is the whole text where `numbers` asks for nothing.
+/// The value of the text of a feature (RFC 7946) in UTF-8, its numbers read by `numbers`: in an
+/// array of two or three elements within the coordinates of a geometry, a number is placed in the
+/// grid, the first as an easting, the second as a northing, the third as a height; a number within
+/// the properties that is not whole may become a text. Every other value is as
+/// [`streetmap_json::read_json`] reads it, and so is the whole text where `numbers` asks for
+/// nothing.
 ///
 /// # Errors
 ///
-/// `NotJson` where the text is no JSON (RFC 8259) in UTF-8, or nests deeper than 127 levels. Else the
-/// first fault in the order of the text: `NotJson` for a number too large for a float, where it stays a
-/// number, and `TooManyDigits`, `OutOfGrid` and `Fraction` for a coordinate, as
+/// `NotJson` where the text is no JSON (RFC 8259) in UTF-8, or nests deeper than 127 levels. Else
+/// the first fault in the order of the text: `NotJson` for a number too large for a float, where it
+/// stays a number, and `TooManyDigits`, `OutOfGrid` and `Fraction` for a coordinate, as
 /// [`streetmap_decimal::Placement::grid_of_text`] has them. `Memory` where memory was refused.
 pub fn read_placed(alloc: Global, text: &[u8], numbers: &Numbers) -> Result<Value, PlacingFault>
-    ensures { Answers view result (IsReadAs numbers.now.placement numbers.now.fractions text.now) }
+    ensures { Answers view result (IsReadAs numbers.now text.now) }
 {
     match (&numbers.placement, numbers.fractions) {
         (None, Fractions::Number) => match read_json(alloc, text) {
@@ -43,7 +45,7 @@ pub fn read_placed(alloc: Global, text: &[u8], numbers: &Numbers) -> Result<Valu
 
 // The value of bytes.
 fn read_by(alloc: Global, bytes: &[u8], numbers: &Numbers) -> Result<Value, PlacingFault>
-    ensures { Answers view result (TextBecomes numbers.now.placement numbers.now.fractions (utf8_tree bytes.now)) }
+    ensures { Answers view result (TextBecomes numbers.now (utf8_tree bytes.now)) }
 {
     match std::str::from_utf8(bytes) {
         Ok(text) => read_text(alloc, text, numbers),
@@ -53,7 +55,7 @@ fn read_by(alloc: Global, bytes: &[u8], numbers: &Numbers) -> Result<Value, Plac
 
 // The value of a text.
 fn read_text(alloc: Global, text: &str, numbers: &Numbers) -> Result<Value, PlacingFault>
-    ensures { Answers view result (TextBecomes numbers.now.placement numbers.now.fractions (text_tree text.now)) }
+    ensures { Answers view result (TextBecomes numbers.now (text_tree text.now)) }
 {
     let mut scratch = Scratch::new(alloc);
     let mut reader = Reader::new(text, &mut scratch)?;
@@ -79,9 +81,9 @@ mod tests {
     use std::test::Fail;
     use streetmap_decimal::{Rounding, Scale, Shift};
 
-    const METRES: &str =
-        r#"{"type":"Feature","id":7.0,"geometry":{"type":"LineString","coordinates":
-        [[412000.1235,5811000.5,31.25],[412001,5811001.0004]]},"properties":{"lanes":2.0,"width":3.50}}"#;
+    const METRES: &str = r#"{"type":"Feature","id":7.0,"geometry":{"type":"LineString",
+        "coordinates":[[412000.1235,5811000.5,31.25],[412001,5811001.0004]]},
+        "properties":{"lanes":2.0,"width":3.50}}"#;
 
     fn metres(fractions: Fractions) -> Numbers {
         Numbers::new(

@@ -1,4 +1,3 @@
-pub mod Surviving
 pub mod SurvivingClients
 pub mod Turns
 pub mod Waiting

@@ -1,5 +1,3 @@
 pub mod Answering
-pub mod Connections
 pub mod ServingClients
-pub mod Surviving
 pub mod SurvivingClients

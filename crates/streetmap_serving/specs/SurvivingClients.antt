@@ -5,7 +5,7 @@ use Rattle.streetmap_batch.specs.Text.{Text}
 use Rattle.streetmap_batch.specs.BatchValue.{BatchValue}
 use Rattle.streetmap_ledger.specs.State.{State}
 use Rattle.streetmap_connections.specs.declared.client.Client.{Client}
-use Rattle.streetmap_web.specs.Standing.{Standing, of_state, shut}
+use Rattle.streetmap_web.specs.Standing.{Standing, of_state, shut, unknown}
 use Rattle.streetmap_web.specs.Exchanges as web
 use Rattle.streetmap_web.specs.Beginnings.{LeavesBeginning, batches_acted}
 use Rattle.streetmap_web.specs.Sight.{Sight}
@@ -14,6 +14,7 @@ use Rattle.streetmap_serving.specs.ServingClients.{ServesClients, requests_of}
 -- those of them that came while the keeper was not shut
 abbrev pub while_open : Standing → List web.Exchange → List web.Exchange
 while_open (shut why) ws = []
+while_open unknown ws = []
 while_open (of_state s) [] = []
 while_open (of_state s) (w ∷ ws) = w ∷ while_open (web.standing_after (of_state s) w) ws
 

@@ -28,11 +28,13 @@ ghost use Rattle.streetmap_store.specs.Sparing.{LeavesStates};
 use sqlite::{Alter, Connection, Error};
 use std::alloc::Global;
 use streetmap_geojson::Feature;
+use streetmap_kept::{KeepsBatches, KeptBatch};
 use streetmap_ledger::{Batch, Fault, FeatureOutline, Keeper, Page, Reply, Summary};
 use streetmap_opening::{MakeFault, TablesFault, make_tables, open_tables};
 use streetmap_query::Query;
 use streetmap_reading::{ReadFault, feature_of, outlines_of, page_of, summaries_of, summary_of};
 use streetmap_rows::{Shut, Stop, settle};
+use streetmap_serials::{batch_of, batches_of};
 use streetmap_writing::apply_batch;
 
 /// A keeper over the tables of a connection, between whose calls no transaction is open.
@@ -413,6 +415,35 @@ impl<S: Alter> Keeper for TableKeeper<S> {
         }
         match outlines_of(self.alloc, &mut self.conn, collection) {
             Ok(outlines) => Ok(outlines),
+            Err(fault) => Err(give_up(&mut self.conn, &mut self.shut, fault)),
+        }
+    }
+}
+
+impl<S: Alter> KeepsBatches for TableKeeper<S> {
+    fn batch_count(&mut self) -> Result<u64, Fault> {
+        if self.shut.is_some() {
+            return Err(Fault::Reopen);
+        }
+        Ok(self.count)
+    }
+
+    fn batch(&mut self, serial: u64) -> Result<Option<KeptBatch>, Fault> {
+        if self.shut.is_some() {
+            return Err(Fault::Reopen);
+        }
+        match batch_of(self.alloc, &mut self.conn, serial) {
+            Ok(batch) => Ok(batch),
+            Err(fault) => Err(give_up(&mut self.conn, &mut self.shut, fault)),
+        }
+    }
+
+    fn batches(&mut self, alloc: Global, after: u64, room: usize) -> Result<Vec<KeptBatch>, Fault> {
+        if self.shut.is_some() {
+            return Err(Fault::Reopen);
+        }
+        match batches_of(alloc, &mut self.conn, after, room) {
+            Ok(batches) => Ok(batches),
             Err(fault) => Err(give_up(&mut self.conn, &mut self.shut, fault)),
         }
     }

@@ -9,7 +9,8 @@ use Rattle.streetmap_ledger.specs.Batches.{after_all}
 use Rattle.streetmap_ledger.specs.Keep.{LeavesOnly}
 use Rattle.streetmap_ledger.proofs.Repeat.{after_append}
 use Rattle.streetmap_routes.specs.Ask.{AskValue}
-use Rattle.streetmap_web.specs.Standing.{Standing, Outcome, told, starved, failed, of_state, Leaves, Stays, StateLeaves}
+use Rattle.streetmap_web.specs.Standing.{Standing, Outcome, told, starved, failed, looked, of_state, Leaves, Stays}
+use Rattle.streetmap_web.specs.Standing.{StateLeaves}
 use Rattle.streetmap_web.specs.Exchanges.{Around, TurnSays, Serves, with_batch, with_answered, batches_of, last_of}
 use Rattle.streetmap_web.specs.Beginnings.{LeavesBeginning, ServedLeaves, with_acted, batches_acted}
 use Rattle.streetmap_web.specs.declared.serving.End.{End}
@@ -31,6 +32,7 @@ module _ (s : State) (bs : List BatchValue) (left : Option State → Type 0) whe
       let w = with_batch ask [] in
       λ o is. (_, only o is, record { len = length (bs ++ w); contains = omega arith; is = sym (batch_acts (after_all s bs) ask []) ∙ behind w })
   last_leaves ask starved only = λ o is. (_, only o is, record { len = length (bs ++ []); contains = omega arith; is = behind [] })
+  last_leaves ask (looked shown) only = λ o is. (_, only o is, record { len = length (bs ++ []); contains = omega arith; is = behind [] })
   last_leaves ask failed either =
       let w = with_batch ask [] in
       let none : length (bs ++ []) ≡ length bs = ap length (append-nil bs) in

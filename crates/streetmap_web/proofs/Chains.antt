@@ -1,6 +1,6 @@
 -- Exchanges, one after the other.
 use Rattle.std.proofs.Common.{◌≡◌, ◌++◌, List, [], ◌∷◌, Bool, true, false, refl, sym, subst, ap, ◌∙◌, Some, append_assoc, append-nil}
-use Rattle.std.specs.Prelude.{Option}
+use Rattle.std.specs.Prelude.{Option, ⊤}
 use Rattle.streetmap_batch.specs.Text.{Text}
 use Rattle.streetmap_batch.specs.BatchValue.{BatchValue}
 use Rattle.streetmap_ledger.specs.State.{State}
@@ -10,7 +10,8 @@ use Rattle.streetmap_ledger.specs.declared.reply.Cause.{Cause}
 use Rattle.streetmap_ledger.specs.declared.reply.Fault.TheVariants.{Memory, Device}
 use Rattle.streetmap_routes.specs.Ask.{AskValue, faulty, landing_page, api_text, conformance_classes, all_collections, one_collection, page, feature, batch}
 use Rattle.streetmap_web.specs.Response.{closes_with, state_in}
-use Rattle.streetmap_web.specs.Standing.{Standing, Outcome, of_state, shut, told, starved, failed, answer_by, after, Leaves, LeavesAsBefore, IsKnown}
+use Rattle.streetmap_web.specs.Standing.{Standing, Outcome, of_state, shut, unknown, told, starved, failed}
+use Rattle.streetmap_web.specs.Standing.{looked, CanBe, answer_by, after, Leaves, LeavesAsBefore, IsKnown}
 use Rattle.streetmap_web.specs.Exchanges.{Exchange, IsExchange, GoOn, closes, standing_after, standing_after_all, all_requests, all_answers, answer_bytes, batches_of, with_batch, with_answered, after_batches}
 use Rattle.streetmap_web.proofs.Standings.{fault_closes}
 
@@ -37,12 +38,11 @@ standing-more x (f ∷ es) e = standing-more (standing_after x f) es e
 -- ---- what a stop may leave
 
 -- the connection closes behind a fault, so what leaves it open was answered as asked
-open_told : (root : Text) (x : Standing) (ask : AskValue) (asked : Bool) (o : Outcome) → closes_with asked (answer_by root x ask o) ≡ false → o ≡ told
-open_told root x ask asked told h = refl
-open_told root (of_state s) ask asked starved h = let e : true ≡ false = fault_closes asked Memory ∙ h in cc
-open_told root (shut why) ask asked starved h = let e : true ≡ false = fault_closes asked Memory ∙ h in cc
-open_told root (of_state s) ask asked failed h = let e : true ≡ false = fault_closes asked Device ∙ h in cc
-open_told root (shut why) ask asked failed h = let e : true ≡ false = fault_closes asked Device ∙ h in cc
+open_told : (root : Text) (s : State) (ask : AskValue) (asked : Bool) (o : Outcome) → CanBe (of_state s) ask o → closes_with asked (answer_by root (of_state s) ask o) ≡ false → o ≡ told
+open_told root s ask asked told can h = refl
+open_told root s ask asked starved can h = let e : true ≡ false = fault_closes asked Memory ∙ h in cc
+open_told root s ask asked failed can h = let e : true ≡ false = fault_closes asked Device ∙ h in cc
+open_told root s ask asked (looked shown) can h = absurd can
 
 pub batch_acts : (s : State) (ask : AskValue) (bs : List BatchValue) → after_all s (with_batch ask bs) ≡ after_all (state_in s ask) bs
 batch_acts s (faulty fault) bs = refl
@@ -65,7 +65,7 @@ told_after s ask o e = ap (after (of_state s) ask) e
 pub states_after : (root : Text) (s : State) (es : List Exchange) → GoOn root (of_state s) es → standing_after_all (of_state s) es ≡ of_state (after_all s (batches_of es))
 states_after root s [] h = refl
 states_after root s (e ∷ es) (first, opens, more) =
-    let is : e.outcome ≡ told = open_told root (of_state s) e.request.ask e.request.closes e.outcome opens in
+    let is : e.outcome ≡ told = open_told root s e.request.ask e.request.closes e.outcome first.can opens in
     let next : standing_after (of_state s) e ≡ of_state (state_in s e.request.ask) = told_after s e.request.ask e.outcome is in
     ap (λ y. standing_after_all y es) next
     ∙ states_after root (state_in s e.request.ask) es (subst (λ y. GoOn root y es) next more)
@@ -76,16 +76,23 @@ pub stays_shut : (why : Cause) (es : List Exchange) → standing_after_all (shut
 stays_shut why [] = refl
 stays_shut why (e ∷ es) = stays_shut why es
 
+-- and nothing is known of one of which nothing was
+stays_unknown : (es : List Exchange) → standing_after_all unknown es ≡ unknown
+stays_unknown [] = refl
+stays_unknown (e ∷ es) = stays_unknown es
+
 -- the batches of one more exchange
 abbrev after_each : (s : State) (ask : AskValue) (o : Outcome) → State
 after_each s ask told = state_in s ask
 after_each s ask starved = s
 after_each s ask failed = s
+after_each s ask (looked shown) = s
 
 each_acts : (s : State) (ask : AskValue) (o : Outcome) (bs : List BatchValue) → after_all s (with_answered ask o bs) ≡ after_all (after_each s ask o) bs
 each_acts s ask told bs = batch_acts s ask bs
 each_acts s ask starved bs = refl
 each_acts s ask failed bs = refl
+each_acts s ask (looked shown) bs = refl
 
 batches-more : (s : State) (es : List Exchange) (e : Exchange) → e.outcome ≡ told → after_all s (batches_of (es ++ e ∷ [])) ≡ state_in (after_all s (batches_of es)) e.request.ask
 batches-more s [] e is = told_acts s e.request.ask e.outcome [] is
@@ -102,21 +109,25 @@ leaves_state t known old new ask o is k leaves = subst (λ p. Leaves (of_state t
 abbrev pub LeavesAll : Standing → List Exchange → (old new : Option State → Type 0) → Type 0
 LeavesAll (of_state s) es old new = LeavesOnly old (Some s) → LeavesOnly new (Some (after_all s (batches_of es)))
 LeavesAll (shut why) es old new = LeavesAsBefore old new
+LeavesAll unknown es old new = ⊤
 
 pub LeavesAll-none : (x : Standing) (left : Option State → Type 0) → LeavesAll x [] left left
 LeavesAll-none (of_state s) left = λ only. only
 LeavesAll-none (shut why) left = λ o. (λ h. h, λ h. h)
+LeavesAll-none unknown left = tt
 
 pub LeavesAll-more : (root : Text) (x : Standing) (es : List Exchange) (e : Exchange) (old middle new : Option State → Type 0) → GoOn root x es
-    → closes root (standing_after_all x es) e ≡ false → LeavesAll x es old middle
+    → IsExchange (standing_after_all x es) e → closes root (standing_after_all x es) e ≡ false → LeavesAll x es old middle
     → Leaves (standing_after_all x es) e.request.ask e.outcome (IsKnown (standing_after_all x es) middle) middle new → LeavesAll x (es ++ e ∷ []) old new
-LeavesAll-more root (of_state s) es e old middle new go_on opens all leaves = λ only.
+LeavesAll-more root (of_state s) es e old middle new go_on is_one opens all leaves = λ only.
     let t : State = after_all s (batches_of es) in
     let same : standing_after_all (of_state s) es ≡ of_state t = states_after root s es go_on in
-    let is : e.outcome ≡ told = open_told root (standing_after_all (of_state s) es) e.request.ask e.request.closes e.outcome opens in
+    let can : CanBe (of_state t) e.request.ask e.outcome = subst (λ y. CanBe y e.request.ask e.outcome) same is_one.can in
+    let is : e.outcome ≡ told = open_told root t e.request.ask e.request.closes e.outcome can (subst (λ y. closes root y e ≡ false) same opens) in
     let one : Leaves (of_state t) e.request.ask e.outcome (IsKnown (of_state t) middle) middle new = subst (λ y. Leaves y e.request.ask e.outcome (IsKnown y middle) middle new) same leaves in
     subst (λ u. LeavesOnly new (Some u)) (sym (batches-more s es e is)) (leaves_state t (LeavesOnly middle (Some t)) middle new e.request.ask e.outcome is (all only) one)
-LeavesAll-more root (shut why) es e old middle new go_on opens all leaves =
+LeavesAll-more root unknown es e old middle new go_on is_one opens all leaves = tt
+LeavesAll-more root (shut why) es e old middle new go_on is_one opens all leaves =
     let one : Leaves (shut why) e.request.ask e.outcome (IsKnown (shut why) middle) middle new = subst (λ y. Leaves y e.request.ask e.outcome (IsKnown y middle) middle new) (stays_shut why es) leaves in
     λ o. (λ h. (all o).0 ((one o).0 h), λ h. (one o).1 ((all o).1 h))
 
@@ -124,11 +135,14 @@ LeavesAll-more root (shut why) es e old middle new go_on opens all leaves =
 pub known_after : (root : Text) (x : Standing) (es : List Exchange) (old middle : Option State → Type 0) → GoOn root x es → LeavesAll x es old middle → IsKnown x old → IsKnown (standing_after_all x es) middle
 known_after root (of_state s) es old middle go_on all known = subst (λ y. IsKnown y middle) (sym (states_after root s es go_on)) (all known)
 known_after root (shut why) es old middle go_on all known = subst (λ y. IsKnown y middle) (sym (stays_shut why es)) tt
+known_after root unknown es old middle go_on all known = subst (λ y. IsKnown y middle) (sym (stays_unknown es)) tt
 
 pub batches_after : (root : Text) (x : Standing) (es : List Exchange) → GoOn root x es → standing_after_all x es ≡ after_batches x (batches_of es)
 batches_after root (of_state s) es go_on = states_after root s es go_on
 batches_after root (shut why) es go_on = stays_shut why es
+batches_after root unknown es go_on = stays_unknown es
 
 pub as_before_after : (x : Standing) (es : List Exchange) (old middle : Option State → Type 0) (why : Cause) → standing_after_all x es ≡ shut why → LeavesAll x es old middle → (root : Text) → GoOn root x es → LeavesAsBefore old middle
 as_before_after (of_state s) es old middle why e all root go_on = let wrong : of_state (after_all s (batches_of es)) ≡ shut why = sym (states_after root s es go_on) ∙ e in cc
 as_before_after (shut cause) es old middle why e all root go_on = all
+as_before_after unknown es old middle why e all root go_on = let wrong : unknown ≡ shut why = sym (stays_unknown es) ∙ e in cc

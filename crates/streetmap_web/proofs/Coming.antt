@@ -1,5 +1,5 @@
 -- How a keeper came along requests.
-use Rattle.std.proofs.Common.{◌≡◌, List, [], ◌∷◌, ◌++◌, Bool, Result, refl, sym, subst, ap, ◌∙◌}
+use Rattle.std.proofs.Common.{◌≡◌, true, false, List, [], ◌∷◌, ◌++◌, Bool, Result, refl, sym, subst, ap, ◌∙◌}
 use Rattle.streetmap_http.specs.Framing.{HeadValue, is_bare}
 use Rattle.streetmap_http.specs.declared.fault.FramingFault.{FramingFault}
 use Rattle.streetmap_batch.specs.Text.{Text}
@@ -9,14 +9,15 @@ use Rattle.streetmap_ledger.specs.declared.reply.Reply.{Reply}
 use Rattle.streetmap_routes.specs.Ask.{ask_of, faulty, batch}
 use Rattle.streetmap_bodies.specs.declared.request_fault.RequestFault.{RequestFault}
 use Rattle.streetmap_bodies.specs.declared.request_fault.RequestFault.TheVariants.{Framing}
-use Rattle.streetmap_web.specs.Response.{response_text}
+use Rattle.streetmap_web.specs.Response.{ResponseValue, response_text}
 use Rattle.streetmap_web.specs.Standing.{Standing, told, starved}
 use Rattle.streetmap_web.specs.Sight.{Sight}
 use Rattle.streetmap_web.specs.Responds.{Answers, BatchAnswers, TellsBatch, unasked_of}
 use Rattle.streetmap_web.specs.Exchanges.{Exchange, RequestValue, request_of, broken_request, closes, answer_bytes, response, standing_after, standing_after_all}
 use Rattle.streetmap_web.specs.Coming.{Comes, ComesAll}
 use Rattle.streetmap_web.proofs.Standings.{told_is_no_failure, starved_is_no_failure}
-use Rattle.streetmap_web.proofs.Outcomes.{starved_closes, starved_bytes}
+use Rattle.streetmap_web.proofs.Outcomes.{starved_closes, starved_bytes, starved_response}
+use Rattle.streetmap_web.proofs.Statuses.{starved_well}
 
 -- the same answer in other words
 same_answer : (key : Text) (asked bare : Bool) (text same : Text) (closing so : Bool) (applies : Result Reply Fault → Type 0) (unasked : Type 0) → text ≡ same → closing ≡ so
@@ -38,12 +39,17 @@ module _ {K : Type 0} (sight : Sight K) (root : Text) where
   starved_comes x k bytes request = record {
     told = λ b is. unasked_of refl (sym (starved_closes root x bytes request)) (sym (starved_bytes root x bytes request));
     device = λ e. absurd (starved_is_no_failure e);
+    shuts = λ asks e. absurd (starved_well (ap (λ (p : ResponseValue). p.status) (sym (starved_response root x request.ask)) ∙ e));
   }
 
   -- a request that breaks a rule of framing asks no keeper
   pub broken_comes : (x : Standing) (k : K) (bytes : Text) (bare : Bool) (fault : FramingFault)
       → Comes sight root x k (record { bytes = bytes; request = broken_request bare fault; outcome = told }) k
-  broken_comes x k bytes bare fault = record { told = λ b is. absurd (no_batch (Framing fault) b is); device = λ e. absurd (told_is_no_failure e) }
+  broken_comes x k bytes bare fault = record {
+    told = λ b is. absurd (no_batch (Framing fault) b is);
+    device = λ e. absurd (told_is_no_failure e);
+    shuts = λ asks e. absurd (let bad : false ≡ true = asks in cc);
+  }
 
   -- a whole request
   pub whole_comes : (x : Standing) (old new : K) (h : HeadValue) (bytes body text : Text) (closing : Bool)
@@ -56,6 +62,7 @@ module _ {K : Type 0} (sight : Sight K) (root : Text) where
         told = λ b is. same_answer b.key h.closes (is_bare h.method) text (answer_bytes root x e) closing (closes root x e) _ _
             (bytes_of root x e text closing answers.closed answers.bytes) answers.closed (tells b is);
         device = answers.device;
+        shuts = answers.shuts;
       }
 
   -- requests behind others

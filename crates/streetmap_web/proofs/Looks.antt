@@ -1,5 +1,5 @@
 -- What comes of a look.
-use Rattle.std.proofs.Common.{◌≡◌, sym, subst, ◌∙◌, Some, Ok, Err, inl, IfOk, OnErr}
+use Rattle.std.proofs.Common.{◌≡◌, true, false, ap, sym, subst, ◌∙◌, Some, Ok, Err, inl, IfOk, OnErr}
 use Rattle.std.specs.Prelude.{Option, Result, IsErrOf}
 use Rattle.std.specs.declared.alloc.AllocError.{AllocError}
 use Rattle.streetmap_batch.specs.Text.{Text}
@@ -9,8 +9,8 @@ use Rattle.streetmap_ledger.specs.Keep.{LeavesOnly}
 use Rattle.streetmap_ledger.specs.declared.reply.Fault.{Fault}
 use Rattle.streetmap_ledger.specs.declared.reply.Fault.TheVariants as faults
 use Rattle.streetmap_routes.specs.Ask.{AskValue}
-use Rattle.streetmap_web.specs.Response.{ResponseValue, response_in, state_in}
-use Rattle.streetmap_web.specs.Responds.{AnswerLeaves, RespondsIn, response_value}
+use Rattle.streetmap_web.specs.Response.{ResponseValue, asks_state, response_in, state_in}
+use Rattle.streetmap_web.specs.Responds.{AnswerLeaves, RespondsIn, RespondsAny, response_value}
 use Rattle.streetmap_web.specs.declared.response.Response.{Response}
 
 pub look_leaves : (s : State) (ask : AskValue) (result : Result Response Fault) (left : Option State → Type 0) → s ≡ state_in s ask → LeavesOnly left (Some s) → AnswerLeaves s ask result left
@@ -32,3 +32,14 @@ pub no_device : (found : Result Response AllocError) (result : Result Response F
     → IsErrOf result faults.Device → ⊥
 no_device (Ok b) result same none is = let bad : ◌≡◌ {A = Result Response Fault} (Ok b) (Err faults.Device) = sym same ∙ is in cc
 no_device (Err w) result same none is = let bad : ◌≡◌ {A = Result Response Fault} (Err faults.Memory) (Err faults.Device) = sym none ∙ is in cc
+
+-- whatever the keeper stands for: it is answered by no failure, unless memory was refused for the answer
+pub look_shown : (root : Text) (ask : AskValue) (found : Result Response AllocError) (result : Result Response Fault) (p : ResponseValue) (cause : Option Cause)
+    → IfOk found (λ b. response_value b ≡ p) → IfOk found (λ b. result ≡ Ok b) → OnErr found (result ≡ Err faults.Memory)
+    → asks_state ask ≡ true → (p.status ≡ 500 → ⊥) → RespondsAny root ask result cause
+look_shown root ask (Ok b) result p cause is same none asks well =
+    subst (λ r. RespondsAny root ask r cause) (sym same) (
+      λ plain. absurd (let bad : true ≡ false = sym asks ∙ plain in cc),
+      λ asked e. well (ap (λ (q : ResponseValue). q.status) (sym is) ∙ e),
+    )
+look_shown root ask (Err w) result p cause is same none asks well = subst (λ r. RespondsAny root ask r cause) (sym none) tt

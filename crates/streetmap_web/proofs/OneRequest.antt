@@ -44,7 +44,7 @@ module _ {K : Type 0} (sight : Sight K) (root : Text) (x : Standing) where
   broken_answered bytes text bare fault k breaks (answer, inl is, same) h = record {
     exchange = record { bytes = bytes; request = broken_request bare fault; outcome = told };
     bytes_are = refl;
-    is = record { asks = broken bare fault breaks refl; can = can_told x (faulty (Framing fault)) };
+    is = record { asks = broken bare fault breaks refl; can = can_told x fault };
     text_is = same ∙ ap (λ f. response_text true bare (fault_response f)) is ∙ ap (response_text true bare) (sym (faulty_response root x fault));
     closing_is = refl;
     standing = faulty_after x (StandsSo sight k) fault h;

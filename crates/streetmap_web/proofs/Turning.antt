@@ -17,7 +17,8 @@ use Rattle.streetmap_ledger.specs.declared.reply.Fault.TheVariants.{Memory}
 use Rattle.streetmap_routes.specs.Ask.{AskValue, ask_of, faulty}
 use Rattle.streetmap_bodies.specs.declared.request_fault.RequestFault.TheVariants.{Keeper, Framing}
 use Rattle.streetmap_web.specs.Response.{fault_response, response_text}
-use Rattle.streetmap_web.specs.Standing.{Standing, of_state, shut, told, starved, Outcome, Leaves, LeavesAsBefore, Stays}
+use Rattle.streetmap_web.specs.Standing.{Standing, of_state, shut, unknown, told, starved, Outcome}
+use Rattle.streetmap_web.specs.Standing.{Leaves, LeavesAsBefore, Stays}
 use Rattle.streetmap_web.specs.Sight.{Sight, StandsSo}
 use Rattle.streetmap_web.specs.Responds.{Answers, TellsBatch}
 use Rattle.streetmap_web.specs.Turns.{turn_after, RefuseSays}
@@ -80,7 +81,7 @@ module _ {K : Type 0} (sight : Sight K) (root : Text) (x : Standing) (left rest 
     refused_turn bytes text bare fault sent held now breaks read same written =
         let e : Exchange = record { bytes = bytes; request = broken_request bare fault; outcome = told } in
         let acted : Acted x e (around sight root x left rest held now k k) = record {
-          is = record { asks = broken bare fault breaks refl; can = can_told x (faulty (Framing fault)) };
+          is = record { asks = broken bare fault breaks refl; can = can_told x fault };
           read = read;
           stands = faulty_after x (StandsSo sight k) fault stands;
           leaves = faulty_leaves x fault (sight.may_leave k);
@@ -138,11 +139,13 @@ leaves_known : (y : Standing) (ask : AskValue) (o : Outcome) (k known : Type 0) 
     → Leaves y ask o k middle new → Leaves y ask o known old new
 leaves_known (of_state s) ask o k known middle old new know none leaves = λ h. leaves (know h)
 leaves_known (shut why) ask o k known middle old new know none leaves = as_before old middle new (none why refl) leaves
+leaves_known unknown ask o k known middle old new know none leaves = tt
 
 stays_known : (y : Standing) (k known : Type 0) (middle old new : Option State → Type 0) → (known → k) → ((why : Cause) → y ≡ shut why → LeavesAsBefore old middle)
     → Stays y k middle new → Stays y known old new
 stays_known (of_state s) k known middle old new know none leaves = λ h. leaves (know h)
 stays_known (shut why) k known middle old new know none leaves = as_before old middle new (none why refl) leaves
+stays_known unknown k known middle old new know none leaves = tt
 
 acted_known : (y : Standing) (e : Exchange) (a : Around) (known : Type 0) (old : Option State → Type 0) (comes : List Exchange → Type 0) → (known → a.known) → ((why : Cause) → y ≡ shut why → LeavesAsBefore old a.old_leaves)
     → Acted y e a → Acted y e (record a { known = known; old_leaves = old; comes = comes })

@@ -5,7 +5,7 @@ use Rattle.streetmap_batch.specs.BatchValue.{BatchValue}
 use Rattle.streetmap_ledger.specs.State.{State}
 use Rattle.streetmap_ledger.specs.Batches.{after_all}
 use Rattle.streetmap_routes.specs.Ask.{AskValue}
-use Rattle.streetmap_web.specs.Standing.{Outcome, told, starved, failed, of_state}
+use Rattle.streetmap_web.specs.Standing.{Outcome, told, starved, failed, looked, of_state}
 use Rattle.streetmap_web.specs.Exchanges.{Exchange, Around, Serves, with_batch, batches_of, last_of}
 use Rattle.streetmap_web.specs.declared.serving.End.{End}
 
@@ -15,6 +15,7 @@ abbrev pub with_acted : AskValue → Outcome → List BatchValue → List BatchV
 with_acted ask told others = with_batch ask others
 with_acted ask starved others = others
 with_acted ask failed others = with_batch ask others
+with_acted ask (looked shown) others = others
 
 abbrev pub batches_acted : List Exchange → List BatchValue
 batches_acted [] = []

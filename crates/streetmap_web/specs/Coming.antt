@@ -1,16 +1,20 @@
 -- How a keeper came along requests, and what it is between them.
-use Rattle.std.specs.Prelude.{◌≡◌, List, [], ◌∷◌, Bool, Option}
+use Rattle.std.specs.Prelude.{◌≡◌, List, [], ◌∷◌, Bool, true, Option, IsSome}
 use Rattle.streetmap_batch.specs.Text.{Text}
 use Rattle.streetmap_web.specs.Standing.{Standing, failed, IsKnown, Leaves}
 use Rattle.streetmap_web.specs.Sight.{Sight, StandsSo}
+use Rattle.streetmap_web.specs.Response.{asks_state}
 use Rattle.streetmap_web.specs.Responds.{TellsBatch}
-use Rattle.streetmap_web.specs.Exchanges.{Exchange, IsExchange, Around, closes, answer_bytes}
+use Rattle.streetmap_web.specs.Exchanges.{Exchange, IsExchange, Around, response, closes}
+use Rattle.streetmap_web.specs.Exchanges.{answer_bytes}
 use Rattle.streetmap_web.specs.Exchanges.{standing_after}
 
 -- A request was answered, and led from one keeper to another: a batch was answered by what `apply`
--- came to between them, or the keeper was never asked and is as it was; and where the answer is
--- that
--- the device failed, the store failed.
+-- came to between them, or the keeper was never asked and is as it was; where the answer is that
+-- the
+-- device failed, the store failed; and where what asks the state is answered by a failure (status
+-- 500),
+-- the keeper is shut.
 pub record Comes {K : Type 0} (sight : Sight K) (root : Text) (x : Standing) (old : K)
     (e : Exchange)
     (new : K) : Type 0 where
@@ -18,6 +22,8 @@ pub record Comes {K : Type 0} (sight : Sight K) (root : Text) (x : Standing) (ol
       TellsBatch sight.applies e.request.ask e.request.closes e.request.bare (answer_bytes root x e)
       (closes root x e) old new
   pub device : e.outcome ≡ failed → sight.fails old new
+  pub shuts :
+      asks_state e.request.ask ≡ true → (response root x e).status ≡ 500 → IsSome (sight.cause new)
 
 -- requests in a row, each over the keeper that the one before left
 abbrev pub ComesAll :

@@ -13,8 +13,9 @@ use Rattle.streetmap_ledger.specs.State.{State}
 use Rattle.streetmap_ledger.specs.Batches.{after_all}
 use Rattle.streetmap_routes.specs.Ask.{AskValue, faulty, batch, ask_of}
 use Rattle.streetmap_web.specs.Response.{ResponseValue, closes_with, response_text}
-use Rattle.streetmap_web.specs.Standing.{Standing, Outcome, told, starved, failed, CanBe}
-use Rattle.streetmap_web.specs.Standing.{answer_by, after, Leaves, Stays, of_state, shut}
+use Rattle.streetmap_web.specs.Standing.{Standing, Outcome, told, starved, failed, looked}
+use Rattle.streetmap_web.specs.Standing.{CanBe, answer_by, after, Leaves, Stays, of_state, shut}
+use Rattle.streetmap_web.specs.Standing.{unknown}
 use Rattle.streetmap_web.specs.Turns.{begun_in, end_of}
 use Rattle.streetmap_web.specs.declared.serving.End.{End}
 use Rattle.streetmap_web.specs.declared.serving.Turn.{Turn}
@@ -109,6 +110,7 @@ abbrev pub with_answered : AskValue → Outcome → List BatchValue → List Bat
 with_answered ask told others = with_batch ask others
 with_answered ask starved others = others
 with_answered ask failed others = others
+with_answered ask (looked shown) others = others
 
 -- the batches that the keeper answered without a fault, in order
 abbrev pub batches_of : List Exchange → List BatchValue
@@ -119,6 +121,7 @@ batches_of (e ∷ es) = with_answered e.request.ask e.outcome (batches_of es)
 abbrev pub after_batches : Standing → List BatchValue → Standing
 after_batches (of_state s) bs = of_state (after_all s bs)
 after_batches (shut why) bs = shut why
+after_batches unknown bs = unknown
 
 -- ---- ends
 

@@ -1,6 +1,7 @@
 -- What the functions that answer say of their results.
-use Rattle.std.specs.Prelude.{◌≡◌, ◌⊎◌, Bool, true, Option, Some, Result, Ok, Err, string_bytes}
-use Rattle.std.specs.Prelude.{◌++◌, ⊤}
+use Rattle.std.specs.Prelude.{◌≡◌, ◌≢◌, ◌⊎◌, Bool, true, false, Option, Some, IsSome, Result, Ok}
+use Rattle.std.specs.Prelude.{Err}
+use Rattle.std.specs.Prelude.{string_bytes, ◌++◌, ⊤}
 use Rattle.streetmap_batch.specs.Text.{Text}
 use Rattle.streetmap_batch.specs.BatchValue.{BatchValue}
 use Rattle.streetmap_ledger.specs.State.{State}
@@ -62,6 +63,25 @@ abbrev pub RespondsShut : Text → AskValue → Result Response Fault → Type 0
 RespondsShut root ask (Ok response) = response_value response ≡ response_shut root ask
 RespondsShut root ask (Err fault) = FaultsShut root ask fault
 
+-- an answer where nothing is known of the keeper: what asks no state is answered as ever, and what
+-- asks it is answered by no failure
+abbrev pub IsShown : Text → AskValue → ResponseValue → Type 0
+IsShown root ask shown =
+    (asks_state ask ≡ false → shown ≡ response_shut root ask)
+    × (asks_state ask ≡ true → shown.status ≢ 500)
+
+-- a fault: memory was refused, or the state was asked, and the keeper is shut
+abbrev pub FaultsAny : AskValue → Fault → Option Cause → Type 0
+FaultsAny ask faults.Memory cause = ⊤
+FaultsAny ask faults.Device cause = (asks_state ask ≡ true) × IsSome cause
+FaultsAny ask faults.Damaged cause = (asks_state ask ≡ true) × IsSome cause
+FaultsAny ask faults.Reopen cause = (asks_state ask ≡ true) × IsSome cause
+
+-- over a keeper of which nothing is known
+abbrev pub RespondsAny : Text → AskValue → Result Response Fault → Option Cause → Type 0
+RespondsAny root ask (Ok response) cause = IsShown root ask (response_value response)
+RespondsAny root ask (Err fault) cause = FaultsAny ask fault cause
+
 -- what a stop may leave behind an answer or a fault, where the keeper stood for a state and a stop
 -- could leave it and no other
 abbrev pub AnswerLeaves : {A : Type 0} → State → AskValue → Result A Fault → (Option State → Type 0)
@@ -87,9 +107,9 @@ abbrev pub answer_text : Answer → Text
 answer_text answer = head_bytes answer ++ body_bytes answer
 
 -- what is asked was answered between two keepers: how it came out, the bytes of its answer, whether
--- the connection closes, what the second keeper stands for, what a stop may leave, and that the
--- store
--- failed where the device did
+-- the connection closes, what the second keeper stands for, what a stop may leave, that the store
+-- failed where the device did, and that the keeper is shut where a failure is answered to what asks
+-- the state
 pub record Answers {K : Type 0} (sight : Sight K) (root : Text) (x : Standing) (ask : AskValue)
     (asked bare : Bool) (text : Text) (closes : Bool) (old new : K) : Type 0 where
   pub outcome : Outcome
@@ -101,6 +121,8 @@ pub record Answers {K : Type 0} (sight : Sight K) (root : Text) (x : Standing) (
       let left = sight.may_leave old in
       Leaves x ask outcome (IsKnown x left) left (sight.may_leave new)
   pub device : outcome ≡ failed → sight.fails old new
+  pub shuts : asks_state ask ≡ true → (answer_by root x ask outcome).status ≡ 500
+      → IsSome (sight.cause new)
 
 -- an answer, or the fault that is to be answered, over a keeper that stood for a state
 abbrev pub TriesIn : Text → State → AskValue → Bool → Bool → Result (Answer × Bool) Fault
@@ -116,6 +138,14 @@ abbrev pub TriesShut : Text → AskValue → Bool → Bool → Result (Answer ×
 TriesShut root ask asked bare (Ok r) = (r.1 ≡ closes_with asked (response_shut root ask))
     × (answer_text r.0 ≡ response_text r.1 bare (response_shut root ask))
 TriesShut root ask asked bare (Err fault) = FaultsShut root ask fault
+
+-- over a keeper of which nothing is known
+abbrev pub TriesAny : Text → AskValue → Bool → Bool → Result (Answer × Bool) Fault → Option Cause
+    → Type 0
+TriesAny root ask asked bare (Ok r) cause =
+    (shown : ResponseValue) × IsShown root ask shown × (r.1 ≡ closes_with asked shown)
+    × (answer_text r.0 ≡ response_text r.1 bare shown)
+TriesAny root ask asked bare (Err fault) cause = FaultsAny ask fault cause
 
 -- ---- batches
 

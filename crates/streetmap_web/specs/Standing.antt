@@ -1,5 +1,5 @@
 -- What a keeper stands for, what becomes of it, and what a stop may leave.
-use Rattle.std.specs.Prelude.{◌≡◌, ◌↔◌, true, Option, Some, ⊤}
+use Rattle.std.specs.Prelude.{◌≡◌, ◌↔◌, true, false, Option, Some, ⊤}
 use Rattle.streetmap_batch.specs.Text.{Text}
 use Rattle.streetmap_ledger.specs.State.{State}
 use Rattle.streetmap_ledger.specs.Keep.{LeavesOnly, LeavesEither}
@@ -11,48 +11,70 @@ use Rattle.streetmap_web.specs.Response.{ResponseValue, fault_response, response
 use Rattle.streetmap_web.specs.Response.{asks_state, state_in}
 use Rattle.streetmap_bodies.specs.declared.request_fault.RequestFault.TheVariants.{Keeper}
 
--- a keeper stands for a state, or it is shut
+-- a keeper stands for a state, or it is shut; or nothing is known of what it stands for
 pub data Standing : Type 0 where
   of_state : State → Standing
   shut : Cause → Standing
+  unknown : Standing
 
--- the keeper that stands for these states, and that this shut, stands so
+-- the keeper that stands for these states, and that this shut, stands so; each one stands for
+-- something
+-- unknown
 abbrev pub Stands : (State → Type 0) → Option Cause → Standing → Type 0
 Stands stands cause (of_state s) = stands s
 Stands stands cause (shut why) = cause ≡ Some why
+Stands stands cause unknown = ⊤
 
--- how a request came out: it was answered as asked, memory was refused, or the device failed
+-- how a request came out: it was answered as asked, memory was refused, or the device failed; or
+-- the
+-- keeper answered so, of which nothing is known
 pub data Outcome : Type 0 where
   told : Outcome
   starved : Outcome
   failed : Outcome
+  looked : (shown : ResponseValue) → Outcome
 
--- a device fails only where the state is asked of a keeper that is not shut
+-- A device fails only where the state is asked of a keeper that is not shut. Where nothing is known
+-- of
+-- the keeper, what asks no state is answered as ever, and what asks it somehow.
 abbrev pub CanBe : Standing → AskValue → Outcome → Type 0
+CanBe (of_state s) ask told = ⊤
+CanBe (of_state s) ask starved = ⊤
 CanBe (of_state s) ask failed = asks_state ask ≡ true
+CanBe (of_state s) ask (looked shown) = ⊥
+CanBe (shut why) ask told = ⊤
+CanBe (shut why) ask starved = ⊤
 CanBe (shut why) ask failed = ⊥
-CanBe x ask told = ⊤
-CanBe x ask starved = ⊤
+CanBe (shut why) ask (looked shown) = ⊥
+CanBe unknown ask told = asks_state ask ≡ false
+CanBe unknown ask starved = ⊤
+CanBe unknown ask failed = ⊥
+CanBe unknown ask (looked shown) = asks_state ask ≡ true
 
 -- the answer
 abbrev pub answer_by : Text → Standing → AskValue → Outcome → ResponseValue
 answer_by root (of_state s) ask told = response_in root s ask
 answer_by root (shut why) ask told = response_shut root ask
+answer_by root unknown ask told = response_shut root ask
 answer_by root x ask starved = fault_response (Keeper Memory)
 answer_by root x ask failed = fault_response (Keeper Device)
+answer_by root x ask (looked shown) = shown
 
 -- what the keeper stands for afterwards
 abbrev pub after : Standing → AskValue → Outcome → Standing
 after (of_state s) ask told = of_state (state_in s ask)
 after (of_state s) ask starved = of_state s
 after (of_state s) ask failed = shut causes.Device
+after (of_state s) ask (looked shown) = of_state s
 after (shut why) ask outcome = shut why
+after unknown ask outcome = unknown
 
 -- what a stop may leave behind a request, where it could leave the state and no other before
 abbrev pub StateLeaves : State → AskValue → Outcome → (Option State → Type 0) → Type 0
 StateLeaves s ask told left = LeavesOnly left (Some (state_in s ask))
 StateLeaves s ask starved left = LeavesOnly left (Some s)
 StateLeaves s ask failed left = LeavesEither left (Some s) (Some (state_in s ask))
+StateLeaves s ask (looked shown) left = LeavesOnly left (Some s)
 
 -- exactly what it could leave before
 abbrev pub LeavesAsBefore : (old new : Option State → Type 0) → Type 0
@@ -62,6 +84,7 @@ LeavesAsBefore old new = (o : Option State) → new o ↔ old o
 abbrev pub IsKnown : Standing → (Option State → Type 0) → Type 0
 IsKnown (of_state s) left = LeavesOnly left (Some s)
 IsKnown (shut why) left = ⊤
+IsKnown unknown left = ⊤
 
 -- what a stop may leave behind a request, where this was known before; behind one over a shut
 -- keeper exactly what it could leave before
@@ -69,8 +92,10 @@ abbrev pub Leaves :
     Standing → AskValue → Outcome → (known : Type 0) → (old new : Option State → Type 0) → Type 0
 Leaves (of_state s) ask outcome known old new = known → StateLeaves s ask outcome new
 Leaves (shut why) ask outcome known old new = LeavesAsBefore old new
+Leaves unknown ask outcome known old new = ⊤
 
 -- what a stop may leave where nothing was acted on
 abbrev pub Stays : Standing → (known : Type 0) → (old new : Option State → Type 0) → Type 0
 Stays (of_state s) known old new = known → LeavesOnly new (Some s)
 Stays (shut why) known old new = LeavesAsBefore old new
+Stays unknown known old new = ⊤

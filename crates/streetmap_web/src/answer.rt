@@ -13,7 +13,8 @@ ghost use Rattle.streetmap_web.specs.Response.{response_text, closes_with, head_
 ghost use Rattle.streetmap_web.specs.Standing.{Standing, Stands, LeavesAsBefore};
 ghost use Rattle.streetmap_web.specs.Sight.{sight_of};
 ghost use Rattle.streetmap_web.specs.Responds.{response_value, answer_text, Answers, TriesIn};
-ghost use Rattle.streetmap_web.specs.Responds.{TriesShut, AnswerLeaves, BatchTries, TellsBatch};
+ghost use Rattle.streetmap_web.specs.Responds.{TriesShut, TriesAny, AnswerLeaves, BatchTries};
+ghost use Rattle.streetmap_web.specs.Responds.{TellsBatch};
 ghost use Rattle.streetmap_web.specs.Responds.{RefusesBy};
 ghost use Rattle.streetmap_bodies.specs.declared.request_fault.RequestFault.TheVariants.{Framing};
 ghost use Rattle.streetmap_bodies.specs.declared.request_fault.RequestFault.TheVariants as faults;
@@ -155,6 +156,9 @@ fn try_answer<K: Keeper>(
         ask_of request.entry.method.now request.entry.target.now body.now ≡ batch b →
         BatchTries b.key request.entry.closes (is_bare_of request.entry.method.now) result
         (λ r. K.applies keeper.old b r keeper.new) (keeper.new ≡ keeper.old) }
+    ensures any { TriesAny (root_of base.now)
+        (ask_of request.entry.method.now request.entry.target.now body.now)
+        request.entry.closes (is_bare_of request.entry.method.now) result (K.cause keeper.new) }
     ensures spared { K.spares keeper.old keeper.new }
     ensures began_clean { K.is_clean keeper.new → K.is_clean keeper.old }
     ensures answers { K.is_clean keeper.new → (s : State) → K.stands keeper.old s →

@@ -19,7 +19,7 @@ ghost use Rattle.streetmap_bodies.specs.Bodies as spec_bodies;
 ghost use Rattle.streetmap_web.specs.Standing.{LeavesAsBefore};
 ghost use Rattle.streetmap_routes.specs.AskView.{ask_value};
 ghost use Rattle.streetmap_web.specs.Responds.{response_value, RespondsIn, RespondsShut};
-ghost use Rattle.streetmap_web.specs.Responds.{AnswerLeaves, BatchResponds};
+ghost use Rattle.streetmap_web.specs.Responds.{RespondsAny, AnswerLeaves, BatchResponds};
 ghost use Rattle.streetmap_http.specs.declared.answer_head.MediaType.TheVariants.{Json, GeoJson};
 ghost use Rattle.streetmap_http.specs.declared.answer_head.MediaType.TheVariants.{Html};
 
@@ -122,6 +122,8 @@ fn replied(body: String, batch: &Batch, reply: Reply) -> Response
 fn respond_batch<K: Keeper>(alloc: Global, keeper: &mut K, batch: &Batch) -> Result<Response, Fault>
     ensures told { BatchResponds (batch_value batch.now).key result
         (λ r. K.applies keeper.old (batch_value batch.now) r keeper.new) (keeper.new ≡ keeper.old) }
+    ensures any { (root : Text) →
+        RespondsAny root (spec.batch (batch_value batch.now)) result (K.cause keeper.new) }
     ensures spared { K.spares keeper.old keeper.new }
     ensures began_clean { K.is_clean keeper.new → K.is_clean keeper.old }
     ensures responds { K.is_clean keeper.new → (s : State) → K.stands keeper.old s →
@@ -174,6 +176,8 @@ fn respond_page<K: Keeper>(
     name: &str,
     query: &Query,
 ) -> Result<Response, Fault>
+    ensures any { RespondsAny root.now (spec.page name.now (query_value query.now)) result
+        (K.cause keeper.new) }
     ensures spared { K.spares keeper.old keeper.new }
     ensures began_clean { K.is_clean keeper.new → K.is_clean keeper.old }
     ensures responds { K.is_clean keeper.new → (s : State) → K.stands keeper.old s →
@@ -223,6 +227,8 @@ fn respond_feature<K: Keeper>(
     name: &str,
     id: &str,
 ) -> Result<Response, Fault>
+    ensures any { RespondsAny root.now (spec.feature name.now id.now) result
+        (K.cause keeper.new) }
     ensures spared { K.spares keeper.old keeper.new }
     ensures began_clean { K.is_clean keeper.new → K.is_clean keeper.old }
     ensures responds { K.is_clean keeper.new → (s : State) → K.stands keeper.old s →
@@ -266,6 +272,8 @@ fn respond_collection<K: Keeper>(
     root: &str,
     name: &str,
 ) -> Result<Response, Fault>
+    ensures any { RespondsAny root.now (spec.one_collection name.now) result
+        (K.cause keeper.new) }
     ensures spared { K.spares keeper.old keeper.new }
     ensures began_clean { K.is_clean keeper.new → K.is_clean keeper.old }
     ensures responds { K.is_clean keeper.new → (s : State) → K.stands keeper.old s →
@@ -306,6 +314,8 @@ fn respond_collections<K: Keeper>(
     keeper: &mut K,
     root: &str,
 ) -> Result<Response, Fault>
+    ensures any { RespondsAny root.now spec.all_collections result
+        (K.cause keeper.new) }
     ensures spared { K.spares keeper.old keeper.new }
     ensures began_clean { K.is_clean keeper.new → K.is_clean keeper.old }
     ensures responds { K.is_clean keeper.new → (s : State) → K.stands keeper.old s →
@@ -371,6 +381,8 @@ pub(crate) fn respond_to<K: Keeper>(
     ensures told { (b : BatchValue) → ask_value ask.now ≡ spec.batch b →
         BatchResponds b.key result
         (λ r. K.applies keeper.old b r keeper.new) (keeper.new ≡ keeper.old) }
+    ensures any { RespondsAny root.now (ask_value ask.now) result
+        (K.cause keeper.new) }
     ensures spared { K.spares keeper.old keeper.new }
     ensures began_clean { K.is_clean keeper.new → K.is_clean keeper.old }
     ensures responds { K.is_clean keeper.new → (s : State) → K.stands keeper.old s →

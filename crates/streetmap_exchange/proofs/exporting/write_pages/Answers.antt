@@ -2,15 +2,17 @@ use Rattle.std.proofs.Common.{◌≡◌, ◌||◌, Some, Err, arith, vec_len, ap
 use Rattle.std.proofs.lemmas.Result.{err_from_is_err_and}
 use Rattle.std.specs.Io.KnownBytes.{Appends}
 use Rattle.streetmap_ledger.specs.PageView.{page_value}
-use Rattle.streetmap_exchange.specs.Exports.{AppendsFirst}
-use Rattle.streetmap_exchange.proofs.ExportLemmas.{Underway, is_any, begins, begins_early, breaks_off, stands_still, stands_between, goes_further, write_ends, page_ends, end_exports, page_part, some_before, some_here}
+use Rattle.streetmap_exchange.specs.Exports.{AppendsFirst, AppendsLess}
+use Rattle.streetmap_exchange.proofs.ExportLemmas.{Underway, is_any, begins, begins_early, begins_less, breaks_off, breaks_off_less}
+use Rattle.streetmap_exchange.proofs.ExportLemmas.{stands_less, stands_between, goes_further, write_ends, page_ends, end_exports, page_part, some_before, some_here}
 use Rattle.streetmap_exchange.proofs.exporting.write_pages.Goals as goal
 use Rattle.streetmap_exchange.proofs.exporting.write_pages.Goals.{then-later, else-later}
 
 pub returns-in_err-write_bytes-clause-exports : goal.returns-in_err-write_bytes-clause-exports
 returns-in_err-write_bytes-clause-exports g c = λ clean s stands first.
     let p = err_from_is_err_and c.from_residual.result c.from_residual.ensures.1 in
-    write_ends s _ c.from_residual.result c.in_err-write_bytes.field-0.0 _ _ (g.K.Keeper.stands c.args.keeper.now) (p.1 ∙ ap (λ x. Err x) p.2) c.in_err-write_bytes.ensures.fault (begins_early s _ _ _ _ first c.in_err-write_bytes.ensures.err) stands
+    write_ends s _ c.from_residual.result c.in_err-write_bytes.field-0.0 _ _ (g.K.Keeper.stands c.args.keeper.now) (p.1 ∙ ap (λ x. Err x) p.2) c.in_err-write_bytes.ensures.fault (begins_early s _ _ _ _ first c.in_err-write_bytes.ensures.err)
+    (λ is. begins_less s _ _ _ _ first (c.in_err-write_bytes.ensures.less (ap (λ x. Err x) is))) stands
 
 pub loop-turn-init : goal.loop-turn-init
 loop-turn-init g c = record {
@@ -29,7 +31,8 @@ returns-in_err-write_part-clause-exports g c = λ clean s stands first.
     let before = g.W.Write.contents c.loop-turn.writer in
     let after = g.W.Write.contents c.write_part.new.writer in
     let part = subst (AppendsFirst before after) (page_part c.loop-turn.later c.as_slice.result.now _ c.as_slice.ensures.value) c.in_err-write_part.ensures.err in
-    write_ends s _ c.from_residual-in_err-write_part.result c.in_err-write_part.field-0.0 _ _ (g.K.Keeper.stands c.loop-turn.keeper) (p.1 ∙ ap (λ x. Err x) p.2) c.in_err-write_part.ensures.fault (breaks_off s _ _ before after _ _ (inv.underway clean s stands first) part) (inv.stands clean s stands)
+    write_ends s _ c.from_residual-in_err-write_part.result c.in_err-write_part.field-0.0 _ _ (g.K.Keeper.stands c.loop-turn.keeper) (p.1 ∙ ap (λ x. Err x) p.2) c.in_err-write_part.ensures.fault (breaks_off s _ _ before after _ _ (inv.underway clean s stands first) part)
+    (λ is. breaks_off_less s _ _ before after _ _ (inv.underway clean s stands first) (subst (AppendsLess before after) (page_part c.loop-turn.later c.as_slice.result.now _ c.as_slice.ensures.value) (c.in_err-write_part.ensures.less (ap (λ x. Err x) is)))) (inv.stands clean s stands)
 
 pub returns-in_err-page-in-Some-clause-exports : goal.returns-in_err-page-in-Some-clause-exports
 returns-in_err-page-in-Some-clause-exports g c = λ clean s stands first.
@@ -56,7 +59,7 @@ returns-in-None-clause-exports g c = λ clean s stands first.
     let before = g.W.Write.contents c.loop-turn.writer in
     let after = g.W.Write.contents c.write_part.new.writer in
     let part = subst (Appends before after) (page_part c.loop-turn.later c.as_slice.result.now _ c.as_slice.ensures.value) c.in_ok-write_part.ensures.ok in
-    end_exports s _ _ before after (g.W.Write.contents c.write_end.new.writer) _ _ c.write_end.result (g.K.Keeper.stands c.loop-turn.keeper) (inv.underway clean s stands first) (sym c.next_id.ensures ∙ c.in-None.is) part c.write_end.ensures.ok c.write_end.ensures.err c.write_end.ensures.fault (inv.stands clean s stands)
+    end_exports s _ _ before after (g.W.Write.contents c.write_end.new.writer) _ _ c.write_end.result (g.K.Keeper.stands c.loop-turn.keeper) (inv.underway clean s stands first) (sym c.next_id.ensures ∙ c.in-None.is) part c.write_end.ensures.ok c.write_end.ensures.err c.write_end.ensures.less c.write_end.ensures.flush c.write_end.ensures.fault (inv.stands clean s stands)
 
 pub loop-turn-preserved : goal.loop-turn-preserved
 loop-turn-preserved g c =
@@ -87,4 +90,4 @@ loop-turn-preserved g c =
 pub returns-clause-exports : goal.returns-clause-exports
 returns-clause-exports g c = λ clean s stands first.
     let inv = c.loop-turn.invariant in
-    (stands_still s _ _ _ _ _ (inv.underway clean s stands first), inv.stands clean s stands)
+    (stands_less s _ _ _ _ _ (inv.underway clean s stands first), inv.stands clean s stands)

@@ -1,9 +1,11 @@
-use Rattle.std.proofs.Common.{subst}
+use Rattle.std.proofs.Common.{◌≡◌, ◌∙◌, ap, sym, refl, subst, Result, Err}
+use Rattle.std.proofs.lemmas.Result.{err_from_is_err_and}
 use Rattle.streetmap_memory.specs.Plain.{IsPlain, plain_state}
-use Rattle.streetmap_lines.specs.Lines.{line_answer, state_after, answer_text, AppendsFirst}
+use Rattle.streetmap_lines.specs.Lines.{line_answer, state_after, answer_text, AppendsFirst, AppendsLess}
 use Rattle.streetmap_lines.specs.Reading.{TakesLine}
 use Rattle.std.specs.Io.KnownBytes.{Appends}
-use Rattle.streetmap_lines.proofs.AnswerLemmas.{answered_none, answered_more, answered_first, answered_begun, answered_partly, on_err, stands_for_own}
+use Rattle.streetmap_lines.proofs.AnswerLemmas.{answered_none, answered_more, answered_first, answered_begun, answered_partly, answered_less}
+use Rattle.streetmap_lines.proofs.AnswerLemmas.{on_err, stands_for_own}
 use Rattle.streetmap_lines.proofs.input.lines.Goals as goal
 
 pub loop-turn-init : goal.loop-turn-init
@@ -30,6 +32,37 @@ returns-in_err-write_answer-in-Text-clause-err g c =
     on_err c.from_residual-in_err-write_answer-in-Text.result _
     (answered_partly (g.R.Read.remaining c.args.reader.now) rest later (g.W.Write.contents c.args.writer.now) _ (g.W.Write.contents c.write_answer.new.writer) line before
     c.loop-turn.invariant.answered taken partly)
+
+pub returns-in_err-write_answer-in-Text-clause-write_failed : goal.returns-in_err-write_answer-in-Text-clause-write_failed
+returns-in_err-write_answer-in-Text-clause-write_failed g c = λ is.
+    let rest = g.R.Read.remaining c.loop-turn.reader in
+    let later = g.R.Read.remaining c.next_line.new.reader in
+    let before = plain_state c.loop-turn.keeper in
+    let line = c.in-Text.line.items in
+    let taken = subst (TakesLine rest later) c.in-Text.is c.in_ok-next_line.ensures.taken in
+    let r = c.from_residual-in_err-write_answer-in-Text in
+    let p = err_from_is_err_and r.result r.ensures.1 in
+    let failed = sym (p.1 ∙ ap (λ x. Err x) p.2) ∙ is in
+    let less = subst (λ l. AppendsLess (g.W.Write.contents c.loop-turn.writer) (g.W.Write.contents c.write_answer.new.writer) (answer_text (line_answer before l)))
+    c.as_slice.ensures.value (c.in_err-write_answer-in-Text.ensures.less c.loop-turn.invariant.stands failed) in
+    answered_less (g.R.Read.remaining c.args.reader.now) rest later (g.W.Write.contents c.args.writer.now) _ (g.W.Write.contents c.write_answer.new.writer) line before
+    c.loop-turn.invariant.answered taken less
+
+pub returns-in_err-write_answer-in-Text-clause-flush_failed : goal.returns-in_err-write_answer-in-Text-clause-flush_failed
+returns-in_err-write_answer-in-Text-clause-flush_failed g c = λ is.
+    let rest = g.R.Read.remaining c.loop-turn.reader in
+    let later = g.R.Read.remaining c.next_line.new.reader in
+    let before = plain_state c.loop-turn.keeper in
+    let line = c.in-Text.line.items in
+    let taken = subst (TakesLine rest later) c.in-Text.is c.in_ok-next_line.ensures.taken in
+    let r = c.from_residual-in_err-write_answer-in-Text in
+    let p = err_from_is_err_and r.result r.ensures.1 in
+    let failed = sym (p.1 ∙ ap (λ x. Err x) p.2) ∙ is in
+    let written = subst (λ l. Appends (g.W.Write.contents c.loop-turn.writer) (g.W.Write.contents c.write_answer.new.writer) (answer_text (line_answer before l)))
+    c.as_slice.ensures.value (c.in_err-write_answer-in-Text.ensures.flush c.loop-turn.invariant.stands failed) in
+    answered_first (g.R.Read.remaining c.args.reader.now) later (g.W.Write.contents c.args.writer.now) (g.W.Write.contents c.write_answer.new.writer) (state_after before line)
+    (answered_more (g.R.Read.remaining c.args.reader.now) rest later (g.W.Write.contents c.args.writer.now) _ (g.W.Write.contents c.write_answer.new.writer) line before
+    (state_after before line) c.loop-turn.invariant.answered taken written refl)
 
 pub loop-turn-preserved : goal.loop-turn-preserved
 loop-turn-preserved g c =

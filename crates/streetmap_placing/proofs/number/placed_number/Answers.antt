@@ -10,5 +10,8 @@ pub returns-in-Err : goal.returns-in-Err
 returns-in-Err c =
     let p = c.args.placement.now in
     let fault = c.in-Err.fault in
-    let placed = subst (λ (t : List ℕ). PlacesText (shift_of c.args.axis p.shift) p.scale.count p.rounding t (Err fault)) c.as_bytes.ensures.value c.in-Err.ensures.places in
-    answered view c.of_decimal.result (IsPlaced p c.args.axis c.args.text.now) (Err fault, (placed, ap Err c.of_decimal.ensures))
+    let placed = subst
+    (λ (t : List ℕ). PlacesText (shift_of c.args.axis p.shift) p.scale.count p.rounding t
+    (Err fault)) c.as_bytes.ensures.value c.in-Err.ensures.places in
+    answered view c.of_decimal.result (IsPlaced p c.args.axis c.args.text.now)
+    (Err fault, (placed, ap Err c.of_decimal.ensures))

@@ -10,18 +10,17 @@ use Rattle.streetmap_placing.proofs.placing.+placing.Given as goal
 -- what the other elements become, behind those that are placed, is what all become
 abbrev pub invariant-placed_items-loop-index : goal.invariant-placed_items-loop-index
 invariant-placed_items-loop-index l =
-    let p = l.numbers.placement in
-    let f = l.numbers.fractions in
+    let n = l.numbers in
     let js = json_items l.item-items in
     (r : Result Items PlacingFault)
-    → ItemsBecome p f l.role (items_count js) l.index (json_items (drop l.index l.item-items)) r
-    → ItemsBecome p f l.role (items_count js) 0 js (behind (map view l.placed.items) r)
+    → ItemsBecome n l.role (items_count js) l.index (json_items (drop l.index l.item-items)) r
+    → ItemsBecome n l.role (items_count js) 0 js (behind (map view l.placed.items) r)
 
 -- what the other members become, put among those that are placed, is what all become
 abbrev pub invariant-placed_members-loop-name : goal.invariant-placed_members-loop-name
 invariant-placed_members-loop-name l =
-    let p = l.numbers.placement in
-    let f = l.numbers.fractions in
+    let n = l.numbers in
     (r : Result Members PlacingFault)
-    → MembersBecome p f l.role (json_members (drop l.name-index l.name-items)) (members_view l.placed.entries) r
-    → MembersBecome p f l.role (json_members l.name-items) no_members r
+    → MembersBecome n l.role (json_members (drop l.name-index l.name-items))
+    (members_view l.placed.entries) r
+    → MembersBecome n l.role (json_members l.name-items) no_members r

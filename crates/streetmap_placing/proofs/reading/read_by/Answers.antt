@@ -10,11 +10,13 @@ none_at text false e never = rw e refl
 
 pub returns-in-Ok : goal.returns-in-Ok
 returns-in-Ok c =
-    let text : is_utf8 c.args.bytes.now ≡ true = is_utf8-from_IsUtf8 c.args.bytes.now c.in-Ok.ensures.cases.1 in
+    let text : is_utf8 c.args.bytes.now ≡ true =
+    is_utf8-from_IsUtf8 c.args.bytes.now c.in-Ok.ensures.cases.1 in
     rw (text, ← c.in-Ok.ensures.cases.0) c.read_text.ensures
 
 pub returns-in-Err : goal.returns-in-Err
 returns-in-Err c =
     let text = c.args.bytes.now in
-    let none = none_at text (is_utf8 text) refl (λ e. c.in-Err.ensures.cases.0 (IsUtf8-from_is_utf8 text e)) in
+    let none = none_at text (is_utf8 text) refl
+    (λ e. c.in-Err.ensures.cases.0 (IsUtf8-from_is_utf8 text e)) in
     rw none refl

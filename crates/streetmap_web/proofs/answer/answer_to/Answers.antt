@@ -16,7 +16,7 @@ returns-in-Ok-clause-answers g c = λ clean x h.
     let r = c.args.request in
     let says = c.in-Ok.ensures in
     ok_answers sight (root_of c.args.base.now) (ask_of r.method.now r.target.now c.args.body.now) r.closes (is_bare r.method.now) c.args.keeper.now c.try_answer.new.keeper x c.in-Ok.answer
-    (says.answers clean) says.shut (says.leaves clean) h
+    (says.answers clean) says.shut says.any (says.leaves clean) h
 
 pub returns-in-Err-clause-answers : goal.returns-in-Err-clause-answers
 returns-in-Err-clause-answers g c = λ clean x h.
@@ -25,7 +25,7 @@ returns-in-Err-clause-answers g c = λ clean x h.
     let r = c.args.request in
     let says = c.in-Err.ensures in
     err_answers sight (root_of c.args.base.now) (ask_of r.method.now r.target.now c.args.body.now) r.closes (is_bare r.method.now) c.args.keeper.now c.try_answer.new.keeper x c.in-Err.fault _
-    (says.answers clean) says.shut (says.leaves clean) (says.device clean) h
+    (says.answers clean) says.shut says.any (says.leaves clean) (says.device clean) h
     (c.fixed.ensures ∙ ap (λ bare. response_text true bare (fault_response (Keeper c.in-Err.fault))) c.is_bare.ensures)
 
 pub returns-in-Ok-clause-told : goal.returns-in-Ok-clause-told

@@ -1,7 +1,8 @@
 use Rattle.std.proofs.Common.{refl, Err, ap}
 use Rattle.streetmap_routes.specs.Ask.{feature}
 use Rattle.streetmap_web.specs.Response.{found_feature}
-use Rattle.streetmap_web.proofs.Looks.{look_leaves, found_responds, no_device}
+use Rattle.streetmap_web.proofs.Looks.{look_shown, look_leaves, found_responds, no_device}
+use Rattle.streetmap_web.proofs.Statuses.{feature_well}
 use Rattle.streetmap_web.proofs.respond.respond_feature.Goals as goal
 
 pub returns-in-Ok-clause-responds : goal.returns-in-Ok-clause-responds
@@ -18,3 +19,8 @@ returns-in-Err-clause-leaves g c = λ clean s stands only. look_leaves s (featur
 
 pub returns-in-Ok-clause-device : goal.returns-in-Ok-clause-device
 returns-in-Ok-clause-device g c = λ clean s stands is. absurd (no_device c.found_feature.result c.or_starved.result c.or_starved.ensures.ok c.or_starved.ensures.err is)
+
+pub returns-in-Ok-clause-any : goal.returns-in-Ok-clause-any
+returns-in-Ok-clause-any g c =
+    look_shown c.args.root.now (feature c.args.name.now c.args.id.now) c.found_feature.result c.or_starved.result _ _
+    c.found_feature.ensures c.or_starved.ensures.ok c.or_starved.ensures.err refl (feature_well _ _ _)

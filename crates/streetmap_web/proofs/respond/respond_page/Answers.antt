@@ -1,7 +1,8 @@
 use Rattle.std.proofs.Common.{refl, Err}
 use Rattle.streetmap_query.specs.Views.{query_value}
 use Rattle.streetmap_routes.specs.Ask.{page}
-use Rattle.streetmap_web.proofs.Looks.{look_leaves}
+use Rattle.streetmap_web.proofs.Looks.{look_shown, look_leaves}
+use Rattle.streetmap_web.proofs.Statuses.{page_well}
 use Rattle.streetmap_web.proofs.respond.respond_page.Goals as goal
 
 pub returns-in-Ok-clause-leaves : goal.returns-in-Ok-clause-leaves
@@ -9,3 +10,8 @@ returns-in-Ok-clause-leaves g c = λ clean s stands only. look_leaves s (page c.
 
 pub returns-in-Err-clause-leaves : goal.returns-in-Err-clause-leaves
 returns-in-Err-clause-leaves g c = λ clean s stands only. look_leaves s (page c.args.name.now (query_value c.args.query.now)) (Err c.in-Err.fault) _ refl (c.in-Err.ensures.leaves clean s stands only)
+
+pub returns-in-Ok-clause-any : goal.returns-in-Ok-clause-any
+returns-in-Ok-clause-any g c =
+    look_shown c.args.root.now (page c.args.name.now (query_value c.args.query.now)) c.found_page.result c.or_starved.result _ _
+    c.found_page.ensures c.or_starved.ensures.ok c.or_starved.ensures.err refl (page_well _ _ _ _)

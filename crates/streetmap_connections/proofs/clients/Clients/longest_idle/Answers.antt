@@ -1,6 +1,5 @@
 use Rattle.std.proofs.Common.{◌≡◌, ℕ, ◌<◌, ◌≤◌, List, length, IfSome, IfNone, subst, ap, arith}
 use Rattle.std.proofs.lemmas.List.Elements.{AllWithin-more, at_read}
-use Rattle.streetmap_connections.specs.declared.limits.TheConstants.{LEAST_IDLE}
 use Rattle.streetmap_connections.specs.declared.slot.Slot.{Slot}
 use Rattle.streetmap_connections.specs.Slots.{IdlesFor, IsLongestIdleAt, NoneIdlesBeyond}
 use Rattle.streetmap_connections.proofs.Idling.{found_read, longest_found, none_beyond, none_found}
@@ -46,5 +45,5 @@ pub returns-clause-none_idle : goal.returns-clause-none_idle
 returns-clause-none_idle g c =
     let slots = c.as_slice-slots.result.now in
     let none = none_beyond c.args.now c.loop-place.longest slots c.loop-place.place c.loop-place-test.false c.loop-place.invariant.most in
-    subst (λ (xs : List (Slot g.row.S.Denot)). IfNone c.loop-place.found (NoneIdlesBeyond c.args.now LEAST_IDLE xs)) c.as_slice-slots.ensures.value
-    (none_found c.args.now c.loop-place.longest LEAST_IDLE slots c.loop-place.found c.loop-place.invariant.none none)
+    subst (λ (xs : List (Slot g.row.S.Denot)). IfNone c.loop-place.found (NoneIdlesBeyond c.args.now c.args.self.now.limits.least_idle xs)) c.as_slice-slots.ensures.value
+    (none_found c.args.now c.loop-place.longest c.args.self.now.limits.least_idle slots c.loop-place.found c.loop-place.invariant.none none)

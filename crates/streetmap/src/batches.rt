@@ -1,0 +1,51 @@
+//! Kept batches out of a file, and batches in from a text.
+use crate::fault;
+use std::fs::File;
+use std::io::{BufReader, BufWriter, Read, Write, writer};
+use streetmap_batch_lines::write_batches;
+use streetmap_faults::ProgramFault;
+use streetmap_following::{ReplyLines, follow_lines};
+use streetmap_kept::KeepsBatches;
+
+/// Prints the kept batches whose serial is above one, a line each.
+pub(crate) fn print<K: KeepsBatches>(
+    rt: &HostRuntime,
+    keeper: &mut K,
+    after: u32,
+) -> Result<(), ProgramFault> {
+    let Ok(mut output) = BufWriter::new(rt.alloc(), writer(rt)) else {
+        return Err(ProgramFault::Memory);
+    };
+    match write_batches(rt.alloc(), keeper, after as u64, &mut output) {
+        Ok(_) => output.flush().map_err(|_| ProgramFault::WriteFailed),
+        Err(stop) => Err(ProgramFault::Batches(stop)),
+    }
+}
+
+/// Applies the lines of an input, and prints the reply to each.
+fn follow<K: KeepsBatches, R: Read + Drop>(
+    rt: &HostRuntime,
+    keeper: &mut K,
+    input: R,
+) -> Result<(), ProgramFault> {
+    let Ok(mut reader) = BufReader::new(rt.alloc(), input) else {
+        return Err(ProgramFault::Memory);
+    };
+    let mut replies = ReplyLines::new(rt.alloc(), writer(rt))?;
+    fault::of_followed(follow_lines(rt.alloc(), keeper, &mut reader, &mut replies))
+}
+
+/// Applies the lines of a text, or of standard input.
+pub(crate) fn apply<K: KeepsBatches>(
+    rt: &HostRuntime,
+    keeper: &mut K,
+    text: Option<&str>,
+) -> Result<(), ProgramFault> {
+    let Some(path) = text else {
+        return follow(rt, keeper, rt.reader());
+    };
+    match File::open(rt, path) {
+        Ok(file) => follow(rt, keeper, file),
+        Err(error) => Err(fault::of_text(&error)),
+    }
+}

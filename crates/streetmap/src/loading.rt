@@ -1,0 +1,221 @@
+//! Features of any number in: a load.
+use crate::fault;
+use std::fs::File;
+use std::io::{BufReader, IsTerminal, Read, Stderr, Write, writer};
+use streetmap_command::LoadAsked;
+use streetmap_faults::ProgramFault;
+use streetmap_ledger::Keeper;
+use streetmap_loading::{
+    End, HeldTimes, KeeperSink, LineSink, Listener, Load, LoadOptions, Loaded, Opening, TextFault,
+    ask_times, check_text, load_text, print_text,
+};
+
+/// What a load under way is told to: lines on standard error.
+#[derive(Drop)]
+struct LoadLines<'a, W> {
+    /// Where lines of features at fault go.
+    faults: W,
+    /// Where lines of how far the load is go: none are written where there is nothing.
+    progress: Option<W>,
+    /// How many features were passed over.
+    passed_over: &'a mut u64,
+}
+
+impl<'a> LoadLines<'a, Stderr> {
+    /// Lines on standard error, those of how far the load is where it is asked for, or where that
+    /// is a terminal.
+    fn new(
+        rt: &HostRuntime,
+        asked: LoadAsked<'_>,
+        passed_over: &'a mut u64,
+    ) -> LoadLines<'a, Stderr> {
+        let is_shown = asked.progress || rt.stderr().is_terminal();
+        LoadLines {
+            faults: rt.stderr(),
+            progress: if is_shown { Some(rt.stderr()) } else { None },
+            passed_over,
+        }
+    }
+}
+
+impl<W: Write> Listener for LoadLines<'_, W> {
+    /// A line that cannot be written is left out.
+    fn reached(&mut self, features: u64, bytes: u64) {
+        if features % 1000 == 0 {
+            if let Some(output) = &mut self.progress {
+                let _ = writeln!(output, "streetmap: {features} features, {bytes} bytes");
+            }
+        }
+    }
+
+    /// A line that cannot be written is left out.
+    fn passed_over(&mut self, fault: TextFault) {
+        *self.passed_over = self.passed_over.saturating_add(1);
+        let fault = ProgramFault::Load(End::AtFault(fault));
+        let _ = writeln!(self.faults, "{fault}");
+    }
+}
+
+/// The load that is asked for.
+pub(crate) fn read(rt: &HostRuntime, asked: LoadAsked<'_>) -> Result<Load, ProgramFault> {
+    let opening = if asked.opens {
+        Some(Opening {
+            title: asked.title,
+            time: asked.time,
+        })
+    } else {
+        None
+    };
+    let options = LoadOptions {
+        key: asked.key,
+        each: asked.each as usize,
+        collection: asked.collection,
+        replace: asked.replace,
+        opening,
+    };
+    Load::new(rt.alloc(), options).map_err(ProgramFault::NotLoaded)
+}
+
+/// The property of the times of the collection that is opened.
+fn opened_times(rt: &HostRuntime, asked: LoadAsked<'_>) -> Result<HeldTimes, ProgramFault> {
+    let property = match asked.time {
+        Some(name) => Some(String::from_str(rt.alloc(), name)?),
+        None => None,
+    };
+    Ok(HeldTimes { property })
+}
+
+/// The property that times of features are held to where faults are passed over: that of the
+/// opening, or of the collection that is there.
+fn times_of<K: Keeper>(
+    rt: &HostRuntime,
+    sink: &mut KeeperSink<K>,
+    asked: LoadAsked<'_>,
+) -> Result<HeldTimes, ProgramFault> {
+    if asked.opens {
+        return opened_times(rt, asked);
+    }
+    let times = ask_times(sink, asked.collection);
+    times.map_err(|fault| ProgramFault::Load(End::Stopped(fault)))
+}
+
+/// What the load came to is printed, where it came to its end, or why it ended before.
+fn end(
+    rt: &HostRuntime,
+    asked: LoadAsked<'_>,
+    loaded: Loaded,
+    passed_over: u64,
+) -> Result<(), ProgramFault> {
+    if !matches!(loaded.end, End::All) {
+        return Err(ProgramFault::Load(loaded.end));
+    }
+    if !asked.check && !asked.print {
+        let features = loaded.taken.saturating_sub(asked.opens as u64);
+        let (batches, serial) = (loaded.batches, loaded.serial.unwrap_or(0));
+        let line = println!(rt;
+            "{{\"batches\":{batches},\"features\":{features},\"serial\":{serial}}}"
+        );
+        line.map_err(|_| ProgramFault::WriteFailed)?;
+    }
+    if passed_over == 0 {
+        Ok(())
+    } else {
+        Err(ProgramFault::PassedOver)
+    }
+}
+
+/// Prints the batches of the features of an input.
+fn print_from<R: Read + Drop>(
+    rt: &HostRuntime,
+    input: R,
+    load: Load,
+    asked: LoadAsked<'_>,
+) -> Result<(), ProgramFault> {
+    let Ok(reader) = BufReader::new(rt.alloc(), input) else {
+        return Err(ProgramFault::Memory);
+    };
+    let mut sink = LineSink {
+        alloc: rt.alloc(),
+        writer: writer(rt),
+    };
+    let mut passed_over = 0;
+    let lines = LoadLines::new(rt, asked, &mut passed_over);
+    let loaded = print_text(rt.alloc(), &mut sink, reader, load, lines);
+    end(rt, asked, loaded, passed_over)
+}
+
+/// Loads the features of an input into a keeper, or reads them alone.
+fn load_from<K: Keeper, R: Read + Drop>(
+    rt: &HostRuntime,
+    sink: &mut KeeperSink<K>,
+    input: R,
+    load: Load,
+    asked: LoadAsked<'_>,
+) -> Result<(), ProgramFault> {
+    let Ok(reader) = BufReader::new(rt.alloc(), input) else {
+        return Err(ProgramFault::Memory);
+    };
+    let mut passed_over = 0;
+    let lines = LoadLines::new(rt, asked, &mut passed_over);
+    let loaded = if asked.check {
+        check_text(rt.alloc(), reader, load, lines)
+    } else {
+        load_text(rt.alloc(), sink, reader, load, lines)
+    };
+    end(rt, asked, loaded, passed_over)
+}
+
+/// Sends the features of an input where it is asked for.
+fn send<K: Keeper, R: Read + Drop>(
+    rt: &HostRuntime,
+    sink: &mut KeeperSink<K>,
+    input: R,
+    load: Load,
+    asked: LoadAsked<'_>,
+) -> Result<(), ProgramFault> {
+    if asked.print {
+        print_from(rt, input, load, asked)
+    } else {
+        load_from(rt, sink, input, load, asked)
+    }
+}
+
+/// Loads the features of a text, or of standard input, into a keeper.
+pub(crate) fn run<K: Keeper + Drop>(
+    rt: &HostRuntime,
+    keeper: K,
+    load: Load,
+    asked: LoadAsked<'_>,
+) -> Result<(), ProgramFault> {
+    let mut sink = KeeperSink { keeper };
+    let mut load = load;
+    if asked.skip || asked.check {
+        load = load.skipping(times_of(rt, &mut sink, asked)?);
+    }
+    let Some(path) = asked.text else {
+        return send(rt, &mut sink, rt.reader(), load, asked);
+    };
+    match File::open(rt, path) {
+        Ok(file) => send(rt, &mut sink, file, load, asked),
+        Err(error) => Err(fault::of_text(&error)),
+    }
+}
+
+/// Prints the batches of the features of a text, or of standard input, over no file.
+pub(crate) fn print(
+    rt: &HostRuntime,
+    load: Load,
+    asked: LoadAsked<'_>,
+) -> Result<(), ProgramFault> {
+    let mut load = load;
+    if asked.skip {
+        load = load.skipping(opened_times(rt, asked)?);
+    }
+    let Some(path) = asked.text else {
+        return print_from(rt, rt.reader(), load, asked);
+    };
+    match File::open(rt, path) {
+        Ok(file) => print_from(rt, file, load, asked),
+        Err(error) => Err(fault::of_text(&error)),
+    }
+}

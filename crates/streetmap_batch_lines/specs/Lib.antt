@@ -1,0 +1,3 @@
+pub mod Stops
+pub mod Printed
+pub mod Laws

@@ -1,0 +1,132 @@
+//! The commands that move features and batches in and out of a file.
+ghost use Rattle.std.specs.Prelude.{◌≡◌, ◌≤◌, IfOk, IfErr, IfSome, Some, IsSome, option_map};
+ghost use Rattle.clap.specs.Words.{rows_of, found_of};
+ghost use Rattle.streetmap_command.specs.CommandView.{command_value, load_value};
+ghost use Rattle.streetmap_command.specs.Program.{load_by, batches_by, apply_by, agrees};
+ghost use Rattle.streetmap_command.specs.Program.{options_given};
+ghost use Rattle.streetmap_command.specs.Program.{each_given, after_given};
+
+use crate::command::{Command, CommandFault, has_flag, read_number, value_of};
+use clap::ArgMatches;
+
+/// The edits of a batch of a load, where no number is given.
+const EACH: u32 = 1000;
+
+/// The load of a text of features, a feature a line.
+#[derive(Clone, Copy, Debug, Drop)]
+pub struct LoadAsked<'a> {
+    /// The path of the text: standard input where there is none.
+    pub text: Option<&'a str>,
+    /// The key K of the batches K.1, K.2, ..
+    pub key: &'a str,
+    /// The collection that the features are put into.
+    pub collection: &'a str,
+    /// The most edits of a batch, 1 to 10,000.
+    pub each: u32,
+    /// Whether the first batch opens the collection.
+    pub opens: bool,
+    /// The title of the collection that is opened.
+    pub title: Option<&'a str>,
+    /// The time property of the collection that is opened.
+    pub time: Option<&'a str>,
+    /// Whether features replace those with their ids.
+    pub replace: bool,
+    /// Whether features at fault are passed over.
+    pub skip: bool,
+    /// Whether features are only read, and nothing is written.
+    pub check: bool,
+    /// Whether batches are printed in place of being applied.
+    pub print: bool,
+    /// Whether lines on standard error say how far the load is.
+    pub progress: bool,
+}
+
+/// The edits of a batch.
+fn read_each(given: Option<&str>) -> Option<u32>
+    ensures value { result ≡ each_given (option_map (λ s. s.now) given.entry) }
+    ensures bound { IfSome result (λ n. n ≤ 10000) }
+{
+    match given {
+        Some(text) => read_number(text, 10_000),
+        None => Some(EACH),
+    }
+}
+
+/// The serial behind which batches are printed.
+fn read_after(given: Option<&str>) -> Option<u32>
+    ensures { result ≡ after_given (option_map (λ s. s.now) given.entry) }
+{
+    match given {
+        Some("0") => Some(0),
+        Some(text) => read_number(text, u32::MAX),
+        None => Some(0),
+    }
+}
+
+/// Whether a title and a time go with an opening, and what is only checked is not printed.
+fn is_agreed(load: &LoadAsked<'_>) -> bool
+    ensures { result ≡ agrees (load_value load.now) }
+{
+    let is_plain = load.title.is_none() && load.time.is_none();
+    (load.opens || is_plain) && !(load.check && load.print)
+}
+
+/// The options of a load, of what is given with it.
+fn read_options<'a>(found: &ArgMatches<'a>) -> Option<LoadAsked<'a>>
+    ensures { option_map load_value result ≡ options_given (rows_of (found_of found.now)) }
+{
+    Some(LoadAsked {
+        text: value_of(found, "text"),
+        key: value_of(found, "key")?,
+        collection: value_of(found, "collection")?,
+        each: read_each(value_of(found, "each"))?,
+        opens: has_flag(found, "open"),
+        title: value_of(found, "title"),
+        time: value_of(found, "time"),
+        replace: has_flag(found, "replace"),
+        skip: has_flag(found, "skip"),
+        check: has_flag(found, "check"),
+        print: has_flag(found, "print"),
+        progress: has_flag(found, "progress"),
+    })
+}
+
+/// The command `load`, of what is given with it.
+pub(crate) fn read_load<'a>(found: &ArgMatches<'a>) -> Result<Command<'a>, CommandFault>
+    ensures found { IfOk result (λ c. Some (command_value c)
+        ≡ load_by (rows_of (found_of found.now))) }
+    ensures refused { IfErr result (λ e. IsSome (load_by (rows_of (found_of found.now)))
+        → e ≡ CommandFault.Memory) }
+{
+    let file = value_of(found, "file").ok_or(CommandFault::Usage)?;
+    let load = read_options(found).ok_or(CommandFault::Usage)?;
+    if is_agreed(&load) {
+        Ok(Command::Load { file, load })
+    } else {
+        Err(CommandFault::Usage)
+    }
+}
+
+/// The command `batches`, of what is given with it.
+pub(crate) fn read_batches<'a>(found: &ArgMatches<'a>) -> Result<Command<'a>, CommandFault>
+    ensures found { IfOk result (λ c. Some (command_value c)
+        ≡ batches_by (rows_of (found_of found.now))) }
+    ensures refused { IfErr result (λ e. IsSome (batches_by (rows_of (found_of found.now)))
+        → e ≡ CommandFault.Memory) }
+{
+    let file = value_of(found, "file").ok_or(CommandFault::Usage)?;
+    let after = read_after(value_of(found, "after")).ok_or(CommandFault::Usage)?;
+    Ok(Command::Batches { file, after })
+}
+
+/// The command `apply`, of what is given with it.
+pub(crate) fn read_apply<'a>(found: &ArgMatches<'a>) -> Result<Command<'a>, CommandFault>
+    ensures found { IfOk result (λ c. Some (command_value c)
+        ≡ apply_by (rows_of (found_of found.now))) }
+    ensures refused { IfErr result (λ e. IsSome (apply_by (rows_of (found_of found.now)))
+        → e ≡ CommandFault.Memory) }
+{
+    let file = value_of(found, "file").ok_or(CommandFault::Usage)?;
+    let text = value_of(found, "text");
+    Ok(Command::Apply { file, text })
+}

@@ -1,0 +1,11 @@
+//! What the program prints, and the status that it ends with, where it is not done.
+//!
+//! A command that is not done ends with a [`ProgramFault`]. Its line on standard error is
+//! `streetmap: ` and the name of the fault, then the line of batches at fault, the place of the
+//! feature or edit at fault, and what is wrong with that feature, where there are such
+//! (`specs/ProgramFaults`).
+#![tactic(auto)]
+
+mod fault;
+
+pub use fault::ProgramFault;

@@ -1,0 +1,15 @@
+use Rattle.streetmap_ledger.specs.State.{State}
+use Rattle.streetmap_journal.proofs.Alike.{SoFar}
+use Rattle.streetmap_journal.proofs.matching.match_lines.Given as goal
+
+-- so many lines are those of the journal
+abbrev pub invariant-loop-turn : goal.invariant-loop-turn
+invariant-loop-turn g l =
+    let k = g.K.Keeper in
+    record {
+      spared : k.spares l.fn.keeper l.keeper;
+      clean : k.is_clean l.keeper → k.is_clean l.fn.keeper;
+      alike : k.is_clean l.keeper → (s : State) → k.stands l.fn.keeper s →
+          SoFar s l.after (g.R.Read.remaining l.fn.reader) (g.R.Read.remaining l.reader) l.turn
+          l.bytes (k.stands l.keeper);
+    }

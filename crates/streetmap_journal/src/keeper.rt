@@ -1,0 +1,118 @@
+//! A keeper with a journal.
+ghost use Rattle.std.specs.Prelude.{◌≡◌, [], Some, None, Err, IsErr, IsErrOf};
+ghost use Rattle.streetmap_ledger.specs.State.{State};
+ghost use Rattle.streetmap_ledger.specs.Keep.{Looks, LeavesOnly, ShutsBy, AsBefore};
+ghost use Rattle.streetmap_journal.specs.Written.{FaultKeeps};
+
+use crate::journal::{Journal, JournalWriter, line_of};
+use std::alloc::Global;
+use streetmap_geojson::Feature;
+use streetmap_kept::KeepsBatches;
+use streetmap_ledger::{Batch, Fault, FeatureOutline, Keeper, Page, Reply, Summary};
+use streetmap_query::Query;
+
+/// A keeper that writes each batch that it accepts as a line of a journal, behind its commit and
+/// before its answer.
+#[derive(Drop)]
+pub struct JournaledKeeper<K, W> {
+    pub alloc: Global,
+    pub keeper: K,
+    pub journal: Journal<W>,
+}
+
+/// Why a batch was not asked for, where memory was refused: a shut keeper answers as ever.
+fn refuse<K: KeepsBatches>(keeper: &mut K) -> Fault
+    ensures spared { K.spares keeper.old keeper.new }
+    ensures began_clean { K.is_clean keeper.new → K.is_clean keeper.old }
+    ensures faults { ShutsBy {T = Unit {0}} (Err result) (K.cause keeper.old) (K.cause keeper.new) }
+    ensures keeps { K.is_clean keeper.new → (s : State) → K.stands keeper.old s →
+        FaultKeeps s result (K.stands keeper.new) }
+    ensures device { K.is_clean keeper.new → (s : State) → K.stands keeper.old s →
+        result ≡ Fault.Device → K.fails keeper.old keeper.new }
+    ensures leaves { K.is_clean keeper.new → (s : State) → K.stands keeper.old s →
+        LeavesOnly (K.may_leave keeper.old) (Some s) →
+        LeavesOnly (K.may_leave keeper.new) (Some s) }
+    ensures reopen { result ≡ Fault.Reopen →
+        AsBefore (K.stands keeper.old) (K.stands keeper.new)
+        (K.may_leave keeper.old) (K.may_leave keeper.new) }
+{
+    match keeper.batch_count() {
+        Ok(_) => Fault::Memory,
+        Err(fault) => fault,
+    }
+}
+
+impl<K: KeepsBatches, W: JournalWriter> Keeper for JournaledKeeper<K, W> {
+    ghost use Rattle.streetmap_journal.specs.Written.{TellBytes, Holds, position_of, OfReply};
+
+    ghost stands = { λ k s. K.stands k.keeper s
+        × (TellBytes W.contents →
+        Holds (position_of k.journal.next k.journal.part k.journal.is_behind)
+        (W.contents k.journal.writer) s) };
+
+    ghost may_leave = { λ k. K.may_leave k.keeper };
+
+    ghost cause = { λ k. K.cause k.keeper };
+
+    ghost is_clean = { λ k. K.is_clean k.keeper };
+
+    ghost applies = { λ k b result after.
+        OfReply (λ r. K.applies k.keeper b r after.keeper) result };
+
+    ghost spares = { λ k l. K.spares k.keeper l.keeper };
+
+    ghost fails = { λ k l. K.fails k.keeper l.keeper };
+
+    ghost one_state = { λ k s t p q. K.one_state k.keeper s t p.0 q.0 };
+
+    ghost shut_has_none = { λ k s shut stands. K.shut_has_none k.keeper s shut stands.0 };
+
+    ghost may_leave_it = { λ k s stands. K.may_leave_it k.keeper s stands.0 };
+
+    ghost well_formed = { λ k s stands. K.well_formed k.keeper s stands.0 };
+
+    ghost spares_itself = { λ k. K.spares_itself k.keeper };
+
+    ghost spares_then = { λ k l m first next. K.spares_then k.keeper l.keeper m.keeper first next };
+
+    ghost fails_later = { λ k l m first next failed.
+        K.fails_later k.keeper l.keeper m.keeper first next failed };
+
+    ghost fails_still = { λ k l m failed shut next.
+        K.fails_still k.keeper l.keeper m.keeper failed shut next };
+
+    fn apply(&mut self, batch: &Batch) -> Result<Reply, Fault> {
+        let Ok(line) = line_of(self.alloc, self.journal.next, batch) else {
+            return Err(refuse(&mut self.keeper));
+        };
+        match self.keeper.apply(batch) {
+            Ok(Reply::Accepted(counts, serial)) => {
+                self.journal.note(line.as_slice());
+                Ok(Reply::Accepted(counts, serial))
+            }
+            Ok(Reply::Repeated(counts, serial)) => Ok(Reply::Repeated(counts, serial)),
+            Ok(Reply::Refused(why, place)) => Ok(Reply::Refused(why, place)),
+            Err(fault) => Err(fault),
+        }
+    }
+
+    fn page(&mut self, collection: &str, query: &Query) -> Result<Option<Page>, Fault> {
+        self.keeper.page(collection, query)
+    }
+
+    fn feature(&mut self, collection: &str, id: &str) -> Result<Option<Feature>, Fault> {
+        self.keeper.feature(collection, id)
+    }
+
+    fn collection(&mut self, id: &str) -> Result<Option<Summary>, Fault> {
+        self.keeper.collection(id)
+    }
+
+    fn collections(&mut self) -> Result<Vec<Summary>, Fault> {
+        self.keeper.collections()
+    }
+
+    fn outlines(&mut self, collection: &str) -> Result<Option<Vec<FeatureOutline>>, Fault> {
+        self.keeper.outlines(collection)
+    }
+}

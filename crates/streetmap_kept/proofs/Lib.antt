@@ -1,0 +1,3 @@
+pub mod Serials
+pub mod AllThere
+pub mod Nexts

@@ -1,0 +1,9 @@
+pub mod Sent
+pub mod SendLemmas
+pub mod Taking
+pub mod TextLemmas
+pub mod Again
+pub mod KeeperLemmas
+pub mod OpeningLemmas
+pub mod WriteLemmas
+pub mod PrintLemmas

@@ -1,0 +1,244 @@
+-- Edits that were read, and their batches sent.
+use Rattle.std.proofs.Common.{◌≡◌, ℕ, ◌+◌, ◌<◌, ◌≤◌, List, [], ◌∷◌, ◌++◌, Option, None, Some}
+use Rattle.std.proofs.Common.{Result, Ok, Err, length, refl, sym, ap, subst, ◌∙◌, arith}
+use Rattle.std.proofs.Common.{append_assoc, length-append}
+use Rattle.std.proofs.lemmas.List.{append-nil}
+use Rattle.streetmap_batch.specs.Text.{Text}
+use Rattle.streetmap_batch.specs.BatchValue.{BatchValue}
+use Rattle.streetmap_packing.specs.PackerView.{packing}
+use Rattle.streetmap_packing.proofs.Underway.{nothing}
+use Rattle.streetmap_loading.specs.Places.{PlacedValue}
+use Rattle.streetmap_loading.specs.Sources.{Item, TakesOff, HasNone, FirstIs, TakesNext}
+use Rattle.streetmap_loading.specs.Ends.{EndsBy, end_of_unread}
+use Rattle.streetmap_loading.specs.Sending.{Begins, IsSending, Fills, Puts, Finishes, IsWithin}
+use Rattle.streetmap_loading.specs.Sending.{IsBehind}
+use Rattle.streetmap_loading.specs.Loads.{Loads, AreRead, BeginsWith, items_of}
+use Rattle.streetmap_loading.specs.declared.sink.Stop.{Stop}
+use Rattle.streetmap_loading.specs.declared.source.Unread.{Unread}
+use Rattle.streetmap_loading.specs.declared.source.Unread.TheVariants as unread
+use Rattle.streetmap_loading.specs.declared.text_fault.TextFault.{TextFault}
+use Rattle.streetmap_loading.specs.declared.sending.Sending.{Sending}
+use Rattle.streetmap_loading.specs.declared.end.Loaded.{Loaded}
+use Rattle.streetmap_loading.specs.declared.end.End.{End}
+use Rattle.streetmap_loading.specs.declared.end.End.TheVariants.{All, AtFault, ReadFailed, Memory}
+use Rattle.streetmap_loading.specs.declared.end.End.TheVariants.{Refused, Stopped, WriteFailed}
+use Rattle.streetmap_loading.proofs.SendLemmas.{ends_at_fault, ends_unread, ends_memory}
+
+pub takes_none : (a : Option (List Item)) → TakesOff a a []
+takes_none None = tt
+takes_none (Some items) = refl
+
+pub takes_then : (a b c : Option (List Item)) (xs ys : List Item) → TakesOff a b xs →
+    TakesOff b c ys → TakesOff a c (xs ++ ys)
+takes_then None b c xs ys p q = tt
+takes_then (Some items) None c xs ys p q = absurd p
+takes_then (Some items) (Some rest) None xs ys p q = absurd q
+takes_then (Some items) (Some rest) (Some more) xs ys p q = p ∙
+    (ap (λ t. xs ++ t) q ∙ sym (append_assoc xs ys more))
+
+pub none_left : (a b c : Option (List Item)) (xs : List Item) → TakesOff a b xs → HasNone b c →
+    HasNone a c
+none_left None b c xs h none = tt
+none_left (Some items) None c xs h none = absurd h
+none_left (Some items) (Some rest) None xs h none = tt
+none_left (Some items) (Some rest) (Some more) xs h none = none
+
+front : (old now : Option (List Item)) (xs : List Item) → TakesOff old now xs → BeginsWith old xs
+front None now xs taken = tt
+front (Some items) None xs taken = absurd taken
+front (Some items) (Some rest) xs taken = (rest, taken)
+
+front_at : (old now : Option (List Item)) (xs : List Item) (fault : TextFault) →
+    TakesOff old now xs → FirstIs now fault → BeginsWith old (xs ++ Err fault ∷ [])
+front_at None now xs fault taken is = tt
+front_at (Some items) None xs fault taken is = absurd taken
+front_at (Some items) (Some rest) xs fault taken is =
+    (is.0, taken ∙ (ap (λ t. xs ++ t) is.1 ∙ sym (append_assoc xs (Err fault ∷ []) is.0)))
+
+items_more : (ps : List PlacedValue) (p : PlacedValue) →
+    items_of (ps ++ p ∷ []) ≡ items_of ps ++ Ok p ∷ []
+items_more [] p = refl
+items_more (x ∷ ps) p = ap (λ t. Ok x ∷ t) (items_more ps p)
+
+-- an end within is one at which the edits that were read are those that were taken off
+are_within : (old now : Option (List Item)) (read : List PlacedValue) (end : End) → IsWithin end →
+    TakesOff old now (items_of read) → AreRead old now read end
+are_within old now read All within taken = absurd within
+are_within old now read (AtFault fault) within taken = absurd within
+are_within old now read ReadFailed within taken = absurd within
+are_within old now read Memory within taken = front old now (items_of read) taken
+are_within old now read (Refused why place) within taken = taken
+are_within old now read (Stopped fault) within taken = taken
+are_within old now read WriteFailed within taken = taken
+
+are_behind : (old now : Option (List Item)) (read : List PlacedValue) (end : End) → IsBehind end →
+    TakesOff old now (items_of read) → HasNone old now → AreRead old now read end
+are_behind old now read All behind taken none = (taken, none)
+are_behind old now read (AtFault fault) behind taken none = absurd behind
+are_behind old now read ReadFailed behind taken none = absurd behind
+are_behind old now read Memory behind taken none = front old now (items_of read) taken
+are_behind old now read (Refused why place) behind taken none = taken
+are_behind old now read (Stopped fault) behind taken none = taken
+are_behind old now read WriteFailed behind taken none = taken
+
+module _ {S : Type 0} (takes : S → BatchValue → Result (Option ℕ) Stop → S → Type 0) where
+  -- so many edits were read, and what is done of them was sent
+  pub record Reads (each : ℕ) (key : Text) (first last : S) (old now : Option (List Item))
+      (count : ℕ) (l : Sending) : Type 0 where
+    pub read : List PlacedValue
+    pub counted : length read ≡ count
+    pub taken : TakesOff old now (items_of read)
+    pub sending : IsSending takes each key first read l last
+
+  pub begins : (each : ℕ) (key : Text) (first : S) (old : Option (List Item)) (l : Sending) →
+      1 ≤ each → Begins each key l → Reads each key first first old old 0 l
+  begins each key first old l some begun = record {
+    read = [];
+    counted = refl;
+    taken = takes_none old;
+    sending = record {
+      sent = [];
+      done = [];
+      left = [];
+      split = refl;
+      some = some;
+      is = begun.is;
+      places = begun.places;
+      underway = nothing each key;
+      counted = sym begun.batches;
+      held = sym begun.taken;
+      all = (refl, begun.serial);
+    };
+  }
+
+  module _ (each : ℕ) (key : Text) (first last : S) (old now : Option (List Item)) (count : ℕ)
+      (l : Sending) (it : Reads each key first last old now count l) where
+    abbrev told : Sending → ℕ → End → Loaded
+    told m edits end = record
+        { edits = edits; batches = m.batches; taken = m.taken; serial = m.serial; end = end }
+
+    -- the batch under way was looked at
+    pub filled : (m : Sending) (next : S) → Fills takes each key first it.read (Ok tt) m next →
+        Reads each key first next old now count m
+    filled m next fills = record
+        { read = it.read; counted = it.counted; taken = it.taken; sending = fills.0 }
+
+    pub not_filled : (m : Sending) (next : S) (end : End) →
+        Fills takes each key first it.read (Err end) m next →
+        Loads takes each key first next old now (told m count end)
+    not_filled m next end fills = record {
+      read = it.read;
+      counted = it.counted;
+      are = are_within old now it.read end fills.1
+          it.taken;
+      ends = fills.0;
+    }
+
+    taken_more : (later : Option (List Item)) (p : PlacedValue) → TakesOff now later (Ok p ∷ []) →
+        TakesOff old later (items_of (it.read ++ p ∷ []))
+    taken_more later p took = subst (λ (xs : List Item). TakesOff old later xs)
+        (sym (items_more it.read p))
+        (takes_then old now later (items_of it.read) (Ok p ∷ []) it.taken took)
+
+    counted_more : (p : PlacedValue) → length (it.read ++ p ∷ []) ≡ count + 1
+    counted_more p = let many = length-append it.read (p ∷ []) in let counted = it.counted in
+        omega
+        (arith, many, counted)
+
+    -- an edit was added
+    pub goes_further : (later : Option (List Item)) (p : PlacedValue) (m : Sending) (next : S) →
+        TakesOff now later (Ok p ∷ []) → Puts takes each key first it.read p (Ok tt) m next →
+        Reads each key first next old later (count + 1) m
+    goes_further later p m next took puts = record {
+      read = it.read ++ p ∷ [];
+      counted = counted_more p;
+      taken = taken_more later p took;
+      sending = puts;
+    }
+
+    pub stops :
+        (later : Option (List Item)) (p : PlacedValue) (m : Sending) (next : S) (end : End) →
+        TakesOff now later (Ok p ∷ []) → Puts takes each key first it.read p (Err end) m next →
+        Loads takes each key first next old later (told m (count + 1) end)
+    stops later p m next end took puts = record {
+      read = it.read ++ p ∷ [];
+      counted = counted_more p;
+      are = are_within old later
+          (it.read ++ p ∷ []) end puts.1 (taken_more later p took);
+      ends = puts.0;
+    }
+
+    -- no edit is left
+    pub ends : (later : Option (List Item)) (loaded : Loaded) (next : S) → TakesOff now later [] →
+        HasNone now later → loaded.edits ≡ count →
+        Finishes takes each key first it.read loaded next →
+        Loads takes each key first next old later loaded
+    ends later loaded next took none edits finishes =
+        let taken = subst (λ (xs : List Item). TakesOff old later xs)
+        (append-nil (items_of it.read))
+        (takes_then old now later (items_of it.read) [] it.taken took) in
+        record {
+          read = it.read;
+          counted = it.counted ∙ sym edits;
+          are = are_behind old later
+              it.read loaded.end finishes.1 taken
+              (none_left old now later (items_of it.read) it.taken none);
+          ends = finishes.0;
+        }
+
+    -- the next one was not read, or is at fault
+    pub not_read : (later : Option (List Item)) (u : Unread) → TakesNext now later (Err u) →
+        length (packing l.packer).edits < each →
+        Loads takes each key first last old later (told l count (end_of_unread u))
+    not_read later (unread.AtFault fault) took few = record {
+      read = it.read;
+      counted = it.counted;
+      are = front_at old now (items_of it.read) fault
+          it.taken took;
+      ends = ends_at_fault takes each key first it.read l last it.sending fault
+          few;
+    }
+    not_read later unread.ReadFailed took few = record {
+      read = it.read;
+      counted = it.counted;
+      are = front old now (items_of it.read) it.taken;
+      ends = ends_unread takes each key first it.read l last it.sending;
+    }
+    not_read later unread.Memory took few = record {
+      read = it.read;
+      counted = it.counted;
+      are = front old now (items_of it.read) it.taken;
+      ends = ends_memory takes each key first it.read l last it.sending;
+    }
+
+    -- no more is read
+    pub too_many : Loads takes each key first last old now (told l count ReadFailed)
+    too_many = record {
+      read = it.read;
+      counted = it.counted;
+      are = front old now (items_of it.read) it.taken;
+      ends = ends_unread takes each key first it.read l last it.sending;
+    }
+
+  -- a load that does not begin
+  pub not_begun : (each : ℕ) (key : Text) (first : S) (old : Option (List Item)) →
+      Loads takes each key first first old old
+      (record { edits = 0; batches = 0; taken = 0; serial = None; end = Memory })
+  not_begun each key first old = record {
+    read = [];
+    counted = refl;
+    are = front old old [] (takes_none old);
+    ends = record {
+      sent = [];
+      mid = first;
+      counted = refl;
+      held = refl;
+      all = (refl, refl);
+      ends = record {
+        left = [];
+        are_left = record { done = []; split = refl; packed = ([], refl, refl) };
+        still
+            = refl;
+      };
+    };
+  }

@@ -1,0 +1,255 @@
+-- Lines of a text, and what stands on them.
+use Rattle.std.proofs.Common.{◌≡◌, ◌≢◌, ℕ, ◌+◌, ◌-◌, Bool, true, false, List, [], ◌∷◌, ◌++◌, Option}
+use Rattle.std.proofs.Common.{None, Some, option_map, Ok, Err, IfSome, refl, sym, ap, subst, ◌∙◌}
+use Rattle.std.proofs.Common.{arith, eqb, length}
+use Rattle.std.proofs.lemmas.Bool.Decides.{nat_tests}
+use Rattle.std.specs.Io.KnownBytes.{Keeps, IsAtEnd}
+use Rattle.std.specs.Str.Lines.{lines}
+use Rattle.streetmap_batch.specs.Text.{Text}
+use Rattle.streetmap_text_lines.specs.Lines.{first_too_long}
+use Rattle.streetmap_text_lines.specs.Reading.{WhereKnown, IsFirstLine}
+use Rattle.streetmap_loading.specs.Places.{PlacedValue}
+use Rattle.streetmap_loading.specs.Sources.{Item, TakesOff, HasNone, FirstIs, TakesNext}
+use Rattle.streetmap_loading.specs.Sources.{placed_value}
+use Rattle.streetmap_loading.specs.TextView.{rules_value, and_left, Steps}
+use Rattle.streetmap_loading.specs.declared.rules.FeatureRules.{FeatureRules}
+use Rattle.streetmap_loading.specs.declared.source.PlacedEdit.{PlacedEdit}
+use Rattle.streetmap_loading.specs.declared.source.Unread.{Unread}
+use Rattle.streetmap_loading.specs.declared.source.Unread.TheVariants as unread
+use Rattle.streetmap_loading.proofs.Taking.{takes_then, none_left}
+use Rattle.streetmap_loading.specs.Texts.{Rules, text_on, item_of_text, on_text, and_more}
+use Rattle.streetmap_loading.specs.Texts.{is_skipped, is_here, one_less, items_on, items_in}
+use Rattle.streetmap_loading.specs.Texts.{items_left}
+use Rattle.streetmap_loading.specs.declared.text_fault.TextFault.{TextFault}
+use Rattle.streetmap_loading.specs.declared.text_fault.TextFault.TheVariants.{LineTooLong}
+
+not_here : (o : Option ℕ) → is_here (option_map (λ n. 1 + n) o) ≡ false
+not_here None = refl
+not_here (Some n) = grind (arith, nat_tests)
+
+one_more_less : (o : Option ℕ) → one_less (option_map (λ n. 1 + n) o) ≡ o
+one_more_less None = refl
+one_more_less (Some n) = let e : 1 + n - 1 ≡ n = omega arith in ap Some e
+
+-- what stands on the first line, and behind it
+on_line : (r : Rules) (place : ℕ) (o : Option ℕ) (line : Text) (rest : List Text) →
+    items_on r place (option_map (λ n. 1 + n) o) (line ∷ rest) ≡ on_text r place
+    (text_on place line) (items_on r place o rest) (items_on r (place + 1) o rest)
+on_line r place o line rest = rw (not_here o, one_more_less o) refl
+
+on_first : (r : Rules) (features : ℕ) (input line rest : Text) →
+    IsFirstLine 8388608 input line rest →
+    items_in r features input ≡ on_text r (features + 1) (text_on (features + 1) line)
+    (items_in r features rest) (items_in r (features + 1) rest)
+on_first r features input line rest first =
+    ap (λ o. items_on r (features + 1) o (lines input)) first.short ∙
+    (ap (λ ls. items_on r (features + 1) (option_map (λ n. 1 + n) (first_too_long 8388608 rest))
+    ls) first.first
+    ∙ on_line r (features + 1) (first_too_long 8388608 rest) line (lines rest))
+
+on_none : (r : Rules) (place : ℕ) (text : Text) (same next : List Item) → text ≡ [] →
+    on_text r place text same next ≡ same
+on_none r place text same next none = ap (λ t. on_text r place t same next) none
+
+on_some : (r : Rules) (place : ℕ) (text : Text) (same next : List Item) → text ≢ [] →
+    on_text r place text same next ≡ and_more r (item_of_text r place text) next
+on_some r place [] same next some = absurd (some refl)
+on_some r place (b ∷ bs) same next some = refl
+
+-- ---- one line
+
+-- a line without a text
+pub past_line : (r : Rules) (features : ℕ) (a b : Option Text) (line : Text) →
+    WhereKnown a b (λ input rest. IsFirstLine 8388608 input line rest) →
+    text_on (features + 1) line ≡ [] → TakesOff (items_left r features a)
+    (items_left r features b)
+    []
+past_line r features None b line first none = tt
+past_line r features (Some input) None line first none = absurd first
+past_line r features (Some input) (Some rest) line first none =
+    on_first r features input line rest first ∙ on_none r (features + 1)
+    (text_on (features + 1) line) (items_in r features rest) (items_in r (features + 1) rest)
+    none
+
+-- a feature
+pub one_edit : (r : Rules) (features : ℕ) (a b : Option Text) (line : Text) (p : PlacedValue) →
+    WhereKnown a b (λ input rest. IsFirstLine 8388608 input line rest) →
+    text_on (features + 1) line ≢ [] → item_of_text r (features + 1) (text_on (features + 1) line)
+    ≡
+    Ok p →
+    TakesOff (items_left r features a) (items_left r (features + 1) b) (Ok p ∷ [])
+one_edit r features None b line p first some is = tt
+one_edit r features (Some input) None line p first some is = absurd first
+one_edit r features (Some input) (Some rest) line p first some is =
+    on_first r features input line rest first
+    ∙ (on_some r (features + 1) (text_on (features + 1) line) (items_in r features rest)
+    (items_in r (features + 1) rest) some
+    ∙ ap (λ item. and_more r item (items_in r (features + 1) rest)) is)
+
+skipped_more : (r : Rules) (fault : TextFault) (more : List Item) → is_skipped r fault ≡ true →
+    and_more r (Err fault) more ≡ more
+skipped_more r fault more skipped = rw skipped refl
+
+faulty_more : (r : Rules) (fault : TextFault) (more : List Item) → is_skipped r fault ≡ false →
+    and_more r (Err fault) more ≡ Err fault ∷ more
+faulty_more r fault more not = rw not refl
+
+-- a feature at fault that is passed over
+pub one_skipped : (r : Rules) (features : ℕ) (a b : Option Text) (line : Text) (fault : TextFault)
+    →
+    WhereKnown a b (λ input rest. IsFirstLine 8388608 input line rest) →
+    text_on (features + 1) line ≢ [] → item_of_text r (features + 1) (text_on (features + 1) line)
+    ≡
+    Err fault → is_skipped r fault ≡ true →
+    TakesOff (items_left r features a) (items_left r (features + 1) b) []
+one_skipped r features None b line fault first some is skipped = tt
+one_skipped r features (Some input) None line fault first some is skipped = absurd first
+one_skipped r features (Some input) (Some rest) line fault first some is skipped =
+    on_first r features input line rest first
+    ∙ (on_some r (features + 1) (text_on (features + 1) line) (items_in r features rest)
+    (items_in r (features + 1) rest) some
+    ∙ (ap (λ item. and_more r item (items_in r (features + 1) rest)) is ∙ skipped_more r fault
+    (items_in r (features + 1) rest) skipped))
+
+-- one that is not
+pub one_fault : (r : Rules) (features : ℕ) (a b : Option Text) (line : Text) (fault : TextFault) →
+    WhereKnown a b (λ input rest. IsFirstLine 8388608 input line rest) →
+    text_on (features + 1) line ≢ [] → item_of_text r (features + 1) (text_on (features + 1) line)
+    ≡
+    Err fault → is_skipped r fault ≡ false →
+    FirstIs (items_left r features a) fault
+one_fault r features None b line fault first some is not = tt
+one_fault r features (Some input) None line fault first some is not = absurd first
+one_fault r features (Some input) (Some rest) line fault first some is not = (
+  items_in r (features + 1) rest,
+  on_first r features input line rest first
+      ∙ (on_some r (features + 1) (text_on (features + 1) line) (items_in r features rest)
+      (items_in r (features + 1) rest) some
+      ∙ (ap (λ item. and_more r item (items_in r (features + 1) rest)) is ∙ faulty_more r fault
+      (items_in r (features + 1) rest) not)),
+)
+
+-- no line
+no_items : (r : Rules) (features : ℕ) (input : Text) → input ≡ [] → items_in r features input ≡ []
+no_items r features input none = ap (λ t. items_in r features t) none
+
+pub at_end : (r : Rules) (features : ℕ) (a b : Option Text) → Keeps a b × IsAtEnd a →
+    TakesOff (items_left r features a) (items_left r features b) [] × HasNone
+    (items_left r features a) (items_left r features b)
+at_end r features None b end = (tt, tt)
+at_end r features (Some input) None end = absurd end.0
+at_end r features (Some input) (Some rest) end =
+    (ap (λ t. items_in r features t) (sym end.0), no_items r features rest (end.0 ∙ end.1))
+
+here : (r : Rules) (place : ℕ) (o : Option ℕ) (ls : List Text) → o ≡ Some 0 →
+    items_on r place o ls ≡ Err (LineTooLong place) ∷ []
+here r place o [] e = ap (λ x. items_on r place x []) e
+here r place o (l ∷ ls) e = ap (λ x. items_on r place x (l ∷ ls)) e
+
+-- a line that is too long
+pub too_long : (r : Rules) (features : ℕ) (a : Option Text) →
+    IfSome a (λ input. first_too_long 8388608 input ≡ Some 0) →
+    FirstIs (items_left r features a) (LineTooLong (features + 1))
+too_long r features None h = tt
+too_long r features (Some input) h =
+    ([], here r (features + 1) (first_too_long 8388608 input) (lines input) h)
+
+pub no_text : (text : Text) (b : Bool) → b ≡ eqb (length text) 0 → b ≡ true → text ≡ []
+no_text [] b is on = refl
+no_text (x ∷ xs) b is on = let h : false ≡ true = sym (grind (arith, nat_tests)) ∙ (sym is ∙ on)
+    in
+    cc
+
+pub some_text : (text : Text) (b : Bool) → b ≡ eqb (length text) 0 → b ≡ false → text ≢ []
+some_text [] b is off none = let h : true ≡ false = sym is ∙ off in cc
+some_text (x ∷ xs) b is off none = cc
+
+-- ---- behind an opening
+
+lift_off : (a b : Option (List Item)) (xs : List Item) → TakesOff a b xs →
+    TakesOff (and_left None a) (and_left None b) xs
+lift_off None b xs off = tt
+lift_off (Some items) None xs off = absurd off
+lift_off (Some items) (Some rest) xs off = off
+
+lift_none : (a b : Option (List Item)) → HasNone a b → HasNone (and_left None a) (and_left None b)
+lift_none None b none = tt
+lift_none (Some items) None none = tt
+lift_none (Some items) (Some rest) none = none
+
+lift_first : (a : Option (List Item)) (fault : TextFault) → FirstIs a fault →
+    FirstIs (and_left None a) fault
+lift_first None fault first = tt
+lift_first (Some items) fault first = first
+
+pub opening_off : (opening : PlacedEdit) (a : Option (List Item)) →
+    TakesOff (and_left (Some opening) a) (and_left None a) (Ok (placed_value opening) ∷ [])
+opening_off opening None = tt
+opening_off opening (Some items) = refl
+
+past_first : (a b : Option (List Item)) (fault : TextFault) → TakesOff a b [] → FirstIs b fault →
+    FirstIs a fault
+past_first None b fault off first = tt
+past_first (Some items) None fault off first = absurd off
+past_first (Some items) (Some rest) fault off first = (first.0, off ∙ first.1)
+
+module _ (old new : FeatureRules) (f n : ℕ) (a b : Option Text) (p q : Option PlacedEdit)
+    (mid : Option (List Item)) (before : p ≡ None) (same : new ≡ old)
+    (off : TakesOff (items_left (rules_value old) f a) mid []) where
+  pub next_off : (xs : List Item) → q ≡ None → TakesOff mid (items_left (rules_value old) n b) xs
+      →
+      TakesOff (and_left p (items_left (rules_value old) f a))
+      (and_left q (items_left (rules_value new) n b)) xs
+  next_off xs after took =
+      subst (λ (x : Option PlacedEdit). TakesOff (and_left x (items_left (rules_value old) f a))
+      (and_left q (items_left (rules_value new) n b)) xs) (sym before)
+      (subst (λ (x : Option PlacedEdit). TakesOff
+      (and_left None (items_left (rules_value old) f a))
+      (and_left x (items_left (rules_value new) n b)) xs) (sym after)
+      (subst (λ (x : FeatureRules). TakesOff (and_left None (items_left (rules_value old) f a))
+      (and_left None (items_left (rules_value x) n b)) xs) (sym same)
+      (lift_off (items_left (rules_value old) f a) (items_left (rules_value old) n b) xs
+      (takes_then (items_left (rules_value old) f a) mid
+      (items_left (rules_value old) n b) [] xs off took))))
+
+  pub next_none : q ≡ None → HasNone mid (items_left (rules_value old) n b) →
+      HasNone (and_left p (items_left (rules_value old) f a))
+      (and_left q (items_left (rules_value new) n b))
+  next_none after none =
+      subst (λ (x : Option PlacedEdit). HasNone (and_left x (items_left (rules_value old) f a))
+      (and_left q (items_left (rules_value new) n b))) (sym before)
+      (subst (λ (x : Option PlacedEdit). HasNone
+      (and_left None (items_left (rules_value old) f a))
+      (and_left x (items_left (rules_value new) n b))) (sym after)
+      (subst (λ (x : FeatureRules). HasNone (and_left None (items_left (rules_value old) f a))
+      (and_left None (items_left (rules_value x) n b))) (sym same)
+      (lift_none (items_left (rules_value old) f a) (items_left (rules_value old) n b)
+      (none_left (items_left (rules_value old) f a) mid
+      (items_left (rules_value old) n b) [] off none))))
+
+pub next_first :
+    (old : FeatureRules) (f : ℕ) (a : Option Text) (p : Option PlacedEdit)
+    (mid : Option (List Item)) (fault : TextFault) →
+    p ≡ None →
+    TakesOff (items_left (rules_value old) f a) mid [] → FirstIs mid fault → FirstIs
+    (and_left p (items_left (rules_value old) f a)) fault
+next_first old f a p mid fault before off first =
+    subst (λ (x : Option PlacedEdit). FirstIs (and_left x (items_left (rules_value old) f a))
+    fault)
+    (sym before)
+    (lift_first (items_left (rules_value old) f a) fault
+    (past_first (items_left (rules_value old) f a) mid fault off first))
+
+-- the next one is not read
+pub next_unread :
+    (old new : FeatureRules) (f n : ℕ) (a b : Option Text) (p q : Option PlacedEdit)
+    (mid : Option (List Item)) (u : Unread) →
+    p ≡ None →
+    TakesOff (items_left (rules_value old) f a) mid [] → Steps mid
+    (items_left (rules_value old) n b) (Err u) →
+    TakesNext (and_left p (items_left (rules_value old) f a))
+    (and_left q (items_left (rules_value new) n b)) (Err u)
+next_unread old new f n a b p q mid (unread.AtFault fault) before off first = next_first old f a p
+    mid fault before off first
+next_unread old new f n a b p q mid unread.ReadFailed before off first = tt
+next_unread old new f n a b p q mid unread.Memory before off first = tt

@@ -1,0 +1,78 @@
+-- What is written of a text, whole or in part.
+use Rattle.std.proofs.Common.{◌≡◌, ℕ, ◌-◌, ◌≤◌, List, [], ◌++◌, length, take, drop, refl, sym, ap}
+use Rattle.std.proofs.Common.{subst, ◌∙◌, arith, append_assoc, length-append, length-drop, take_all}
+use Rattle.std.proofs.Common.{take-append-drop, Option, Result, Ok, Err, OnErr, OnOk}
+use Rattle.std.proofs.Math.Seq.{take-append-add, take-length}
+use Rattle.std.proofs.lemmas.List.{take-append-le}
+use Rattle.std.proofs.KnownBytes.{Appends-nil, Appends-trans, Appends-kept}
+use Rattle.std.proofs.Transfers.{starts_with_length}
+use Rattle.std.specs.Io.{StartsWith}
+use Rattle.std.specs.Io.KnownBytes.{Appends, Keeps}
+use Rattle.streetmap_loading.specs.Printing.{AppendsFirst}
+
+-- ---- beginnings
+
+pub on_ok : {T E : Type 0} (r : Result T E) (P : Type 0) → P → OnOk r P
+on_ok (Ok x) P h = h
+on_ok (Err e) P h = tt
+
+pub on_err : {T E : Type 0} (r : Result T E) (P : Type 0) → P → OnErr r P
+on_err (Ok x) P h = tt
+on_err (Err e) P h = h
+
+starts-longer : (xs ys first : List ℕ) → StartsWith xs first → StartsWith (xs ++ ys) first
+starts-longer xs ys first h =
+    let within : length first ≤ length xs = starts_with_length xs first h in
+    take-append-le (length first) xs ys within ∙ h
+
+starts-behind : (xs ys first : List ℕ) → StartsWith ys first → StartsWith (xs ++ ys) (xs ++ first)
+starts-behind xs ys first h =
+    ap (λ n. take n (xs ++ ys)) (length-append xs first) ∙ take-append-add xs ys (length first) ∙
+    ap
+    (λ l. xs ++ l) h
+
+pub first_longer : (a b : Option (List ℕ)) (xs ys : List ℕ) → AppendsFirst a b xs →
+    AppendsFirst a b (xs ++ ys)
+first_longer a b xs ys h = (h.0, starts-longer xs ys h.0 h.1, h.2)
+
+pub first_behind : (a b c : Option (List ℕ)) (xs ys : List ℕ) → Appends a b xs →
+    AppendsFirst b c ys → AppendsFirst a c (xs ++ ys)
+first_behind a b c xs ys p h =
+    (xs ++ h.0, starts-behind xs ys h.0 h.1, Appends-trans a b c xs h.0 p h.2)
+
+pub first_all : (a b : Option (List ℕ)) (xs : List ℕ) → Appends a b xs → AppendsFirst a b xs
+first_all a b xs h = (xs, take-length xs, h)
+
+-- ---- bytes that are written in part
+
+pub record IsPartWritten (a b : Option (List ℕ)) (bytes rest : List ℕ) : Type 0 where
+  pub front : List ℕ
+  pub whole : bytes ≡ front ++ rest
+  pub written : Appends a b front
+
+pub part_none : (a : Option (List ℕ)) (bytes : List ℕ) → IsPartWritten a a bytes bytes
+part_none a bytes = record { front = []; whole = refl; written = Appends-nil a }
+
+pub part_more : (a b c : Option (List ℕ)) (bytes rest : List ℕ) (n : ℕ) →
+    IsPartWritten a b bytes rest → Appends b c (take n rest) → IsPartWritten a c bytes
+    (drop n rest)
+part_more a b c bytes rest n p h = record {
+  front = p.front ++ take n rest;
+  whole = p.whole ∙ ap (λ l. p.front ++ l) (sym (take-append-drop n rest)) ∙ sym
+      (append_assoc p.front (take n rest) (drop n rest));
+  written = Appends-trans a b c p.front (take n rest) p.written h;
+}
+
+-- the rest as a slice: what stands from n on, up to the end
+pub part_sliced : (a b c : Option (List ℕ)) (bytes rest : List ℕ) (n : ℕ) →
+    IsPartWritten a b bytes rest → Appends b c (take n rest)
+    → IsPartWritten a c bytes (take (length rest - n) (drop n rest))
+part_sliced a b c bytes rest n p h =
+    let whole : take (length rest - n) (drop n rest) ≡ drop n rest = take_all (length rest - n)
+    (drop n rest) (omega (arith, length-drop n rest)) in
+    subst (IsPartWritten a c bytes) (sym whole) (part_more a b c bytes rest n p h)
+
+pub part_kept : (a b c : Option (List ℕ)) (bytes rest : List ℕ) → IsPartWritten a b bytes rest →
+    Keeps b c → IsPartWritten a c bytes rest
+part_kept a b c bytes rest p h = record
+    { front = p.front; whole = p.whole; written = Appends-kept a b c p.front p.written h }

@@ -1,0 +1,180 @@
+use Rattle.std.proofs.Common.{◌≡◌, ℕ, string_bytes, sym, subst, ap, ◌∙◌, arith}
+use Rattle.streetmap_loading.specs.Loads.{Loads}
+use Rattle.streetmap_loading.specs.Sources.{placed_value}
+use Rattle.streetmap_loading.specs.Ends.{end_of_unread}
+use Rattle.streetmap_loading.specs.declared.end.Loaded.{Loaded}
+use Rattle.streetmap_loading.specs.declared.end.End.{End}
+use Rattle.streetmap_loading.specs.declared.end.End.TheVariants.{ReadFailed}
+use Rattle.streetmap_loading.proofs.Taking.{begins, filled, not_filled, goes_further, stops, ends}
+use Rattle.streetmap_loading.proofs.Taking.{not_read, too_many, not_begun}
+use Rattle.streetmap_loading.proofs.whole.send_all.Goals as goal
+
+pub returns-in-Err : goal.returns-in-Err
+returns-in-Err g c = not_begun g.S.Sink.takes c.args.each (string_bytes c.args.key)
+    c.args.sink.now
+    (g.E.Edits.left c.args.edits.now)
+
+pub loop-turn-init : goal.loop-turn-init
+loop-turn-init g c =
+    let begun = c.in-Ok.ensures in
+    let is = ap (λ p. p.number) begun.is in
+    let batches = begun.batches in
+    let taken = begun.taken in
+    record {
+      number = omega (arith, is);
+      batches = omega (arith, batches);
+      taken = omega (arith, taken);
+      reads = begins g.S.Sink.takes c.args.each (string_bytes c.args.key) c.args.sink.now
+          (g.E.Edits.left c.args.edits.now) c.in-Ok.sending c.requires.some begun;
+    }
+
+pub returns-in-Err-fill : goal.returns-in-Err-fill
+returns-in-Err-fill g c =
+    let takes = g.S.Sink.takes in
+    let each = c.args.each in
+    let key = string_bytes c.args.key in
+    let first = c.args.sink.now in
+    let old = g.E.Edits.left c.args.edits.now in
+    let now = g.E.Edits.left c.loop-turn.edits in
+    let it = c.loop-turn.invariant.reads in
+    subst (λ (loaded : Loaded). Loads takes each key first c.fill.new.sink old now loaded)
+    (sym c.ended.ensures)
+    (not_filled takes each key first c.loop-turn.sink old now c.loop-turn.turn c.loop-turn.sending
+    it c.fill.new.self c.fill.new.sink c.in-Err-fill.end
+    (c.in-Err-fill.ensures.fills each key first it.read it.sending))
+
+pub returns-in-Err-put : goal.returns-in-Err-put
+returns-in-Err-put g c =
+    let takes = g.S.Sink.takes in
+    let each = c.args.each in
+    let key = string_bytes c.args.key in
+    let first = c.args.sink.now in
+    let old = g.E.Edits.left c.args.edits.now in
+    let now = g.E.Edits.left c.loop-turn.edits in
+    let later = g.E.Edits.left c.next_edit.new.self in
+    let it = c.loop-turn.invariant.reads in
+    let full = filled takes each key first c.loop-turn.sink old now c.loop-turn.turn
+    c.loop-turn.sending it c.fill.new.self c.fill.new.sink
+    (c.in_default.ensures.fills each key first it.read it.sending) in
+    let took = rw c.in-Ok-Some.field-0-is at c.in-Ok-Some.ensures in
+    subst (λ (loaded : Loaded). Loads takes each key first c.put.new.sink old later loaded)
+    (sym c.ended-in-Err-put.ensures)
+    (stops takes each key first c.fill.new.sink old now c.loop-turn.turn c.fill.new.self full
+    later
+    (placed_value c.in-Ok-Some.placed) c.put.new.self c.put.new.sink c.in-Err-put.end took
+    (c.in-Err-put.ensures.puts each key first full.read full.sending))
+
+pub returns-in-Ok-None : goal.returns-in-Ok-None
+returns-in-Ok-None g c =
+    let takes = g.S.Sink.takes in
+    let each = c.args.each in
+    let key = string_bytes c.args.key in
+    let first = c.args.sink.now in
+    let old = g.E.Edits.left c.args.edits.now in
+    let now = g.E.Edits.left c.loop-turn.edits in
+    let later = g.E.Edits.left c.next_edit.new.self in
+    let it = c.loop-turn.invariant.reads in
+    let full = filled takes each key first c.loop-turn.sink old now c.loop-turn.turn
+    c.loop-turn.sending it c.fill.new.self c.fill.new.sink
+    (c.in_default.ensures.fills each key first it.read it.sending) in
+    let took = rw c.in-Ok-None.field-0-is at c.in-Ok-None.ensures in
+    ends takes each key first c.fill.new.sink old now c.loop-turn.turn c.fill.new.self full later
+    c.finish.result c.finish.new.sink took.0 took.1 c.finish.ensures.edits
+    (c.finish.ensures.finishes each key first full.read full.sending)
+
+pub returns-in-Err-next_edit : goal.returns-in-Err-next_edit
+returns-in-Err-next_edit g c =
+    let takes = g.S.Sink.takes in
+    let each = c.args.each in
+    let key = string_bytes c.args.key in
+    let first = c.args.sink.now in
+    let old = g.E.Edits.left c.args.edits.now in
+    let now = g.E.Edits.left c.loop-turn.edits in
+    let later = g.E.Edits.left c.next_edit.new.self in
+    let it = c.loop-turn.invariant.reads in
+    let filling = c.in_default.ensures.fills each key first it.read it.sending in
+    let full = filled takes each key first c.loop-turn.sink old now c.loop-turn.turn
+    c.loop-turn.sending it c.fill.new.self c.fill.new.sink filling in
+    let same : c.ended-in-Err-next_edit.result ≡ record {
+      edits = c.loop-turn.turn;
+      batches = c.fill.new.self.batches;
+      taken =
+          c.fill.new.self.taken;
+      serial = c.fill.new.self.serial;
+      end = end_of_unread
+          c.in-Err-next_edit.unread;
+    } =
+    c.ended-in-Err-next_edit.ensures ∙ ap
+    (λ (e : End). record {
+      edits = c.loop-turn.turn;
+      batches = c.fill.new.self.batches;
+      taken =
+          c.fill.new.self.taken;
+      serial = c.fill.new.self.serial;
+      end = e;
+    }) c.of_unread.ensures
+    in
+    subst (λ (loaded : Loaded). Loads takes each key first c.fill.new.sink old later loaded)
+    (sym same)
+    (not_read takes each key first c.fill.new.sink old now c.loop-turn.turn c.fill.new.self full
+    later c.in-Err-next_edit.unread c.in-Err-next_edit.ensures filling.1)
+
+pub loop-turn-preserved : goal.loop-turn-preserved
+loop-turn-preserved g c =
+    let takes = g.S.Sink.takes in
+    let each = c.args.each in
+    let key = string_bytes c.args.key in
+    let first = c.args.sink.now in
+    let old = g.E.Edits.left c.args.edits.now in
+    let now = g.E.Edits.left c.loop-turn.edits in
+    let later = g.E.Edits.left c.next_edit.new.self in
+    let it = c.loop-turn.invariant.reads in
+    let fills = c.in_default.ensures in
+    let puts = c.in_default-put.ensures in
+    let full = filled takes each key first c.loop-turn.sink old now c.loop-turn.turn
+    c.loop-turn.sending it c.fill.new.self c.fill.new.sink
+    (fills.fills each key first it.read it.sending) in
+    let took = rw c.in-Ok-Some.field-0-is at c.in-Ok-Some.ensures in
+    let number = c.loop-turn.invariant.number in
+    let batches = c.loop-turn.invariant.batches in
+    let taken = c.loop-turn.invariant.taken in
+    let number_fill = fills.few.number in
+    let batches_fill = fills.few.batches in
+    let taken_fill = fills.few.taken in
+    let number_put = puts.few.number in
+    let batches_put = puts.few.batches in
+    let taken_put = puts.few.taken in
+    record {
+      number = omega (arith, number, number_fill, number_put);
+      batches = omega (arith, batches, batches_fill, batches_put);
+      taken = omega (arith, taken, taken_fill, taken_put);
+      reads = goes_further takes each key first c.fill.new.sink old now c.loop-turn.turn
+          c.fill.new.self full later (placed_value c.in-Ok-Some.placed) c.put.new.self
+          c.put.new.sink took
+          (puts.puts each key first full.read full.sending);
+    }
+
+pub returns : goal.returns
+returns g c =
+    let takes = g.S.Sink.takes in
+    let each = c.args.each in
+    let key = string_bytes c.args.key in
+    let first = c.args.sink.now in
+    let old = g.E.Edits.left c.args.edits.now in
+    let now = g.E.Edits.left c.loop-turn.edits in
+    let l = c.loop-turn.sending in
+    let last : c.loop-turn.turn ≡ 100000000000000 = omega
+    (arith, c.loop-turn-test.false, c.loop-turn.auto.turn-end) in
+    subst (λ (loaded : Loaded). Loads takes each key first c.loop-turn.sink old now loaded)
+    (sym c.ended-2.ensures)
+    (subst (λ (n : ℕ). Loads takes each key first c.loop-turn.sink old now
+    (record {
+      edits = n;
+      batches = l.batches;
+      taken = l.taken;
+      serial = l.serial;
+      end =
+          ReadFailed;
+    })) last
+    (too_many takes each key first c.loop-turn.sink old now c.loop-turn.turn l
+    c.loop-turn.invariant.reads))

@@ -1,0 +1,23 @@
+-- What reading a text without loading it comes to.
+use Rattle.std.specs.Prelude.{◌≡◌, ℕ, List, Option, length}
+use Rattle.streetmap_batch.specs.Text.{Text}
+use Rattle.streetmap_loading.specs.Places.{PlacedValue}
+use Rattle.streetmap_loading.specs.KeeperLoads.{IsRead}
+use Rattle.streetmap_loading.specs.Options.{LoadValue, load_items}
+use Rattle.streetmap_loading.specs.declared.end.Loaded.{Loaded}
+use Rattle.streetmap_loading.specs.declared.end.End.{End}
+use Rattle.streetmap_loading.specs.declared.end.End.TheVariants.{Refused, Stopped, WriteFailed}
+
+-- it did not end at a batch
+abbrev pub IsOfText : End → Type 0
+IsOfText (Refused why place) = ⊥
+IsOfText (Stopped fault) = ⊥
+IsOfText WriteFailed = ⊥
+IsOfText _ = Unit {0}
+
+-- of what stands in the text so many edits were read: all, or those before the fault
+pub record ChecksText (l : LoadValue) (text : Option Text) (loaded : Loaded) : Type 0 where
+  pub read : List PlacedValue
+  pub counted : length read ≡ loaded.edits
+  pub is : IsRead (load_items l text) read loaded.end
+  pub of_text : IsOfText loaded.end

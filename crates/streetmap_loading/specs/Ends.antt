@@ -1,0 +1,96 @@
+-- How a load ends.
+use Rattle.std.specs.Prelude.{◌≡◌, ◌≢◌, ◌<◌, ℕ, ◌+◌, true, List, [], ◌∷◌, ◌++◌, length, take}
+use Rattle.std.specs.Prelude.{Option, None, Result, Ok, Err}
+use Rattle.streetmap_batch.specs.Text.{Text}
+use Rattle.streetmap_batch.specs.BatchValue.{EditValue, BatchValue}
+use Rattle.streetmap_packing.specs.Packs.{numbered_key, passes, Packs, PacksFirst}
+use Rattle.streetmap_loading.specs.Places.{PlacedValue, edits_of, places_of, text_place}
+use Rattle.streetmap_loading.specs.Sinks.{TakesAll}
+use Rattle.streetmap_loading.specs.declared.source.Unread.{Unread}
+use Rattle.streetmap_loading.specs.declared.source.Unread.TheVariants as unread
+use Rattle.streetmap_loading.specs.declared.sink.Stop.{Stop}
+use Rattle.streetmap_loading.specs.declared.sink.Stop.TheVariants as stops
+use Rattle.streetmap_loading.specs.declared.end.Loaded.{Loaded}
+use Rattle.streetmap_loading.specs.declared.end.End.{End}
+use Rattle.streetmap_loading.specs.declared.end.End.TheVariants.{All, AtFault, ReadFailed, Memory}
+use Rattle.streetmap_loading.specs.declared.end.End.TheVariants.{Refused, Stopped, WriteFailed}
+
+-- the end where no edit was read
+abbrev pub end_of_unread : Unread → End
+end_of_unread (unread.AtFault fault) = AtFault fault
+end_of_unread unread.ReadFailed = ReadFailed
+end_of_unread unread.Memory = Memory
+
+-- the end at a batch whose edits have these places in the text
+abbrev pub end_of_stop : List (Option ℕ) → Stop → End
+end_of_stop places (stops.Refused why place) = Refused why (text_place places place)
+end_of_stop places (stops.Stopped fault) = Stopped fault
+end_of_stop places stops.WriteFailed = WriteFailed
+
+-- how many edits batches have
+abbrev pub count_of_edits : List BatchValue → ℕ
+count_of_edits [] = 0
+count_of_edits (b ∷ bs) = length b.edits + count_of_edits bs
+
+-- of these edits the batches that are done are sent, and these are left
+pub record AreLeft (each : ℕ) (key : Text) (read : List PlacedValue) (sent : List BatchValue)
+    (left : List PlacedValue) : Type 0 where
+  pub done : List PlacedValue
+  pub split : read ≡ done ++ left
+  pub packed : PacksFirst each key (edits_of read) sent (edits_of left)
+
+-- the edits that are left are no whole batch: more may come before it is sent
+pub record IsShort (each : ℕ) (key : Text) (n : ℕ) (left : List EditValue) : Type 0 where
+  pub few : length left < each
+  pub passing : left ≢ [] → passes each key n left ≡ true
+
+-- the batch of this number, of the first of the edits that are left
+abbrev pub IsNext : (key : Text) → ℕ → List EditValue → BatchValue → Type 0
+IsNext key n left b = (rest : List EditValue) × (left ≡ b.edits ++ rest) ×
+    (b.key ≡ numbered_key key n)
+
+module _ {S : Type 0} (takes : S → BatchValue → Result (Option ℕ) Stop → S → Type 0) where
+  -- the next batch, of the first of the edits that are left, was not taken
+  pub record EndsAt (each : ℕ) (key : Text) (read : List PlacedValue) (sent : List BatchValue)
+      (mid last : S) (end : End) : Type 0 where
+    pub left : List PlacedValue
+    pub are_left : AreLeft each key read sent left
+    pub batch : BatchValue
+    pub next : IsNext key (1 + length sent) (edits_of left) batch
+    pub stop : Stop
+    pub refused : takes mid batch (Err stop) last
+    pub told : end ≡ end_of_stop (take (length batch.edits) (places_of left)) stop
+
+  -- the edits that are left are part of a batch, and none of them was sent
+  pub record EndsWithin (each : ℕ) (key : Text) (read : List PlacedValue) (sent : List BatchValue)
+      (mid last : S) : Type 0 where
+    pub left : List PlacedValue
+    pub are_left : AreLeft each key read sent left
+    pub still : last ≡ mid
+
+  -- these edits were read, and the batches were sent up to the sink mid: it ended so, at the last
+  -- one
+  abbrev pub ByEnd :
+      (each : ℕ) (key : Text) (read : List PlacedValue) (sent : List BatchValue) (mid last : S) →
+      End → Type 0
+  ByEnd each key read sent mid last All = Packs each key (edits_of read) sent × (last ≡ mid)
+  ByEnd each key read sent mid last (AtFault fault) =
+      (within : EndsWithin each key read sent mid last) × IsShort each key (1 + length sent)
+      (edits_of within.left)
+  ByEnd each key read sent mid last ReadFailed = EndsWithin each key read sent mid last
+  ByEnd each key read sent mid last Memory = EndsWithin each key read sent mid last
+  ByEnd each key read sent mid last (Refused why place) = EndsAt each key read sent mid last
+      (Refused why place)
+  ByEnd each key read sent mid last (Stopped fault) = EndsAt each key read sent mid last
+      (Stopped fault)
+  ByEnd each key read sent mid last WriteFailed = EndsAt each key read sent mid last WriteFailed
+
+  -- from the first sink batches were taken, and it ended so
+  pub record EndsBy (each : ℕ) (key : Text) (first last : S) (read : List PlacedValue)
+      (batches taken : ℕ) (serial : Option ℕ) (end : End) : Type 0 where
+    pub sent : List BatchValue
+    pub mid : S
+    pub counted : length sent ≡ batches
+    pub held : count_of_edits sent ≡ taken
+    pub all : TakesAll takes first None sent mid serial
+    pub ends : ByEnd each key read sent mid last end

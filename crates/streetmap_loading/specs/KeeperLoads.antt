@@ -1,0 +1,120 @@
+-- What a load does to a keeper.
+use Rattle.std.specs.Prelude.{◌≡◌, ◌≢◌, ℕ, ◌+◌, List, [], ◌∷◌, ◌++◌, length, take, Option, None}
+use Rattle.std.specs.Prelude.{Some, Ok, Err}
+use Rattle.streetmap_batch.specs.Text.{Text}
+use Rattle.streetmap_batch.specs.BatchValue.{EditValue, BatchValue}
+use Rattle.streetmap_packing.specs.Packs.{Packs}
+use Rattle.streetmap_ledger.specs.State.{State}
+use Rattle.streetmap_ledger.specs.Batches.{act, after_all}
+use Rattle.streetmap_ledger.specs.Keep.{LeavesOnly, LeavesEither}
+use Rattle.streetmap_ledger.specs.Laws.{IsAcknowledged}
+use Rattle.streetmap_ledger.specs.declared.reply.Fault.{Fault}
+use Rattle.streetmap_ledger.specs.declared.reply.Fault.TheVariants as faults
+use Rattle.streetmap_ledger.specs.declared.reply.Reply.{Reply}
+use Rattle.streetmap_ledger.specs.declared.reply.Reply.TheVariants as replies
+use Rattle.streetmap_loading.specs.Places.{PlacedValue, edits_of, places_of, text_place}
+use Rattle.streetmap_loading.specs.Sources.{Item}
+use Rattle.streetmap_loading.specs.Loads.{items_of}
+use Rattle.streetmap_loading.specs.Ends.{AreLeft, IsShort, IsNext, count_of_edits}
+use Rattle.streetmap_loading.specs.declared.end.Loaded.{Loaded}
+use Rattle.streetmap_loading.specs.declared.end.End.{End}
+use Rattle.streetmap_loading.specs.declared.end.End.TheVariants.{All, AtFault, ReadFailed, Memory}
+use Rattle.streetmap_loading.specs.declared.end.End.TheVariants.{Refused, Stopped, WriteFailed}
+
+-- the fault of the keeper that ended it, where one did
+abbrev pub keeper_fault : End → Option Fault
+keeper_fault (Stopped fault) = Some fault
+keeper_fault _ = None
+
+-- of the items, where they are known, these edits were read: all; those before the fault; or the
+-- first
+abbrev pub IsRead : Option (List Item) → List PlacedValue → End → Type 0
+IsRead None read end = Unit {0}
+IsRead (Some items) read All = items ≡ items_of read
+IsRead (Some items) read (AtFault fault) = (rest : List Item) ×
+    (items ≡ items_of read ++ Err fault ∷ rest)
+IsRead (Some items) read _ = (rest : List Item) × (items ≡ items_of read ++ rest)
+
+-- each is accepted, or was before, in the state behind those before it
+abbrev pub AreAcknowledged : State → List BatchValue → Type 0
+AreAcknowledged s [] = Unit {0}
+AreAcknowledged s (b ∷ bs) = IsAcknowledged (act s b).reply × AreAcknowledged (act s b).state bs
+
+-- the serial of a batch that was accepted, now or before
+abbrev pub serial_of : Reply → Option ℕ
+serial_of (replies.Accepted counts serial) = Some serial
+serial_of (replies.Repeated counts serial) = Some serial
+serial_of (replies.Refused why place) = None
+
+-- that of the last of some batches
+abbrev pub last_serial : Option ℕ → State → List BatchValue → Option ℕ
+last_serial before s [] = before
+last_serial before s (b ∷ bs) = last_serial (serial_of (act s b).reply) (act s b).state bs
+
+module _ (s : State) (before : Option State → Type 0) (stands : State → Type 0)
+    (left : Option State → Type 0) where
+  -- the keeper stands for a state, and a stop may leave that alone
+  pub record Rests (t : State) : Type 0 where
+    pub stood : stands t
+    pub leaves : LeavesOnly before (Some s) → LeavesOnly left (Some t)
+
+  -- the keeper did not answer this batch: a want of memory changes nothing, a failed device may
+  -- have left the batch or not
+  abbrev pub Fails : State → BatchValue → Fault → Type 0
+  Fails t b faults.Memory = Rests t
+  Fails t b faults.Device = LeavesOnly before (Some s) → LeavesEither left (Some t)
+      (Some (act t b).state)
+  Fails t b faults.Damaged = ⊥
+  Fails t b faults.Reopen = ⊥
+
+  -- a batch of the first of these edits was refused, and is told with the place in the text; or it
+  -- was not answered
+  abbrev pub StopsAt : State → List PlacedValue → BatchValue → End → Type 0
+  StopsAt t placed b (Refused why place) =
+      (inner : Option ℕ) × ((act t b).reply ≡ replies.Refused why inner) ×
+      (place ≡ text_place (take (length b.edits) (places_of placed)) inner) × Rests t
+  StopsAt t placed b (Stopped fault) = Fails t b fault
+  StopsAt t placed b _ = ⊥
+
+  -- in the state t, behind the batches that were sent
+  pub record EndsAtBatch (each : ℕ) (key : Text) (read : List PlacedValue)
+      (sent : List BatchValue)
+      (t : State) (end : End) : Type 0 where
+    pub rest : List PlacedValue
+    pub are_left : AreLeft each key read sent rest
+    pub batch : BatchValue
+    pub next : IsNext key (1 + length sent) (edits_of rest) batch
+    pub stops : StopsAt t rest batch end
+
+  -- what is left of the edits that were read is part of a batch, and was not sent
+  pub record EndsBefore (each : ℕ) (key : Text) (read : List PlacedValue) (sent : List BatchValue)
+      (t : State) : Type 0 where
+    pub rest : List PlacedValue
+    pub are_left : AreLeft each key read sent rest
+    pub rests : Rests t
+
+  abbrev pub EndsIn : (each : ℕ) (key : Text) (read : List PlacedValue) (sent : List BatchValue) →
+      State → End → Type 0
+  EndsIn each key read sent t All = Packs each key (edits_of read) sent × Rests t
+  EndsIn each key read sent t (AtFault fault) =
+      (ends : EndsBefore each key read sent t) × IsShort each key (1 + length sent)
+      (edits_of ends.rest)
+  EndsIn each key read sent t ReadFailed = EndsBefore each key read sent t
+  EndsIn each key read sent t Memory = EndsBefore each key read sent t
+  EndsIn each key read sent t WriteFailed = ⊥
+  EndsIn each key read sent t end = EndsAtBatch each key read sent t end
+
+  -- of the items these edits were read; the batches of them that are done were sent and
+  -- acknowledged, from the state s on; and it ended so
+  pub record LoadsTo (each : ℕ) (key : Text) (items : Option (List Item)) (loaded : Loaded) : Type
+      0
+    where
+      pub read : List PlacedValue
+      pub counted : length read ≡ loaded.edits
+      pub is : IsRead items read loaded.end
+      pub sent : List BatchValue
+      pub batches : length sent ≡ loaded.batches
+      pub taken : count_of_edits sent ≡ loaded.taken
+      pub acknowledged : AreAcknowledged s sent
+      pub serial : loaded.serial ≡ last_serial None s sent
+      pub ends : EndsIn each key read sent (after_all s sent) loaded.end

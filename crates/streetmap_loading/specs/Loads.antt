@@ -1,0 +1,42 @@
+-- What a load comes to.
+use Rattle.std.specs.Prelude.{◌≡◌, ℕ, List, [], ◌∷◌, ◌++◌, length, Option, None, Some, Result, Ok}
+use Rattle.std.specs.Prelude.{Err}
+use Rattle.streetmap_batch.specs.Text.{Text}
+use Rattle.streetmap_batch.specs.BatchValue.{BatchValue}
+use Rattle.streetmap_loading.specs.Places.{PlacedValue}
+use Rattle.streetmap_loading.specs.Sources.{Item, TakesOff, HasNone}
+use Rattle.streetmap_loading.specs.Ends.{EndsBy}
+use Rattle.streetmap_loading.specs.declared.sink.Stop.{Stop}
+use Rattle.streetmap_loading.specs.declared.end.Loaded.{Loaded}
+use Rattle.streetmap_loading.specs.declared.end.End.{End}
+use Rattle.streetmap_loading.specs.declared.end.End.TheVariants.{All, AtFault, ReadFailed, Memory}
+
+-- edits as items
+abbrev pub items_of : List PlacedValue → List Item
+items_of [] = []
+items_of (p ∷ ps) = Ok p ∷ items_of ps
+
+-- items that are known begin with these
+abbrev pub BeginsWith : Option (List Item) → List Item → Type 0
+BeginsWith None read = Unit {0}
+BeginsWith (Some items) read = (rest : List Item) × (items ≡ read ++ rest)
+
+-- the edits are those that were taken off the source: all of it; those in front of the item at
+-- fault; or its first
+abbrev pub AreRead : Option (List Item) → Option (List Item) → List PlacedValue → End → Type 0
+AreRead old new read All = TakesOff old new (items_of read) × HasNone old new
+AreRead old new read (AtFault fault) = BeginsWith old (items_of read ++ Err fault ∷ [])
+AreRead old new read ReadFailed = BeginsWith old (items_of read)
+AreRead old new read Memory = BeginsWith old (items_of read)
+AreRead old new read end = TakesOff old new (items_of read)
+
+-- these edits were read, and their batches were sent from the first sink to the last, up to the end
+pub record Loads {S : Type 0} (takes : S → BatchValue → Result (Option ℕ) Stop → S → Type 0)
+    (each : ℕ) (key : Text) (first last : S) (old new : Option (List Item)) (loaded : Loaded) :
+    Type
+    0 where
+  pub read : List PlacedValue
+  pub counted : length read ≡ loaded.edits
+  pub are : AreRead old new read loaded.end
+  pub ends :
+      EndsBy takes each key first last read loaded.batches loaded.taken loaded.serial loaded.end

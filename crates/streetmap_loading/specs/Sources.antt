@@ -1,0 +1,42 @@
+-- Sources of edits.
+use Rattle.std.specs.Prelude.{◌≡◌, List, [], ◌∷◌, ◌++◌, Option, None, Some, Result, Ok, Err}
+use Rattle.streetmap_batch.specs.BatchView.{edit_value}
+use Rattle.streetmap_loading.specs.Places.{PlacedValue}
+use Rattle.streetmap_loading.specs.declared.text_fault.TextFault.{TextFault}
+use Rattle.streetmap_loading.specs.declared.source.PlacedEdit.{PlacedEdit}
+use Rattle.streetmap_loading.specs.declared.source.Unread.{Unread}
+use Rattle.streetmap_loading.specs.declared.source.Unread.TheVariants.{AtFault, ReadFailed, Memory}
+
+-- an edit with its place, or the fault of what stands for it
+abbrev pub Item : Type 0
+Item = Result PlacedValue TextFault
+
+abbrev pub placed_value : PlacedEdit → PlacedValue
+placed_value p = record { place = p.place; edit = edit_value p.edit }
+
+-- what is left of items that are known is known, and these were taken off
+abbrev pub TakesOff : Option (List Item) → Option (List Item) → List Item → Type 0
+TakesOff None new taken = Unit {0}
+TakesOff (Some items) None taken = ⊥
+TakesOff (Some items) (Some rest) taken = items ≡ taken ++ rest
+
+-- none is left of items that were known
+abbrev pub HasNone : Option (List Item) → Option (List Item) → Type 0
+HasNone None new = Unit {0}
+HasNone (Some items) None = Unit {0}
+HasNone (Some items) (Some rest) = rest ≡ []
+
+-- items that are known begin with this fault
+abbrev pub FirstIs : Option (List Item) → TextFault → Type 0
+FirstIs None fault = Unit {0}
+FirstIs (Some items) fault = (rest : List Item) × (items ≡ Err fault ∷ rest)
+
+-- the next edit, what stands at fault in its place, or the end
+abbrev pub TakesNext : Option (List Item) → Option (List Item) → Result (Option PlacedEdit) Unread
+    →
+    Type 0
+TakesNext old new (Ok (Some placed)) = TakesOff old new (Ok (placed_value placed) ∷ [])
+TakesNext old new (Ok None) = TakesOff old new [] × HasNone old new
+TakesNext old new (Err (AtFault fault)) = FirstIs old fault
+TakesNext old new (Err ReadFailed) = Unit {0}
+TakesNext old new (Err Memory) = Unit {0}

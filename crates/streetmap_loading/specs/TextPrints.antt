@@ -1,0 +1,60 @@
+-- What printing the batches of a text comes to.
+use Rattle.std.specs.Prelude.{◌≡◌, ℕ, ◌+◌, List, [], ◌∷◌, ◌++◌, Option, length}
+use Rattle.std.specs.Io.KnownBytes.{Appends}
+use Rattle.streetmap_batch.specs.Text.{Text}
+use Rattle.streetmap_batch.specs.BatchValue.{BatchValue}
+use Rattle.streetmap_packing.specs.Packs.{Packs}
+use Rattle.streetmap_loading.specs.Places.{PlacedValue, edits_of}
+use Rattle.streetmap_loading.specs.Ends.{AreLeft, IsNext}
+use Rattle.streetmap_loading.specs.KeeperLoads.{IsRead}
+use Rattle.streetmap_loading.specs.Options.{LoadValue, load_items}
+use Rattle.streetmap_loading.specs.Printing.{line_of, AppendsFirst}
+use Rattle.streetmap_loading.specs.declared.end.Loaded.{Loaded}
+use Rattle.streetmap_loading.specs.declared.end.End.{End}
+use Rattle.streetmap_loading.specs.declared.end.End.TheVariants.{All, AtFault, ReadFailed, Memory}
+use Rattle.streetmap_loading.specs.declared.end.End.TheVariants.{Refused, Stopped, WriteFailed}
+
+-- the lines of batches
+abbrev pub lines_of : List BatchValue → List ℕ
+lines_of [] = []
+lines_of (b ∷ bs) = line_of b ++ lines_of bs
+
+-- the lines of the batches that are done were written, and nothing of the edits that are left
+pub record PrintsBefore (each : ℕ) (key : Text) (read : List PlacedValue) (sent : List BatchValue)
+    (old new : Option (List ℕ)) : Type 0 where
+  pub rest : List PlacedValue
+  pub are_left : AreLeft each key read sent rest
+  pub written : Appends old new (lines_of sent)
+
+-- and a beginning of the line of the next
+pub record PrintsInto (each : ℕ) (key : Text) (read : List PlacedValue) (sent : List BatchValue)
+    (old new : Option (List ℕ)) : Type 0 where
+  pub rest : List PlacedValue
+  pub are_left : AreLeft each key read sent rest
+  pub batch : BatchValue
+  pub next : IsNext key (1 + length sent) (edits_of rest) batch
+  pub written : AppendsFirst old new (lines_of sent ++ line_of batch)
+
+abbrev pub PrintsBy :
+    (each : ℕ) (key : Text) (read : List PlacedValue) (sent : List BatchValue)
+    (old new : Option (List ℕ)) →
+    End → Type 0
+PrintsBy each key read sent old new All = Packs each key (edits_of read) sent × Appends old new
+    (lines_of sent)
+PrintsBy each key read sent old new (AtFault fault) = PrintsBefore each key read sent old new
+PrintsBy each key read sent old new ReadFailed = PrintsBefore each key read sent old new
+PrintsBy each key read sent old new Memory = PrintsBefore each key read sent old new
+PrintsBy each key read sent old new (Refused why place) = ⊥
+PrintsBy each key read sent old new (Stopped fault) = PrintsInto each key read sent old new
+PrintsBy each key read sent old new WriteFailed = PrintsInto each key read sent old new
+
+-- of what stands in the text these edits were read, and the lines of their batches written, up to
+-- the end
+pub record PrintsText (l : LoadValue) (text old new : Option (List ℕ)) (loaded : Loaded) : Type 0
+  where
+    pub read : List PlacedValue
+    pub counted : length read ≡ loaded.edits
+    pub is : IsRead (load_items l text) read loaded.end
+    pub sent : List BatchValue
+    pub batches : length sent ≡ loaded.batches
+    pub prints : PrintsBy l.each l.key read sent old new loaded.end

@@ -1,0 +1,57 @@
+-- What reading edits off a text takes.
+use Rattle.std.specs.Prelude.{◌≡◌, ℕ, ◌<◌, List, [], ◌∷◌, ◌++◌, length, Option, None, Some}
+use Rattle.std.specs.Prelude.{option_map, Result, Ok, Err, string_bytes}
+use Rattle.serde_json.specs.Written.{compact_text}
+use Rattle.streetmap_batch.specs.BatchText.{edit_data}
+use Rattle.streetmap_batch.specs.BatchValue.{EditValue}
+use Rattle.streetmap_batch.specs.Text.{Text}
+use Rattle.streetmap_loading.specs.Places.{PlacedValue}
+use Rattle.streetmap_loading.specs.Sources.{Item, TakesOff, HasNone, FirstIs, placed_value}
+use Rattle.streetmap_loading.specs.Texts.{Rules}
+use Rattle.streetmap_loading.specs.declared.source.PlacedEdit.{PlacedEdit}
+use Rattle.streetmap_loading.specs.declared.source.Unread.{Unread}
+use Rattle.streetmap_loading.specs.declared.source.Unread.TheVariants.{AtFault, ReadFailed, Memory}
+use Rattle.streetmap_loading.specs.declared.rules.FeatureRules.{FeatureRules}
+use Rattle.streetmap_loading.specs.declared.rules.HeldTimes.{HeldTimes}
+use Rattle.streetmap_loading.specs.declared.text_edits.Step.{Step}
+use Rattle.streetmap_loading.specs.declared.text_edits.Step.TheVariants as step
+
+abbrev pub property_of : HeldTimes → Option Text
+property_of times = option_map string_bytes times.property
+
+abbrev pub rules_value : FeatureRules → Rules
+rules_value r = record {
+  collection = string_bytes r.collection;
+  replace = r.replace;
+  skip = option_map property_of
+      r.skip;
+}
+
+-- what was read is the item, unless memory ran out
+abbrev pub IsItem : Item → Result PlacedEdit Unread → Type 0
+IsItem item (Ok placed) = item ≡ Ok (placed_value placed)
+IsItem item (Err (AtFault fault)) = item ≡ Err fault
+IsItem item (Err ReadFailed) = ⊥
+IsItem item (Err Memory) = Unit {0}
+
+-- the edit with its place, or its text is too long
+abbrev pub Measures : Option ℕ → EditValue → Option PlacedEdit → Type 0
+Measures place e None = 8388480 < length (compact_text (edit_data e))
+Measures place e (Some placed) = placed_value placed ≡ record { place = place; edit = e }
+
+-- a line was read off: an edit was taken, or nothing that is told of, or the text ended
+abbrev pub Steps : Option (List Item) → Option (List Item) → Result Step Unread → Type 0
+Steps old new (Ok step.Past) = TakesOff old new []
+Steps old new (Ok (step.Edit placed)) = TakesOff old new (Ok (placed_value placed) ∷ [])
+Steps old new (Ok step.End) = TakesOff old new [] × HasNone old new
+Steps old new (Err (AtFault fault)) = FirstIs old fault
+Steps old new (Err ReadFailed) = Unit {0}
+Steps old new (Err Memory) = Unit {0}
+
+-- the opening stands in front
+abbrev pub opening_item : Option PlacedEdit → List Item
+opening_item None = []
+opening_item (Some opening) = Ok (placed_value opening) ∷ []
+
+abbrev pub and_left : Option PlacedEdit → Option (List Item) → Option (List Item)
+and_left opening items = option_map (λ is. opening_item opening ++ is) items

@@ -1,0 +1,40 @@
+//! A text, read without being loaded.
+ghost use Rattle.streetmap_loading.specs.Checking.{ChecksText};
+ghost use Rattle.streetmap_loading.specs.Options.{load_value};
+
+use crate::end::Loaded;
+use crate::listener::Listener;
+use crate::load::Load;
+use crate::loading::send_text;
+use crate::sink::{Sink, Stop};
+use std::alloc::Global;
+use std::io::BufRead;
+use streetmap_batch::Batch;
+
+/// What takes batches, and lets them go.
+#[derive(Drop)]
+struct Nowhere;
+
+impl Sink for Nowhere {
+    ghost use Rattle.std.specs.Prelude.{◌≡◌, None, Ok};
+
+    ghost takes = { λ _ _ result _. result ≡ Ok None };
+
+    fn take(&mut self, _batch: &Batch) -> Result<Option<u64>, Stop> {
+        Ok(None)
+    }
+}
+
+/// Reads a text as a load does, and loads nothing: of a load that passes over features at fault
+/// each is told to the listener.
+pub fn check_text<R: BufRead + Drop, L: Listener + Drop>(
+    alloc: Global,
+    reader: R,
+    load: Load,
+    listener: L,
+) -> Loaded
+    ensures { ChecksText (load_value load) (R.remaining reader) result }
+{
+    let mut sink = Nowhere;
+    send_text(alloc, &mut sink, reader, load, listener)
+}

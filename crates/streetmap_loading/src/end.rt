@@ -1,0 +1,162 @@
+//! How a load ended.
+ghost use Rattle.std.specs.Prelude.{◌≡◌};
+ghost use Rattle.streetmap_loading.specs.Places.{text_place};
+
+use crate::sink::Stop;
+use crate::source::Unread;
+use crate::text_fault::TextFault;
+use std::alloc::{AllocError, AllocFailed};
+use streetmap_geojson::Fault as FeatureFault;
+use streetmap_ledger::{Fault, Refusal};
+
+/// By what a load ended.
+#[derive(Clone, Copy, Debug, PartialEq, Eq, Drop)]
+pub enum End {
+    /// All edits were read, and all their batches taken.
+    All,
+    /// What stands for the next edit is at fault.
+    AtFault(TextFault),
+    /// The text could not be read on.
+    ReadFailed,
+    /// Memory was refused.
+    Memory,
+    /// The next batch was refused, with the place in the text of the feature at fault, where there
+    /// is one.
+    Refused(Refusal, Option<u64>),
+    /// The keeper did not answer the next batch.
+    Stopped(Fault),
+    /// The next batch could not be written.
+    WriteFailed,
+}
+
+/// What a load came to.
+#[derive(Clone, Copy, Debug, Drop)]
+pub struct Loaded {
+    /// How many edits were read.
+    pub edits: u64,
+    /// How many batches were taken.
+    pub batches: u64,
+    /// How many edits these have.
+    pub taken: u64,
+    /// The serial of the last of them, where it has one.
+    pub serial: Option<u64>,
+    /// By what it ended.
+    pub end: End,
+}
+
+impl From<AllocError> for End {
+    ghost use Rattle.std.specs.Prelude.{◌≡◌};
+    ghost use Rattle.streetmap_loading.specs.declared.end.End.TheVariants.{Memory};
+
+    ghost from_gives = { λ _ e. e ≡ Memory };
+
+    fn from(_: AllocError) -> End {
+        End::Memory
+    }
+}
+
+impl<T: Drop> From<AllocFailed<T>> for End {
+    ghost use Rattle.std.specs.Prelude.{◌≡◌};
+    ghost use Rattle.streetmap_loading.specs.declared.end.End.TheVariants.{Memory};
+
+    ghost from_gives = { λ _ e. e ≡ Memory };
+
+    fn from(_: AllocFailed<T>) -> End {
+        End::Memory
+    }
+}
+
+impl End {
+    ghost use Rattle.std.specs.Prelude.{◌≡◌};
+    ghost use Rattle.streetmap_loading.specs.Ends.{end_of_unread, end_of_stop};
+    ghost use Rattle.streetmap_loading.specs.EndCodes.{end_code, end_description};
+    ghost use Rattle.streetmap_loading.specs.EndCodes.{end_place, end_cause};
+
+    /// The end where no edit was read.
+    pub(crate) fn of_unread(unread: Unread) -> End
+        ensures { result ≡ end_of_unread unread }
+    {
+        match unread {
+            Unread::AtFault(fault) => End::AtFault(fault),
+            Unread::ReadFailed => End::ReadFailed,
+            Unread::Memory => End::Memory,
+        }
+    }
+
+    /// The end at a batch whose edits have these places in the text.
+    pub(crate) fn of_stop(places: &[Option<u64>], stop: Stop) -> End
+        ensures { result ≡ end_of_stop places.now stop }
+    {
+        match stop {
+            Stop::Refused(why, place) => End::Refused(why, text_place(places, place)),
+            Stop::Stopped(fault) => End::Stopped(fault),
+            Stop::WriteFailed => End::WriteFailed,
+        }
+    }
+
+    /// Its name; empty where all was loaded.
+    #[tactic(auto, unfolding(crate::specs::EndCodes::end_code))]
+    pub fn code(&self) -> &'static str
+        ensures { result.now ≡ end_code self.now }
+    {
+        match self {
+            End::All => "",
+            End::AtFault(fault) => fault.code(),
+            End::ReadFailed => "read_failed",
+            End::Memory => "memory",
+            End::Refused(why, _) => why.code(),
+            End::Stopped(fault) => fault.code(),
+            End::WriteFailed => "write_failed",
+        }
+    }
+
+    /// The sentence on it; empty where all was loaded.
+    #[tactic(auto, unfolding(crate::specs::EndCodes::end_description))]
+    pub fn description(&self) -> &'static str
+        ensures { result.now ≡ end_description self.now }
+    {
+        match self {
+            End::All => "",
+            End::AtFault(fault) => fault.description(),
+            End::ReadFailed => "The text could not be read.",
+            End::Memory => "Memory was refused; the load may be made again.",
+            End::Refused(why, _) => why.description(),
+            End::Stopped(fault) => fault.description(),
+            End::WriteFailed => "The batches could not be written.",
+        }
+    }
+
+    /// The place in the text of the feature at fault, counted from 1; none where an opening is.
+    pub fn place(&self) -> Option<u64>
+        ensures { result ≡ end_place self.now }
+    {
+        match self {
+            End::AtFault(fault) => fault.place(),
+            End::Refused(_, place) => *place,
+            _ => None,
+        }
+    }
+
+    /// What is wrong with that feature, where it cannot be read.
+    pub fn cause(&self) -> Option<FeatureFault>
+        ensures { result ≡ end_cause self.now }
+    {
+        match self {
+            End::AtFault(fault) => fault.cause(),
+            _ => None,
+        }
+    }
+}
+
+/// The place in the text of the edit at this place in a batch, whose edits have these places.
+fn text_place(places: &[Option<u64>], place: Option<u64>) -> Option<u64>
+    ensures { result ≡ text_place places.now place }
+{
+    match place {
+        Some(place) => match places.get(place.saturating_sub(1) as usize) {
+            Some(found) => *found,
+            None => None,
+        },
+        None => None,
+    }
+}

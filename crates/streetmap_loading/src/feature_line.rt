@@ -1,0 +1,220 @@
+//! The edit of a feature's text.
+ghost use Rattle.std.specs.Prelude.{◌≡◌, IfOk, IsTrue, option_map, if◌then◌else◌};
+ghost use Rattle.std.specs.Prelude.{codes, decimal, is_some};
+ghost use Rattle.serde_json.specs.Data.{string, put};
+ghost use Rattle.serde_json.specs.Find.{get};
+ghost use Rattle.serde_json.specs.View.{view, members_view};
+ghost use Rattle.streetmap_batch.specs.BatchValue as edit;
+ghost use Rattle.streetmap_batch.specs.BatchView.{edit_value};
+ghost use Rattle.streetmap_batch.specs.Names.{is_collection_id};
+ghost use Rattle.streetmap_geojson.specs.Collection.{is_collection};
+ghost use Rattle.streetmap_geojson.specs.FeatureView.{feature_value};
+ghost use Rattle.streetmap_geojson.specs.Fault.{Gives};
+ghost use Rattle.streetmap_geojson.specs.JsonText.{json_of};
+ghost use Rattle.streetmap_loading.specs.Texts.{put_id, with_place, held, feature_of, edit_of};
+ghost use Rattle.streetmap_loading.specs.Texts.{item_of_edit, item_of_value, item_of_text};
+ghost use Rattle.streetmap_loading.specs.TextView.{property_of, rules_value, IsItem, Measures};
+
+use crate::rules::{FeatureRules, HeldTimes};
+use crate::source::{PlacedEdit, Unread};
+use crate::text_fault::TextFault;
+use serde_json::{Map, Value};
+use std::alloc::{AllocError, Global};
+use streetmap_batch::Edit;
+use streetmap_geojson::{Fault, Feature, JsonFault, read_feature, read_json};
+use streetmap_packing::MAX_EDIT;
+
+/// The value of a feature's text.
+fn read_value(alloc: Global, text: &[u8]) -> Result<Value, JsonFault>
+    ensures { Gives view result (json_of text.now) }
+{
+    read_json(alloc, text)
+}
+
+/// The members with the text of a place as `id`.
+fn put_id(
+    alloc: Global,
+    members: Map<String, Value>,
+    place: u64,
+) -> Result<Map<String, Value>, AllocError>
+    ensures { IfOk result (λ m. members_view m.entries ≡
+        put (codes "id") (string (decimal place)) (members_view members.entries)) }
+{
+    let mut members = members;
+    let name = String::from_str(alloc, "id")?;
+    let text = format!(in alloc; "{place}")?;
+    drop(members.insert(name, Value::String(text))?);
+    Ok(members)
+}
+
+/// The value with the text of a place as its id, where it is an object.
+fn with_id(alloc: Global, value: Value, place: u64) -> Result<Value, AllocError>
+    ensures { IfOk result (λ v. view v ≡ put_id place (view value)) }
+{
+    match value {
+        Value::Object(members) => Ok(Value::Object(put_id(alloc, members, place)?)),
+        Value::Array(items) => Ok(Value::Array(items)),
+        Value::String(text) => Ok(Value::String(text)),
+        Value::Number(number) => Ok(Value::Number(number)),
+        Value::Bool(truth) => Ok(Value::Bool(truth)),
+        Value::Null => Ok(Value::Null),
+    }
+}
+
+/// Whether the value has an id.
+fn has_id(value: &Value) -> bool
+    ensures { result ≡ is_some (get (codes "id") (view value.now)) }
+{
+    value.get("id").is_some()
+}
+
+/// The value with the text of its place as its id, where it is an object without one.
+fn with_place(alloc: Global, value: Value, place: u64) -> Result<Value, AllocError>
+    ensures { IfOk result (λ v. view v ≡ with_place place (view value)) }
+{
+    if has_id(&value) {
+        Ok(value)
+    } else {
+        with_id(alloc, value, place)
+    }
+}
+
+/// Whether a value is a FeatureCollection (RFC 7946, section 3.3).
+fn is_collection(value: &Value) -> bool
+    ensures { result ≡ is_collection (view value.now) }
+{
+    match value.get("type").and_then(Value::as_str) {
+        Some(name) => name == "FeatureCollection",
+        None => false,
+    }
+}
+
+/// The feature, where its time can be read.
+fn hold(feature: Feature, skip: Option<&HeldTimes>) -> Result<Feature, JsonFault>
+    ensures { Gives feature_value result
+        (held (option_map (λ t. property_of t.now) skip.entry) (feature_value feature)) }
+{
+    let Some(times) = skip else {
+        return Ok(feature);
+    };
+    let property = match &times.property {
+        Some(name) => Some(name.as_str()),
+        None => None,
+    };
+    match feature.time_under(property) {
+        Ok(_) => Ok(feature),
+        Err(fault) => Err(JsonFault::Fault(Fault::of_time(fault))),
+    }
+}
+
+/// The feature of a value at a place in the text.
+fn read_feature_of(
+    alloc: Global,
+    rules: &FeatureRules,
+    value: Value,
+    place: u64,
+) -> Result<Feature, JsonFault>
+    ensures { Gives feature_value result (feature_of (rules_value rules.now) place (view value)) }
+{
+    let value = with_place(alloc, value, place)?;
+    let feature = read_feature(alloc, &value, None)?;
+    hold(feature, rules.skip.as_ref())
+}
+
+/// The edit that puts a feature into the collection.
+fn make_edit(
+    alloc: Global,
+    collection: &str,
+    replace: bool,
+    feature: Feature,
+) -> Result<Edit, AllocError>
+    requires { IsTrue (is_collection_id collection.now) }
+    ensures { IfOk result (λ e. edit_value e ≡
+        (if replace then edit.replace collection.now (feature_value feature)
+        else edit.insert collection.now (feature_value feature))) }
+{
+    let made = if replace {
+        Edit::replace(alloc, collection, feature)
+    } else {
+        Edit::insert(alloc, collection, feature)
+    };
+    match made {
+        Ok(edit) => Ok(edit),
+        Err(_) => Err(AllocError),
+    }
+}
+
+impl PlacedEdit {
+    /// An edit with its place; none where its text has more than 8,388,480 bytes.
+    pub fn new(
+        alloc: Global,
+        place: Option<u64>,
+        edit: Edit,
+    ) -> Result<Option<PlacedEdit>, AllocError>
+        ensures { IfOk result (Measures place (edit_value edit)) }
+    {
+        let size = edit.text(alloc)?.len();
+        Ok(if size <= MAX_EDIT {
+            Some(PlacedEdit { place, edit, size })
+        } else {
+            None
+        })
+    }
+}
+
+/// The edit of a feature at a place in the text.
+fn place_edit(
+    alloc: Global,
+    rules: &FeatureRules,
+    place: u64,
+    feature: Feature,
+) -> Result<PlacedEdit, Unread>
+    ensures { IsItem
+        (item_of_edit place (edit_of (rules_value rules.now) (feature_value feature))) result }
+{
+    let edit = make_edit(alloc, rules.collection.as_str(), rules.replace, feature)?;
+    match PlacedEdit::new(alloc, Some(place), edit)? {
+        Some(placed) => Ok(placed),
+        None => Err(Unread::AtFault(TextFault::TooLarge(place))),
+    }
+}
+
+/// The edit of a value at a place in the text.
+fn read_edit_of(
+    alloc: Global,
+    rules: &FeatureRules,
+    place: u64,
+    value: Value,
+) -> Result<PlacedEdit, Unread>
+    ensures { IsItem (item_of_value (rules_value rules.now) place (view value)) result }
+{
+    if place == 1 && is_collection(&value) {
+        return Err(Unread::AtFault(TextFault::NotASequence));
+    }
+    match read_feature_of(alloc, rules, value, place) {
+        Ok(feature) => place_edit(alloc, rules, place, feature),
+        Err(JsonFault::Memory) => Err(Unread::Memory),
+        Err(JsonFault::Fault(fault)) => {
+            Err(Unread::AtFault(TextFault::BadFeature(place, fault)))
+        }
+    }
+}
+
+/// The edit of the text of a feature at a place.
+pub(crate) fn read_edit(
+    alloc: Global,
+    rules: &FeatureRules,
+    place: u64,
+    text: &[u8],
+) -> Result<PlacedEdit, Unread>
+    ensures { IsItem (item_of_text (rules_value rules.now) place text.now) result }
+{
+    match read_value(alloc, text) {
+        Ok(value) => read_edit_of(alloc, rules, place, value),
+        Err(JsonFault::Memory) => Err(Unread::Memory),
+        Err(JsonFault::Fault(_)) if place == 1 => Err(Unread::AtFault(TextFault::NotASequence)),
+        Err(JsonFault::Fault(fault)) => {
+            Err(Unread::AtFault(TextFault::BadFeature(place, fault)))
+        }
+    }
+}

@@ -1,0 +1,25 @@
+//! A keeper that batches are applied to.
+use crate::sink::{Sink, Stop};
+use streetmap_batch::Batch;
+use streetmap_ledger::{Keeper, Reply};
+
+/// A keeper that batches are applied to.
+#[derive(Drop)]
+pub struct KeeperSink<K: Keeper> {
+    pub keeper: K,
+}
+
+impl<K: Keeper> Sink for KeeperSink<K> {
+    ghost use Rattle.streetmap_loading.specs.Applying.{Applies};
+
+    ghost takes = { λ old b result new. Applies K.is_clean K.cause K.stands K.may_leave K.applies
+        K.spares K.fails old.keeper b result new.keeper };
+
+    fn take(&mut self, batch: &Batch) -> Result<Option<u64>, Stop> {
+        match self.keeper.apply(batch) {
+            Ok(Reply::Accepted(_, serial)) | Ok(Reply::Repeated(_, serial)) => Ok(Some(serial)),
+            Ok(Reply::Refused(why, place)) => Err(Stop::Refused(why, place)),
+            Err(fault) => Err(Stop::Stopped(fault)),
+        }
+    }
+}

@@ -1,0 +1,52 @@
+//! Features of any number, loaded from a text with a feature a line: a GeoJSON text sequence
+//! (RFC 8142), or lines alone.
+//!
+//! `load_text` applies the features of a text to a keeper in batches K.1, K.2, .. of a key K. Which
+//! features stand in a text, and which fault is the first, is `specs/Texts`; which batches they
+//! come in is `specs/Packs` of `streetmap_packing`; what the keeper stands for then, and what a
+//! stop may leave, is `specs/KeeperLoads`. The laws tell that the same load again changes nothing,
+//! and that one that was stopped goes on. `check_text` reads a text and loads nothing, `print_text`
+//! writes the batches in place of applying them.
+//!
+//! Modules, in the order of reading: `text_fault`, `source`, `sink`, `end`, `sending`, `whole`;
+//! `rules`, `listener`, `feature_line`, `text_edits`; `load_fault`, `load`, `opening`;
+//! `keeper_sink`, `loading`, `asking`, `checking`, `line_sink`, `printing`, `laws`.
+#![tactic(auto)]
+
+mod asking;
+mod checking;
+mod end;
+mod feature_line;
+mod keeper_sink;
+pub mod laws;
+mod line_sink;
+mod listener;
+mod load;
+mod load_fault;
+mod loading;
+mod opening;
+mod printing;
+mod rules;
+mod sending;
+mod sink;
+mod source;
+mod text_edits;
+mod text_fault;
+mod whole;
+
+pub use asking::ask_times;
+pub use checking::check_text;
+pub use end::{End, Loaded};
+pub use keeper_sink::KeeperSink;
+pub use line_sink::LineSink;
+pub use listener::Listener;
+pub use load::{Load, LoadOptions, MAX_KEY, Opening};
+pub use load_fault::LoadFault;
+pub use loading::{load_text, send_text};
+pub use printing::print_text;
+pub use rules::{FeatureRules, HeldTimes};
+pub use sink::{Sink, Stop};
+pub use source::{Edits, PlacedEdit, Unread};
+pub use text_edits::{MAX_LINE, TextEdits};
+pub use text_fault::TextFault;
+pub use whole::{MAX_EDITS, send_all};

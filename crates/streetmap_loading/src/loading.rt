@@ -1,0 +1,102 @@
+//! The features of a text, loaded.
+ghost use Rattle.std.specs.Prelude.{◌≡◌, ◌≤◌, IsTrue, length, string_bytes};
+ghost use Rattle.streetmap_batch.specs.Names.{is_key};
+ghost use Rattle.streetmap_ledger.specs.Keep.{AsBefore, RunShuts};
+ghost use Rattle.streetmap_ledger.specs.State.{State};
+ghost use Rattle.streetmap_ledger.specs.declared.reply.Fault.TheVariants.{Device, Reopen};
+ghost use Rattle.streetmap_loading.specs.KeeperLoads.{LoadsTo, keeper_fault};
+ghost use Rattle.streetmap_loading.specs.TextLoads.{SendsItems, SendsText};
+ghost use Rattle.streetmap_loading.specs.Options.{load_value, load_items};
+
+use crate::end::{End, Loaded};
+use crate::keeper_sink::KeeperSink;
+use crate::listener::Listener;
+use crate::load::Load;
+use crate::sink::Sink;
+use crate::source::Edits;
+use crate::text_edits::TextEdits;
+use crate::whole::send_all;
+use std::alloc::Global;
+use std::io::BufRead;
+use streetmap_ledger::Keeper;
+
+/// Sends the edits of a source, of which nothing is left behind.
+fn send_source<S: Sink, E: Edits + Drop>(
+    alloc: Global,
+    sink: &mut S,
+    edits: E,
+    key: String,
+    each: usize,
+) -> Loaded
+    requires named { IsTrue (is_key (string_bytes key)) }
+    requires short { length (string_bytes key) ≤ 44 }
+    requires some { 1 ≤ each }
+    requires most { each ≤ 10000 }
+    ensures { SendsItems S.takes each (string_bytes key) sink.old sink.new (E.left edits) result }
+{
+    let mut edits = edits;
+    send_all(alloc, sink, &mut edits, key, each)
+}
+
+/// Sends the edits of the features of a text in batches of the load's key, behind the opening where
+/// one is asked for: what stands in the text is `specs/Texts`, and the batches are `specs/Packs` of
+/// `streetmap_packing`.
+pub fn send_text<S: Sink, R: BufRead + Drop, L: Listener + Drop>(
+    alloc: Global,
+    sink: &mut S,
+    reader: R,
+    load: Load,
+    listener: L,
+) -> Loaded
+    ensures { SendsText S.takes (load_value load) sink.old sink.new (R.remaining reader) result }
+{
+    let Load {
+        key,
+        each,
+        rules,
+        opening,
+    } = load;
+    let edits = TextEdits {
+        alloc,
+        reader,
+        listener,
+        rules,
+        opening,
+        features: 0,
+        bytes: 0,
+    };
+    send_source(alloc, sink, edits, key, each)
+}
+
+/// Applies the features of a text to a keeper in batches of the load's key. A batch that was
+/// accepted before is repeated, and changes nothing: so the same load again changes nothing, and
+/// one that was stopped goes on by the same call (`laws`).
+///
+/// The load ends at the first fault: nothing of the batch under way and behind it is applied.
+pub fn load_text<K: Keeper, R: BufRead + Drop, L: Listener + Drop>(
+    alloc: Global,
+    sink: &mut KeeperSink<K>,
+    reader: R,
+    load: Load,
+    listener: L,
+) -> Loaded
+    ensures spared { K.spares sink.old.keeper sink.new.keeper }
+    ensures began_clean { K.is_clean sink.new.keeper → K.is_clean sink.old.keeper }
+    // A shut keeper that is asked answers `Reopen` and no other does; `Device` and `Damaged` shut
+    // it.
+    ensures faults { RunShuts (keeper_fault result.end)
+        (K.cause sink.old.keeper) (K.cause sink.new.keeper) }
+    // The features that were read, the batches of them that were sent, how it ended, what the
+    // keeper stands for then and what a stop may leave.
+    ensures loads { K.is_clean sink.new.keeper → (s : State) → K.stands sink.old.keeper s →
+        LoadsTo s (K.may_leave sink.old.keeper)
+        (K.stands sink.new.keeper) (K.may_leave sink.new.keeper)
+        load.each (load_value load).key (load_items (load_value load) (R.remaining reader)) result }
+    ensures device { K.is_clean sink.new.keeper → (s : State) → K.stands sink.old.keeper s →
+        result.end ≡ End.Stopped Device → K.fails sink.old.keeper sink.new.keeper }
+    ensures reopen { result.end ≡ End.Stopped Reopen →
+        AsBefore (K.stands sink.old.keeper) (K.stands sink.new.keeper)
+        (K.may_leave sink.old.keeper) (K.may_leave sink.new.keeper) }
+{
+    send_text(alloc, sink, reader, load, listener)
+}

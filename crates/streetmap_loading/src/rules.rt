@@ -1,0 +1,21 @@
+//! Where the features of a text go.
+ghost use Rattle.std.specs.Prelude.{IsTrue, string_bytes};
+ghost use Rattle.streetmap_batch.specs.Names.{is_collection_id};
+
+/// The property that the times of features are held to; none where they have no times.
+#[derive(Drop)]
+pub struct HeldTimes {
+    pub property: Option<String>,
+}
+
+/// Where the features of a text go.
+#[derive(Drop)]
+pub struct FeatureRules {
+    /// The id of their collection.
+    pub collection: String,
+    /// Each replaces the feature with its id.
+    pub replace: bool,
+    /// Features at fault are passed over; then times are held to a property too.
+    pub skip: Option<HeldTimes>,
+    pub ghost placed: { IsTrue (is_collection_id (string_bytes collection)) },
+}

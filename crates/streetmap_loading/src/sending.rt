@@ -1,0 +1,195 @@
+//! A load under way.
+ghost use Rattle.std.specs.Prelude.{◌≡◌, ◌<◌, ◌≤◌, ◌+◌, ◌^◌, ◌++◌, ◌∷◌, [], ℕ, List, OnOk};
+ghost use Rattle.std.specs.Prelude.{Ok, Err, IfOk, IsTrue, length, string_bytes, None, Some};
+ghost use Rattle.streetmap_batch.specs.BatchView.{batch_value};
+ghost use Rattle.streetmap_batch.specs.Names.{is_key};
+ghost use Rattle.streetmap_batch.specs.Text.{Text};
+ghost use Rattle.streetmap_loading.specs.Places.{PlacedValue};
+ghost use Rattle.streetmap_loading.specs.Sources.{placed_value};
+ghost use Rattle.streetmap_loading.specs.Sending.{Begins, IsSending, Sends, Fills, Puts, Finishes};
+ghost use Rattle.streetmap_loading.specs.Sending.{HasRoom, FewMore};
+
+use crate::end::{End, Loaded};
+use crate::sink::Sink;
+use crate::source::PlacedEdit;
+use std::alloc::{AllocError, Global};
+use std::mem;
+use streetmap_batch::Batch;
+use streetmap_packing::Packer;
+
+/// A load under way: the packer of the edits that were read, the places of those that are left in
+/// it, how many batches were taken, how many edits these have, and the serial of the last.
+#[derive(Drop)]
+pub(crate) struct Sending {
+    pub(crate) packer: Packer,
+    pub(crate) places: Vec<Option<u64>>,
+    pub(crate) batches: u64,
+    pub(crate) taken: u64,
+    pub(crate) serial: Option<u64>,
+}
+
+/// The places of one edit.
+fn one_place(alloc: Global, place: Option<u64>) -> Result<Vec<Option<u64>>, AllocError>
+    ensures { IfOk result (λ places. places.items ≡ place ∷ []) }
+{
+    let mut places = Vec::new(alloc);
+    places.push(place)?;
+    Ok(places)
+}
+
+impl Sending {
+    /// A load that begins.
+    pub(crate) fn new(alloc: Global, key: String, each: usize) -> Result<Sending, AllocError>
+        requires named { IsTrue (is_key (string_bytes key)) }
+        requires short { length (string_bytes key) ≤ 44 }
+        requires some { 1 ≤ each }
+        requires most { each ≤ 10000 }
+        ensures { IfOk result (Begins each (string_bytes key)) }
+    {
+        let packer = Packer::new(alloc, key, each)?;
+        Ok(Sending {
+            packer,
+            places: Vec::new(alloc),
+            batches: 0,
+            taken: 0,
+            serial: None,
+        })
+    }
+
+    /// Sends a batch whose edits have these places in the text, and counts it where it is taken.
+    fn send<S: Sink>(
+        &mut self,
+        sink: &mut S,
+        batch: &Batch,
+        places: &[Option<u64>],
+    ) -> Result<(), End>
+        requires batches { self.old.batches + 1 < 2 ^ 64 }
+        requires taken { self.old.taken + 10000 < 2 ^ 64 }
+        ensures few { length (batch_value batch.now).edits ≤ 10000 }
+        ensures sends { Sends S.takes self.old sink.old (batch_value batch.now) places.now
+            result self.new sink.new }
+    {
+        match sink.take(batch) {
+            Ok(serial) => {
+                self.batches += 1;
+                self.taken += batch.edits().len() as u64;
+                self.serial = serial;
+                Ok(())
+            }
+            Err(stop) => Err(End::of_stop(places, stop)),
+        }
+    }
+
+    /// Sends the batch under way where it has as many edits as a batch may have.
+    pub(crate) fn fill<S: Sink>(&mut self, alloc: Global, sink: &mut S) -> Result<(), End>
+        requires { HasRoom self.old }
+        ensures few { OnOk result (FewMore self.old self.new) }
+        ensures fills { (each : ℕ) (key : Text) (first : S) (read : List PlacedValue) →
+            IsSending S.takes each key first read self.old sink.old →
+            Fills S.takes each key first read result self.new sink.new }
+    {
+        match self.packer.fill(alloc)? {
+            None => Ok(()),
+            Some(batch) => {
+                let places = mem::replace(&mut self.places, Vec::new(alloc));
+                self.send(sink, &batch, &places)
+            }
+        }
+    }
+
+    /// Adds an edit to the batch under way. Where that does not take it, the batch is sent, and the
+    /// edit begins the next.
+    pub(crate) fn put<S: Sink>(
+        &mut self,
+        alloc: Global,
+        sink: &mut S,
+        placed: PlacedEdit,
+    ) -> Result<(), End>
+        requires { HasRoom self.old }
+        ensures few { OnOk result (FewMore self.old self.new) }
+        ensures puts { (each : ℕ) (key : Text) (first : S) (read : List PlacedValue) →
+            IsSending S.takes each key first read self.old sink.old →
+            Puts S.takes each key first read (placed_value placed) result self.new sink.new }
+    {
+        let PlacedEdit { place, edit, size } = placed;
+        match self.packer.add(alloc, edit, size)? {
+            None => {
+                self.places.push(place)?;
+                Ok(())
+            }
+            Some(batch) => {
+                let next = one_place(alloc, place)?;
+                let places = mem::replace(&mut self.places, next);
+                self.send(sink, &batch, &places)
+            }
+        }
+    }
+
+    /// Sends the last batch, where an edit is left.
+    pub(crate) fn finish<S: Sink>(self, alloc: Global, sink: &mut S, edits: u64) -> Loaded
+        requires { HasRoom self }
+        ensures edits { result.edits ≡ edits }
+        ensures finishes { (each : ℕ) (key : Text) (first : S) (read : List PlacedValue) →
+            IsSending S.takes each key first read self sink.old →
+            Finishes S.takes each key first read result sink.new }
+    {
+        let Sending {
+            packer,
+            places,
+            batches,
+            taken,
+            serial,
+        } = self;
+        match packer.finish(alloc) {
+            Ok(None) => Loaded {
+                edits,
+                batches,
+                taken,
+                serial,
+                end: End::All,
+            },
+            Ok(Some(batch)) => match sink.take(&batch) {
+                Ok(last) => Loaded {
+                    edits,
+                    batches: batches + 1,
+                    taken: taken + batch.edits().len() as u64,
+                    serial: last,
+                    end: End::All,
+                },
+                Err(stop) => Loaded {
+                    edits,
+                    batches,
+                    taken,
+                    serial,
+                    end: End::of_stop(&places, stop),
+                },
+            },
+            Err(_) => Loaded {
+                edits,
+                batches,
+                taken,
+                serial,
+                end: End::Memory,
+            },
+        }
+    }
+
+    /// What a load came to that ended so.
+    pub(crate) fn ended(&self, edits: u64, end: End) -> Loaded
+        ensures { result ≡ record {
+          edits = edits;
+          batches = self.now.batches;
+          taken = self.now.taken;
+          serial = self.now.serial;
+          end = end;
+        } }
+    {
+        Loaded {
+            edits,
+            batches: self.batches,
+            taken: self.taken,
+            serial: self.serial,
+            end,
+        }
+    }
+}

@@ -1,0 +1,55 @@
+//! Where edits come from.
+ghost use Rattle.std.specs.Prelude.{◌≡◌, ◌≤◌, Option, List, length};
+ghost use Rattle.serde_json.specs.Written.{compact_text};
+ghost use Rattle.streetmap_batch.specs.BatchText.{edit_data};
+ghost use Rattle.streetmap_batch.specs.BatchView.{edit_value};
+
+use crate::text_fault::TextFault;
+use std::alloc::AllocError;
+use streetmap_batch::Edit;
+
+/// Why there is no edit.
+#[derive(Clone, Copy, Debug, PartialEq, Eq, Drop)]
+pub enum Unread {
+    /// What stands for the edit is at fault.
+    AtFault(TextFault),
+    /// The text could not be read.
+    ReadFailed,
+    /// Memory was refused.
+    Memory,
+}
+
+/// An edit of at most 8,388,480 bytes of batch text.
+#[derive(Drop)]
+pub struct PlacedEdit {
+    /// The place of its feature in the text, counted from 1; none for an opening.
+    pub place: Option<u64>,
+    pub edit: Edit,
+    /// How many bytes its text has.
+    pub size: usize,
+    pub ghost measured: { length (compact_text (edit_data (edit_value edit))) ≡ size },
+    pub ghost small: { size ≤ 8388480 },
+}
+
+/// Edits, one after the other.
+pub trait Edits {
+    ghost use Rattle.streetmap_loading.specs.Sources.{Item, TakesNext};
+
+    /// The edits that are left, where it tells them, and what stands at fault among them.
+    ghost left: { Self → Option (List Item) };
+
+    /// The next edit; none at the end.
+    fn next_edit(&mut self) -> Result<Option<PlacedEdit>, Unread>
+        ensures { TakesNext (left self.old) (left self.new) result };
+}
+
+impl From<AllocError> for Unread {
+    ghost use Rattle.std.specs.Prelude.{◌≡◌};
+    ghost use Rattle.streetmap_loading.specs.declared.source.Unread.TheVariants.{Memory};
+
+    ghost from_gives = { λ _ e. e ≡ Memory };
+
+    fn from(_: AllocError) -> Unread {
+        Unread::Memory
+    }
+}

@@ -1,0 +1,155 @@
+//! Edits of the features of a text, one a line.
+ghost use Rattle.std.specs.Prelude.{◌≡◌, Option, List};
+ghost use Rattle.streetmap_loading.specs.Texts.{without_mark, without_separator, text_on};
+ghost use Rattle.streetmap_loading.specs.Texts.{is_skipped, items_left};
+ghost use Rattle.streetmap_loading.specs.TextView.{rules_value, Steps, and_left};
+
+use crate::feature_line::read_edit;
+use crate::listener::Listener;
+use crate::rules::FeatureRules;
+use crate::source::{Edits, PlacedEdit, Unread};
+use crate::text_fault::TextFault;
+use std::alloc::Global;
+use std::io::BufRead;
+use streetmap_text_lines::{Line, LineFault, next_line};
+
+/// The most bytes of a line, its line feed not counted.
+pub const MAX_LINE: usize = 8_388_608;
+
+/// What a line was.
+#[derive(Drop)]
+pub(crate) enum Step {
+    /// Nothing stood on it, or a feature that is passed over.
+    Past,
+    /// A feature stood on it.
+    Edit(PlacedEdit),
+    /// The text ended before it.
+    End,
+}
+
+/// The edits of the features of a text, behind the opening of their collection where there is one.
+/// The text has a feature a line: a record separator before it, a carriage return behind it, empty
+/// lines and a byte order mark before the first are read past.
+#[derive(Drop)]
+pub struct TextEdits<R: BufRead + Drop, L: Listener + Drop> {
+    pub alloc: Global,
+    pub reader: R,
+    pub listener: L,
+    pub rules: FeatureRules,
+    pub opening: Option<PlacedEdit>,
+    /// How many features were met.
+    pub features: u64,
+    /// In about how many bytes.
+    pub bytes: u64,
+}
+
+/// A line without the byte order mark in front of it.
+fn drop_mark(line: &[u8]) -> &[u8]
+    ensures { result.now ≡ without_mark line.entry.now }
+{
+    match line.strip_prefix([239, 187, 191].as_slice()) {
+        Some(rest) => rest,
+        None => line,
+    }
+}
+
+/// A line without the record separator in front of it.
+fn drop_separator(line: &[u8]) -> &[u8]
+    ensures { result.now ≡ without_separator line.entry.now }
+{
+    match line {
+        [30, ..] => &line[1..],
+        _ => line,
+    }
+}
+
+/// The text of the feature at that place on a line.
+fn text_on(place: u64, line: &[u8]) -> &[u8]
+    ensures { result.now ≡ text_on place line.entry.now }
+{
+    if place == 1 {
+        drop_separator(drop_mark(line))
+    } else {
+        drop_separator(line)
+    }
+}
+
+impl FeatureRules {
+    /// Whether the fault is one of a feature, and is passed over.
+    fn skips(&self, fault: TextFault) -> bool
+        ensures { result ≡ is_skipped (rules_value self.now) fault }
+    {
+        match fault {
+            TextFault::NotASequence | TextFault::LineTooLong(_) => false,
+            TextFault::BadFeature(_, _) | TextFault::TooLarge(_) => self.skip.is_some(),
+        }
+    }
+}
+
+impl<R: BufRead + Drop, L: Listener + Drop> TextEdits<R, L> {
+    /// Reads one line.
+    fn step(&mut self) -> Result<Step, Unread>
+        ensures steps { Steps
+            (items_left (rules_value self.old.rules) self.old.features
+            (R.remaining self.old.reader))
+            (items_left (rules_value self.old.rules) self.new.features
+            (R.remaining self.new.reader))
+            result }
+        ensures rules { self.new.rules ≡ self.old.rules }
+        ensures opening { self.new.opening ≡ self.old.opening }
+    {
+        let Some(place) = self.features.checked_add(1) else {
+            return Err(Unread::ReadFailed);
+        };
+        let line = match next_line(self.alloc, &mut self.reader, MAX_LINE) {
+            Ok(Line::Text(line)) => line,
+            Ok(Line::End) => return Ok(Step::End),
+            Err(LineFault::LineTooLong) => {
+                return Err(Unread::AtFault(TextFault::LineTooLong(place)));
+            }
+            Err(LineFault::ReadFailed) => return Err(Unread::ReadFailed),
+            Err(LineFault::Memory) => return Err(Unread::Memory),
+        };
+        self.bytes = self
+            .bytes
+            .saturating_add(line.len() as u64)
+            .saturating_add(1);
+        let text = text_on(place, &line);
+        if text.is_empty() {
+            return Ok(Step::Past);
+        }
+        self.features = place;
+        self.listener.reached(place, self.bytes);
+        match read_edit(self.alloc, &self.rules, place, text) {
+            Ok(placed) => Ok(Step::Edit(placed)),
+            Err(Unread::AtFault(fault)) => {
+                if self.rules.skips(fault) {
+                    self.listener.passed_over(fault);
+                    Ok(Step::Past)
+                } else {
+                    Err(Unread::AtFault(fault))
+                }
+            }
+            Err(unread) => Err(unread),
+        }
+    }
+}
+
+impl<R: BufRead + Drop, L: Listener + Drop> Edits for TextEdits<R, L> {
+    ghost left = { λ edits. and_left edits.opening
+        (items_left (rules_value edits.rules) edits.features (R.remaining edits.reader)) };
+
+    fn next_edit(&mut self) -> Result<Option<PlacedEdit>, Unread> {
+        if let Some(opening) = self.opening.take() {
+            return Ok(Some(opening));
+        }
+        for _turn in 0..u64::MAX {
+            match self.step()? {
+                Step::Past => {}
+                Step::Edit(placed) => return Ok(Some(placed)),
+                Step::End => return Ok(None),
+            }
+        }
+        Err(Unread::ReadFailed)
+    }
+}

@@ -1,0 +1,62 @@
+//! All edits of a source, sent.
+ghost use Rattle.std.specs.Prelude.{◌≡◌, ◌≤◌, IsTrue, length, string_bytes};
+ghost use Rattle.streetmap_batch.specs.Names.{is_key};
+ghost use Rattle.streetmap_loading.specs.Loads.{Loads};
+
+use crate::end::{End, Loaded};
+use crate::sending::Sending;
+use crate::sink::Sink;
+use crate::source::{Edits, Unread};
+use std::alloc::Global;
+
+/// The most edits of a load.
+pub const MAX_EDITS: u64 = 100_000_000_000_000;
+
+/// Sends edits in batches K.1, K.2, .. of the key K, each the longest next run of them with at most
+/// `each` edits and 8,388,608 bytes of batch text. One that has its number of edits is sent before
+/// the next edit is read.
+///
+/// An edit at fault ends the load: the batches before the one under way are sent, and nothing of
+/// that one and behind it. After `MAX_EDITS` edits it ends as where the text is not read on.
+pub fn send_all<S: Sink, E: Edits>(
+    alloc: Global,
+    sink: &mut S,
+    edits: &mut E,
+    key: String,
+    each: usize,
+) -> Loaded
+    requires named { IsTrue (is_key (string_bytes key)) }
+    requires short { length (string_bytes key) ≤ 44 }
+    requires some { 1 ≤ each }
+    requires most { each ≤ 10000 }
+    ensures { Loads S.takes each (string_bytes key) sink.old sink.new
+        (E.left edits.old) (E.left edits.new) result }
+{
+    let mut sending = match Sending::new(alloc, key, each) {
+        Ok(sending) => sending,
+        Err(_) => {
+            return Loaded {
+                edits: 0,
+                batches: 0,
+                taken: 0,
+                serial: None,
+                end: End::Memory,
+            };
+        }
+    };
+    for turn in 0..MAX_EDITS {
+        if let Err(end) = sending.fill(alloc, sink) {
+            return sending.ended(turn, end);
+        }
+        match edits.next_edit() {
+            Ok(Some(placed)) => {
+                if let Err(end) = sending.put(alloc, sink, placed) {
+                    return sending.ended(turn + 1, end);
+                }
+            }
+            Ok(None) => return sending.finish(alloc, sink, turn),
+            Err(unread) => return sending.ended(turn, End::of_unread(unread)),
+        }
+    }
+    sending.ended(MAX_EDITS, End::ReadFailed)
+}

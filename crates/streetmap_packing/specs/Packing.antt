@@ -1,0 +1,33 @@
+-- What is under way while edits are packed.
+use Rattle.std.specs.Prelude.{ℕ, ◌+◌, Bool, List, [], ◌∷◌, ◌++◌}
+use Rattle.streetmap_batch.specs.Text.{Text}
+use Rattle.streetmap_batch.specs.BatchValue.{EditValue, BatchValue}
+use Rattle.streetmap_packing.specs.Packs.{numbered, passes}
+
+-- the key, the most edits of a batch, and the number and the edits of the batch under way
+pub record Packing : Type 0 where
+  pub key : Text
+  pub each : ℕ
+  pub number : ℕ
+  pub edits : List EditValue
+
+-- the batch under way
+abbrev pub under_way : Packing → BatchValue
+under_way p = numbered p.key p.number p.edits
+
+-- it is within the limits
+abbrev pub is_passing : Packing → Bool
+is_passing p = passes p.each p.key p.number p.edits
+
+-- with one edit more
+abbrev pub with_edit : Packing → EditValue → Packing
+with_edit p e = record p { edits = p.edits ++ e ∷ [] }
+
+-- the next batch, which has no edit yet
+abbrev pub next : Packing → Packing
+next p = record p { number = p.number + 1; edits = [] }
+
+-- the comma in front of an edit behind these
+abbrev pub comma_behind : {A : Type 0} → List A → List ℕ
+comma_behind [] = []
+comma_behind (x ∷ xs) = 44 ∷ []

@@ -1,0 +1,14 @@
+//! Edits, packed into batches K.1, K.2, .. of a key K.
+//!
+//! Each batch is the longest next run of the edits that is within the limits of a batch: so many
+//! edits, and so many bytes of batch text (`specs/Packs`). A `Packer` gives the batches out one by
+//! one as the edits come. The laws tell that there is one way to pack edits, that what was given
+//! out begins what more edits give, and that a key of at most 44 bytes has room for each number.
+#![tactic(auto)]
+
+pub mod laws;
+mod numbering;
+mod packer;
+
+pub use numbering::MAX_TEXT;
+pub use packer::{MAX_EDIT, Packer};

@@ -1,0 +1,15 @@
+pub mod Texts
+pub mod TextAgain
+pub mod Untimed
+pub mod Serials
+pub mod Growing
+pub mod There
+pub mod Accepted
+pub mod Listed
+pub mod Followers
+pub mod Sitting
+pub mod Replays
+pub mod Printed
+pub mod Lined
+pub mod AllThere
+pub mod Torn

@@ -1,0 +1,48 @@
+-- The text of a batch reads again.
+use Rattle.std.specs.Prelude.{◌≡◌, ℕ, List, Ok, All, IsTrue, map}
+use Rattle.std.specs.Str.{is_utf8}
+use Rattle.streetmap_geojson.specs.FeatureValue.{untimed}
+use Rattle.streetmap_batch.specs.BatchValue as edit
+use Rattle.streetmap_batch.specs.BatchValue.{EditValue, BatchValue}
+use Rattle.streetmap_batch.specs.BatchFacts.{IsSoundBatch}
+use Rattle.streetmap_batch.specs.BatchMeaning.{IsBatchText}
+use Rattle.streetmap_batch.specs.BatchReading.{batch_of}
+use Rattle.streetmap_batch.specs.BatchText.{batch_text}
+use Rattle.streetmap_ledger.specs.State.{State}
+use Rattle.streetmap_ledger.specs.Batches.{act}
+
+-- an edit with the time of its feature left out: what its text tells
+abbrev pub untimed_edit : EditValue → EditValue
+untimed_edit (edit.«open» name title time) = edit.«open» name title time
+untimed_edit (edit.insert name f) = edit.insert name (untimed f)
+untimed_edit (edit.replace name f) = edit.replace name (untimed f)
+untimed_edit (edit.delete name id) = edit.delete name id
+
+abbrev pub untimed_batch : BatchValue → BatchValue
+untimed_batch b = record { key = b.key; edits = map untimed_edit b.edits }
+
+-- an id to delete is a text in UTF-8
+abbrev pub HasTexts : EditValue → Type 0
+HasTexts (edit.«open» name title time) = Unit {0}
+HasTexts (edit.insert name f) = Unit {0}
+HasTexts (edit.replace name f) = Unit {0}
+HasTexts (edit.delete name id) = IsTrue (is_utf8 id)
+
+-- a batch that the type of batches can hold
+pub record IsWritable (b : BatchValue) : Type 0 where
+  pub sound : IsSoundBatch b
+  pub texts : All HasTexts b.edits
+
+-- what its text reads as
+abbrev pub BatchTextReadsAgain : Type 0
+BatchTextReadsAgain = (b : BatchValue) → IsWritable b →
+    IsBatchText (batch_text b) (untimed_batch b) × (batch_of (batch_text b) ≡ Ok (untimed_batch b))
+
+-- a batch that was read from a text has no times, so that its text reads as that very batch
+abbrev pub ReadBatchIsUntimed : Type 0
+ReadBatchIsUntimed = (bytes : List ℕ) (b : BatchValue) → IsBatchText bytes b → untimed_batch b ≡ b
+
+-- a batch does what it does without times, and has the same text
+abbrev pub TimesAreNotTold : Type 0
+TimesAreNotTold = ((s : State) (b : BatchValue) → act s (untimed_batch b) ≡ act s b) ×
+    ((b : BatchValue) → batch_text (untimed_batch b) ≡ batch_text b)

@@ -1,0 +1,30 @@
+-- Lines of a journal: a batch with its serial, or a batch alone.
+use Rattle.std.specs.Prelude.{◌≡◌, ◌<◌, ◌^◌, ℕ, List, ◌∷◌, ◌++◌, decimal}
+use Rattle.streetmap_batch.specs.Text.{Text}
+use Rattle.streetmap_batch.specs.BatchText.{batch_text}
+use Rattle.streetmap_batch.specs.BatchValue.{BatchValue}
+use Rattle.streetmap_replay.specs.Again.{IsWritable}
+
+-- a batch alone, or a batch with its serial
+pub data Line : Type 0 where
+  bare : (text : Text) → Line
+  numbered : (serial : ℕ) (text : Text) → Line
+
+-- the bytes of a line: the text; or the serial in decimal, a tab and the text
+abbrev pub line_bytes : Line → List ℕ
+line_bytes (bare text) = text
+line_bytes (numbered serial text) = decimal serial ++ 9 ∷ text
+
+-- what bytes are as a line: a batch with its serial where they have that form, else a batch alone
+abbrev pub IsLine : List ℕ → Line → Type 0
+IsLine bytes (numbered serial text) =
+    (line_bytes (numbered serial text) ≡ bytes) × (serial < 2 ^ 64)
+IsLine bytes (bare text) =
+    (text ≡ bytes)
+    × ((serial : ℕ) (rest : Text) → serial < 2 ^ 64 → line_bytes (numbered serial rest) ≡ bytes → ⊥)
+
+-- bytes are one line, and the text of a batch is a batch alone
+abbrev pub LinesAreOne : Type 0
+LinesAreOne =
+    ((bytes : List ℕ) (x y : Line) → IsLine bytes x → IsLine bytes y → x ≡ y)
+    × ((b : BatchValue) → IsWritable b → IsLine (batch_text b) (bare (batch_text b)))

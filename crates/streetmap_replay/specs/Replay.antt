@@ -1,0 +1,25 @@
+-- A state that its own journal gives again.
+use Rattle.std.specs.Prelude.{◌≡◌, List, All, map}
+use Rattle.streetmap_batch.specs.BatchValue.{BatchValue}
+use Rattle.streetmap_ledger.specs.State.{State, opening_state}
+use Rattle.streetmap_ledger.specs.Batches.{act, after_all}
+use Rattle.streetmap_ledger.specs.WellFormed.{IsState}
+use Rattle.streetmap_replay.specs.Again.{IsWritable}
+use Rattle.streetmap_replay.specs.Journal.{journal}
+use Rattle.streetmap_replay.specs.Lines.{bare}
+use Rattle.streetmap_replay.specs.Following.{Arrives, follow}
+
+-- all texts of its journal are followed from the opening state on, and they give it: its
+-- collections, and its keys with their texts, counts and serials
+abbrev pub Replays : State → Type 0
+Replays s = Arrives (follow opening_state (map bare (journal s))) s
+
+-- the opening state is such a state, and each batch keeps a state so; and such a state comes from
+-- batches
+abbrev pub StatesReplay : Type 0
+StatesReplay =
+    Replays opening_state
+    × ((s : State) (b : BatchValue) → IsState s → IsWritable b → Replays s →
+    Replays (act s b).state)
+    × ((bs : List BatchValue) → All IsWritable bs → Replays (after_all opening_state bs))
+    × ((s : State) → Replays s → (bs : List BatchValue) × (after_all opening_state bs ≡ s))

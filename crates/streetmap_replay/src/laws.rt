@@ -1,0 +1,67 @@
+//! Laws of the definitions.
+ghost use Rattle.streetmap_replay.specs.Again.{BatchTextReadsAgain, ReadBatchIsUntimed};
+ghost use Rattle.streetmap_replay.specs.Again.{TimesAreNotTold};
+ghost use Rattle.streetmap_replay.specs.Journal.{JournalGrows, JournalIsWhole};
+ghost use Rattle.streetmap_replay.specs.Lines.{LinesAreOne};
+ghost use Rattle.streetmap_replay.specs.JournalText.{JournalReadsInLines, BeginningsAreTorn};
+ghost use Rattle.streetmap_replay.specs.Following.{FollowersGoOn, FollowersAreBeginnings};
+ghost use Rattle.streetmap_replay.specs.Following.{FollowersArrive, LinesComeInOrder};
+ghost use Rattle.streetmap_replay.specs.Sittings.{SittingsAddUp};
+ghost use Rattle.streetmap_replay.specs.Replay.{StatesReplay};
+
+/// The text of a batch is a batch's, and reads as the batch with the times of its features left
+/// out; a batch that was read from a text has no times; and a batch acts as one without times.
+pub fn batch_text_reads_again()
+    ensures again { BatchTextReadsAgain }
+    ensures untimed { ReadBatchIsUntimed }
+    ensures acts { TimesAreNotTold }
+{}
+
+/// The journal of a state is the texts of the accepted batches, in order.
+pub fn journal_grows()
+    ensures { JournalGrows }
+{}
+
+/// A state that keeps n batches has a journal of n texts, the i-th of which is kept with the
+/// serial i.
+pub fn journal_is_whole()
+    ensures { JournalIsWhole }
+{}
+
+/// Bytes are one line, with its serial or without; the text of a batch is one without.
+pub fn lines_are_one()
+    ensures { LinesAreOne }
+{}
+
+/// The lines of a journal's bytes are its texts with their serials.
+pub fn journal_reads_in_lines()
+    ensures { JournalReadsInLines }
+{}
+
+/// A beginning of a journal's bytes is some of its first lines and a torn one, and begins each
+/// later journal too.
+pub fn beginnings_are_torn()
+    ensures { BeginningsAreTorn }
+{}
+
+/// A follower that is told lines of the journal, from one that it has or the next on, follows them,
+/// and has the state of a beginning of the batches. One line it follows where it has those before,
+/// and else it is not the next.
+pub fn followers_go_on()
+    ensures go_on { FollowersGoOn }
+    ensures beginnings { FollowersAreBeginnings }
+    ensures arrive { FollowersArrive }
+    ensures in_order { LinesComeInOrder }
+{}
+
+/// A follower of a journal's lines up to the serial k, in any number of sittings, any line again at
+/// any time, has the state of the beginning with k accepted batches.
+pub fn sittings_add_up()
+    ensures { SittingsAddUp }
+{}
+
+/// A state that batches made is the one that its journal gives, and one that its journal gives
+/// comes from batches.
+pub fn states_replay()
+    ensures { StatesReplay }
+{}

@@ -1,0 +1,45 @@
+//! Why a line is not read.
+use std::alloc::AllocError;
+use std::io::{Error, ErrorKind};
+
+/// Why a line is not read.
+#[derive(Clone, Copy, Debug, PartialEq, Eq)]
+pub enum LineFault {
+    /// It has more bytes than asked for, its line feed not counted.
+    LineTooLong,
+    /// The input could not be read.
+    ReadFailed,
+    /// Memory was refused.
+    Memory,
+}
+
+impl LineFault {
+    ghost use Rattle.std.specs.Prelude.{◌≡◌, ◌≢◌};
+    ghost use Rattle.std.specs.IoError.{error_kind};
+
+    /// The fault of a read that failed. A buffer that finds no memory fails so too.
+    pub fn of_read(error: &Error) -> LineFault
+        ensures memory { error_kind error.now ≡ ErrorKind.OutOfMemory →
+            result ≡ LineFault.Memory }
+        ensures other { error_kind error.now ≢ ErrorKind.OutOfMemory →
+            result ≡ LineFault.ReadFailed }
+        ensures short { result ≢ LineFault.LineTooLong }
+    {
+        if error.kind() == ErrorKind::OutOfMemory {
+            LineFault::Memory
+        } else {
+            LineFault::ReadFailed
+        }
+    }
+}
+
+impl From<AllocError> for LineFault {
+    ghost use Rattle.std.specs.Prelude.{◌≡◌};
+    ghost use Rattle.streetmap_text_lines.specs.declared.fault.LineFault.TheVariants.{Memory};
+
+    ghost from_gives = { λ _ fault. fault ≡ Memory };
+
+    fn from(_: AllocError) -> LineFault {
+        LineFault::Memory
+    }
+}

@@ -1,0 +1,132 @@
+//! One line of bounded length, read off a reader.
+ghost use Rattle.std.specs.Prelude.{◌≡◌, ◌≤◌, ◌++◌, Some, Err, IfOk, OnOk, OnErr, IfSome};
+ghost use Rattle.std.specs.Prelude.{vec_len, ◌==◌};
+ghost use Rattle.std.specs.List.{position_from, position_or_len};
+ghost use Rattle.std.specs.Str.Lines.{strip_carriage_return};
+ghost use Rattle.std.specs.Io.KnownBytes.{Keeps};
+ghost use Rattle.streetmap_text_lines.specs.Lines.{first_too_long};
+ghost use Rattle.streetmap_text_lines.specs.Reading.{HasNoLineFeed, TakesShown, TakesLine};
+ghost use Rattle.streetmap_text_lines.specs.Reading.{LosesPart};
+
+use crate::fault::LineFault;
+use std::alloc::Global;
+use std::io::{BufRead, ErrorKind};
+
+/// What stood at the front of the input.
+#[derive(Drop)]
+pub enum Line {
+    /// A line, without its line feed and a carriage return before it.
+    Text(Vec<u8>),
+    /// The end of the input.
+    End,
+}
+
+/// How a line goes on in the bytes that a reader shows.
+#[derive(Clone, Copy)]
+pub(crate) enum Shown {
+    /// They are all of the line, and more may follow.
+    More,
+    /// The line ends in them, by a line feed.
+    LineFeed,
+    /// There are none: the input ends.
+    End,
+}
+
+/// Where the first line feed stands.
+fn find_line_feed(shown: &[u8]) -> Option<usize>
+    ensures { result ≡ position_from (λ b. b == 10) 0 shown.now }
+{
+    shown.iter().position(|byte| *byte == b'\n')
+}
+
+/// How many bytes stand before the first line feed.
+fn line_length(shown: &[u8]) -> usize
+    ensures { result ≡ position_or_len (λ b. b == 10) shown.now }
+{
+    match find_line_feed(shown) {
+        Some(at) => at,
+        None => shown.len(),
+    }
+}
+
+/// Takes what the reader shows of a line over to it, and its line feed off the reader.
+pub(crate) fn take_shown<R: BufRead>(
+    reader: &mut R,
+    line: &mut Vec<u8>,
+    most: usize,
+) -> Result<Shown, LineFault>
+    requires short { vec_len line.old ≤ most }
+    requires one_line { HasNoLineFeed line.old.items }
+    ensures short { OnOk result (vec_len line.new ≤ most) }
+    ensures one_line { OnOk result (HasNoLineFeed line.new.items) }
+    ensures taken { IfOk result (TakesShown (R.remaining reader.old) (R.remaining reader.new)
+        line.old.items line.new.items) }
+    ensures lost { OnErr result (Keeps (R.remaining reader.old) (R.remaining reader.new)) }
+    ensures too_long { result ≡ Err LineFault.LineTooLong → IfSome (R.remaining reader.old)
+        (λ rest. first_too_long most (line.old.items ++ rest) ≡ Some 0) }
+{
+    let shown = match reader.fill_buf() {
+        Ok(shown) => shown,
+        Err(error) if error.kind() == ErrorKind::Interrupted => return Ok(Shown::More),
+        Err(error) => return Err(LineFault::of_read(&error)),
+    };
+    if shown.is_empty() {
+        return Ok(Shown::End);
+    }
+    let count = line_length(shown);
+    let ended = count < shown.len();
+    if count > most - line.len() {
+        return Err(LineFault::LineTooLong);
+    }
+    line.extend_from_slice(&shown[..count])?;
+    if ended {
+        reader.consume(count + 1);
+        Ok(Shown::LineFeed)
+    } else {
+        reader.consume(count);
+        Ok(Shown::More)
+    }
+}
+
+/// Drops the carriage return at the end of a line, where there is one.
+fn drop_carriage_return(line: &mut Vec<u8>)
+    ensures { line.new.items ≡ strip_carriage_return line.old.items }
+{
+    if line.last() == Some(&b'\r') {
+        let _ = line.pop();
+    }
+}
+
+/// The next line of the input, of at most `most` bytes, its line feed not counted. The last one may
+/// lack its line feed.
+///
+/// # Errors
+///
+/// `LineTooLong` where the first line has more bytes, `ReadFailed` and `Memory`: of what is lost no
+/// byte is a line feed.
+pub fn next_line<R: BufRead>(alloc: Global, reader: &mut R, most: usize) -> Result<Line, LineFault>
+    ensures taken { IfOk result (TakesLine most (R.remaining reader.old) (R.remaining reader.new)) }
+    ensures lost { OnErr result (LosesPart most (R.remaining reader.old) (R.remaining reader.new)) }
+    ensures too_long { result ≡ Err LineFault.LineTooLong → IfSome (R.remaining reader.old)
+        (λ input. first_too_long most input ≡ Some 0) }
+{
+    let mut line = Vec::new(alloc);
+    for _turn in 0..u64::MAX {
+        match take_shown(reader, &mut line, most)? {
+            Shown::More => {}
+            Shown::LineFeed => {
+                drop_carriage_return(&mut line);
+                line.shrink_to_fit();
+                return Ok(Line::Text(line));
+            }
+            Shown::End => {
+                return Ok(if line.is_empty() {
+                    Line::End
+                } else {
+                    Line::Text(line)
+                });
+            }
+        }
+    }
+    Err(LineFault::ReadFailed)
+}

@@ -1,0 +1,52 @@
+-- Answers that are no failure of the server.
+use Rattle.std.proofs.Common.{◌≡◌, true, false, Option, None, Some, arith}
+use Rattle.streetmap_geojson.specs.FeatureValue.{FeatureValue}
+use Rattle.streetmap_query.specs.QueryValue.{QueryValue}
+use Rattle.streetmap_batch.specs.Text.{Text}
+use Rattle.streetmap_ledger.specs.State.{State}
+use Rattle.streetmap_ledger.specs.Batches.{act}
+use Rattle.streetmap_ledger.specs.Pages.{PageValue, page_in, feature_in}
+use Rattle.streetmap_ledger.specs.Summaries.{SummaryValue, summary_in}
+use Rattle.streetmap_ledger.specs.declared.reply.Reply.{Reply}
+use Rattle.streetmap_ledger.specs.declared.reply.Reply.TheVariants.{Accepted, Repeated, Refused}
+use Rattle.streetmap_ledger.specs.declared.reply.Fault.TheVariants as faults
+use Rattle.streetmap_routes.specs.Ask.{AskValue, faulty, landing_page, api_text, conformance_classes, all_collections, one_collection, page, feature, batch}
+use Rattle.streetmap_bodies.specs.declared.request_fault.RequestFault.TheVariants.{Keeper}
+use Rattle.streetmap_web.specs.Response.{fault_response, found_page, found_feature, found_collection, replied, reply_status, response_in, asks_state, not_found}
+
+pub starved_well : (fault_response (Keeper faults.Memory)).status ≡ 500 → ⊥
+unfolding fault_response
+starved_well e = absurd (omega (arith, e))
+
+missing_well : not_found.status ≡ 500 → ⊥
+unfolding fault_response
+missing_well e = absurd (omega (arith, e))
+
+pub page_well : (root name : Text) (q : QueryValue) (o : Option PageValue) → (found_page root name q o).status ≡ 500 → ⊥
+page_well root name q None e = missing_well e
+page_well root name q (Some p) e = absurd (omega (arith, e))
+
+pub feature_well : (root name : Text) (o : Option FeatureValue) → (found_feature root name o).status ≡ 500 → ⊥
+feature_well root name None e = missing_well e
+feature_well root name (Some f) e = absurd (omega (arith, e))
+
+pub collection_well : (root : Text) (o : Option SummaryValue) → (found_collection root o).status ≡ 500 → ⊥
+collection_well root None e = missing_well e
+collection_well root (Some s) e = absurd (omega (arith, e))
+
+pub reply_well : (key : Text) (reply : Reply) → (replied key reply).status ≡ 500 → ⊥
+reply_well key (Accepted counts serial) e = absurd (omega (arith, e))
+reply_well key (Repeated counts serial) e = absurd (omega (arith, e))
+reply_well key (Refused refusal place) e = absurd (omega (arith, e))
+
+-- what a state answers to what asks it
+pub told_well : (root : Text) (s : State) (ask : AskValue) → asks_state ask ≡ true → (response_in root s ask).status ≡ 500 → ⊥
+told_well root s (faulty fault) asks e = absurd (let bad : false ≡ true = asks in cc)
+told_well root s landing_page asks e = absurd (let bad : false ≡ true = asks in cc)
+told_well root s api_text asks e = absurd (let bad : false ≡ true = asks in cc)
+told_well root s conformance_classes asks e = absurd (let bad : false ≡ true = asks in cc)
+told_well root s all_collections asks e = absurd (omega (arith, e))
+told_well root s (one_collection name) asks e = collection_well root (summary_in s name) e
+told_well root s (page name q) asks e = page_well root name q (page_in s name q) e
+told_well root s (feature name id) asks e = feature_well root name (feature_in s name id) e
+told_well root s (batch b) asks e = reply_well b.key (act s b).reply e
