@@ -1,8 +1,9 @@
 """Times the built program on this machine, beside plain programs that do the same.
 
-    python3 bench/run.py PROGRAM [NAME ..] [--list]
+    python3 bench/run.py PROGRAM [NAME ..] [--list] [--slow]
 
-All measures run where none is named. Each is a module of this folder.
+All measures run where none is named. Each is a module of this folder. With --slow those that have
+a long form run it.
 """
 
 import argparse
@@ -13,7 +14,7 @@ import tempfile
 from pathlib import Path
 
 HERE = Path(__file__).resolve().parent
-NAMES = ("lines", "tables", "imports", "polygons", "serving", "clients")
+NAMES = ("lines", "tables", "imports", "loading", "polygons", "serving", "clients")
 
 
 def arguments() -> argparse.Namespace:
@@ -21,6 +22,7 @@ def arguments() -> argparse.Namespace:
     parser.add_argument("program", nargs="?", type=Path, metavar="PROGRAM")
     parser.add_argument("names", nargs="*", metavar="NAME")
     parser.add_argument("--list", action="store_true", help="names the measures")
+    parser.add_argument("--slow", action="store_true", help="the long form of the measures")
     given = parser.parse_args()
     if unknown := [name for name in given.names if name not in NAMES]:
         parser.error(f"no such measure: {' '.join(unknown)}")
@@ -39,8 +41,9 @@ def main() -> None:
         print(f"{name}: {what}", flush=True)
         if given.list:
             continue
+        work = getattr(measure, "run_slow", measure.run) if given.slow else measure.run
         with tempfile.TemporaryDirectory(prefix=f"streetmap-{name}-") as folder:
-            measure.run(given.program.resolve(), Path(folder))
+            work(given.program.resolve(), Path(folder))
 
 
 if __name__ == "__main__":

@@ -105,6 +105,13 @@ class Context:
         self.check(f"{what}: standard error", ended.stderr, fault)
         return ended.stdout
 
+    def takes(self, *words: Word) -> bool:
+        """Whether the program takes these words, which is one check: a group ends there where the
+        program lacks a command."""
+        taken: bool = self.start(*words).stderr != b"streetmap: usage\n"
+        self.check(f"the words {' '.join(map(str, words))}", "taken" if taken else "usage", "taken")
+        return taken
+
     def pipe(self, file: str | Path, *requests: bytes, words: tuple[str, ...] = ()) -> list[Answer]:
         """The answers to requests over a file."""
         return answers_in(self.run("pipe", file, *words, sent=b"".join(requests)))

@@ -10,6 +10,13 @@ Rows = list[tuple[Any, ...]]
 # The columns that format 2 has and format 1 has not.
 COLUMNS = "".join(f"{name} INTEGER, " for name in ("x0", "y0", "x1", "y1", "s0", "s1"))
 FORMAT_OF = "SELECT * FROM streetmap_meta"
+# All rows of the four tables.
+KEPT = (
+    "SELECT name, value FROM streetmap_meta",
+    "SELECT * FROM streetmap_collections ORDER BY 1",
+    "SELECT * FROM streetmap_batches ORDER BY 1",
+    "SELECT * FROM streetmap_features ORDER BY 1, 2",
+)
 
 
 def beside(path: Path) -> Path:
@@ -39,6 +46,11 @@ def change(path: Path, script: str) -> None:
 def rows(path: Path, query: str) -> Rows:
     with contextlib.closing(sqlite3.connect(f"file:{path}?mode=ro", uri=True)) as db:
         return db.execute(query).fetchall()
+
+
+def kept_rows(path: Path) -> list[Rows]:
+    """All rows of the four tables of a file."""
+    return [rows(path, query) for query in KEPT]
 
 
 def make_format_1(path: Path) -> None:

@@ -3,16 +3,17 @@
 _streetmap() {
     local cur prev words cword split
     _init_completion -s || return
-    local commands="create pipe serve import export check lines"
+    local commands="create pipe serve import export load batches apply check lines"
 
     if ((cword == 1)); then
+        [[ $cur == -* ]] && commands="--version"
         mapfile -t COMPREPLY < <(compgen -W "$commands" -- "$cur")
         return
     fi
 
-    # The values of --port, --key and --collection are not known here.
+    # The values of --port, --key, --collection and others are not known here.
     case $prev in
-        --port | --key | --collection | --count) return ;;
+        --port | --key | --collection | --count | --title | --time | --after) return ;;
         --clients)
             mapfile -t COMPREPLY < <(compgen -W "1 64 1024" -- "$cur")
             return
@@ -20,6 +21,10 @@ _streetmap() {
         --base)
             mapfile -t COMPREPLY < <(compgen -W "http:// https://" -- "$cur")
             compopt -o nospace
+            return
+            ;;
+        --each)
+            mapfile -t COMPREPLY < <(compgen -W "100 1000 10000" -- "$cur")
             return
             ;;
     esac
@@ -32,6 +37,11 @@ _streetmap() {
             serve) options="--port --count --clients --log --base" ;;
             import) options="--key --collection --replace --progress" ;;
             export) options="--collection --progress" ;;
+            load)
+                options="--key --collection --each --open --title --time --replace --skip --check
+                    --print --progress"
+                ;;
+            batches) options="--after" ;;
         esac
         mapfile -t COMPREPLY < <(compgen -W "$options" -- "$cur")
         return

@@ -1,9 +1,11 @@
 """Faults of the server: a damaged row, a failed device, a shut store, refused memory."""
 
+import contextlib
 import re
 import resource
 import socket
-from collections.abc import Callable
+import subprocess
+from collections.abc import Callable, Iterator
 from pathlib import Path
 
 from harness import Context, Server
@@ -118,28 +120,42 @@ def a_failed_device(context: Context) -> None:
         context.check("the batch once there is room", answer.status, 200)
 
 
-def address_space(server: Server) -> int:
-    """The bytes of address space that a server has."""
-    status = Path(f"/proc/{server.process.pid}/status").read_text()
+@contextlib.contextmanager
+def short_of_memory(process: subprocess.Popen[bytes]) -> Iterator[None]:
+    """A process has no more than half a megabyte beyond what it has."""
+    status = Path(f"/proc/{process.pid}/status").read_text()
     found = re.search(r"VmSize:\s+(\d+) kB", status)
     assert found is not None
-    return int(found[1]) * 1024
+    before = resource.prlimit(process.pid, resource.RLIMIT_AS)
+    least = int(found[1]) * 1024 + 500_000
+    resource.prlimit(process.pid, resource.RLIMIT_AS, (least, before[1]))
+    yield
+    resource.prlimit(process.pid, resource.RLIMIT_AS, before)
 
 
 def refused_memory(context: Context) -> None:
-    """A body for which there is no memory is answered so, and as ever once there is memory."""
+    """A client for whose body there is no memory is let go; over a stream it is told so."""
     edits = [open_collection("large", title="x" * 200)]
     batch = Request("POST", "/batches", {"key": "large", "edits": edits})
     body = batch.text.encode().ljust(2_000_000)
     head = b"POST /batches HTTP/1.1\r\nHost: localhost\r\nContent-Length: %d\r\n\r\n" % len(body)
     look, ledger = Request("GET", "/collections"), Ledger()
-    words = ("--clients", "1", "--base", "http://localhost/")
-    with context.serve(context.new_file("memory"), *words) as server:
-        before = resource.prlimit(server.process.pid, resource.RLIMIT_AS)
-        least = address_space(server) + 500_000
-        resource.prlimit(server.process.pid, resource.RLIMIT_AS, (least, before[1]))
-        context.check("a body without memory", asked(server, head), fault("memory"))
-        resource.prlimit(server.process.pid, resource.RLIMIT_AS, before)
+    file, words = context.new_file("memory"), ("--clients", "1", "--base", "http://localhost/")
+    given = [str(context.program), "pipe", str(file)]
+    with subprocess.Popen(given, stdin=subprocess.PIPE, stdout=subprocess.PIPE) as process:
+        assert process.stdin is not None and process.stdout is not None
+        process.stdin.write(look.sent)
+        process.stdin.flush()
+        looked = ledger.answer(look)
+        context.check("a look before", process.stdout.read(len(looked)), looked)
+        with short_of_memory(process):
+            process.stdin.write(head)
+            process.stdin.close()
+            told = process.stdout.read()
+        context.check("a body without memory", told, fault("memory"))
+    with context.serve(file, *words) as server:
+        with short_of_memory(server.process):
+            context.check("a client whose body has none", asked(server, head), b"")
         context.check("nothing was applied", asked_once(server, look.sent), ledger.answer(look))
         context.check("the body again", asked_once(server, head + body), ledger.answer(batch))
 

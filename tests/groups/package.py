@@ -46,11 +46,16 @@ share/doc/streetmap/examples/town.json
 """.split()
 # Words before the cursor, and what completes them.
 COMPLETIONS = {
-    "": "create pipe serve import export check lines",
+    "": "create pipe serve import export load batches apply check lines",
     "ex": "export",
+    "--": "--version",
     "serve town --c": "--count --clients",
     "serve town --clients ": "1 64 1024",
     "import town lamps.json --": "--key --collection --replace --progress",
+    "load town --s": "--skip",
+    "load town --each ": "100 1000 10000",
+    "batches town --": "--after",
+    "apply town --": "",
     "check town --": "",
 }
 COMPLETE = """

@@ -50,6 +50,18 @@ def check_wrong_commands(context: Context) -> None:
         context.run(*line.split(), status=2, code="usage")
 
 
+def check_version(context: Context) -> None:
+    """The version is that of the changes and of the package, and nothing else is done."""
+    top = Path(__file__).resolve().parents[2]
+    changes = (top / "CHANGELOG.md").read_text().split("\n## ")[1].split(",")[0]
+    package = (top / "packaging" / "debian" / "changelog").read_text()
+    context.check("the version of the package", package.split("(")[1].split("-")[0], changes)
+    for words in ("--version", "-V", "--version create a"):
+        printed = context.run(*words.split())
+        context.check(words, printed, f"streetmap {changes}\n".encode())
+    context.run("create", "a", "--version", status=2, code="usage")
+
+
 def check_faults_of_files(context: Context) -> None:
     folder, file = context.folder, context.folder / "first.db"
     context.run("pipe", file, status=1, code="no_file")
@@ -212,6 +224,7 @@ def check_progress(context: Context) -> None:
 
 def run(context: Context) -> None:
     check_wrong_commands(context)
+    check_version(context)
     check_faults_of_files(context)
     check_pipe(context)
     check_imports(context)

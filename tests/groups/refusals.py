@@ -1,10 +1,11 @@
 """Refused allocations: the same answers, or want of memory and the state as it was.
 
 Refused are those of `lines`; of `pipe` over a file, and of `serve` for one of many clients; and of
-`create`, `import`, `export` and `check`. A stream is answered as with memory, or by a beginning of
-that and then the 503 or 500 that closes the connection, or it ends for want of memory before the
-first answer; one of many clients may be let go behind any answer. Opened again with memory, the
-file holds the state before the batch or the one behind it, and the latter where its 200 was begun.
+`create`, `import`, `load`, `apply`, `batches`, `export` and `check`. A stream is answered as with
+memory, or by a beginning of that and then the 503 or 500 that closes the connection, or it ends for
+want of memory before the first answer; one of many clients may be let go behind any answer. Opened
+again with memory, the file holds the state before the batch or the one behind it, and the latter
+where its 200 was begun.
 The short form refuses some of the allocations, the long one each; it also builds two tests, whose
 allocations it refuses.
 """
@@ -56,13 +57,15 @@ COLLECTIONS = get("/collections") + get("/collections/lamps")
 STREAM = COLLECTIONS + PAGE + COLLECTIONS + SECOND + COLLECTIONS + PAGE
 STREAM += get("/collections/lamps/items/L9")
 BEFORE_BATCH = 5
-TEXT = (
-    '{"type":"FeatureCollection","features":['
+# Features, a line each, and a collection of them; and a line of a journal.
+LINES = (
     '{"type":"Feature","id":"L7","geometry":{"type":"Point","coordinates":[7,7]},'
-    '"properties":{"when":"2024-05-01"}},{"type":"Feature"},'
+    '"properties":{"when":"2024-05-01"}}\n{"type":"Feature"}\n'
     '{"type":"Feature","id":"L8","geometry":{"type":"Point","coordinates":[8,8]},'
-    '"properties":{"when":"2024-05-01"}}]}'
+    '"properties":{"when":"2024-05-01"}}\n'
 )
+TEXT = f'{{"type":"FeatureCollection","features":[{",".join(LINES.splitlines())}]}}'
+JOURNAL = b"2\t" + SECOND.partition(b"\r\n\r\n")[2] + b"\n"
 
 
 @dataclass
@@ -204,16 +207,20 @@ def check_stream(refuser: Refuser, what: str, run: Callable[[int, Path], Ended])
     print(f"  {what}: {dict(counted)}")
 
 
+# Commands that apply a batch.
+CHANGING = ("import", "load", "apply")
+
+
 def check_command(refuser: Refuser, name: str, *more: Word) -> None:
-    """A command over copies of a file: it leaves the file as it was, or with the whole import,
-    and then the same command succeeds."""
+    """A command over copies of a file: it leaves the file as it was, or with its whole batch, and
+    then the same command succeeds."""
     file, counted = copy_file(refuser.first, refuser.context.folder / "town"), Counter[str]()
     words: list[Word] = [name, file, *more]
     before = refuser.page(file)
     whole = refuser.start(0, *words)
     after = refuser.page(file)
     got = (whole.returncode, before != after)
-    refuser.context.check(f"{name} with memory", got, (0, name == "import"))
+    refuser.context.check(f"{name} with memory", got, (0, name in CHANGING))
 
     def run_copy(number: int) -> Ended:
         copy_file(refuser.first, file)
@@ -269,8 +276,11 @@ def run(context: Context) -> None:
     check_create(refuser)
     check_stream(refuser, "pipe", lambda it, file: refuser.start(it, "pipe", file, sent=STREAM))
     check_stream(refuser, "serve", lambda it, file: serve_one(refuser, it, file))
-    text = text_path(context, "text.json", TEXT)
-    check_command(refuser, "import", text, "--key", "second", "--collection", "lamps")
+    into: list[Word] = ["--key", "second", "--collection", "lamps"]
+    check_command(refuser, "import", text_path(context, "text.json", TEXT), *into)
+    check_command(refuser, "load", text_path(context, "text.jsonl", LINES), *into)
+    check_command(refuser, "apply", text_path(context, "text.lines", JOURNAL))
+    check_command(refuser, "batches")
     check_command(refuser, "export", "--collection", "lamps")
     check_command(refuser, "check")
     if context.slow:

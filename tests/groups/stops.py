@@ -27,7 +27,7 @@ from messages import (
     put,
     whole_answers,
 )
-from sqlite_file import Rows, copy_file, forget, make_format_1, rows
+from sqlite_file import Rows, copy_file, forget, kept_rows, make_format_1, rows
 
 PACKAGES = ("gcc", "libc6-dev")
 Ended = subprocess.CompletedProcess[bytes]
@@ -64,12 +64,6 @@ LOOKS = b"".join(
 PAGE = get("/collections/lamps/items?bbox=0,0,9,9&limit=1")
 # The page stands behind so many batches of the stream.
 BEFORE_PAGE = 2
-KEPT = (
-    "SELECT name, value FROM streetmap_meta",
-    "SELECT * FROM streetmap_collections ORDER BY 1",
-    "SELECT * FROM streetmap_batches ORDER BY 1",
-    "SELECT * FROM streetmap_features ORDER BY 1, 2",
-)
 
 
 @dataclass
@@ -171,7 +165,7 @@ def rows_in(context: Context, source: Path) -> list[Rows]:
     """The rows of a file, which SQLite finds sound. It is read in a copy, which SQLite changes."""
     read = copy_file(source, context.folder / "read")
     context.check("integrity", rows(read, "PRAGMA integrity_check"), [("ok",)])
-    return [rows(read, query) for query in KEPT]
+    return kept_rows(read)
 
 
 def check_carrying(stopper: Stopper, new: Path) -> None:
