@@ -11,4 +11,5 @@ pub mod Rounded
 pub mod Steps
 pub mod Once
 pub mod Exactly
+pub mod Placed
 pub mod Commas

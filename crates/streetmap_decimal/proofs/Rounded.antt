@@ -34,13 +34,13 @@ agrees_err y z a b h i differ = λ o j k. differ (rounds_once z b o i k ∙ roun
 
 -- ---- what the code's comparison says
 
-equal_options : (a b : Option ℤ) → option_eq int_eq a b ≡ true → a ≡ b
+pub equal_options : (a b : Option ℤ) → option_eq int_eq a b ≡ true → a ≡ b
 equal_options None None e = refl
 equal_options None (Some y) e = absurd (false≢true e)
 equal_options (Some x) None e = absurd (false≢true e)
 equal_options (Some x) (Some y) e = ap Some ((Decides-int_eq x y).0 e)
 
-same_options : (a : Option ℤ) → option_eq int_eq a a ≡ true
+pub same_options : (a : Option ℤ) → option_eq int_eq a a ≡ true
 same_options None = refl
 same_options (Some x) = (Decides-int_eq x x).1 refl
 

@@ -8,4 +8,5 @@ pub mod Options
 pub mod Axes
 pub mod Grid
 pub mod Nearest
+pub mod Placing
 pub mod Faults

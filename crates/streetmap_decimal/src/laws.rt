@@ -4,6 +4,7 @@ ghost use Rattle.streetmap_grid.specs.Range.{IsCoordinate};
 ghost use Rattle.streetmap_decimal.specs.NumberText.{Means};
 ghost use Rattle.streetmap_decimal.specs.Grid.{IsNearest, Places, PlacesText};
 ghost use Rattle.streetmap_decimal.specs.Nearest.{IsNearestToText};
+ghost use Rattle.streetmap_decimal.specs.Placing.{placed_text};
 ghost use Rattle.streetmap_decimal.specs.declared.fault.DecimalFault.{DecimalFault};
 ghost use Rattle.streetmap_decimal.specs.declared.rounding.Rounding.{Rounding};
 
@@ -34,4 +35,10 @@ pub fn text_is_placed_once()
 pub fn placed_text_is_nearest()
     ensures { (shift scale : ℤ) (rounding : Rounding) (text : List ℕ) (g : ℤ) → pos 0 ≤ℤ scale
         → PlacesText shift scale rounding text (Ok g) → IsNearestToText shift scale text g }
+{}
+
+/// Each text comes to a number of the grid, or to a fault: that of the function.
+pub fn each_text_is_placed()
+    ensures { (shift scale : ℤ) (rounding : Rounding) (text : List ℕ)
+        → PlacesText shift scale rounding text (placed_text shift scale rounding text) }
 {}

@@ -1,3 +1,4 @@
 pub mod Outcomes
 pub mod Walk
 pub mod Once
+pub mod Valued

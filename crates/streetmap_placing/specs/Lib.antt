@@ -3,3 +3,4 @@ pub mod Options
 pub mod Roles
 pub mod Placed
 pub mod Text
+pub mod Value

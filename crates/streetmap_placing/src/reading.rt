@@ -5,6 +5,7 @@ ghost use Rattle.serde_json.specs.View.{view};
 ghost use Rattle.streetmap_placing.specs.Placed.{Answers};
 ghost use Rattle.streetmap_placing.specs.Text.{ParsesAs, text_tree, utf8_tree, IsReadAs};
 ghost use Rattle.streetmap_placing.specs.Text.{TextBecomes};
+ghost use Rattle.streetmap_placing.specs.Value.{value_of, Gives};
 
 use crate::fault::PlacingFault;
 use crate::numbers::{Fractions, Numbers};
@@ -32,6 +33,15 @@ const MAX_DEPTH: usize = 127;
 /// stays a number, and `TooManyDigits`, `OutOfGrid` and `Fraction` for a coordinate, as
 /// [`streetmap_decimal::Placement::grid_of_text`] has them. `Memory` where memory was refused.
 pub fn read_placed(alloc: Global, text: &[u8], numbers: &Numbers) -> Result<Value, PlacingFault>
+    ensures read { Answers view result (IsReadAs numbers.now text.now) }
+    // The same, by the function that it comes to.
+    ensures value { Gives view result (value_of numbers.now text.now) }
+{
+    read_asked(alloc, text, numbers)
+}
+
+// The value of bytes, its numbers read where something is asked of them.
+fn read_asked(alloc: Global, text: &[u8], numbers: &Numbers) -> Result<Value, PlacingFault>
     ensures { Answers view result (IsReadAs numbers.now text.now) }
 {
     match (&numbers.placement, numbers.fractions) {
