@@ -2,6 +2,8 @@
 use Rattle.std.specs.Prelude.{Result, Ok, Err}
 use Rattle.std.specs.declared.io.ErrorKind.{ErrorKind}
 use Rattle.std.specs.declared.io.ErrorKind.TheVariants as kinds
+use Rattle.streetmap_ledger.specs.declared.reply.Fault.{Fault as KeeperFault}
+use Rattle.streetmap_ledger.specs.declared.reply.Fault.TheVariants as keeper
 use Rattle.streetmap_files.specs.declared.fault.CreateFault.{CreateFault}
 use Rattle.streetmap_files.specs.declared.fault.CreateFault.TheVariants as creation
 use Rattle.streetmap_files.specs.declared.fault.OpenFault.{OpenFault}
@@ -35,6 +37,13 @@ fault_of_open opening.NewFormat = NewFormat
 fault_of_open opening.Damaged = Damaged
 fault_of_open (opening.Device error) = Device
 fault_of_open opening.Memory = Memory
+
+-- where a keeper does not answer
+abbrev pub fault_of_keeper : KeeperFault → ProgramFault
+fault_of_keeper keeper.Memory = Memory
+fault_of_keeper keeper.Damaged = Damaged
+fault_of_keeper keeper.Device = Device
+fault_of_keeper keeper.Reopen = Device
 
 -- where the rows of a file are not told to be a state's
 abbrev pub fault_of_check : CheckFault → ProgramFault

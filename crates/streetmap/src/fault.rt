@@ -3,12 +3,14 @@ ghost use Rattle.std.specs.Prelude.{◌≡◌, ◌≢◌};
 ghost use Rattle.std.specs.IoError.{error_kind};
 ghost use Rattle.streetmap.specs.Faults.{fault_of_create, fault_of_open, fault_of_check};
 ghost use Rattle.streetmap.specs.Faults.{fault_of_text, end_of_stream, end_of_followed};
+ghost use Rattle.streetmap.specs.Faults.{fault_of_keeper};
 
 use std::io::{Error, ErrorKind};
 use streetmap_checking::CheckFault;
 use streetmap_faults::ProgramFault;
 use streetmap_files::{CreateFault, OpenFault};
 use streetmap_following::{End as FollowEnd, Followed};
+use streetmap_ledger::Fault;
 use streetmap_web::End;
 
 /// The fault of words that cannot be had: one of them is no UTF-8, or memory is refused.
@@ -68,6 +70,17 @@ pub(crate) fn of_open(fault: &OpenFault) -> ProgramFault
         OpenFault::Damaged => ProgramFault::Damaged,
         OpenFault::Device(_) => ProgramFault::Device,
         OpenFault::Memory => ProgramFault::Memory,
+    }
+}
+
+/// The fault of a keeper that does not answer.
+pub(crate) fn of_keeper(fault: Fault) -> ProgramFault
+    ensures { result ≡ fault_of_keeper fault }
+{
+    match fault {
+        Fault::Memory => ProgramFault::Memory,
+        Fault::Damaged => ProgramFault::Damaged,
+        Fault::Device | Fault::Reopen => ProgramFault::Device,
     }
 }
 

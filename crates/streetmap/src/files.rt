@@ -3,9 +3,11 @@ use crate::exchange::read_batch;
 use crate::tasks::Task;
 use crate::{fault, loading};
 use sqlite::Unknown;
-use std::fs::exists;
-use streetmap_command::{Import, LoadAsked};
+use std::fs::{exists, metadata};
+use streetmap_command::{Connections, Import, LoadAsked};
 use streetmap_faults::ProgramFault;
+use streetmap_placing::Numbers;
+use streetmap_routes::Base;
 
 /// Whether there is a file of that name.
 fn is_there(rt: &HostRuntime, path: &str) -> Result<bool, ProgramFault> {
@@ -46,6 +48,29 @@ pub(crate) fn run(rt: &HostRuntime, path: &str, task: Task<'_>) -> Result<(), Pr
     }
 }
 
+/// Says on standard error which file is opened, and how large it is: a large one takes a while.
+fn tell_size(rt: &HostRuntime, path: &str) {
+    if let Ok(found) = metadata(rt, path) {
+        let bytes = found.len();
+        let _ = eprintln!(rt; "streetmap: opening {path}, {bytes} bytes");
+    }
+}
+
+/// Serves the connections of a port over a file.
+pub(crate) fn serve(
+    rt: &HostRuntime,
+    path: &str,
+    connections: Connections,
+    base: Base,
+) -> Result<(), ProgramFault> {
+    if is_there(rt, path)? {
+        tell_size(rt, path);
+        run_over(rt, path, Task::Serve(connections, base))
+    } else {
+        Err(ProgramFault::NoFile)
+    }
+}
+
 /// Puts the features of a text into a collection of a file. The text is read, and its batch made,
 /// before the file is opened: a text that is refused writes nothing.
 pub(crate) fn import(rt: &HostRuntime, path: &str, asked: Import<'_>) -> Result<(), ProgramFault> {
@@ -58,9 +83,14 @@ pub(crate) fn import(rt: &HostRuntime, path: &str, asked: Import<'_>) -> Result<
 }
 
 /// Puts the features of a text into a collection of a file by batches, or prints these.
-pub(crate) fn load(rt: &HostRuntime, path: &str, asked: LoadAsked<'_>) -> Result<(), ProgramFault> {
+pub(crate) fn load(
+    rt: &HostRuntime,
+    path: &str,
+    asked: LoadAsked<'_>,
+    numbers: Numbers,
+) -> Result<(), ProgramFault> {
     let is_file = is_there(rt, path)?;
-    let load = loading::read(rt, asked)?;
+    let load = loading::read(rt, asked, numbers)?;
     look_for(rt, asked.text)?;
     if asked.print && (asked.opens || !asked.skip) {
         loading::print(rt, load, asked)

@@ -3,12 +3,14 @@ use crate::fault;
 use std::fs::File;
 use std::io::{BufReader, IsTerminal, Read, Stderr, Write, writer};
 use streetmap_command::LoadAsked;
+use streetmap_decimal::{Rounding, Scale, Shift};
 use streetmap_faults::ProgramFault;
 use streetmap_ledger::Keeper;
 use streetmap_loading::{
     End, HeldTimes, KeeperSink, LineSink, Listener, Load, LoadOptions, Loaded, Opening, TextFault,
     ask_times, check_text, load_text, print_text,
 };
+use streetmap_placing::{Fractions, Numbers};
 
 /// What a load under way is told to: lines on standard error.
 #[derive(Drop)]
@@ -56,8 +58,50 @@ impl<W: Write> Listener for LoadLines<'_, W> {
     }
 }
 
+/// The scale of a map that is asked for.
+fn scale_of(asked: LoadAsked<'_>) -> Result<Option<Scale>, ProgramFault> {
+    match asked.scale {
+        Some(text) => match Scale::read(text.as_bytes()) {
+            Ok(scale) => Ok(Some(scale)),
+            Err(_) => Err(ProgramFault::Usage),
+        },
+        None => Ok(None),
+    }
+}
+
+/// The shift of a map that is asked for.
+fn shift_of(asked: LoadAsked<'_>) -> Result<Option<Shift>, ProgramFault> {
+    match asked.shift {
+        Some(text) => match Shift::read(text.as_bytes()) {
+            Ok(shift) => Ok(Some(shift)),
+            Err(_) => Err(ProgramFault::Usage),
+        },
+        None => Ok(None),
+    }
+}
+
+/// How the numbers of features are to be read. A scale that is none, or is 0 or less, and a shift
+/// that is none are usage faults.
+pub(crate) fn numbers_of(asked: LoadAsked<'_>) -> Result<Numbers, ProgramFault> {
+    let rounding = if asked.rounds {
+        Rounding::Nearest
+    } else {
+        Rounding::Exact
+    };
+    let fractions = if asked.keeps_fractions {
+        Fractions::Text
+    } else {
+        Fractions::Number
+    };
+    Ok(Numbers::new(scale_of(asked)?, shift_of(asked)?, rounding, fractions))
+}
+
 /// The load that is asked for.
-pub(crate) fn read(rt: &HostRuntime, asked: LoadAsked<'_>) -> Result<Load, ProgramFault> {
+pub(crate) fn read(
+    rt: &HostRuntime,
+    asked: LoadAsked<'_>,
+    numbers: Numbers,
+) -> Result<Load, ProgramFault> {
     let opening = if asked.opens {
         Some(Opening {
             title: asked.title,
@@ -71,6 +115,7 @@ pub(crate) fn read(rt: &HostRuntime, asked: LoadAsked<'_>) -> Result<Load, Progr
         each: asked.each as usize,
         collection: asked.collection,
         replace: asked.replace,
+        numbers,
         opening,
     };
     Load::new(rt.alloc(), options).map_err(ProgramFault::NotLoaded)

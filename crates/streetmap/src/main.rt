@@ -53,7 +53,7 @@ fn perform(rt: &HostRuntime, command: Command<'_>) -> Result<(), ProgramFault> {
             base,
         } => {
             let base = Base::new(rt.alloc(), base.as_str())?;
-            files::run(rt, file, Task::Serve(connections, base))
+            files::serve(rt, file, connections, base)
         }
         Command::Import { file, import } => files::import(rt, file, import),
         Command::Export {
@@ -69,7 +69,10 @@ fn perform(rt: &HostRuntime, command: Command<'_>) -> Result<(), ProgramFault> {
             },
         ),
         Command::Check { file } => files::run(rt, file, Task::Check),
-        Command::Load { file, load } => files::load(rt, file, load),
+        Command::Load { file, load } => {
+            let numbers = loading::numbers_of(load)?;
+            files::load(rt, file, load, numbers)
+        }
         Command::Batches { file, after } => files::run(rt, file, Task::Batches { after }),
         Command::Apply { file, text } => files::apply(rt, file, text),
     }

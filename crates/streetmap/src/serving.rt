@@ -8,6 +8,7 @@ use streetmap_connections::{Clients, Limits};
 use streetmap_faults::ProgramFault;
 use streetmap_files::{serve_clients_over_tables, serve_over_tables};
 use streetmap_index::IndexedKeeper;
+use streetmap_ledger::Keeper;
 use streetmap_routes::Base;
 use streetmap_serving::KeeperService;
 use streetmap_store::TableKeeper;
@@ -35,6 +36,17 @@ fn listen(rt: &HostRuntime, port: u16) -> Result<TcpListener, ProgramFault> {
     Ok(listener)
 }
 
+/// Learns the index of each collection, so that the first who asks for one does not wait for it.
+fn warm<K: Keeper>(keeper: &mut K) -> Result<(), ProgramFault> {
+    let summaries = keeper.collections().map_err(fault::of_keeper)?;
+    for summary in summaries.iter() {
+        keeper
+            .collection(summary.id.as_str())
+            .map_err(fault::of_keeper)?;
+    }
+    Ok(())
+}
+
 /// Serves connections: many clients at once, or one client after the other.
 pub(crate) fn serve<S: Alter + Drop>(
     rt: &HostRuntime,
@@ -42,6 +54,10 @@ pub(crate) fn serve<S: Alter + Drop>(
     connections: Connections,
     base: Base,
 ) -> Result<(), ProgramFault> {
+    let mut keeper = keeper;
+    if connections.warm {
+        warm(&mut keeper)?;
+    }
     let listener = listen(rt, connections.port)?;
     let service = KeeperService {
         alloc: rt.alloc(),

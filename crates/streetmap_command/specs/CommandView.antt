@@ -22,6 +22,10 @@ load_value l = record {
   opens = l.opens;
   title = option_map (λ s. s.now) l.title;
   time = option_map (λ s. s.now) l.time;
+  scale = option_map (λ s. s.now) l.scale;
+  shift = option_map (λ s. s.now) l.shift;
+  rounds = l.rounds;
+  keeps_fractions = l.keeps_fractions;
   replace = l.replace;
   skip = l.skip;
   check = l.check;
@@ -35,7 +39,7 @@ command_value Lines = lines_command
 command_value (Create file) = create_command file.now
 command_value (Pipe file base) = pipe_command file.now (string_bytes base)
 command_value (Serve file c base) =
-    serve_command file.now c.port c.count c.clients c.log (string_bytes base)
+    serve_command file.now c.port c.count c.clients c.log c.warm (string_bytes base)
 command_value (Import file i) =
     import_command file.now i.text.now i.key.now i.collection.now i.replace i.progress
 command_value (Export file collection progress) = export_command file.now collection.now progress

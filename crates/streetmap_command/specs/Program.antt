@@ -42,10 +42,10 @@ abbrev pub pipe : App
 pipe = with_rule (with_rule (new_app (codes "pipe")) file) (option (codes "base"))
 
 abbrev pub serve : App
-serve = with_rule (with_rule (with_rule
+serve = with_rule (with_rule (with_rule (with_rule
     (with_rule (with_rule (with_rule (new_app (codes "serve")) file)
     (required_option (codes "port"))) (option (codes "count"))) (option (codes "clients")))
-    (flag (codes "log"))) (option (codes "base"))
+    (flag (codes "log"))) (option (codes "base"))) (flag (codes "warm"))
 
 -- FILE, TEXT, the key, the collection, whether features are replaced, and whether it is told how
 -- far the import is
@@ -75,14 +75,24 @@ abbrev pub with_rules : App → List Rule → App
 with_rules a [] = a
 with_rules a (r ∷ rs) = with_rules (with_rule a r) rs
 
--- FILE and TEXT, the key, the collection, how many edits a batch has, the opening of the
--- collection, how features are put in, and what is done in place of that
-abbrev pub load : App
-load = with_rules (new_app (codes "load"))
+-- FILE and TEXT, the key, the collection, how many edits a batch has, and the opening of the
+-- collection
+abbrev pub load_into : App
+load_into = with_rules (new_app (codes "load"))
     (file ∷ optional (codes "text")
     ∷ required_option (codes "key") ∷ required_option (codes "collection") ∷ option (codes "each")
-    ∷ flag (codes "open") ∷ option (codes "title") ∷ option (codes "time")
-    ∷ flag (codes "replace") ∷ flag (codes "skip") ∷ flag (codes "check") ∷ flag (codes "print")
+    ∷ flag (codes "open") ∷ option (codes "title") ∷ option (codes "time") ∷ [])
+
+-- how the numbers of features are read
+abbrev pub load_numbers : App
+load_numbers = with_rules load_into
+    (option (codes "scale") ∷ option (codes "shift") ∷ flag (codes "round")
+    ∷ option (codes "fractions") ∷ [])
+
+-- how features are put in, and what is done in place of that
+abbrev pub load : App
+load = with_rules load_numbers
+    (flag (codes "replace") ∷ flag (codes "skip") ∷ flag (codes "check") ∷ flag (codes "print")
     ∷ flag (codes "progress") ∷ [])
 
 -- a command that has a version, so that `--version` and `-V` ask for it
@@ -108,6 +118,10 @@ pub record LoadWords : Type 0 where
   pub opens : Bool
   pub title : Option Text
   pub time : Option Text
+  pub scale : Option Text
+  pub shift : Option Text
+  pub rounds : Bool
+  pub keeps_fractions : Bool
   pub replace : Bool
   pub skip : Bool
   pub check : Bool
@@ -120,7 +134,7 @@ pub data CommandValue : Type 0 where
   lines_command : CommandValue
   create_command : (file : Text) → CommandValue
   pipe_command : (file base : Text) → CommandValue
-  serve_command : (file : Text) (port : ℕ) (count : Option ℕ) (clients : ℕ) (log : Bool)
+  serve_command : (file : Text) (port : ℕ) (count : Option ℕ) (clients : ℕ) (log warm : Bool)
       (base : Text) → CommandValue
   import_command : (file text key collection : Text) (replace progress : Bool) → CommandValue
   export_command : (file collection : Text) (progress : Bool) → CommandValue
@@ -172,18 +186,19 @@ abbrev pub is_set : Option Text → Bool
 is_set None = false
 is_set (Some value) = bytes_eq value (codes "true")
 
--- what serves, of what is given for its file, port, count, clients, flag and base
-abbrev pub serve_given : (file port count clients log base : Option Text) → Option CommandValue
-serve_given file port count clients log base =
+-- what serves, of what is given for its file, port, count, clients, flags and base
+abbrev pub serve_given : (file port count clients log warm base : Option Text)
+    → Option CommandValue
+serve_given file port count clients log warm base =
     option_and_then (λ f. option_and_then (λ p.
     option_and_then (λ n. option_map (λ c.
-    serve_command f p n c (is_set log) (unwrap_or base (base_at p))) (clients_given n clients))
-    (count_given count)) (port_given port)) file
+    serve_command f p n c (is_set log) (is_set warm) (unwrap_or base (base_at p)))
+    (clients_given n clients)) (count_given count)) (port_given port)) file
 
 abbrev pub serve_by : List Row → Option CommandValue
 serve_by rows = serve_given (first_of (codes "file") rows) (first_of (codes "port") rows)
     (first_of (codes "count") rows) (first_of (codes "clients") rows) (first_of (codes "log") rows)
-    (first_of (codes "base") rows)
+    (first_of (codes "warm") rows) (first_of (codes "base") rows)
 
 -- what imports, of what is given for its file, text, key, collection and flags
 abbrev pub import_given : (file text key collection replace progress : Option Text)
@@ -215,9 +230,15 @@ abbrev pub each_given : Option Text → Option ℕ
 each_given None = Some 1000
 each_given (Some text) = number_up_to 10000 text
 
--- the load that is given beside the key, the collection and the edits a batch
-abbrev pub load_words : List Row → Text → Text → ℕ → LoadWords
-load_words rows key collection each = record {
+-- fractions stay numbers, or are kept as texts
+abbrev pub fractions_given : Option Text → Option Bool
+fractions_given None = Some false
+fractions_given (Some text) = if bytes_eq text (codes "text") then Some true else None
+
+-- the load that is given beside the key, the collection, the edits a batch and what becomes of
+-- fractions
+abbrev pub load_words : List Row → Text → Text → ℕ → Bool → LoadWords
+load_words rows key collection each keeps = record {
   text = first_of (codes "text") rows;
   key = key;
   collection = collection;
@@ -225,6 +246,10 @@ load_words rows key collection each = record {
   opens = is_set (first_of (codes "open") rows);
   title = first_of (codes "title") rows;
   time = first_of (codes "time") rows;
+  scale = first_of (codes "scale") rows;
+  shift = first_of (codes "shift") rows;
+  rounds = is_set (first_of (codes "round") rows);
+  keeps_fractions = keeps;
   replace = is_set (first_of (codes "replace") rows);
   skip = is_set (first_of (codes "skip") rows);
   check = is_set (first_of (codes "check") rows);
@@ -246,8 +271,9 @@ load_of file words = if agrees words then Some (load_command file words) else No
 
 abbrev pub options_given : List Row → Option LoadWords
 options_given rows =
-    option_and_then (λ k. option_and_then (λ c.
-    option_map (λ n. load_words rows k c n) (each_given (first_of (codes "each") rows)))
+    option_and_then (λ k. option_and_then (λ c. option_and_then (λ n.
+    option_map (λ b. load_words rows k c n b) (fractions_given (first_of (codes "fractions") rows)))
+    (each_given (first_of (codes "each") rows)))
     (first_of (codes "collection") rows)) (first_of (codes "key") rows)
 
 abbrev pub load_by : List Row → Option CommandValue

@@ -33,6 +33,8 @@ pub struct Connections {
     pub clients: u32,
     /// Whether each answer has a line on standard error.
     pub log: bool,
+    /// Whether the index of each collection is learnt before clients are.
+    pub warm: bool,
 }
 
 /// The import of a text of features.
@@ -242,6 +244,7 @@ fn read_serve<'a>(alloc: Global, found: &ArgMatches<'a>) -> Result<Command<'a>, 
     let default = format!(in alloc; "http://localhost:{port}/")?;
     let base = read_base(alloc, value_of(found, "base"), default.as_str())?;
     let log = has_flag(found, "log");
+    let warm = has_flag(found, "warm");
     Ok(Command::Serve {
         file,
         connections: Connections {
@@ -249,6 +252,7 @@ fn read_serve<'a>(alloc: Global, found: &ArgMatches<'a>) -> Result<Command<'a>, 
             count,
             clients,
             log,
+            warm,
         },
         base,
     })

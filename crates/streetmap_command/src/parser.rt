@@ -2,7 +2,8 @@
 ghost use Rattle.std.specs.Prelude.{◌≡◌, IfOk, false, codes};
 ghost use Rattle.clap.specs.Words.{App, Rule, app_of, rule_of, new_app, with_rule, with_subcommand};
 ghost use Rattle.clap.specs.declared.builder.command.Command.TheViews.{out-Command as fields_of};
-ghost use Rattle.streetmap_command.specs.Program.{optional, load, batches, apply};
+ghost use Rattle.streetmap_command.specs.Program.{optional, load, load_into, load_numbers};
+ghost use Rattle.streetmap_command.specs.Program.{batches, apply};
 ghost use Rattle.streetmap_command.specs.Program.{program, positional, option, required_option};
 ghost use Rattle.streetmap_command.specs.Program.{flag};
 ghost use Rattle.streetmap_command.specs.Program.{create, pipe, serve, import, export, check};
@@ -105,7 +106,8 @@ fn make_serve<'a>(alloc: Global) -> Result<Command<'a>, AllocError>
     let command = with_argument(command, option_arg(alloc, "count"));
     let command = with_argument(command, option_arg(alloc, "clients"));
     let command = with_argument(command, flag_arg(alloc, "log"));
-    with_argument(command, option_arg(alloc, "base"))
+    let command = with_argument(command, option_arg(alloc, "base"));
+    with_argument(command, flag_arg(alloc, "warm"))
 }
 
 fn make_import<'a>(alloc: Global) -> Result<Command<'a>, AllocError>
@@ -152,8 +154,8 @@ fn make_apply<'a>(alloc: Global) -> Result<Command<'a>, AllocError>
     with_argument(command, optional_arg(alloc, "text"))
 }
 
-fn make_load<'a>(alloc: Global) -> Result<Command<'a>, AllocError>
-    ensures app { IfOk result (λ c. app_of c ≡ load) }
+fn make_load_into<'a>(alloc: Global) -> Result<Command<'a>, AllocError>
+    ensures app { IfOk result (λ c. app_of c ≡ load_into) }
     ensures local { IfOk result (λ c. (fields_of c).has_globals ≡ false) }
 {
     let command = Command::new(alloc, "load").arg(positional_arg(alloc, "file"));
@@ -163,7 +165,25 @@ fn make_load<'a>(alloc: Global) -> Result<Command<'a>, AllocError>
     let command = with_argument(command, option_arg(alloc, "each"));
     let command = with_argument(command, flag_arg(alloc, "open"));
     let command = with_argument(command, option_arg(alloc, "title"));
-    let command = with_argument(command, option_arg(alloc, "time"));
+    with_argument(command, option_arg(alloc, "time"))
+}
+
+fn make_load_numbers<'a>(alloc: Global) -> Result<Command<'a>, AllocError>
+    ensures app { IfOk result (λ c. app_of c ≡ load_numbers) }
+    ensures local { IfOk result (λ c. (fields_of c).has_globals ≡ false) }
+{
+    let command = make_load_into(alloc);
+    let command = with_argument(command, option_arg(alloc, "scale"));
+    let command = with_argument(command, option_arg(alloc, "shift"));
+    let command = with_argument(command, flag_arg(alloc, "round"));
+    with_argument(command, option_arg(alloc, "fractions"))
+}
+
+fn make_load<'a>(alloc: Global) -> Result<Command<'a>, AllocError>
+    ensures app { IfOk result (λ c. app_of c ≡ load) }
+    ensures local { IfOk result (λ c. (fields_of c).has_globals ≡ false) }
+{
+    let command = make_load_numbers(alloc);
     let command = with_argument(command, flag_arg(alloc, "replace"));
     let command = with_argument(command, flag_arg(alloc, "skip"));
     let command = with_argument(command, flag_arg(alloc, "check"));

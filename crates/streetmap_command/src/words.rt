@@ -4,7 +4,7 @@ ghost use Rattle.clap.specs.Words.{rows_of, found_of};
 ghost use Rattle.streetmap_command.specs.CommandView.{command_value, load_value};
 ghost use Rattle.streetmap_command.specs.Program.{load_by, batches_by, apply_by, agrees};
 ghost use Rattle.streetmap_command.specs.Program.{options_given};
-ghost use Rattle.streetmap_command.specs.Program.{each_given, after_given};
+ghost use Rattle.streetmap_command.specs.Program.{each_given, after_given, fractions_given};
 
 use crate::command::{Command, CommandFault, has_flag, read_number, value_of};
 use clap::ArgMatches;
@@ -29,6 +29,14 @@ pub struct LoadAsked<'a> {
     pub title: Option<&'a str>,
     /// The time property of the collection that is opened.
     pub time: Option<&'a str>,
+    /// How many millimetres a unit of the map is: a decimal text, or 1 where there is none.
+    pub scale: Option<&'a str>,
+    /// Which position of the map is the grid's 0,0: two decimal texts with a comma between.
+    pub shift: Option<&'a str>,
+    /// Whether coordinates are rounded to whole millimetres.
+    pub rounds: bool,
+    /// Whether numbers within properties that are not whole are kept as texts.
+    pub keeps_fractions: bool,
     /// Whether features replace those with their ids.
     pub replace: bool,
     /// Whether features at fault are passed over.
@@ -49,6 +57,17 @@ fn read_each(given: Option<&str>) -> Option<u32>
     match given {
         Some(text) => read_number(text, 10_000),
         None => Some(EACH),
+    }
+}
+
+/// Whether fractions are kept as texts.
+fn read_fractions(given: Option<&str>) -> Option<bool>
+    ensures { result ≡ fractions_given (option_map (λ s. s.now) given.entry) }
+{
+    match given {
+        Some("text") => Some(true),
+        Some(_) => None,
+        None => Some(false),
     }
 }
 
@@ -83,6 +102,10 @@ fn read_options<'a>(found: &ArgMatches<'a>) -> Option<LoadAsked<'a>>
         opens: has_flag(found, "open"),
         title: value_of(found, "title"),
         time: value_of(found, "time"),
+        scale: value_of(found, "scale"),
+        shift: value_of(found, "shift"),
+        rounds: has_flag(found, "round"),
+        keeps_fractions: read_fractions(value_of(found, "fractions"))?,
         replace: has_flag(found, "replace"),
         skip: has_flag(found, "skip"),
         check: has_flag(found, "check"),

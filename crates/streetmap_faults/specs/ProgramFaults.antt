@@ -1,7 +1,6 @@
 -- What the program prints and answers when it is not done.
 use Rattle.std.specs.Prelude.{ℕ, List, [], ◌++◌, ◌+◌, codes, decimal, Option, None, Some, nat_lt}
-use Rattle.std.specs.Prelude.{unwrap_or, if◌then◌else◌, Bool, true, false, ◌&&◌}
-use Rattle.streetmap_geojson.specs.declared.fault.Fault.{Fault as FeatureFault}
+use Rattle.std.specs.Prelude.{unwrap_or, option_map, if◌then◌else◌, Bool, true, false, ◌&&◌}
 use Rattle.streetmap_geojson.specs.FaultCodes.{fault_code as feature_code}
 use Rattle.streetmap_ledger.specs.declared.reply.Fault.{Fault as KeeperFault}
 use Rattle.streetmap_ledger.specs.declared.reply.Fault.TheVariants as keeper
@@ -39,7 +38,7 @@ use Rattle.streetmap_loading.specs.declared.end.End.TheVariants as loading
 use Rattle.streetmap_loading.specs.declared.load_fault.LoadFault.{LoadFault}
 use Rattle.streetmap_loading.specs.declared.load_fault.LoadFault.TheVariants as beginning
 use Rattle.streetmap_loading.specs.EndCodes.{end_code, end_place, end_cause, load_fault_code}
-use Rattle.streetmap_loading.specs.EndCodes.{end_description}
+use Rattle.streetmap_loading.specs.EndCodes.{end_description, cause_code}
 use Rattle.streetmap_following.specs.declared.fault.LineStop.TheVariants as stops
 use Rattle.streetmap_following.specs.declared.following.Followed.{Followed}
 use Rattle.streetmap_following.specs.declared.following.End.{End as FollowEnd}
@@ -187,21 +186,19 @@ place_of (Load ended) = end_place ended
 place_of (Follow it) = follow_place it.end
 place_of _ = None
 
--- what is wrong with it, where it cannot be read
-abbrev pub cause_of : ProgramFault → Option FeatureFault
-cause_of (Import stop) = stop_cause_of stop
-cause_of (Load ended) = end_cause ended
-cause_of (Follow it) = follow_cause it.end
+-- the name of what is wrong with it, where it cannot be read
+abbrev pub cause_of : ProgramFault → Option (List ℕ)
+cause_of (Import stop) = option_map feature_code (stop_cause_of stop)
+cause_of (Load ended) = option_map cause_code (end_cause ended)
+cause_of (Follow it) = option_map feature_code (follow_cause it.end)
 cause_of _ = None
 
--- behind the name: a space and the place of the feature at fault, and a space and what is wrong
--- with
--- it, where there are such
-abbrev pub behind_code : Option ℕ → Option FeatureFault → List ℕ
+-- behind the name: a space and the place of the feature at fault, and a space and the name of what
+-- is wrong with it, where there are such
+abbrev pub behind_code : Option ℕ → Option (List ℕ) → List ℕ
 behind_code None cause = []
 behind_code (Some place) None = codes " " ++ decimal place
-behind_code (Some place) (Some cause) = codes " " ++ decimal place ++ codes " "
-    ++ feature_code cause
+behind_code (Some place) (Some cause) = codes " " ++ decimal place ++ codes " " ++ cause
 
 -- whether lines of batches ended at a fault of the next line, and not of a file or a stream
 abbrev pub has_line : FollowEnd → Bool

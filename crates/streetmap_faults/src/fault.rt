@@ -1,5 +1,7 @@
 //! What the program ends with when it is not done.
-ghost use Rattle.std.specs.Prelude.{◌≡◌, Some};
+ghost use Rattle.std.specs.Prelude.{◌≡◌, Some, option_map};
+ghost use Rattle.streetmap_geojson.specs.FaultCodes.{fault_code as feature_code};
+ghost use Rattle.streetmap_loading.specs.EndCodes.{cause_code};
 ghost use Rattle.streetmap_faults.specs.ProgramFaults.{code_of, description_of, status_of};
 ghost use Rattle.streetmap_faults.specs.ProgramFaults.{keeper_status, import_status};
 ghost use Rattle.streetmap_faults.specs.ProgramFaults.{export_status};
@@ -20,7 +22,7 @@ use streetmap_following::{End as FollowEnd, Followed, LineStop};
 use streetmap_geojson::Fault as FeatureFault;
 use streetmap_ledger::Fault as KeeperFault;
 use streetmap_lines::LinesFault;
-use streetmap_loading::{End as LoadEnd, LoadFault};
+use streetmap_loading::{End as LoadEnd, FeatureFault as TextFeatureFault, LoadFault};
 use streetmap_routes::BaseFault;
 use streetmap_text_lines::LineFault;
 
@@ -171,14 +173,14 @@ impl ProgramFault {
         }
     }
 
-    /// What is wrong with that feature, where it cannot be read.
-    pub fn cause(self) -> Option<FeatureFault>
-        ensures { result ≡ cause_of self }
+    /// The name of what is wrong with that feature, where it cannot be read.
+    pub fn cause(self) -> Option<&'static str>
+        ensures { option_map (λ s. s.now) result ≡ cause_of self }
     {
         match self {
-            ProgramFault::Import(stop) => stop.cause(),
-            ProgramFault::Load(end) => end.cause(),
-            ProgramFault::Follow(it) => it.end.cause(),
+            ProgramFault::Import(stop) => code_of_feature(stop.cause()),
+            ProgramFault::Load(end) => code_of_text(end.cause()),
+            ProgramFault::Follow(it) => code_of_feature(it.end.cause()),
             _ => None,
         }
     }
@@ -208,13 +210,30 @@ impl Display for ProgramFault {
             None => f.write(format_args!("streetmap: {code}"))?,
         }
         match (self.place(), self.cause()) {
-            (Some(place), Some(cause)) => {
-                let cause = cause.code();
-                f.write(format_args!(" {place} {cause}"))
-            }
+            (Some(place), Some(cause)) => f.write(format_args!(" {place} {cause}")),
             (Some(place), None) => f.write(format_args!(" {place}")),
             (None, _) => Ok(()),
         }
+    }
+}
+
+/// The name of what is wrong with a feature.
+fn code_of_feature(cause: Option<FeatureFault>) -> Option<&'static str>
+    ensures { option_map (λ s. s.now) result ≡ option_map feature_code cause }
+{
+    match cause {
+        Some(cause) => Some(cause.code()),
+        None => None,
+    }
+}
+
+/// The name of what is wrong with a feature of a text that is loaded.
+fn code_of_text(cause: Option<TextFeatureFault>) -> Option<&'static str>
+    ensures { option_map (λ s. s.now) result ≡ option_map cause_code cause }
+{
+    match cause {
+        Some(cause) => Some(cause.code()),
+        None => None,
     }
 }
 

@@ -1,8 +1,10 @@
 -- The names and sentences of what ends a load.
 use Rattle.std.specs.Prelude.{ℕ, codes, [], Option, None, Some}
-use Rattle.streetmap_geojson.specs.declared.fault.Fault.{Fault}
+use Rattle.streetmap_geojson.specs.FaultCodes.{fault_code, fault_description}
 use Rattle.streetmap_batch.specs.Text.{Text}
 use Rattle.streetmap_ledger.specs.Refusals as refusals
+use Rattle.streetmap_loading.specs.declared.feature_fault.FeatureFault.{FeatureFault}
+use Rattle.streetmap_loading.specs.declared.feature_fault.FeatureFault.TheVariants as causes
 use Rattle.streetmap_loading.specs.declared.text_fault.TextFault.{TextFault}
 use Rattle.streetmap_loading.specs.declared.text_fault.TextFault.TheVariants.{NotASequence}
 use Rattle.streetmap_loading.specs.declared.text_fault.TextFault.TheVariants.{LineTooLong}
@@ -12,6 +14,14 @@ use Rattle.streetmap_loading.specs.declared.load_fault.LoadFault.TheVariants as 
 use Rattle.streetmap_loading.specs.declared.end.End.{End}
 use Rattle.streetmap_loading.specs.declared.end.End.TheVariants.{All, AtFault, ReadFailed, Memory}
 use Rattle.streetmap_loading.specs.declared.end.End.TheVariants.{Refused, Stopped, WriteFailed}
+
+unfoldable pub cause_code : FeatureFault → Text
+cause_code causes.TooManyDigits = codes "too_many_digits"
+cause_code (causes.Read fault) = fault_code fault
+
+unfoldable pub cause_description : FeatureFault → Text
+cause_description causes.TooManyDigits = codes "A coordinate has more digits than are kept."
+cause_description (causes.Read fault) = fault_description fault
 
 unfoldable pub text_code : TextFault → Text
 text_code NotASequence = codes "not_a_sequence"
@@ -34,7 +44,7 @@ text_place_of (BadFeature place fault) = Some place
 text_place_of (TooLarge place) = Some place
 
 -- what is wrong with it
-abbrev pub text_cause_of : TextFault → Option Fault
+abbrev pub text_cause_of : TextFault → Option FeatureFault
 text_cause_of (BadFeature place fault) = Some fault
 text_cause_of _ = None
 
@@ -62,7 +72,7 @@ end_place (AtFault fault) = text_place_of fault
 end_place (Refused why place) = place
 end_place _ = None
 
-abbrev pub end_cause : End → Option Fault
+abbrev pub end_cause : End → Option FeatureFault
 end_cause (AtFault fault) = text_cause_of fault
 end_cause _ = None
 

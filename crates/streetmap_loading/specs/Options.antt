@@ -90,7 +90,7 @@ load_of o = do
     key = o.key.now;
     each = o.each;
     rules = record
-        { collection = o.collection.now; replace = o.replace; skip = None };
+        { collection = o.collection.now; replace = o.replace; numbers = o.numbers; skip = None };
     opening = opening;
   })
 

@@ -23,8 +23,8 @@ abbrev pub rules_value : FeatureRules → Rules
 rules_value r = record {
   collection = string_bytes r.collection;
   replace = r.replace;
-  skip = option_map property_of
-      r.skip;
+  numbers = r.numbers;
+  skip = option_map property_of r.skip;
 }
 
 -- what was read is the item, unless memory ran out

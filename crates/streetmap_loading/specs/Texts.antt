@@ -11,9 +11,13 @@ use Rattle.streetmap_geojson.specs.FeatureValue.{FeatureValue}
 use Rattle.streetmap_geojson.specs.Fault.{◌>>=◌}
 use Rattle.streetmap_geojson.specs.FeatureReading.{feature}
 use Rattle.streetmap_geojson.specs.Collection.{is_collection}
-use Rattle.streetmap_geojson.specs.JsonText.{json_of}
 use Rattle.streetmap_geojson.specs.Times.{time_of, as_fault}
 use Rattle.streetmap_geojson.specs.declared.fault.Fault.{Fault}
+use Rattle.streetmap_geojson.specs.declared.fault.Fault.TheVariants as features
+use Rattle.streetmap_placing.specs.Value.{value_of}
+use Rattle.streetmap_placing.specs.declared.fault.PlacingFault.{PlacingFault}
+use Rattle.streetmap_placing.specs.declared.fault.PlacingFault.TheVariants as placings
+use Rattle.streetmap_placing.specs.declared.numbers.Numbers.{Numbers}
 use Rattle.streetmap_batch.specs.Text.{Text}
 use Rattle.streetmap_batch.specs.BatchText.{edit_data}
 use Rattle.streetmap_batch.specs.BatchValue as edit
@@ -21,16 +25,19 @@ use Rattle.streetmap_batch.specs.BatchValue.{EditValue}
 use Rattle.streetmap_text_lines.specs.Lines.{first_too_long}
 use Rattle.streetmap_loading.specs.Places.{PlacedValue}
 use Rattle.streetmap_loading.specs.Sources.{Item}
+use Rattle.streetmap_loading.specs.declared.feature_fault.FeatureFault.{FeatureFault}
+use Rattle.streetmap_loading.specs.declared.feature_fault.FeatureFault.TheVariants as causes
 use Rattle.streetmap_loading.specs.declared.text_fault.TextFault.{TextFault}
 use Rattle.streetmap_loading.specs.declared.text_fault.TextFault.TheVariants.{NotASequence}
 use Rattle.streetmap_loading.specs.declared.text_fault.TextFault.TheVariants.{LineTooLong}
 use Rattle.streetmap_loading.specs.declared.text_fault.TextFault.TheVariants.{BadFeature, TooLarge}
 
--- where features go, and whether those at fault are passed over: then times are held to the
--- property of that name
+-- where features go, how their numbers are read, and whether those at fault are passed over: then
+-- times are held to the property of that name
 pub record Rules : Type 0 where
   pub collection : Text
   pub replace : Bool
+  pub numbers : Numbers
   pub skip : Option (Option Text)
 
 -- ---- a feature
@@ -76,22 +83,34 @@ item_of_edit place e =
 
 abbrev pub item_of_feature : Rules → ℕ → Result FeatureValue Fault → Item
 item_of_feature r place (Ok f) = item_of_edit place (edit_of r f)
-item_of_feature r place (Err fault) = Err (BadFeature place fault)
+item_of_feature r place (Err fault) = Err (BadFeature place (causes.Read fault))
 
 -- the first value is no FeatureCollection
 abbrev pub item_of_value : Rules → ℕ → Data → Item
 item_of_value r place d = if (place == 1) && is_collection d then Err NotASequence else
     item_of_feature r place (feature_of r place d)
 
+-- what is wrong with a feature whose text has no value; want of memory is no fault of a text
+abbrev pub cause_of : PlacingFault → FeatureFault
+cause_of placings.NotJson = causes.Read features.NotJson
+cause_of placings.TooManyDigits = causes.TooManyDigits
+cause_of placings.OutOfGrid = causes.Read features.OutOfGrid
+cause_of placings.Fraction = causes.Read features.Fraction
+cause_of placings.Memory = causes.Read features.NotJson
+
 -- the first text is a whole JSON text
-abbrev pub item_of_json : Rules → ℕ → Result Data Fault → Item
-item_of_json r place (Ok d) = item_of_value r place d
-item_of_json r place (Err fault) = if place == 1 then Err NotASequence else Err
-    (BadFeature place fault)
+abbrev pub unread : ℕ → PlacingFault → TextFault
+unread place placings.NotJson = if place == 1 then NotASequence else BadFeature place
+    (causes.Read features.NotJson)
+unread place fault = BadFeature place (cause_of fault)
+
+abbrev pub item_of_read : Rules → ℕ → Result Data PlacingFault → Item
+item_of_read r place (Ok d) = item_of_value r place d
+item_of_read r place (Err fault) = Err (unread place fault)
 
 -- what stands for the feature of a text at a place
 abbrev pub item_of_text : Rules → ℕ → Text → Item
-item_of_text r place text = item_of_json r place (json_of text)
+item_of_text r place text = item_of_read r place (value_of r.numbers text)
 
 -- ---- lines
 
@@ -109,9 +128,16 @@ abbrev pub without_separator : Text → Text
 without_separator [] = []
 without_separator (b ∷ bs) = if b == 30 then bs else b ∷ bs
 
+-- a carriage return alone is what a last line has that lacks its line feed
+abbrev pub without_return : Text → Text
+without_return [] = []
+without_return (b ∷ []) = if b == 13 then [] else b ∷ []
+without_return (b ∷ c ∷ bs) = b ∷ c ∷ bs
+
 -- the text of the feature on a line
 abbrev pub text_on : ℕ → Text → Text
-text_on place line = without_separator (if place == 1 then without_mark line else line)
+text_on place line =
+    without_return (without_separator (if place == 1 then without_mark line else line))
 
 -- features at fault are passed over, and no other fault is
 abbrev pub of_feature : TextFault → Bool

@@ -2,11 +2,11 @@
 ghost use Rattle.std.specs.Prelude.{◌≡◌};
 ghost use Rattle.streetmap_loading.specs.Places.{text_place};
 
+use crate::feature_fault::FeatureFault;
 use crate::sink::Stop;
 use crate::source::Unread;
 use crate::text_fault::TextFault;
 use std::alloc::{AllocError, AllocFailed};
-use streetmap_geojson::Fault as FeatureFault;
 use streetmap_ledger::{Fault, Refusal};
 
 /// By what a load ended.

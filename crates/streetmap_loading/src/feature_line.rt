@@ -10,26 +10,21 @@ ghost use Rattle.streetmap_batch.specs.Names.{is_collection_id};
 ghost use Rattle.streetmap_geojson.specs.Collection.{is_collection};
 ghost use Rattle.streetmap_geojson.specs.FeatureView.{feature_value};
 ghost use Rattle.streetmap_geojson.specs.Fault.{Gives};
-ghost use Rattle.streetmap_geojson.specs.JsonText.{json_of};
 ghost use Rattle.streetmap_loading.specs.Texts.{put_id, with_place, held, feature_of, edit_of};
 ghost use Rattle.streetmap_loading.specs.Texts.{item_of_edit, item_of_value, item_of_text};
+ghost use Rattle.streetmap_loading.specs.Texts.{unread};
 ghost use Rattle.streetmap_loading.specs.TextView.{property_of, rules_value, IsItem, Measures};
 
+use crate::feature_fault::FeatureFault;
 use crate::rules::{FeatureRules, HeldTimes};
 use crate::source::{PlacedEdit, Unread};
 use crate::text_fault::TextFault;
 use serde_json::{Map, Value};
 use std::alloc::{AllocError, Global};
 use streetmap_batch::Edit;
-use streetmap_geojson::{Fault, Feature, JsonFault, read_feature, read_json};
+use streetmap_geojson::{Fault, Feature, JsonFault, read_feature};
 use streetmap_packing::MAX_EDIT;
-
-/// The value of a feature's text.
-fn read_value(alloc: Global, text: &[u8]) -> Result<Value, JsonFault>
-    ensures { Gives view result (json_of text.now) }
-{
-    read_json(alloc, text)
-}
+use streetmap_placing::{PlacingFault, read_placed};
 
 /// The members with the text of a place as `id`.
 fn put_id(
@@ -195,8 +190,19 @@ fn read_edit_of(
         Ok(feature) => place_edit(alloc, rules, place, feature),
         Err(JsonFault::Memory) => Err(Unread::Memory),
         Err(JsonFault::Fault(fault)) => {
+            let fault = FeatureFault::Read(fault);
             Err(Unread::AtFault(TextFault::BadFeature(place, fault)))
         }
+    }
+}
+
+/// What is wrong with the text of a feature at a place that was not read to a value.
+fn unread(place: u64, fault: PlacingFault) -> TextFault
+    ensures { result ≡ unread place fault }
+{
+    match fault {
+        PlacingFault::NotJson if place == 1 => TextFault::NotASequence,
+        _ => TextFault::BadFeature(place, FeatureFault::of_placing(fault)),
     }
 }
 
@@ -209,12 +215,9 @@ pub(crate) fn read_edit(
 ) -> Result<PlacedEdit, Unread>
     ensures { IsItem (item_of_text (rules_value rules.now) place text.now) result }
 {
-    match read_value(alloc, text) {
+    match read_placed(alloc, text, &rules.numbers) {
         Ok(value) => read_edit_of(alloc, rules, place, value),
-        Err(JsonFault::Memory) => Err(Unread::Memory),
-        Err(JsonFault::Fault(_)) if place == 1 => Err(Unread::AtFault(TextFault::NotASequence)),
-        Err(JsonFault::Fault(fault)) => {
-            Err(Unread::AtFault(TextFault::BadFeature(place, fault)))
-        }
+        Err(PlacingFault::Memory) => Err(Unread::Memory),
+        Err(fault) => Err(Unread::AtFault(unread(place, fault))),
     }
 }

@@ -8,7 +8,7 @@
 //! and that one that was stopped goes on. `check_text` reads a text and loads nothing, `print_text`
 //! writes the batches in place of applying them.
 //!
-//! Modules, in the order of reading: `text_fault`, `source`, `sink`, `end`, `sending`, `whole`;
+//! Modules, in the order of reading: `feature_fault`, `text_fault`, `source`, `sink`, `end`, `sending`, `whole`;
 //! `rules`, `listener`, `feature_line`, `text_edits`; `load_fault`, `load`, `opening`;
 //! `keeper_sink`, `loading`, `asking`, `checking`, `line_sink`, `printing`, `laws`.
 #![tactic(auto)]
@@ -16,6 +16,7 @@
 mod asking;
 mod checking;
 mod end;
+mod feature_fault;
 mod feature_line;
 mod keeper_sink;
 pub mod laws;
@@ -37,6 +38,7 @@ mod whole;
 pub use asking::ask_times;
 pub use checking::check_text;
 pub use end::{End, Loaded};
+pub use feature_fault::FeatureFault;
 pub use keeper_sink::KeeperSink;
 pub use line_sink::LineSink;
 pub use listener::Listener;

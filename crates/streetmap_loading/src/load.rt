@@ -8,6 +8,7 @@ use crate::rules::{FeatureRules, HeldTimes};
 use crate::source::PlacedEdit;
 use std::alloc::Global;
 use streetmap_batch::{is_collection_id, is_key};
+use streetmap_placing::Numbers;
 
 /// The most bytes of a load's key: behind it there is room for each number.
 pub const MAX_KEY: usize = 44;
@@ -31,6 +32,8 @@ pub struct LoadOptions<'a> {
     pub collection: &'a str,
     /// Each replaces the feature with its id.
     pub replace: bool,
+    /// How the numbers of features are read.
+    pub numbers: Numbers,
     /// The collection is opened first.
     pub opening: Option<Opening<'a>>,
 }
@@ -78,6 +81,7 @@ impl Load {
         let rules = FeatureRules {
             collection,
             replace: options.replace,
+            numbers: options.numbers,
             skip: None,
         };
         Ok(Load {
@@ -101,11 +105,13 @@ impl Load {
         let FeatureRules {
             collection,
             replace,
+            numbers,
             skip: _,
         } = rules;
         let rules = FeatureRules {
             collection,
             replace,
+            numbers,
             skip: Some(times),
         };
         Load {

@@ -2,6 +2,8 @@
 ghost use Rattle.std.specs.Prelude.{IsTrue, string_bytes};
 ghost use Rattle.streetmap_batch.specs.Names.{is_collection_id};
 
+use streetmap_placing::Numbers;
+
 /// The property that the times of features are held to; none where they have no times.
 #[derive(Drop)]
 pub struct HeldTimes {
@@ -15,6 +17,8 @@ pub struct FeatureRules {
     pub collection: String,
     /// Each replaces the feature with its id.
     pub replace: bool,
+    /// How their numbers are read.
+    pub numbers: Numbers,
     /// Features at fault are passed over; then times are held to a property too.
     pub skip: Option<HeldTimes>,
     pub ghost placed: { IsTrue (is_collection_id (string_bytes collection)) },

@@ -1,6 +1,7 @@
 //! Edits of the features of a text, one a line.
 ghost use Rattle.std.specs.Prelude.{◌≡◌, Option, List};
 ghost use Rattle.streetmap_loading.specs.Texts.{without_mark, without_separator, text_on};
+ghost use Rattle.streetmap_loading.specs.Texts.{without_return};
 ghost use Rattle.streetmap_loading.specs.Texts.{is_skipped, items_left};
 ghost use Rattle.streetmap_loading.specs.TextView.{rules_value, Steps, and_left};
 
@@ -63,14 +64,24 @@ fn drop_separator(line: &[u8]) -> &[u8]
     }
 }
 
+/// A line without the carriage return that it is alone.
+fn drop_return(line: &[u8]) -> &[u8]
+    ensures { result.now ≡ without_return line.entry.now }
+{
+    match line {
+        [13] => &line[1..],
+        _ => line,
+    }
+}
+
 /// The text of the feature at that place on a line.
 fn text_on(place: u64, line: &[u8]) -> &[u8]
     ensures { result.now ≡ text_on place line.entry.now }
 {
     if place == 1 {
-        drop_separator(drop_mark(line))
+        drop_return(drop_separator(drop_mark(line)))
     } else {
-        drop_separator(line)
+        drop_return(drop_separator(line))
     }
 }
 

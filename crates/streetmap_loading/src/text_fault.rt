@@ -1,5 +1,5 @@
 //! What is wrong with a text of features.
-use streetmap_geojson::Fault;
+use crate::feature_fault::FeatureFault;
 
 /// What is wrong with a text of features, where a load ends at it. Places are those of features in
 /// the text, counted from 1.
@@ -11,7 +11,7 @@ pub enum TextFault {
     /// counted.
     LineTooLong(u64),
     /// The feature at that place is at fault.
-    BadFeature(u64, Fault),
+    BadFeature(u64, FeatureFault),
     /// The edit of the feature at that place has more than 8,388,480 bytes of batch text.
     TooLarge(u64),
 }
@@ -62,7 +62,7 @@ impl TextFault {
     }
 
     /// What is wrong with it.
-    pub fn cause(&self) -> Option<Fault>
+    pub fn cause(&self) -> Option<FeatureFault>
         ensures { result ≡ text_cause_of self.now }
     {
         match self {

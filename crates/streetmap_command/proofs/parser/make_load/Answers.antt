@@ -1,45 +1,28 @@
-use Rattle.streetmap_command.proofs.Adding.{last_added, last_local}
 use Rattle.streetmap_command.proofs.parser.make_load.Goals as goal
 
 pub returns-clause-app : goal.returns-clause-app
 returns-clause-app c =
-    let one = last_added _ _ _ _ _ c.arg-command.ensures c.new.ensures.app c.positional_arg.ensures.rule c.positional_arg.ensures.local in
+    let one = c.make_load_numbers-command.ensures.app in
     let two =
-    c.with_argument-command.ensures.app _ _ one c.optional_arg.ensures.rule c.optional_arg.ensures.local in
+    c.with_argument-command.ensures.app _ _ one c.flag_arg.ensures.rule
+    c.flag_arg.ensures.local in
     let three =
-    c.with_argument-command-2.ensures.app _ _ two c.required_arg.ensures.rule c.required_arg.ensures.local in
+    c.with_argument-command-2.ensures.app _ _ two c.flag_arg-2.ensures.rule
+    c.flag_arg-2.ensures.local in
     let four =
-    c.with_argument-command-3.ensures.app _ _ three c.required_arg-2.ensures.rule c.required_arg-2.ensures.local in
+    c.with_argument-command-3.ensures.app _ _ three c.flag_arg-3.ensures.rule
+    c.flag_arg-3.ensures.local in
     let five =
-    c.with_argument-command-4.ensures.app _ _ four c.option_arg.ensures.rule c.option_arg.ensures.local in
-    let six =
-    c.with_argument-command-5.ensures.app _ _ five c.flag_arg.ensures.rule c.flag_arg.ensures.local in
-    let seven =
-    c.with_argument-command-6.ensures.app _ _ six c.option_arg-2.ensures.rule c.option_arg-2.ensures.local in
-    let eight =
-    c.with_argument-command-7.ensures.app _ _ seven c.option_arg-3.ensures.rule c.option_arg-3.ensures.local in
-    let nine =
-    c.with_argument-command-8.ensures.app _ _ eight c.flag_arg-2.ensures.rule c.flag_arg-2.ensures.local in
-    let ten =
-    c.with_argument-command-9.ensures.app _ _ nine c.flag_arg-3.ensures.rule c.flag_arg-3.ensures.local in
-    let eleven =
-    c.with_argument-command-10.ensures.app _ _ ten c.flag_arg-4.ensures.rule c.flag_arg-4.ensures.local in
-    let twelve =
-    c.with_argument-command-11.ensures.app _ _ eleven c.flag_arg-5.ensures.rule c.flag_arg-5.ensures.local in
-    c.with_argument.ensures.app _ _ twelve c.flag_arg-6.ensures.rule c.flag_arg-6.ensures.local
+    c.with_argument-command-4.ensures.app _ _ four c.flag_arg-4.ensures.rule
+    c.flag_arg-4.ensures.local in
+    c.with_argument.ensures.app _ _ five c.flag_arg-5.ensures.rule
+    c.flag_arg-5.ensures.local
 
 pub returns-clause-local : goal.returns-clause-local
 returns-clause-local c =
-    let one = last_local _ _ _ c.arg-command.ensures c.new.ensures.local c.positional_arg.ensures.local in
-    let two = c.with_argument-command.ensures.local one c.optional_arg.ensures.local in
-    let three = c.with_argument-command-2.ensures.local two c.required_arg.ensures.local in
-    let four = c.with_argument-command-3.ensures.local three c.required_arg-2.ensures.local in
-    let five = c.with_argument-command-4.ensures.local four c.option_arg.ensures.local in
-    let six = c.with_argument-command-5.ensures.local five c.flag_arg.ensures.local in
-    let seven = c.with_argument-command-6.ensures.local six c.option_arg-2.ensures.local in
-    let eight = c.with_argument-command-7.ensures.local seven c.option_arg-3.ensures.local in
-    let nine = c.with_argument-command-8.ensures.local eight c.flag_arg-2.ensures.local in
-    let ten = c.with_argument-command-9.ensures.local nine c.flag_arg-3.ensures.local in
-    let eleven = c.with_argument-command-10.ensures.local ten c.flag_arg-4.ensures.local in
-    let twelve = c.with_argument-command-11.ensures.local eleven c.flag_arg-5.ensures.local in
-    c.with_argument.ensures.local twelve c.flag_arg-6.ensures.local
+    let one = c.make_load_numbers-command.ensures.local in
+    let two = c.with_argument-command.ensures.local one c.flag_arg.ensures.local in
+    let three = c.with_argument-command-2.ensures.local two c.flag_arg-2.ensures.local in
+    let four = c.with_argument-command-3.ensures.local three c.flag_arg-3.ensures.local in
+    let five = c.with_argument-command-4.ensures.local four c.flag_arg-4.ensures.local in
+    c.with_argument.ensures.local five c.flag_arg-5.ensures.local
