@@ -1,6 +1,7 @@
 """The one harness of the test groups: running the program, serving a file, and counting checks."""
 
 import contextlib
+import re
 import select
 import socket
 import subprocess
@@ -15,6 +16,8 @@ from messages import Answer, answers_in, read_all
 TESTS = Path(__file__).resolve().parent
 # A word of a command line.
 Word = str | Path
+# What `serve` says first on standard error.
+OPENING = re.compile(rb"streetmap: opening .+, [0-9]+ bytes")
 # What is shown of a value that is not the one wanted.
 SHOWN = 600
 
@@ -52,7 +55,9 @@ class Server:
     def ends(self, status: int = 0, written: bytes = b"") -> None:
         """Waits for the server to end by itself, and checks its status and its standard error."""
         self.context.check("serve ends", self.process.wait(self.context.seconds), status)
-        self.context.check("standard error of serve", self.log.read_bytes(), written)
+        opening, _, rest = self.log.read_bytes().partition(b"\n")
+        self.context.check("what is opened", bool(OPENING.fullmatch(opening)), True)
+        self.context.check("standard error of serve", rest, written)
 
     def kill(self) -> None:
         """A hard stop, from which the server cannot clean up."""

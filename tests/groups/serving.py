@@ -47,7 +47,10 @@ def check_files_in_use(context: Context) -> None:
     file, other = context.folder / "served.db", context.new_file("other.db")
     with context.serve(file, "--count", "1") as server:
         context.run("pipe", file, status=3, code="device")
-        context.run("serve", other, "--port", str(server.port), status=3, code="net")
+        ended = context.start("serve", other, "--port", str(server.port))
+        size = other.stat().st_size
+        said = f"streetmap: opening {other}, {size} bytes\nstreetmap: net\n".encode()
+        context.check("a port in use", (ended.returncode, ended.stderr), (3, said))
         context.check("an answer after all", statuses(server, get("/conformance")), [200])
         server.ends()
 
@@ -95,6 +98,15 @@ def check_clients_at_once(context: Context) -> None:
         idle.close()
         slow.close()
         context.check("one more client", statuses(server, asked), [200])
+        server.ends()
+
+
+def check_warm(context: Context) -> None:
+    """A server that has learnt its collections before it listens answers as any."""
+    file = context.new_file("warm.db", batch("b1", [OPEN_LAMPS, insert_lamp(1)]))
+    with context.serve(file, "--warm", "--count", "1") as server:
+        (page,) = server.ask(get(ITEMS))
+        context.check("a page of a warm server", page.json()["numberMatched"], 1)
         server.ends()
 
 
@@ -158,6 +170,7 @@ def run(context: Context) -> None:
     check_connections_in_turn(context)
     check_files_in_use(context)
     check_clients_at_once(context)
+    check_warm(context)
     check_log(context)
     check_default(context)
     check_hard_stops(context)

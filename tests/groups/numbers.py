@@ -1,0 +1,225 @@
+"""`load --scale --shift --round --fractions` beside Python's `fractions`, and a GeoPackage in metres.
+
+A load has a feature for each number, as an easting, a northing or a height, and passes over those at
+fault: what is exported, and what is listed, is what the rules in plain Python say of each.
+"""
+
+import json
+import subprocess
+from collections.abc import Iterator
+from dataclasses import dataclass
+from fractions import Fraction
+from pathlib import Path
+from random import Random
+from typing import Any
+
+from harness import Context
+from loading import faults_in, load_words, sequence
+
+PACKAGES = ("gdal-bin",)
+SEED, NUMBERS = 39, 120
+GREATEST, PLACES, MOST_CHARACTERS = 10**9, 18, 38
+SCALES = ("1", "1000", "1e3", "0.001", "304.8", "0.3048", "0.000000001", "999999.999999999")
+SHIFTS = ("0,0", "412000,5712000", "-500000.125,0.5", "1e17,-1e17", "0.000000000000000001,1")
+# What GDAL and PostGIS write near zero, halves, and numbers at the limits of what is kept.
+EDGES = (
+    *("-1.1368683772161603e-13", "0.5", "-0.5", "1.5", "-2.5", "0.49999999999999999", "-0", "-0.0"),
+    *("0e5", "1e18", "999999999999999999", "1e-18", "1e-19", "5e-19", "1000000.0005", "1E+2"),
+    *("-1000000.0004", "0.4999999999999999999", "0.5000000000000000001", "412345.678", "1e30"),
+    *("1.000000000000000000000000000000000000", "1.0000000000000000000000000000000000000"),
+    *("123456789012345678901234567890.5", "1000000000", "1000000001", "999999999.5", "1e-400"),
+)
+
+
+@dataclass(frozen=True)
+class Placing:
+    """The words of a load that say how its numbers are read."""
+
+    scale: str
+    shift: str
+    rounds: bool
+
+    def words(self) -> list[str]:
+        words = [f"--scale={self.scale}", f"--shift={self.shift}"]
+        return [*words, "--round"] if self.rounds else words
+
+    def shift_of(self, axis: int) -> str:
+        return "0" if axis == 2 else self.shift.split(",")[axis]
+
+
+def nearest(number: Fraction) -> int:
+    """The nearest whole number, half away from zero."""
+    whole = int(abs(number) + Fraction(1, 2))
+    return -whole if number < 0 else whole
+
+
+def in_grid(number: Fraction) -> int | None:
+    """The nearest whole number, where that is a coordinate."""
+    found = nearest(number)
+    return found if abs(found) <= GREATEST else None
+
+
+def placed(text: str, placing: Placing, axis: int) -> int | str:
+    """The millimetres that a number comes to, or its fault."""
+    if len(text) > MOST_CHARACTERS:
+        return "too_many_digits"
+    shift, scale = Fraction(placing.shift_of(axis)), Fraction(placing.scale)
+    count = abs(Fraction(text)) * 10**PLACES
+    sign = -1 if text.startswith("-") else 1
+    near, far = int(count), int(count) + (count.denominator != 1)
+    if not placing.rounds and near != far:
+        return "too_many_digits"
+    if near >= 10 ** (2 * PLACES):
+        return "out_of_grid"
+    sides = [(Fraction(sign * side, 10**PLACES) - shift) * scale for side in (near, far)]
+    first, second = map(in_grid, sides)
+    if first != second:
+        return "too_many_digits"
+    if first is None:
+        return "out_of_grid"
+    return first if placing.rounds or sides[0].denominator == 1 else "fraction"
+
+
+def random_number(chance: Random) -> str:
+    """A number text of any size, mostly one of a map in metres."""
+    digits = "".join(chance.choice("0123456789") for _ in range(chance.choice((1, 3, 6, 7, 12))))
+    whole = digits.lstrip("0") or "0"
+    places = chance.choice((0, 1, 3, 3, 4, 9, 17, 18, 19, 25))
+    fraction = "".join(chance.choice("0123456789") for _ in range(places))
+    exponent = chance.choice(("", "", "", "e3", "E-3", "e+1", "e-12", "e9"))
+    sign = chance.choice(("", "-"))
+    return sign + whole + (f".{fraction}" if fraction else "") + exponent
+
+
+def feature_text(number: str, placing: Placing, axis: int) -> str:
+    """The text of a feature with this number at a coordinate, and the others at the grid's 0."""
+    others = [placing.shift_of(each) for each in range(3 if axis == 2 else 2)]
+    coordinates = ",".join(number if at == axis else each for at, each in enumerate(others))
+    geometry = f'{{"type":"Point","coordinates":[{coordinates}]}}'
+    return f'{{"type":"Feature","geometry":{geometry},"properties":null}}'
+
+
+def placings() -> Iterator[Placing]:
+    for at, scale in enumerate(SCALES):
+        for rounds in (False, True):
+            yield Placing(scale, SHIFTS[(2 * at + rounds) % len(SHIFTS)], rounds)
+    yield from (Placing("1000", "412000,5712000", rounds) for rounds in (False, True))
+
+
+def exported(context: Context, file: Path) -> list[Any]:
+    collection = json.loads(context.run("export", file, "--collection", "lamps"))
+    features: list[Any] = collection["features"]
+    return features
+
+
+def check_placing(context: Context, number: int, placing: Placing, chance: Random) -> None:
+    """What comes of the numbers of a load, each at its place."""
+    texts = [*EDGES, *(random_number(chance) for _ in range(NUMBERS))]
+    axes = [chance.randrange(3) for _ in texts]
+    wanted = {
+        place: (axis, placed(text, placing, axis))
+        for place, (text, axis) in enumerate(zip(texts, axes), 1)
+    }
+    file = context.new_file(f"placed-{number}")
+    text = sequence([feature_text(it, placing, axis) for it, axis in zip(texts, axes)])
+    words = load_words(file, None, "k", "--open", "--skip", *placing.words())
+    ended = context.start(*words, sent=text)
+    faults = faults_in(ended.stderr)
+    found = {
+        int(it["id"]): it["geometry"]["coordinates"][wanted[int(it["id"])][0]]
+        for it in exported(context, file)
+    }
+    for place, (axis, millimetres) in wanted.items():
+        what = f"{texts[place - 1]} at {axis}, {placing}"
+        context.check(what, found.get(place, faults.get(place)), millimetres)
+
+
+# Numbers within properties, as they are written, and what is kept of them.
+KEPT = (
+    *(("3.5", "3.5"), ("-0.50", "-0.50"), ("1e400", "1e400"), ("1E2", "1E2")),
+    *(("12345678901234567890123", "12345678901234567890123"), ("7", 7), ("1.0", 1), ("-7", -7)),
+)
+
+
+def check_fractions(context: Context) -> None:
+    """`--fractions text` keeps numbers that are not whole as texts; without it they are faults."""
+    members = ",".join(f'"{at}":[{text},{{"a":{text}}}]' for at, (text, _) in enumerate(KEPT))
+    text = sequence([f'{{"type":"Feature","id":"a","geometry":null,"properties":{{{members}}}}}'])
+    file = context.new_file("fractions")
+    words = load_words(file, None, "k", "--open", "--fractions", "text")
+    context.run(*words, sent=text)
+    (feature,) = exported(context, file)
+    wanted = {str(at): [kept, {"a": kept}] for at, (_, kept) in enumerate(KEPT)}
+    context.check("fractions as texts", feature["properties"], wanted)
+    one = b'{"type":"Feature","id":"b","geometry":null,"properties":{"a":3.5}}\n'
+    ended = context.start(*load_words(file, None, "l"), sent=one)
+    context.check("a fraction", ended.stderr, b"streetmap: bad_feature 1 fraction\n")
+    # A geometry's other members and a feature's own are no coordinates.
+    other = b'{"type":"Feature","id":"c","bbox":[0.5,1,2,3],"geometry":{"type":"Point",'
+    other += b'"coordinates":[1.5,2],"bbox":[0.5,1,2,3]}}\n'
+    context.run(*load_words(file, None, "m", "--scale", "2"), sent=other)
+    found = {it["id"]: it["geometry"] for it in exported(context, file)}
+    context.check("coordinates alone", found["c"]["coordinates"], [3, 4])
+
+
+def check_words(context: Context) -> None:
+    """Words that are no scale, no shift or no fate of fractions are usage faults, before all else."""
+    absent = context.folder / "absent"
+    bad: list[list[str]] = [["--scale", it] for it in ("0", "-1", "", "1e-10", "1e27", "01", "1 ")]
+    bad += [["--shift", it] for it in ("1", "1;2", ",", "1,2,3", "1,1e18")]
+    bad += [["--fractions", it] for it in ("number", "", "Text")]
+    for words in bad:
+        given = load_words(absent, None, "k", *words)
+        context.run(*given, status=2, code="usage")
+    context.run(*load_words(absent, None, "k", "--scale", "1"), status=1, code="no_file")
+
+
+def check_other_words(context: Context) -> None:
+    """Another scale is another text: the batches of a load are those of its options."""
+    file = context.new_file("again")
+    text = sequence([feature_text("1.5", Placing("2", "0,0", rounds=False), 0)])
+    words = load_words(file, None, "k", "--open")
+    first = context.run(*words, "--scale", "2", sent=text)
+    context.check("again", context.run(*words, "--scale", "2.0", sent=text), first)
+    context.run(*words, "--scale", "4", sent=text, status=1, code="key_used")
+    # A file of metres without the words is refused, and nothing of it is in.
+    context.run(*load_words(file, None, "l"), sent=text, status=1, code="bad_feature 1 fraction")
+
+
+def check_geopackage(context: Context) -> None:
+    """A GeoPackage in metres (EPSG:25832), by `ogr2ogr` and a pipe, comes in to the millimetre."""
+    chance = Random(SEED)
+    positions = [
+        (chance.randrange(10**7), chance.randrange(10**7), chance.randrange(10**5))
+        for _ in range(300)
+    ]
+    metres = [[f"{412000 + x / 1000:.3f}", f"{5712000 + y / 1000:.3f}", z] for x, y, z in positions]
+    features = [
+        f'{{"type":"Feature","properties":{{"lamp":"L{at}"}},"geometry":{{"type":"Point",'
+        f'"coordinates":[{x},{y},{z / 1000:.3f}]}}}}'
+        for at, (x, y, z) in enumerate(metres)
+    ]
+    source, layer = context.folder / "lamps.geojson", context.folder / "lamps.gpkg"
+    source.write_text(f'{{"type":"FeatureCollection","features":[{",".join(features)}]}}')
+    make = ["ogr2ogr", "-f", "GPKG", "-a_srs", "EPSG:25832", "-nln", "lamps", layer, source]
+    subprocess.run(make, check=True, timeout=context.seconds, capture_output=True)
+    read = ["ogr2ogr", "-f", "GeoJSONSeq", "-a_srs", "None", "-lco", "ID_FIELD=lamp"]
+    read += ["-lco", "COORDINATE_PRECISION=3", "/vsistdout/", str(layer), "lamps"]
+    made = subprocess.run(read, check=True, timeout=context.seconds, capture_output=True)
+    file = context.new_file("geopackage")
+    words = ("--open", "--round", "--scale", "1000", "--shift", "412000,5712000")
+    context.run(*load_words(file, None, "k", *words), sent=made.stdout)
+    found = {it["id"]: tuple(it["geometry"]["coordinates"]) for it in exported(context, file)}
+    context.check("lamps of a GeoPackage", found, {f"L{at}": it for at, it in enumerate(positions)})
+
+
+def run(context: Context) -> None:
+    if not context.takes("load", context.folder, "--key", "k", "--collection", "c", "--round"):
+        return
+    chance = Random(SEED)
+    for number, placing in enumerate(placings()):
+        check_placing(context, number, placing, chance)
+    check_fractions(context)
+    check_words(context)
+    check_other_words(context)
+    check_geopackage(context)
