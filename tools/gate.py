@@ -15,16 +15,17 @@ import os
 import re
 import subprocess
 import sys
-import tempfile
+import threading
+from collections.abc import Callable
 from dataclasses import dataclass
-from functools import partial
 from pathlib import Path
 from types import ModuleType
 from typing import Any
 
 import toolchain
 
-NEEDED = ("ci", "edits_alone", "must_fail", "must_fail_all", "checked", "unread", "rtlib")
+NEEDED = ("ci", "edits_alone", "edits_of", "must_fail", "checked", "unread", "REFUSED")
+LANES = int(os.environ.get("RT_JOBS") or len(os.sched_getaffinity(0)))
 FUNCTION = re.compile(r"^( *)(?:pub(?:\([\w ]+\))? )?(?:const |unsafe )*fn (\w+)", re.MULTILINE)
 IMPL = re.compile(
     r"^impl\b(?:<[^{]*?>)? *(?:(?P<trait>\w+)[^{]*? for )?(?P<type>\w+)", re.MULTILINE
@@ -124,13 +125,13 @@ def applied(folder: str, edit: Edit, texts: dict[str, str]) -> dict[str, str] | 
     return made
 
 
-def round_of(folder: str, edits: list[Edit]) -> tuple[list[Edit], dict[str, str]]:
-    """The next edits that can be tried together, each in functions of its own."""
+def round_of(folder: str, edits: list[Edit], most: int) -> tuple[list[Edit], dict[str, str]]:
+    """The first edits that can be tried together, each in functions of its own, at most so many."""
     texts: dict[str, str] = {}
     taken: list[Edit] = []
     used: set[Function] = set()
     for edit in edits:
-        if edit.functions is None or edit.functions & used:
+        if len(taken) == most or edit.functions is None or edit.functions & used:
             continue
         made = applied(folder, edit, texts)
         if made is not None:
@@ -186,50 +187,77 @@ def only_edited(crate: str, edits: list[Edit], output: str) -> bool:
     return True
 
 
-def try_together(
-    rt: ModuleType, crate: Any, edits: list[str], flags: list[str], kept: str
-) -> tuple[dict[str, str], int]:
-    """The edits that are refused in checks of several, each with the line that refuses it, and how
-    many checks there were. It ends where a check refuses no more, or an edit can't be read."""
-    left = [read_edit(crate.folder, it) for it in edits]
-    refused: dict[str, str] = {}
-    checks = 0
-    while True:
-        together, texts = round_of(crate.folder, left)
-        if len(together) < 2:
-            return refused, checks
-        checks += 1
-        ran = rt.checked(crate, texts, flags, kept)
-        if ran.returncode != 1 or any(rt.unread(it, texts) for it in ran.stdout.splitlines()):
-            return refused, checks
-        is_apart = only_edited(crate.name, together, ran.stdout)
-        new = {it.path: refusal(crate.name, it, ran.stdout, is_apart) for it in together}
-        refused |= {path: line for path, line in new.items() if line}
-        if not any(new.values()):
-            return refused, checks
-        left = [it for it in left if it.path not in refused]
+class Rounds:
+    """The wrong bodies of a crate, tried several in one check. Each lane leads a round of the one
+    that it was given, with some of the last that are left, so that the next lanes lead their own.
+    """
+
+    def __init__(self, rt: ModuleType, crate: Any) -> None:
+        paths, _ = rt.edits_of(crate)
+        self.rt, self.crate = rt, crate
+        self.left = [read_edit(crate.folder, it) for it in paths]
+        self.most = max(2, -(-len(paths) // LANES))
+        self.refused: dict[str, str] = {}
+        self.running: set[str] = set()
+        self.changed = threading.Condition()
+
+    def take(self, path: str) -> tuple[list[Edit], dict[str, str]]:
+        """A round that a wrong body leads, once no other lane tries it: no round where it is
+        refused already, or was tried with others before."""
+        with self.changed:
+            self.changed.wait_for(lambda: path not in self.running)
+            led = [it for it in self.left if it.path == path]
+            others = [it for it in reversed(self.left) if it.path not in (path, *self.running)]
+            together, texts = round_of(self.crate.folder, [*led, *others], self.most)
+            if not led or len(together) < 2 or together[0].path != path:
+                return [], {}
+            self.running |= {it.path for it in together}
+            self.left = [it for it in self.left if it not in together]
+            return together, texts
+
+    def settle(self, together: list[Edit], ran: Any, texts: dict[str, str]) -> None:
+        """Keeps which of a round are refused, each by a line of its own."""
+        lines = ran.stdout.splitlines()
+        is_read = ran.returncode == 1 and not any(self.rt.unread(it, texts) for it in lines)
+        is_apart = is_read and only_edited(self.crate.name, together, ran.stdout)
+        with self.changed:
+            for edit in together:
+                line = refusal(self.crate.name, edit, ran.stdout, is_apart) if is_read else None
+                if line:
+                    self.refused[edit.path] = line
+            self.running -= {it.path for it in together}
+            self.changed.notify_all()
+
+    def tried(self, path: str, flags: list[str], kept: str) -> str | None:
+        """The line that refuses a wrong body beside others, where one does."""
+        together, texts = self.take(path)
+        if together:
+            self.settle(together, self.rt.checked(self.crate, texts, flags, kept), texts)
+        return self.refused.get(path)
 
 
-def tried(rt: ModuleType, crate: Any, edits: list[str], flags: list[str]) -> list[tuple[bool, str]]:
-    """What `must_fail_all` of `rt ci` returns: whether each edit is refused, and what to say."""
-    with tempfile.TemporaryDirectory(prefix="gate-edits-") as kept:
-        refused, checks = try_together(rt, crate, edits, flags, kept)
-        alone = {
-            it: rt.must_fail(crate, it, flags, kept if checks else None)
-            for it in edits
-            if it not in refused
-        }
-        # Over work that checks kept for one another, the crate itself must still be proved.
-        if checks and checks + len(alone) > 1 and rt.checked(crate, {}, flags, kept).returncode:
-            refused, alone = {}, dict.fromkeys(edits, (False, ""))
-    for path, (is_refused, _) in alone.items():
-        if not is_refused and checks:
-            alone[path] = rt.must_fail(crate, path, flags)
-    print(f"{crate.name}: {len(refused)} wrong bodies in {checks} checks, {len(alone)} alone")
-    for path, line in refused.items():
-        label = f"must-fail {crate.name}/{os.path.basename(path)}"
-        alone[path] = True, f"{label}: refused, as it must be: {line[:160]}"
-    return [alone[path] for path in edits]
+def must_fail_by(rt: ModuleType) -> Callable[..., tuple[str, str]]:
+    """What stands for `must_fail` of `rt ci`: over kept work a wrong body is tried with others of
+    its crate first. One that is not refused so is tried alone by rt's own means."""
+    alone: Callable[..., tuple[str, str]] = rt.must_fail
+    rounds: dict[str, Rounds] = {}
+    guard = threading.Lock()
+
+    def must_fail(
+        crate: Any, edit: str, flags: list[str], kept: str | None = None
+    ) -> tuple[str, str]:
+        if kept is None:
+            return alone(crate, edit, flags)
+        with guard:
+            if crate.folder not in rounds:
+                rounds[crate.folder] = Rounds(rt, crate)
+        line = rounds[crate.folder].tried(edit, flags, kept)
+        if line is None:
+            return alone(crate, edit, flags, kept)
+        label = f"must-fail {crate.name}/{os.path.basename(edit)}"
+        return rt.REFUSED, f"{label}: refused, as it must be: {line[:160]}"
+
+    return must_fail
 
 
 def main(names: list[str]) -> int:
@@ -237,8 +265,8 @@ def main(names: list[str]) -> int:
     if rt is None:
         words = ["must-fail", *names] if names else ["ci"]
         return subprocess.run(["rt", *words], check=False).returncode
-    setattr(rt, "must_fail_all", partial(tried, rt))
-    return int(rt.edits_alone(names) if names else rt.ci())
+    setattr(rt, "must_fail", must_fail_by(rt))
+    return int(rt.edits_alone(names) if names else rt.ci(anew=False))
 
 
 if __name__ == "__main__":
