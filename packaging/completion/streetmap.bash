@@ -14,6 +14,11 @@ _streetmap() {
     # The values of --port, --key, --collection and others are not known here.
     case $prev in
         --port | --key | --collection | --count | --title | --time | --after) return ;;
+        --scale | --shift) return ;;
+        --fractions)
+            mapfile -t COMPREPLY < <(compgen -W "text" -- "$cur")
+            return
+            ;;
         --clients)
             mapfile -t COMPREPLY < <(compgen -W "1 64 1024" -- "$cur")
             return
@@ -34,12 +39,12 @@ _streetmap() {
         local options=
         case ${words[1]} in
             pipe) options="--base" ;;
-            serve) options="--port --count --clients --log --base" ;;
+            serve) options="--port --count --clients --log --warm --base" ;;
             import) options="--key --collection --replace --progress" ;;
             export) options="--collection --progress" ;;
             load)
-                options="--key --collection --each --open --title --time --replace --skip --check
-                    --print --progress"
+                options="--key --collection --each --open --title --time --scale --shift --round
+                    --fractions --replace --skip --check --print --progress"
                 ;;
             batches) options="--after" ;;
         esac
