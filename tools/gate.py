@@ -24,7 +24,7 @@ from typing import Any
 
 import toolchain
 
-NEEDED = ("ci", "edits_alone", "edits_of", "must_fail", "checked", "unread", "REFUSED")
+NEEDED = ("ci", "edits_alone", "edits_of", "must_fail", "checked", "unread", "REFUSED", "rtlib")
 LANES = int(os.environ.get("RT_JOBS") or len(os.sched_getaffinity(0)))
 FUNCTION = re.compile(r"^( *)(?:pub(?:\([\w ]+\))? )?(?:const |unsafe )*fn (\w+)", re.MULTILINE)
 IMPL = re.compile(
@@ -215,16 +215,25 @@ class Rounds:
             self.left = [it for it in self.left if it not in together]
             return together, texts
 
+    def judges(self, ran: Any, texts: dict[str, str]) -> bool:
+        """Whether a check of a round read all texts, and did not prove the crate."""
+        lines = ran.stdout.rstrip("\n").split("\n")
+        return (
+            ran.returncode == 1
+            and lines[-1].startswith("logic=not-proved")
+            and not self.rt.rtlib.STALE.search(ran.stdout)
+            and not any(self.rt.unread(it, texts) for it in lines)
+        )
+
     def settle(self, together: list[Edit], ran: Any, texts: dict[str, str]) -> None:
         """Keeps which of a round are refused, each by a line of its own."""
-        lines = ran.stdout.splitlines()
-        is_read = ran.returncode == 1 and not any(self.rt.unread(it, texts) for it in lines)
-        is_apart = is_read and only_edited(self.crate.name, together, ran.stdout)
-        with self.changed:
+        found: dict[str, str | None] = {}
+        if ran is not None and self.judges(ran, texts):
+            is_apart = only_edited(self.crate.name, together, ran.stdout)
             for edit in together:
-                line = refusal(self.crate.name, edit, ran.stdout, is_apart) if is_read else None
-                if line:
-                    self.refused[edit.path] = line
+                found[edit.path] = refusal(self.crate.name, edit, ran.stdout, is_apart)
+        with self.changed:
+            self.refused |= {path: line for path, line in found.items() if line}
             self.running -= {it.path for it in together}
             self.changed.notify_all()
 
@@ -232,7 +241,11 @@ class Rounds:
         """The line that refuses a wrong body beside others, where one does."""
         together, texts = self.take(path)
         if together:
-            self.settle(together, self.rt.checked(self.crate, texts, flags, kept), texts)
+            ran = None
+            try:
+                ran = self.rt.checked(self.crate, texts, flags, kept)
+            finally:
+                self.settle(together, ran, texts)
         return self.refused.get(path)
 
 
