@@ -12,6 +12,7 @@ allocations it refuses.
 
 import contextlib
 import os
+import re
 import socket
 import subprocess
 from collections import Counter
@@ -28,7 +29,8 @@ PACKAGES = ("gcc", "libc6-dev")
 Ended = subprocess.CompletedProcess[bytes]
 # The short form refuses one of so many allocations.
 STRIDE = 131
-NO_MEMORY = b"streetmap: memory\n"
+# What a command that ends for want of memory says last; `apply` names its line.
+NO_MEMORY = re.compile(rb"streetmap: memory( [0-9]+)?\n$")
 REFUSED = b"refused\n"
 
 
@@ -101,7 +103,7 @@ class Refuser:
 
 
 def wants_memory(ended: Ended) -> bool:
-    return ended.returncode == 4 and ended.stderr.endswith(NO_MEMORY)
+    return ended.returncode == 4 and NO_MEMORY.search(ended.stderr) is not None
 
 
 def check_lines(refuser: Refuser) -> None:
