@@ -11,10 +11,10 @@ the follower's own journal (`serve --journal F`); else the first of all. Lines t
 act once, so a FILE that is lost or older costs time alone. With `--once` it ends with the lines
 that are there.
 
-Before the first line of a connection it sends again the last line that it holds for acknowledged.
-Its answer has to have that serial, and each further one the next. Who is away is tried again, with
-pauses that grow to ten seconds; standard error says so. It ends with status 1 at what a person has
-to look at, and nothing is sent behind it:
+At first on each connection it sends again the last line that it holds for acknowledged. The answer
+has to have that serial, and each further one the next. Who is away is tried again, with pauses that
+grow to ten seconds; standard error says so. It ends with status 1 at what a person has to look at,
+and sends nothing behind it:
 
     forked SERIAL ANSWERED    the follower has another batch there, or has it elsewhere
     refused SERIAL CODE ..    the follower refused the batch, with the place and the cause
@@ -205,10 +205,15 @@ class Following:
     follower: Follower
     place: Place
     position: PositionFile | None = None
+    agreed: bool = False
+    waits: bool = False
 
     def go_on(self) -> None:
         """Sends all lines that are there now."""
-        self.find_line()
+        if not self.has_line():
+            return
+        if not self.agreed:
+            self.agree()
         try:
             for line in self.source.behind(self.place.serial):
                 self.check_next(line)
@@ -227,20 +232,26 @@ class Following:
     def lose(self, away: Away) -> None:
         """Forgets the connection before a new try, and the line of a source that was away."""
         self.follower.close()
+        self.agreed = False
         if isinstance(away, SourceAway):
             self.place = Place(self.place.serial, self.place.key)
 
-    def find_line(self) -> None:
-        """Takes the line of the place from the source. One that begins right behind it has none."""
+    def has_line(self) -> bool:
+        """Whether the line of the place is at hand. It is taken from the source, which may not have
+        come to it yet; one that begins right behind it needs none."""
         if self.place.line is not None or self.place.serial == 0:
-            return
+            return True
         line = next(self.source.behind(self.place.serial - 1), None)
         if line is None:
-            raise SourceAway(f"the source has no serial {self.place.serial} yet")
+            if not self.waits:
+                tell(NAME, f"waiting: the source has no serial {self.place.serial} yet")
+            self.waits = True
+            return False
         if line.serial == self.place.serial:
             if line.key != self.place.key:
                 raise Fault("forked", line.serial, f"{self.place.key} is {line.key} in the source")
             self.place = Place.of(line)
+        return True
 
     def check_next(self, line: Line) -> None:
         wanted = self.place.serial + 1
@@ -251,12 +262,11 @@ class Following:
         """Sends the last acknowledged line again, over a new connection, where the follower has its
         key: one that lacks it would take the line for a new batch."""
         self.follower.close()
-        if self.place.serial == 0:
-            return
-        if not self.follower.has(self.place.key):
+        if self.place.serial > 0 and not self.follower.has(self.place.key):
             raise Fault("position_ahead", self.place.serial)
         if self.place.line is not None and len(self.place.line.text) <= MOST_OF_BODY:
             self.send(self.place.line)
+        self.agreed = True
 
     def send(self, line: Line) -> None:
         """Posts a line, whose serial the answer has to have. A line that is longer than a body is
