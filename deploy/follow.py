@@ -319,6 +319,13 @@ def url(text: str) -> str:
     return text
 
 
+def named(text: str) -> str:
+    """A word that is not empty."""
+    if not text:
+        raise ValueError(text)
+    return text
+
+
 def source_of(text: str) -> Source:
     """The source of a word: a database, or a file."""
     if not text.startswith(("postgresql://", "postgres://")):
@@ -336,7 +343,7 @@ def own_place(journal: Path) -> Place:
 
 def arguments() -> argparse.Namespace:
     words = argparse.ArgumentParser(prog=NAME, description=(__doc__ or "").splitlines()[0])
-    words.add_argument("source", help="a journal's file, or postgresql://..")
+    words.add_argument("source", type=named, help="a journal's file, or postgresql://..")
     words.add_argument("url", type=url, help="the follower's URL")
     kept = words.add_mutually_exclusive_group()
     kept.add_argument("--position", type=Path, help="the file that keeps the serial")

@@ -36,10 +36,11 @@ class Database:
 
     process: Process
     port: int
+    name: str = "postgres"
 
     @property
     def dsn(self) -> str:
-        return f"postgresql://{USER}@127.0.0.1:{self.port}/postgres"
+        return f"postgresql://{USER}@127.0.0.1:{self.port}/{self.name}"
 
     def ask(self, query: str, *values: object) -> list[tuple[object, ...]]:
         connection = psycopg2.connect(self.dsn)
@@ -49,6 +50,21 @@ class Database:
                 return cursor.fetchall() if cursor.description else []
         finally:
             connection.close()
+
+    def ask_alone(self, query: str) -> None:
+        """Asks in no transaction."""
+        connection = psycopg2.connect(self.dsn)
+        connection.autocommit = True
+        try:
+            connection.cursor().execute(query)
+        finally:
+            connection.close()
+
+    def answers(self) -> bool:
+        try:
+            return bool(self.ask("SELECT 1"))
+        except psycopg2.Error:
+            return False
 
     def journal(self) -> bytes:
         """The lines of the table."""
@@ -61,7 +77,8 @@ def own_folder(context: Context, name: str) -> Path:
     context.folder.chmod(0o711)
     folder = context.folder / name
     folder.mkdir(mode=0o700)
-    subprocess.run(["chown", f"{USER}:", folder], check=os.geteuid() == 0)
+    if os.geteuid() == 0:
+        subprocess.run(["chown", f"{USER}:", folder], check=True)
     return folder
 
 

@@ -7,7 +7,7 @@ import socket
 import subprocess
 import time
 from collections.abc import Callable, Iterator
-from dataclasses import dataclass, field
+from dataclasses import dataclass
 from pathlib import Path
 
 from harness import Context
@@ -104,10 +104,13 @@ class Script:
 
     context: Context
     name: str
-    words: list[str] = field(default_factory=list)
 
     def command(self, *words: str | Path) -> list[str]:
-        return [PYTHON, "-B", str(DEPLOY / self.name), *self.words, *map(str, words)]
+        return self.python(DEPLOY / self.name, *words)
+
+    @staticmethod
+    def python(*words: str | Path) -> list[str]:
+        return [PYTHON, "-B", *map(str, words)]
 
     def ends(self, *words: str | Path) -> tuple[int, list[str]]:
         """Its exit status, and its lines but for that which says where it began."""

@@ -1,0 +1,105 @@
+"""Followers: a first server, PostgreSQL with a standby, two followers and nginx, killed in turn.
+
+The first is under load, and its journal goes by `journal_to_postgres.py` into a PostgreSQL that has
+a streaming standby. `follow.py` brings one follower the lines of the table, and another those of
+the standby's. nginx sends what reads to the followers, and what writes to the first alone. At the
+end each collection's export is the same bytes on all, and each journal that of the first.
+"""
+
+from followers_tests import fronts, rows, style, tables
+from followers_tests.load import Load, delays, tell_delays
+from followers_tests.processes import wait_until
+from followers_tests.site import Site, site
+from harness import Context
+
+PACKAGES = (
+    "black",
+    "libjs-leaflet",
+    "mypy",
+    "nginx",
+    "postgresql",
+    "python3-psycopg2",
+)
+# Rounds of killing, in the short form and in the long one.
+ROUNDS, SLOW_ROUNDS = 3, 50
+WRITERS, READERS, PROBES = 4, 6, 40
+
+
+def check_quiet(site: Site) -> None:
+    """Nothing is killed: how late followers are, and that no client's pages go back in time."""
+    context = site.context
+    followers = [site.left.port, site.right.port]
+    for what, at, found in zip(
+        ("by the primary, no load", "by the standby, no load"),
+        followers,
+        delays(site.first.port, followers, "idle", PROBES),
+        strict=True,
+    ):
+        tell_delays(context, what, found)
+    with Load(site.port, WRITERS, READERS) as load:
+        found = delays(site.first.port, followers, "busy", PROBES)
+    for what, each in zip(("by the primary, load", "by the standby, load"), found, strict=True):
+        tell_delays(context, what, each)
+    for reader in load.pages():
+        context.check("no page goes back in time", reader.numbers, sorted(reader.numbers))
+
+
+def check_beginnings(site: Site) -> None:
+    """The whole lines of each follower's journal begin the first's."""
+    kept = [served.journal.read_bytes() for served in (site.left, site.right)]
+    whole = site.first.journal.read_bytes()
+    for journal in kept:
+        lines = journal[: journal.rfind(b"\n") + 1]
+        site.context.check("a beginning of the first's journal", whole.startswith(lines), True)
+
+
+def check_killed(site: Site, rounds: int) -> dict[str, int]:
+    """Rounds in which all are killed hard in turn, under load; what was acknowledged."""
+    with Load(site.port, WRITERS, READERS) as load:
+        for number in range(rounds):
+            for process in site.to_kill():
+                process.kill()
+                check_beginnings(site)
+                process.start()
+            site.context.check(f"round {number + 1}", len(load.serials()) > 0, True)
+    return load.serials()
+
+
+def check_end(site: Site, acknowledged: dict[str, int]) -> None:
+    """What is kept at the end, once all are stopped: the same everywhere."""
+    context = site.context
+    journal, wanted = site.first.journal.read_bytes(), None
+    for database in (site.primary, site.standby):
+        there = lambda: database.journal() == journal
+        wait_until("a table has all lines", there, context.seconds)
+    for served in site.all_served():
+        served.process.kill()
+        name = served.file.name
+        context.check(f"the journal of {name}", served.journal.read_bytes() == journal, True)
+        context.check(f"the batches of {name}", context.run("batches", served.file), journal)
+        exports = {
+            it: context.run("export", served.file, "--collection", it)
+            for it in [f"w{at}" for at in range(WRITERS)]
+        }
+        wanted = wanted or exports
+        context.check(f"the exports of {name}", exports == wanted, True)
+    keys = {line[1:].rpartition(b'"key":"')[2][:-2].decode(): line for line in journal.splitlines()}
+    found = {key: int(keys[key].partition(b"\t")[0]) for key in acknowledged if key in keys}
+    context.check("each acknowledged batch has its serial", found == acknowledged, True)
+    print(f"  {len(journal.splitlines())} batches, {len(acknowledged)} acknowledged under kills")
+
+
+def run(context: Context) -> None:
+    style.check_style(context)
+    rows.check_rows(context)
+    rows.check_large(context)
+    words = ("--port", "1", "--journal", context.folder / "none.journal")
+    if not context.takes("serve", context.folder / "none", *words):
+        return
+    with site(context) as made:
+        tables.check_tables(context, made.primary)
+        fronts.check_fronts(made)
+        check_quiet(made)
+        acknowledged = check_killed(made, SLOW_ROUNDS if context.slow else ROUNDS)
+        made.catch_up()
+        check_end(made, acknowledged)
