@@ -50,7 +50,9 @@ def pins(site: Site, name: str) -> list[int]:
         mark = f"{name}-{number}-"
         for _ in range(3):
             client = Client(site.port, f"127.0.2.{number + 1}")
-            site.context.check(f"client {number}", client.ask("GET", f"/?mark={mark}")[0], 400)
+            site.context.check(
+                f"client {number}", client.ask("GET", f"/collections?mark={mark}")[0], 400
+            )
             client.close()
         wait_until(mark, lambda: sum(found(site, mark)) >= 3, 30)
         first, left, right = found(site, mark)
@@ -113,8 +115,8 @@ def office(site: Site, folder: Path, port: int) -> Process:
         followers = followers.replace(f":{old};", f":{served.port};")
     (kept / "nginx-followers.conf").write_text(followers)
     text = (DEPLOY / "nginx.conf").read_text()
-    begin = text.index("# One server.")
-    text = f"{text[:begin]}include streetmap/nginx-followers.conf;\n{text[text.index('server {'):]}"
+    begin, end = text.index("# One server."), text.index("\nserver {")
+    text = f"{text[:begin]}include streetmap/nginx-followers.conf;\n{text[end:]}"
     text = text.replace("listen 80;", f"listen 127.0.0.1:{free_port()};")
     text = text.replace("listen 443 ", f"listen 127.0.0.1:{port} ")
     text = text.replace("/usr/share/streetmap;", f"{ROOT};").replace("/etc/nginx/", f"{folder}/")
@@ -137,7 +139,7 @@ def check_office(site: Site) -> None:
         check("the map", asked(port, "/map/"), 200)
         check("a batch", asked(port, "/batches", batch), 401)
         check("a signed batch", asked(port, "/batches", batch, Authorization=signed), 200)
-        check("a marked page", asked(port, "/?mark=office"), 400)
+        check("a marked page", asked(port, "/collections?mark=office"), 400)
         check("a follower has it", found(site, "office")[0], 0)
 
 

@@ -14,8 +14,9 @@ from messages import delete, feature, open_collection, point, put
 from model import compact
 
 BROKEN = (OSError, http.client.HTTPException)
-# In seconds: for one answer; between two tries; between two batches of a writer.
-ANSWER_SECONDS, AGAIN_SECONDS, BETWEEN_SECONDS = 30, 0.05, 0.01
+# In seconds: for one answer; between two tries; between two batches of a writer; between two looks
+# of a follower at a standby.
+ANSWER_SECONDS, AGAIN_SECONDS, BETWEEN_SECONDS, POLL_SECONDS = 30, 0.05, 0.01, 0.5
 
 
 @dataclass
@@ -34,7 +35,7 @@ class Client:
                 self.connection = http.client.HTTPConnection(
                     "127.0.0.1", self.port, ANSWER_SECONDS, source_address=(self.address, 0)
                 )
-            self.connection.request(method, path, body)
+            self.connection.request(method, path, body and body.encode())
             answer = self.connection.getresponse()
             return answer.status, answer.read()
         except BROKEN:
@@ -159,8 +160,12 @@ class Load:
 
 def delays(first: int, followers: list[int], name: str, count: int) -> list[list[float]]:
     """Of each follower, in milliseconds: how long after its acknowledgement by the first a batch
-    is seen there, for so many batches."""
-    writer, readers = Client(first), [Client(port) for port in followers]
+    is seen there, for so many batches at random moments."""
+    writer, readers, chance = (
+        Client(first),
+        [Client(port) for port in followers],
+        random.Random(name),
+    )
     writer.post(batch_text(f"{name}-open", open_collection(name, title=name)))
     found: list[list[float]] = [[] for _ in followers]
     for at in range(count):
@@ -174,7 +179,7 @@ def delays(first: int, followers: list[int], name: str, count: int) -> list[list
                     found[number].append(1000 * (time.monotonic() - begun))
                     waiting.discard(number)
             time.sleep(0.001)
-        time.sleep(0.02)
+        time.sleep(chance.uniform(0, POLL_SECONDS))
     for client in (writer, *readers):
         client.close()
     return found

@@ -66,6 +66,13 @@ class Database:
         except psycopg2.Error:
             return False
 
+    def has(self, journal: bytes) -> bool:
+        """Whether it answers, and its table has these lines."""
+        try:
+            return self.journal() == journal
+        except psycopg2.Error:
+            return False
+
     def journal(self) -> bytes:
         """The lines of the table."""
         query = "SELECT serial || E'\\t' || batch || E'\\n' FROM streetmap_journal ORDER BY serial"

@@ -118,4 +118,6 @@ class Script:
             self.command(*words), capture_output=True, text=True, timeout=self.context.seconds
         )
         lines = [line.partition(": ")[2] for line in ended.stderr.splitlines()]
-        return ended.returncode, [it for it in lines if not it.startswith(("going on behind", "waiting: "))]
+        return ended.returncode, [
+            it for it in lines if not it.startswith(("going on behind", "waiting: "))
+        ]

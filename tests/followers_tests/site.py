@@ -30,7 +30,11 @@ class Served:
 
     @classmethod
     def new(cls, context: Context, name: str) -> "Served":
-        file, journal, port = context.new_file(name), context.folder / f"{name}.journal", free_port()
+        file, journal, port = (
+            context.new_file(name),
+            context.folder / f"{name}.journal",
+            free_port(),
+        )
         given = [str(context.program), "serve", str(file), "--port", str(port), "--base", BASE]
         given += ["--clients", "32", "--log", "--journal", str(journal)]
         return cls(file, journal, Process(context, name, given, port), port)

@@ -6,6 +6,9 @@ the standby's. nginx sends what reads to the followers, and what writes to the f
 end each collection's export is the same bytes on all, and each journal that of the first.
 """
 
+import random
+import time
+
 from followers_tests import fronts, rows, style, tables
 from followers_tests.load import Load, delays, tell_delays
 from followers_tests.processes import wait_until
@@ -22,7 +25,9 @@ PACKAGES = (
 )
 # Rounds of killing, in the short form and in the long one.
 ROUNDS, SLOW_ROUNDS = 3, 50
-WRITERS, READERS, PROBES = 4, 6, 40
+WRITERS, READERS, PROBES = 4, 6, 15
+# In seconds: how long all run between two kills, at most.
+BETWEEN_SECONDS = 0.4
 
 
 def check_quiet(site: Site) -> None:
@@ -55,13 +60,16 @@ def check_beginnings(site: Site) -> None:
 
 def check_killed(site: Site, rounds: int) -> dict[str, int]:
     """Rounds in which all are killed hard in turn, under load; what was acknowledged."""
+    chance = random.Random(rounds)
     with Load(site.port, WRITERS, READERS) as load:
-        for number in range(rounds):
+        for _ in range(rounds):
             for process in site.to_kill():
                 process.kill()
                 check_beginnings(site)
                 process.start()
-            site.context.check(f"round {number + 1}", len(load.serials()) > 0, True)
+                time.sleep(chance.uniform(0, BETWEEN_SECONDS))
+    for reader in load.pages():
+        site.context.check("pages under kills", reader.others <= {502, 504}, True)
     return load.serials()
 
 
@@ -70,8 +78,7 @@ def check_end(site: Site, acknowledged: dict[str, int]) -> None:
     context = site.context
     journal, wanted = site.first.journal.read_bytes(), None
     for database in (site.primary, site.standby):
-        there = lambda: database.journal() == journal
-        wait_until("a table has all lines", there, context.seconds)
+        wait_until("a table has all lines", lambda: database.has(journal), context.seconds)
     for served in site.all_served():
         served.process.kill()
         name = served.file.name
