@@ -14,9 +14,9 @@ from messages import delete, feature, open_collection, point, put
 from model import compact
 
 BROKEN = (OSError, http.client.HTTPException)
-# In seconds: for one answer; between two tries; between two batches of a writer; between two looks
-# of a follower at a standby.
-ANSWER_SECONDS, AGAIN_SECONDS, BETWEEN_SECONDS, POLL_SECONDS = 30, 0.05, 0.01, 0.5
+# In seconds: for one answer; between two tries; between two requests of a client, so that a slow
+# machine comes along; between two looks of a follower at a standby.
+ANSWER_SECONDS, AGAIN_SECONDS, BETWEEN_SECONDS, POLL_SECONDS = 30, 0.05, 0.05, 0.5
 
 
 @dataclass

@@ -72,18 +72,20 @@ class Process:
         return listens(self.port)
 
     def kill(self) -> None:
-        """A hard stop of the process and of those that it has started."""
+        """A hard stop of the process and of those that it has started. All are gone behind it."""
         if self.process is None:
             return
-        for number in [self.process.pid, *children_of(self.process.pid)]:
+        if self.process.poll() is None:
+            # It starts no further one from here on.
+            self.process.send_signal(signal.SIGSTOP)
+        numbers = [self.process.pid, *children_of(self.process.pid)]
+        for number in numbers:
             with contextlib.suppress(ProcessLookupError):
                 os.kill(number, signal.SIGKILL)
         self.process.wait(self.context.seconds)
+        gone = lambda: not any(Path(f"/proc/{number}").exists() for number in numbers)
+        wait_until(f"{self.name} is gone", gone, self.context.seconds)
         self.process = None
-
-    def restart(self) -> None:
-        self.kill()
-        self.start()
 
 
 @contextlib.contextmanager

@@ -20,6 +20,7 @@ PACKAGES = (
     "libjs-leaflet",
     "mypy",
     "nginx",
+    "openssl",
     "postgresql",
     "python3-psycopg2",
 )
