@@ -11,6 +11,7 @@ and 3 where a file of its own cannot be written.
 
 import os
 import re
+import shlex
 import sys
 import time
 from collections.abc import Iterator
@@ -146,7 +147,7 @@ class JournalFile:
         time.sleep(LOOK_SECONDS)
 
     def words(self, serial: int) -> str:
-        return f"sed -n '/^{serial}\\t/{{p;q}}' {self.path}"
+        return f"sed -n '/^{serial}\\t/{{p;q}}' {shlex.quote(str(self.path))}"
 
 
 def last_line(path: Path) -> Line | None:

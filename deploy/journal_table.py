@@ -9,6 +9,7 @@ the database does not answer, and as the fault `bad_source` with its SQLSTATE wh
 
 import contextlib
 import select
+import shlex
 import time
 from collections.abc import Iterator, Sequence
 from typing import Any
