@@ -200,7 +200,10 @@ def check_unit(context: Context) -> None:
     check_words(context)
     trace = context.folder / "trace"
     traced = context.folder / "traced"
-    traced.write_text(f'#!/bin/sh\nexec strace -f -qq -o "{trace}" "{context.program}" "$@"\n')
+    # The unit's shell is the program then, so its calls count too.
+    shell = "/bin/sh -c 'exec \"$0\" \"$@\"'"
+    words = f'strace -f -qq -o "{trace}" {shell} "{context.program}" "$@"'
+    traced.write_text(f"#!/bin/sh\nexec {words}\n")
     traced.chmod(0o755)
     file = context.new_file("traced.db", batch("b1", [OPEN_LAMPS]))
     under_trace = dataclasses.replace(context, program=traced)
