@@ -173,4 +173,4 @@ class TableSource(JournalTable):
         shown = parse_dsn(self.dsn)
         shown.pop("password", None)
         query = f"SELECT serial || E'\\t' || batch FROM streetmap_journal WHERE serial = {serial}"
-        return f"psql -Atc \"{query}\" '{make_dsn(**shown)}'"
+        return f'psql -Atc "{query}" {shlex.quote(make_dsn(**shown))}'

@@ -1,6 +1,6 @@
 #!/usr/bin/env bash
-# Installs a built program with its manual page, completion, documents, map page, units, settings and
-# the scripts of followers:
+# Installs a built program with its manual page, completion, documents, map page, units, settings,
+# and the scripts of followers:
 #
 #     [PREFIX=/usr/local] [DESTDIR=] [UNITS=PREFIX/lib/systemd/system] packaging/install.sh PROGRAM
 #

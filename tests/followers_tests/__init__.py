@@ -1,1 +1,1 @@
-"""Helpers of the group `followers`: a first server, PostgreSQL, followers and nginx that are killed."""
+"""Helpers of the group `followers`: a site of servers and PostgreSQL that are killed."""

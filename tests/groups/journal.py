@@ -9,7 +9,6 @@ that begins its own, and refuses any other.
 import json
 import random
 import re
-import subprocess
 from collections.abc import Iterator
 from dataclasses import dataclass
 from pathlib import Path
