@@ -14,9 +14,10 @@ from messages import delete, feature, open_collection, point, put
 from model import compact
 
 BROKEN = (OSError, http.client.HTTPException)
-# In seconds: for one answer; between two tries; between two requests of a client, so that a slow
-# machine comes along; between two looks of a follower at a standby.
-ANSWER_SECONDS, AGAIN_SECONDS, BETWEEN_SECONDS, POLL_SECONDS = 30, 0.05, 0.05, 0.5
+# In seconds: for one answer; between two tries; between two looks of a follower at a standby.
+ANSWER_SECONDS, AGAIN_SECONDS, POLL_SECONDS = 30, 0.05, 0.5
+# A client rests so many times as long as its answer took, so that all come along on a slow machine.
+RESTS = 10
 
 
 @dataclass
@@ -61,6 +62,11 @@ class Client:
         return {}
 
 
+def rest(begun: float) -> None:
+    """Rests after an answer that was asked for at a moment."""
+    time.sleep(min(RESTS * (time.monotonic() - begun), ANSWER_SECONDS / RESTS))
+
+
 def batch_text(key: str, *edits: dict[str, Any]) -> str:
     return compact({"edits": list(edits), "key": key})
 
@@ -78,11 +84,11 @@ class Writer(threading.Thread):
     def run(self) -> None:
         edit = open_collection(self.name, title=self.name)
         while not self.stop.is_set():
-            key = f"{self.name}-{len(self.serials)}"
+            key, begun = f"{self.name}-{len(self.serials)}", time.monotonic()
             if reply := self.client.post(batch_text(key, edit), self.stop):
                 self.serials[key] = reply["serial"]
                 edit = self.edit(len(self.serials))
-                time.sleep(BETWEEN_SECONDS)
+                rest(begun)
         self.client.close()
 
     def edit(self, number: int) -> dict[str, Any]:
@@ -114,12 +120,13 @@ class Reader(threading.Thread):
 
     def run(self) -> None:
         while not self.stop.is_set():
+            begun = time.monotonic()
             status, body = self.client.ask("GET", self.path)
             if status == 200:
                 self.numbers.append(json.loads(body)["numberMatched"])
             else:
                 self.others.add(status)
-            time.sleep(BETWEEN_SECONDS)
+            rest(begun)
         self.client.close()
 
 
