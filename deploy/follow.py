@@ -51,6 +51,7 @@ from journal_lines import (
     SourceAway,
     end,
     last_line,
+    not_empty,
     tell,
 )
 
@@ -172,9 +173,13 @@ class PositionFile:
     moment: float = 0.0
 
     def read(self) -> Place:
-        if not self.path.exists():
+        try:
+            kept = self.path.read_bytes()
+        except FileNotFoundError:
             return Place()
-        serial, _, key = self.path.read_text().strip().partition(" ")
+        except OSError as error:
+            raise Fault("bad_position", self.path, more=(str(error),)) from error
+        serial, _, key = kept.decode("ascii", "replace").strip().partition(" ")
         if not serial.isascii() or not serial.isdecimal() or not key:
             raise Fault("bad_position", self.path)
         self.written = Place(int(serial), key)
@@ -319,13 +324,6 @@ def url(text: str) -> str:
     return text
 
 
-def named(text: str) -> str:
-    """A word that is not empty."""
-    if not text:
-        raise ValueError(text)
-    return text
-
-
 def source_of(text: str) -> Source:
     """The source of a word: a database, or a file."""
     if not text.startswith(("postgresql://", "postgres://")):
@@ -337,13 +335,16 @@ def source_of(text: str) -> Source:
 
 def own_place(journal: Path) -> Place:
     """The place of a follower, by its own journal."""
-    line = last_line(journal)
+    try:
+        line = last_line(journal)
+    except Away as away:
+        raise Fault("bad_position", journal, more=(str(away),)) from away
     return Place() if line is None else Place(line.serial, line.key)
 
 
 def arguments() -> argparse.Namespace:
     words = argparse.ArgumentParser(prog=NAME, description=(__doc__ or "").splitlines()[0])
-    words.add_argument("source", type=named, help="a journal's file, or postgresql://..")
+    words.add_argument("source", type=not_empty, help="a journal's file, or postgresql://..")
     words.add_argument("url", type=url, help="the follower's URL")
     kept = words.add_mutually_exclusive_group()
     kept.add_argument("--position", type=Path, help="the file that keeps the serial")

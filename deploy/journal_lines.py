@@ -152,17 +152,26 @@ class JournalFile:
 
 def last_line(path: Path) -> Line | None:
     """The last whole line of a journal's file; none where it has none, or is not there."""
-    if not path.exists():
+    try:
+        with path.open("rb") as file:
+            last = last_whole_line(file, path)
+    except FileNotFoundError:
         return None
-    last = None
-    with path.open("rb") as file:
-        start = max(0, os.fstat(file.fileno()).st_size - 2 * (MOST_OF_LINE + 1))
-        file.seek(start)
-        if start:
-            file.readline()
-        while (found := whole_line(file, path)) is not None:
-            last = found
+    except OSError as error:
+        raise SourceAway(str(error)) from error
     return None if last is None else Line.of(last, path)
+
+
+def last_whole_line(file: BinaryIO, path: Path) -> bytes | None:
+    """The last whole line of an open file, which is among its last two lines of the most bytes."""
+    start = max(0, os.fstat(file.fileno()).st_size - 2 * (MOST_OF_LINE + 1))
+    file.seek(start)
+    if start:
+        file.readline()
+    last = None
+    while (found := whole_line(file, path)) is not None:
+        last = found
+    return last
 
 
 class Pauses:
@@ -185,6 +194,13 @@ class Pauses:
         if self.told:
             tell(self.name, "back")
         self.seconds, self.told = FIRST_PAUSE, ""
+
+
+def not_empty(text: str) -> str:
+    """A word of a command line that is not empty, as a setting may be that was forgotten."""
+    if not text:
+        raise ValueError(text)
+    return text
 
 
 def tell(name: str, line: str) -> None:

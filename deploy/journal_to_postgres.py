@@ -26,7 +26,17 @@ import sys
 from collections.abc import Iterable, Iterator
 from pathlib import Path
 
-from journal_lines import Away, Fault, JournalFile, Line, Pauses, end, last_line, tell
+from journal_lines import (
+    Away,
+    Fault,
+    JournalFile,
+    Line,
+    Pauses,
+    end,
+    last_line,
+    not_empty,
+    tell,
+)
 from journal_table import JournalTable
 
 NAME = "journal_to_postgres"
@@ -103,12 +113,12 @@ def run(copying: Copying, once: bool) -> None:
 
 def main() -> int:
     words = argparse.ArgumentParser(prog=NAME, description=(__doc__ or "").splitlines()[0])
-    words.add_argument("journal", type=Path, help="the journal's file")
-    words.add_argument("dsn", help="the database, as postgresql://..")
+    words.add_argument("journal", type=not_empty, help="the journal's file")
+    words.add_argument("dsn", type=not_empty, help="the database, as postgresql://..")
     words.add_argument("--once", action="store_true", help="ends with the lines that are there")
     asked = words.parse_args()
     try:
-        run(Copying(asked.journal, asked.dsn), asked.once)
+        run(Copying(Path(asked.journal), asked.dsn), asked.once)
     except Fault as fault:
         return end(NAME, fault)
     return 0

@@ -84,7 +84,8 @@ def check_places(rows: Rows) -> None:
     check("the next position", rows.kept(), "4 b4\n")
     row("a lost position", LINES[:5], None, None, 5)
     row("an older position", LINES[:5], "1 b1\n", None, 5)
-    row("a position that is cut", LINES, "5", f"bad_position {rows.position}", 5)
+    for cut in ("5", "5 ", "", "b5 5\n", "\0\0\0"):
+        row(f"the position {cut!r}", LINES, cut, f"bad_position {rows.position}", 5)
     row("a journal from the place on", LINES[4:5], "5 b5\n", None, 5)
     row("a journal behind the place", LINES[5:6], "5 b5\n", None, 6)
     row("a journal far behind the place", LINES[6:], "5 b5\n", "lines_missing 6 6", 6)
@@ -122,7 +123,7 @@ def check_faults(rows: Rows) -> None:
     row("a line that is none", [*LINES[:6], b"7 x\n"], "6 b6\n", "bad_line 7", 6)
     row("a line without a key", [*LINES[:6], b"7\t{}\n"], "6 b6\n", "bad_line 7", 6)
     row("a gap", [*LINES[:6], LINES[7]], "6 b6\n", "bad_line 7", 6)
-    for words in (["x"], [rows.journal, "x"], [rows.journal, "http://x:0"]):
+    for words in (["x"], [rows.journal, "x"], [rows.journal, "http://x:0"], ["", rows.server.url]):
         script = Script(rows.context, "follow.py")
         rows.context.check(f"the words {words[1:]}", script.ends(*words)[0], 2)
 

@@ -53,8 +53,8 @@ def check_tables(context: Context, database: Database) -> None:
     row("a line that is no UTF-8", [*LINES, bad], "bad_line 9", LINES)
     more = lines_of([ODD, *(b'{"edits":[],"key":"m%d"}' % at for at in range(250))], 9)
     row("many lines, and odd bytes", [*LINES, *more], None, [*LINES, *more])
-    words = Script(context, SCRIPT).ends()
-    context.check("no words", words[0], 2)
+    for given in ((), ("", own.dsn), (tables.journal, "")):
+        context.check(f"the words {given}", Script(context, SCRIPT).ends(*given)[0], 2)
     check_words(tables)
 
 
