@@ -132,19 +132,20 @@ class Reader(threading.Thread):
 
 @dataclass
 class Load:
-    """Writers and readers at one address, up to the end of a `with` block."""
+    """Writers and readers at one address, up to the end of a `with` block. Each writer has one of
+    the collections; the first of them grows, and readers ask for it."""
 
     port: int
-    writers: int
+    collections: list[str]
     readers: int
     stop: threading.Event = field(default_factory=threading.Event)
     running: list[threading.Thread] = field(default_factory=list)
 
     def __enter__(self) -> "Load":
-        names = [f"w{at}" for at in range(self.writers)]
-        self.running += [Writer(self.port, it, self.stop, it == "w0") for it in names]
+        first = self.collections[0]
+        self.running += [Writer(self.port, it, self.stop, it == first) for it in self.collections]
         for at in range(self.readers):
-            self.running.append(Reader(self.port, f"127.0.1.{at + 1}", "w0", self.stop))
+            self.running.append(Reader(self.port, f"127.0.1.{at + 1}", first, self.stop))
         for thread in self.running:
             thread.start()
         return self
