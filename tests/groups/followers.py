@@ -37,17 +37,12 @@ def check_quiet(site: Site) -> None:
     """Nothing is killed: how late followers are, and that no client's pages go back in time."""
     context = site.context
     followers = [site.left.port, site.right.port]
-    for what, at, found in zip(
-        ("by the primary, no load", "by the standby, no load"),
-        followers,
-        delays(site.first.port, followers, "idle", PROBES),
-        strict=True,
-    ):
-        tell_delays(context, what, found)
+    idle = delays(site.first.port, followers, "idle", PROBES)
     with Load(site.port, QUIET, READERS) as load:
-        found = delays(site.first.port, followers, "busy", PROBES)
-    for what, each in zip(("by the primary, load", "by the standby, load"), found, strict=True):
-        tell_delays(context, what, each)
+        busy = delays(site.first.port, followers, "busy", PROBES)
+    for what, found in (("no load", idle), ("load", busy)):
+        tell_delays(context, f"by the primary, {what}", found[0])
+        tell_delays(context, f"by the standby, {what}", found[1])
     for reader in load.pages():
         context.check("no page goes back in time", reader.numbers, sorted(reader.numbers))
 
@@ -109,8 +104,8 @@ def run(context: Context) -> None:
         return
     with site(context) as made:
         tables.check_tables(context, made.primary)
-        fronts.check_fronts(made)
         check_quiet(made)
+        fronts.check_fronts(made)
         acknowledged = check_killed(made, SLOW_ROUNDS if context.slow else ROUNDS)
         made.catch_up()
         check_end(made, acknowledged)
