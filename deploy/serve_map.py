@@ -18,6 +18,7 @@ import tempfile
 import time
 from collections.abc import Iterator
 from pathlib import Path
+from typing import Any
 
 DEPLOY = Path(__file__).resolve().parent
 ROOT = DEPLOY.parent
@@ -27,19 +28,20 @@ LEAFLET = Path("/usr/share/javascript/leaflet")
 def free_port() -> int:
     """A port of this machine that nothing listens on."""
     with socket.create_server(("127.0.0.1", 0)) as listener:
-        return listener.getsockname()[1]
+        port: int = listener.getsockname()[1]
+        return port
 
 
-def wait_for(port: int, process: subprocess.Popen, seconds: float = 30) -> None:
+def wait_for(port: int, process: subprocess.Popen[bytes], name: str, seconds: float = 30) -> None:
     """Waits until something listens on the port; fails where the process ends first."""
     end = time.monotonic() + seconds
     while time.monotonic() < end:
         if process.poll() is not None:
-            raise SystemExit(f"{process.args[0]} ended with status {process.returncode}")
+            raise SystemExit(f"{name} ended with status {process.returncode}")
         with contextlib.suppress(OSError), socket.create_connection(("127.0.0.1", port), 1):
             return
         time.sleep(0.05)
-    raise SystemExit(f"{process.args[0]} does not listen on port {port}")
+    raise SystemExit(f"{name} does not listen on port {port}")
 
 
 def configuration(folder: Path, port: int, server: int, place: Path) -> str:
@@ -69,11 +71,11 @@ def nginx_command(folder: Path, file: Path) -> list[str]:
 
 
 @contextlib.contextmanager
-def running(command: list[str], port: int, **options) -> Iterator[subprocess.Popen]:
+def running(command: list[str], port: int, **options: Any) -> Iterator[subprocess.Popen[bytes]]:
     """A process that listens on the port; it is ended behind the block."""
-    process = subprocess.Popen(command, **options)
+    process: subprocess.Popen[bytes] = subprocess.Popen(command, **options)
     try:
-        wait_for(port, process)
+        wait_for(port, process, command[0])
         yield process
     finally:
         process.terminate()
@@ -94,7 +96,7 @@ def front(folder: Path, port: int, server: int, place: Path | None = None) -> It
 
 
 def main() -> None:
-    words = argparse.ArgumentParser(description=__doc__.splitlines()[0])
+    words = argparse.ArgumentParser(description=(__doc__ or "").splitlines()[0])
     words.add_argument("program", type=Path)
     words.add_argument("file", type=Path)
     words.add_argument("--port", type=int, default=8080)

@@ -1,5 +1,6 @@
 #!/usr/bin/env bash
-# Installs a built program with its manual page, completion, documents, map page, unit and settings:
+# Installs a built program with its manual page, completion, documents, map page, units, settings,
+# and the scripts of followers:
 #
 #     [PREFIX=/usr/local] [DESTDIR=] [UNITS=PREFIX/lib/systemd/system] packaging/install.sh PROGRAM
 #
@@ -50,9 +51,14 @@ if [ -d map ]; then
     done
 fi
 
-put_as "$units/streetmap@.service" deploy/streetmap@.service
+put "$prefix/share/streetmap/deploy" \
+    deploy/{follow,journal_lines,journal_table,journal_to_postgres}.py
+for unit in streetmap streetmap-follower streetmap-journal; do
+    put_as "$units/$unit@.service" "deploy/$unit@.service"
+done
 settings /etc/streetmap/town.conf deploy/town.conf
 if [ -e deploy/nginx.conf ] && [ -e deploy/locations.conf ]; then
     settings /etc/nginx/sites-available/streetmap deploy/nginx.conf
     settings /etc/nginx/streetmap/locations.conf deploy/locations.conf
+    settings /etc/nginx/streetmap/nginx-followers.conf deploy/nginx-followers.conf
 fi

@@ -1,9 +1,10 @@
-"""Reads of requests and writes of answers that fail, after counts of bytes, over a file.
+"""Reads of requests, and writes of answers and journals, that fail after counts of bytes.
 
 The stream is two batches with a page between them, and a page behind. The program writes the
 beginning of the answers that it could, and ends with its fault; the file holds the state of a
-beginning of the batches that has each one whose answer was begun. The short form fails after some
-counts of bytes, the long one after each.
+beginning of the batches that has each one whose answer was begun. A server whose writes of a journal
+fail answers all, and completes the journal. The short form fails after some counts of bytes, the
+long one after each.
 """
 
 import os
@@ -14,6 +15,7 @@ from pathlib import Path
 
 from harness import Context
 from messages import OPEN_LAMPS, batch, feature, get, point, put
+from served_journal import check_failing_writes
 from sqlite_file import copy_file
 
 PACKAGES = ("gcc", "libc6-dev")
@@ -96,3 +98,6 @@ def run(context: Context) -> None:
     wanted = without_failure(context, first, file)
     for name in ("WRITES", "READS"):
         check_failures(context, first, file, wanted, name)
+    words = ("--port", "1", "--journal", context.folder / "none.journal")
+    if context.takes("serve", context.folder / "none", *words):
+        check_failing_writes(context, context.new_file("town", *REQUESTS[:1], *REQUESTS[2:3]))

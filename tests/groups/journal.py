@@ -1,14 +1,14 @@
-"""`batches` and `apply`: journals that are cut, swapped and repeated, and refused lines.
+"""`batches`, `apply`, `serve --journal`: journals that are cut, swapped, repeated, and another's.
 
 What `batches` prints is compared with the rows that SQLite finds. `apply` of it, in any number of
 sittings, makes the same rows in all four tables. Lines that are cut, left out, swapped or refused
-are reported by their numbers, and the lines before them are applied.
+are reported by their numbers, and the lines before them are applied. A server completes a journal
+that begins its own, and refuses any other.
 """
 
 import json
 import random
 import re
-import subprocess
 from collections.abc import Iterator
 from dataclasses import dataclass
 from pathlib import Path
@@ -19,11 +19,11 @@ from harness import Context, Word
 from loading import load_words, sequence
 from messages import Edit, delete, feature, insert_lamp, open_collection, point, post, put
 from model import compact
+from served_journal import check_serving, journal_of
 from sqlite_file import Rows, copy_file, forget, kept_rows, make_format_1, rows
 
 MOST_OF_LINE = 16 * 2**20
 MOST_OF_BODY = 8_388_608
-LINES = "SELECT serial, body FROM streetmap_batches ORDER BY serial"
 COUNTS = "key, opened, inserted, replaced, deleted, serial"
 REPLIES = f"SELECT {COUNTS} FROM streetmap_batches ORDER BY serial"
 LINE = {"type": "LineString", "coordinates": [[0, 9], [7, -3, 5]]}
@@ -48,12 +48,6 @@ def sent(key: str, edits: list[Edit]) -> str:
 
 def town_file(context: Context, name: str) -> Path:
     return context.new_file(name, *(post(sent(*it)) for it in TOWN.items()))
-
-
-def journal_of(file: Path, after: int = 0) -> list[bytes]:
-    """The lines of a journal, by the rows of the file."""
-    found = [(serial, body) for serial, body in rows(file, LINES) if serial > after]
-    return [f"{serial}\t{body}\n".encode() for serial, body in found]
 
 
 def bare(key: str, *edits: Any) -> bytes:
@@ -359,3 +353,6 @@ def run(context: Context) -> None:
         check_large_batch(context)
     if loads and applies:
         check_printed_load(context)
+    words = ("--port", "1", "--journal", context.folder / "none.journal")
+    if context.takes("serve", none, *words):
+        check_serving(context, town)

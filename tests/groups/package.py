@@ -4,6 +4,7 @@ import contextlib
 import dataclasses
 import os
 import re
+import shlex
 import shutil
 import socket
 import ssl
@@ -32,6 +33,9 @@ PACKAGES = (
 )
 REPOSITORY = Path(__file__).resolve().parents[2]
 UNIT = REPOSITORY / "deploy" / "streetmap@.service"
+FOLLOWER_UNITS = [
+    REPOSITORY / "deploy" / f"streetmap-{name}@.service" for name in ("follower", "journal")
+]
 # What `systemd-analyze security` may say of the unit: 0 is the best, 10 the worst.
 MOST_EXPOSURE = 2.0
 # What enabling the unit for the file `town` makes.
@@ -43,6 +47,10 @@ share/bash-completion/completions/streetmap
 share/doc/streetmap/README.md
 share/doc/streetmap/docs/API.md
 share/doc/streetmap/examples/town.json
+share/streetmap/deploy/follow.py
+share/streetmap/deploy/journal_lines.py
+share/streetmap/deploy/journal_table.py
+share/streetmap/deploy/journal_to_postgres.py
 """.split()
 # Words before the cursor, and what completes them.
 COMPLETIONS = {
@@ -107,8 +115,14 @@ def check_make_install(context: Context) -> None:
     context.check("make install leaves all files", missing, [])
     context.check("the program", (prefix / "bin" / "streetmap").stat().st_mode & 0o777, 0o755)
     context.check("no file names the repository", texts_that_name(str(REPOSITORY), folder), [])
-    unit = unit_lines(prefix / "lib" / "systemd" / "system" / "streetmap@.service")
-    context.check("its program", unit["ExecStart"][0].split()[0], "/usr/local/bin/streetmap")
+    units = prefix / "lib" / "systemd" / "system"
+    (line,) = unit_lines(units / "streetmap@.service")["ExecStart"]
+    context.check("its program", "exec /usr/local/bin/streetmap serve" in line, True)
+    for path in FOLLOWER_UNITS:
+        script = Path(unit_lines(units / path.name)["ExecStart"][0].split()[2])
+        context.check(
+            f"the script of {path.name}", (folder / script.relative_to("/")).is_file(), True
+        )
     context.check("the manual page", output_of("mandoc", "-T", "lint", "-W", "warning", manual), "")
     settings = folder / "etc" / "streetmap" / "town.conf"
     settings.write_text("PORT=1\n")
@@ -141,14 +155,55 @@ def allowed_calls(unit: Path) -> set[str]:
     return allowed
 
 
+def check_exposure(context: Context) -> None:
+    for unit in (UNIT, *FOLLOWER_UNITS):
+        analysed = output_of("systemd-analyze", "security", "--offline=true", unit)
+        exposure = re.search(r"exposure level for \S+: ([0-9.]+)", analysed)
+        assert exposure is not None
+        context.check(f"exposure of {unit.name}", float(exposure[1]) <= MOST_EXPOSURE, True)
+
+
+def started(unit: Path, settings: str) -> list[str]:
+    """The words that a unit starts for the file `town`, as systemd reads its line: values of
+    settings in the place of their names, and one dollar for two."""
+    (line,) = unit_lines(unit)["ExecStart"]
+    given = dict(re.findall(r"(?m)^([A-Z_]+)=(.*)$", settings))
+    filled = re.compile(r"(?<!\$)\$\{([A-Z_]+)\}")
+    words = [filled.sub(lambda it: given[it[1]], word) for word in shlex.split(line)]
+    words = [word.replace("%i", "town").replace("$$", "$") for word in words]
+    return ["env", *(f"{name}={value}" for name, value in given.items()), *words]
+
+
+def check_words(context: Context) -> None:
+    """The words of the program, with a journal and with an empty or a missing one."""
+    settings = (REPOSITORY / "deploy" / "town.conf").read_text()
+    without = "serve /var/lib/streetmap/town --port 8080 --clients 64 --base http://localhost:8080/"
+    path = "/var/lib/streetmap/town journal"
+    for what, old, new, wanted in (
+        ("an empty journal", "", "", []),
+        ("a missing journal", "JOURNAL=\n", "\n", []),
+        ("a journal", "JOURNAL=\n", f"JOURNAL={path}\n", ["--journal", path]),
+        (
+            "words of a journal",
+            "JOURNAL=\nJOURNAL_WORDS=\n",
+            f"JOURNAL={path}\nJOURNAL_WORDS=--journal-sync --journal-after 7\n",
+            ["--journal", path, "--journal-sync", "--journal-after", "7"],
+        ),
+    ):
+        words = started(UNIT, settings.replace(old, new))
+        words = [word.replace("exec /usr/bin/streetmap", "printf '%s\\n'") for word in words]
+        context.check(what, output_of(*words).splitlines(), [*without.split(), *wanted])
+
+
 def check_unit(context: Context) -> None:
-    analysed = output_of("systemd-analyze", "security", "--offline=true", UNIT)
-    exposure = re.search(r"exposure level for \S+: ([0-9.]+)", analysed)
-    assert exposure is not None
-    context.check("exposure", float(exposure[1]) <= MOST_EXPOSURE, True)
+    check_exposure(context)
+    check_words(context)
     trace = context.folder / "trace"
     traced = context.folder / "traced"
-    traced.write_text(f'#!/bin/sh\nexec strace -f -qq -o "{trace}" "{context.program}" "$@"\n')
+    # The unit's shell is the program then, so its calls count too.
+    shell = "/bin/sh -c 'exec \"$0\" \"$@\"'"
+    words = f'strace -f -qq -o "{trace}" {shell} "{context.program}" "$@"'
+    traced.write_text(f"#!/bin/sh\nexec {words}\n")
     traced.chmod(0o755)
     file = context.new_file("traced.db", batch("b1", [OPEN_LAMPS]))
     under_trace = dataclasses.replace(context, program=traced)
@@ -230,11 +285,8 @@ class FreshRoot:
 
     def started(self) -> list[str]:
         """The words that the unit starts for the file `town`, by the settings that are there."""
-        (line,) = unit_lines(self.path("/lib/systemd/system/streetmap@.service"))["ExecStart"]
-        text = self.path("/etc/streetmap/town.conf").read_text()
-        for name, value in re.findall(r"(?m)^([A-Z]+)=(.*)$", text):
-            line = line.replace(f"${{{name}}}", value)
-        return line.replace("%i", "town").split()
+        settings = self.path("/etc/streetmap/town.conf").read_text()
+        return started(self.path("/lib/systemd/system/streetmap@.service"), settings)
 
     @contextlib.contextmanager
     def serving(self) -> Iterator[str]:

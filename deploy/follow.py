@@ -1,0 +1,371 @@
+"""Posts the lines of a journal, in order, to another Streetmap: a follower, which answers pages.
+
+    python3 deploy/follow.py SOURCE URL [--position FILE | --journal F] [--once]
+
+SOURCE is a journal's file, or a PostgreSQL with the table of journal_to_postgres.py, as
+`postgresql://..`. URL is that of the follower, which nobody else sends batches to. It runs until it
+is stopped, at any time and in any way, and then goes on where the follower is.
+
+It goes on behind a serial: that in FILE, which it keeps there; or that of the last whole line of F,
+the follower's own journal (`serve --journal F`); else the first of all. Lines that are sent twice
+act once, so a FILE that is lost or older costs time alone. With `--once` it ends with the lines
+that are there.
+
+At first on each connection it sends again the last line that it holds for acknowledged. The answer
+has to have that serial, and each further one the next. Who is away is tried again, with pauses that
+grow to ten seconds; standard error says so. It ends with status 1 at what a person has to look at,
+and sends nothing behind it:
+
+    forked SERIAL ANSWERED    the follower has another batch there, or has it elsewhere
+    refused SERIAL CODE ..    the follower refused the batch, with the place and the cause
+    body_too_large SERIAL     the batch text is longer than a body; the words that help follow
+    position_ahead SERIAL     the follower lacks the batch up to which it should go on
+    lines_missing FROM TO     SOURCE begins behind what the follower needs next
+    bad_line SERIAL           SOURCE has no line there; line_too_long SERIAL likewise
+    bad_position FILE         FILE has no position
+    bad_source CODE           the database refuses what is asked of it
+
+`position_not_written FILE` has status 3, and `usage` 2.
+"""
+
+import argparse
+import http.client
+import json
+import os
+import sys
+import time
+from contextlib import suppress
+from dataclasses import dataclass, field
+from pathlib import Path
+from typing import Any
+from urllib.parse import urlsplit
+
+from journal_lines import (
+    MOST_OF_BODY,
+    Away,
+    Fault,
+    JournalFile,
+    Line,
+    Pauses,
+    Source,
+    SourceAway,
+    end,
+    last_line,
+    not_empty,
+    tell,
+)
+
+NAME = "follow"
+# In seconds: for a connection, and for one answer of a follower; between two writings of a
+# position; and after how long an idle connection is made anew, before the follower ends it (30 s).
+CONNECT_SECONDS, ANSWER_SECONDS = 10, 300
+POSITION_SECONDS = 0.5
+IDLE_SECONDS = 20
+# Answers of a follower, or of a proxy before it, that is away for now.
+PASSING = (408, 429, 500, 502, 503, 504)
+
+
+@dataclass(frozen=True)
+class Place:
+    """Up to where a follower has acknowledged: the serial and key of that batch, and its line where
+    that is at hand. Serial 0 is the beginning."""
+
+    serial: int = 0
+    key: str = ""
+    line: Line | None = field(default=None, compare=False)
+
+    @classmethod
+    def of(cls, line: Line) -> "Place":
+        return cls(line.serial, line.key, line)
+
+
+@dataclass(frozen=True)
+class Answer:
+    """What a follower answered to a batch. The code is that of a refusal, or the status as text."""
+
+    status: int
+    body: dict[str, Any]
+
+    @property
+    def code(self) -> str:
+        return str(self.body.get("code", self.status))
+
+    @property
+    def words(self) -> list[Any]:
+        """The code, and the place and cause where there are such."""
+        return [self.code, *(self.body[it] for it in ("place", "cause") if it in self.body)]
+
+
+class Follower:
+    """A Streetmap at a URL, over one connection that is kept."""
+
+    def __init__(self, url: str) -> None:
+        parts = urlsplit(url)
+        over_tls, plain = http.client.HTTPSConnection, http.client.HTTPConnection
+        self.kind = over_tls if parts.scheme == "https" else plain
+        self.url, self.host, self.port = url, parts.hostname or "", parts.port
+        self.path = parts.path.rstrip("/") + "/batches"
+        self.connection: http.client.HTTPConnection | None = None
+        self.used = 0.0
+
+    @property
+    def is_connected(self) -> bool:
+        """Whether the connection is there, and was used of late."""
+        return self.connection is not None and time.monotonic() - self.used < IDLE_SECONDS
+
+    def connected(self) -> http.client.HTTPConnection:
+        """The connection, which is made where there is none. An answer may take longer than it."""
+        if self.connection is None:
+            made = self.kind(self.host, self.port, timeout=CONNECT_SECONDS)
+            made.connect()
+            made.sock.settimeout(ANSWER_SECONDS)
+            self.connection = made
+        return self.connection
+
+    def close(self) -> None:
+        if self.connection is not None:
+            self.connection.close()
+        self.connection = None
+
+    def post(self, batch: bytes) -> Answer:
+        """What is answered to a batch. Ends as `Away` where no answer comes, or a passing one."""
+        try:
+            connection = self.connected()
+            connection.request("POST", self.path, batch)
+            response = connection.getresponse()
+            answer = Answer(response.status, read_json(response.read()))
+        except (OSError, http.client.HTTPException) as error:
+            self.close()
+            raise Away(f"{self.url}: {error!r}") from error
+        self.used = time.monotonic()
+        if response.will_close:
+            self.close()
+        if answer.status in PASSING:
+            self.close()
+            raise Away(f"{self.url}: {answer.code}")
+        return answer
+
+    def has(self, key: str) -> bool:
+        """Whether a batch with this key was accepted, with any text. Nothing changes: what is sent
+        opens a collection twice, so it is refused, and for its key first."""
+        opened = {"op": "open", "collection": "streetmap-follow"}
+        answer = self.post(json.dumps({"key": key, "edits": [opened, opened]}).encode())
+        if answer.code not in ("key_used", "collection_exists"):
+            raise Fault("refused", key, *answer.words)
+        return answer.code == "key_used"
+
+
+def read_json(body: bytes) -> dict[str, Any]:
+    """The object of an answer; an empty one where it is none of ours."""
+    with suppress(ValueError):
+        found = json.loads(body)
+        if isinstance(found, dict):
+            return found
+    return {}
+
+
+@dataclass
+class PositionFile:
+    """A file that keeps a place. It is written as a whole, and not more often than it has to be."""
+
+    path: Path
+    written: Place = Place()
+    moment: float = 0.0
+
+    def read(self) -> Place:
+        try:
+            kept = self.path.read_bytes()
+        except FileNotFoundError:
+            return Place()
+        except OSError as error:
+            raise Fault("bad_position", self.path, more=(str(error),)) from error
+        serial, _, key = kept.decode("ascii", "replace").strip().partition(" ")
+        if not serial.isascii() or not serial.isdecimal() or not key:
+            raise Fault("bad_position", self.path)
+        self.written = Place(int(serial), key)
+        return self.written
+
+    def keep(self, place: Place, now: bool) -> None:
+        """Writes a place, now or where the last writing is some time ago."""
+        late = time.monotonic() - self.moment > POSITION_SECONDS
+        if place == self.written or not (now or late):
+            return
+        beside = self.path.with_name(self.path.name + ".new")
+        try:
+            with beside.open("w") as file:
+                file.write(f"{place.serial} {place.key}\n")
+                file.flush()
+                os.fsync(file.fileno())
+            beside.replace(self.path)
+        except OSError as error:
+            raise Fault("position_not_written", self.path, error.strerror, status=3) from error
+        self.written, self.moment = place, time.monotonic()
+
+
+@dataclass
+class Following:
+    """A source, a follower of it, and up to where the follower has acknowledged."""
+
+    source: Source
+    follower: Follower
+    place: Place
+    position: PositionFile | None = None
+    agreed: bool = False
+    waits: bool = False
+
+    def go_on(self) -> None:
+        """Sends all lines that are there now."""
+        if not self.has_line():
+            return
+        if not self.agreed:
+            self.agree()
+        try:
+            for line in self.source.behind(self.place.serial):
+                self.check_next(line)
+                if not self.follower.is_connected:
+                    self.agree()
+                self.send(line)
+                self.place = Place.of(line)
+                self.keep(now=False)
+        finally:
+            self.keep(now=True)
+
+    def keep(self, now: bool) -> None:
+        if self.position is not None:
+            self.position.keep(self.place, now)
+
+    def lose(self, away: Away) -> None:
+        """Forgets the connection before a new try, and the line of a source that was away."""
+        self.follower.close()
+        self.agreed = False
+        if isinstance(away, SourceAway):
+            self.place = Place(self.place.serial, self.place.key)
+
+    def has_line(self) -> bool:
+        """Whether the line of the place is at hand. It is taken from the source, which may not have
+        come to it yet; one that begins right behind it needs none."""
+        if self.place.line is not None or self.place.serial == 0:
+            return True
+        line = next(self.source.behind(self.place.serial - 1), None)
+        if line is None:
+            if not self.waits:
+                tell(NAME, f"waiting: the source has no serial {self.place.serial} yet")
+            self.waits = True
+            return False
+        if line.serial == self.place.serial:
+            if line.key != self.place.key:
+                raise Fault("forked", line.serial, f"{self.place.key} is {line.key} in the source")
+            self.place = Place.of(line)
+        return True
+
+    def check_next(self, line: Line) -> None:
+        wanted = self.place.serial + 1
+        if line.serial != wanted:
+            raise Fault("lines_missing", wanted, line.serial - 1)
+
+    def agree(self) -> None:
+        """Sends the last acknowledged line again, over a new connection, where the follower has its
+        key: one that lacks it would take the line for a new batch."""
+        self.follower.close()
+        if self.place.serial > 0 and not self.follower.has(self.place.key):
+            raise Fault("position_ahead", self.place.serial)
+        if self.place.line is not None and len(self.place.line.text) <= MOST_OF_BODY:
+            self.send(self.place.line)
+        self.agreed = True
+
+    def send(self, line: Line) -> None:
+        """Posts a line, whose serial the answer has to have. A line that is longer than a body is
+        passed over where the follower has its key, by `streetmap apply`."""
+        if len(line.text) > MOST_OF_BODY:
+            if self.follower.has(line.key):
+                return
+            raise self.too_large(line)
+        answer = self.follower.post(line.text)
+        if answer.status == 413:
+            raise self.too_large(line)
+        if answer.status != 200 and answer.code != "key_used":
+            raise Fault("refused", line.serial, *answer.words)
+        if answer.body.get("serial") != line.serial:
+            raise Fault("forked", line.serial, answer.body.get("serial", answer.code))
+
+    def too_large(self, line: Line) -> Fault:
+        return Fault(
+            "body_too_large",
+            line.serial,
+            more=(
+                f"its batch text has {len(line.text)} bytes, and a body at most {MOST_OF_BODY}",
+                "stop the follower, bring its FILE over the line, and start both again:",
+                f"  {self.source.words(line.serial)} | streetmap apply FILE",
+            ),
+        )
+
+
+def run(following: Following, once: bool) -> None:
+    """Follows until it is stopped, or with `once` until all lines that are there are sent."""
+    pauses = Pauses(NAME)
+    tell(NAME, f"going on behind serial {following.place.serial}")
+    while True:
+        try:
+            following.go_on()
+            pauses.end()
+            if once:
+                return
+            following.source.wait()
+        except Away as away:
+            following.lose(away)
+            pauses.wait(str(away))
+
+
+def url(text: str) -> str:
+    """A word that is the URL of a server."""
+    parts = urlsplit(text)
+    if parts.scheme not in ("http", "https") or not parts.hostname or parts.port == 0:
+        raise ValueError(text)
+    return text
+
+
+def source_of(text: str) -> Source:
+    """The source of a word: a database, or a file."""
+    if not text.startswith(("postgresql://", "postgres://")):
+        return JournalFile(Path(text))
+    from journal_table import TableSource
+
+    return TableSource(text)
+
+
+def own_place(journal: Path) -> Place:
+    """The place of a follower, by its own journal."""
+    try:
+        line = last_line(journal)
+    except Away as away:
+        raise Fault("bad_position", journal, more=(str(away),)) from away
+    return Place() if line is None else Place(line.serial, line.key)
+
+
+def arguments() -> argparse.Namespace:
+    words = argparse.ArgumentParser(prog=NAME, description=(__doc__ or "").splitlines()[0])
+    words.add_argument("source", type=not_empty, help="a journal's file, or postgresql://..")
+    words.add_argument("url", type=url, help="the follower's URL")
+    kept = words.add_mutually_exclusive_group()
+    kept.add_argument("--position", type=Path, help="the file that keeps the serial")
+    kept.add_argument("--journal", type=Path, help="the follower's own journal")
+    words.add_argument("--once", action="store_true", help="ends with the lines that are there")
+    return words.parse_args()
+
+
+def main() -> int:
+    asked = arguments()
+    try:
+        position = PositionFile(asked.position) if asked.position else None
+        place = position.read() if position else Place()
+        if asked.journal:
+            place = own_place(asked.journal)
+        follower = Follower(asked.url)
+        run(Following(source_of(asked.source), follower, place, position), asked.once)
+    except Fault as fault:
+        return end(NAME, fault)
+    return 0
+
+
+if __name__ == "__main__":
+    sys.exit(main())

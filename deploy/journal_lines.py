@@ -1,0 +1,215 @@
+"""The lines of a journal, a journal's file as it grows, and how the scripts beside it end.
+
+A journal has a line for each accepted batch, in order of serials: the serial in decimal, a tab, the
+batch text, a line feed (docs/API.md, "Batches out and in again"). follow.py and
+journal_to_postgres.py share what is here.
+
+A script that ends by itself prints `NAME: CODE ..` on standard error. Its exit status is 0 where it
+was to end (`--once`), 1 for what is the same at the next start, 2 for words that it does not take,
+and 3 where a file of its own cannot be written.
+"""
+
+import os
+import re
+import shlex
+import sys
+import time
+from collections.abc import Iterator
+from dataclasses import dataclass
+from pathlib import Path
+from typing import BinaryIO, Protocol
+
+# In bytes: a body of `POST /batches`, and a line of a journal without its line feed, at most.
+MOST_OF_BODY = 8_388_608
+MOST_OF_LINE = 16_777_216
+# In seconds: between two looks at a file that may have grown.
+LOOK_SECONDS = 0.05
+# In seconds: the first pause before a thing that is away is tried again, and the longest.
+FIRST_PAUSE, LONGEST_PAUSE = 0.05, 10.0
+
+SERIAL = re.compile(rb"[1-9][0-9]{0,18}")
+# A batch text ends with its key, which needs no escapes ("The batch text" and "Edits" of API.md).
+KEY_AT_END = re.compile(rb'"key":"([A-Za-z0-9._:-]{1,64})"\}')
+LONGEST_END = len(b'"key":""}') + 64
+
+
+class Fault(Exception):
+    """What ends a script: a code, and the words behind it. `more` are lines that help."""
+
+    def __init__(self, code: str, *words: object, status: int = 1, more: tuple[str, ...] = ()):
+        super().__init__(" ".join([code, *map(str, words)]))
+        self.status = status
+        self.more = more
+
+
+class Away(Exception):
+    """A follower or a database that does not answer now. It is tried again."""
+
+
+class SourceAway(Away):
+    """A source that does not answer now, or is not the one that was read before."""
+
+
+@dataclass(frozen=True)
+class Line:
+    """A line of a journal: the serial of a batch, and its text."""
+
+    serial: int
+    text: bytes
+
+    @classmethod
+    def of(cls, whole: bytes, where: object) -> "Line":
+        """The line of these bytes, without their line feed. Ends as `bad_line` where they are
+        none; `where` says which bytes they are."""
+        serial, _, text = whole.partition(b"\t")
+        if not SERIAL.fullmatch(serial) or KEY_AT_END.search(text[-LONGEST_END:]) is None:
+            raise Fault("bad_line", where)
+        return cls(int(serial), text)
+
+    @property
+    def key(self) -> str:
+        """The key of the batch."""
+        found = KEY_AT_END.search(self.text[-LONGEST_END:])
+        if found is None:
+            raise Fault("bad_line", self.serial)
+        return found[1].decode()
+
+
+class Source(Protocol):
+    """Where lines come from. Both calls end as `SourceAway` where it does not answer."""
+
+    def behind(self, serial: int) -> Iterator[Line]:
+        """The lines behind a serial that are there now, in order of serials."""
+
+    def wait(self) -> None:
+        """Returns once there may be more lines, or after a while."""
+
+    def words(self, serial: int) -> str:
+        """A command of a shell that prints the line of a serial."""
+
+
+def whole_line(file: BinaryIO, where: object) -> bytes | None:
+    """The next line of a file, without its line feed. None where it is not there as a whole: it
+    lacks its line feed, or has a byte that a power cut left as zero."""
+    found = file.readline(MOST_OF_LINE + 1)
+    if len(found) > MOST_OF_LINE and not found.endswith(b"\n"):
+        raise Fault("line_too_long", where)
+    if not found.endswith(b"\n") or b"\0" in found:
+        return None
+    return found[:-1]
+
+
+class JournalFile:
+    """A journal in a file that a server writes. It is read from behind the last whole line that was
+    read before, and from its beginning where an earlier line is asked for.
+
+    A file that is another than before, or shorter, is `SourceAway` once, so that whoever reads it
+    compares what is there with what was read.
+    """
+
+    def __init__(self, path: Path) -> None:
+        self.path = path
+        # Which file was read: its device and inode. How far: the serial, and the bytes up to it.
+        self.identity: tuple[int, int] | None = None
+        self.serial = self.offset = 0
+
+    def behind(self, serial: int) -> Iterator[Line]:
+        try:
+            with self.path.open("rb") as file:
+                self.look_at(file, serial)
+                yield from self.lines(file, serial)
+        except OSError as error:
+            raise SourceAway(str(error)) from error
+
+    def look_at(self, file: BinaryIO, serial: int) -> None:
+        """Finds where to read on, and puts the file there."""
+        status = os.fstat(file.fileno())
+        identity, before = (status.st_dev, status.st_ino), self.identity
+        same = identity == before and status.st_size >= self.offset
+        self.identity = identity
+        if not same or serial < self.serial:
+            self.serial = self.offset = 0
+        if before is not None and not same:
+            raise SourceAway(f"{self.path} is another file, or shorter than before")
+        file.seek(self.offset)
+
+    def lines(self, file: BinaryIO, serial: int) -> Iterator[Line]:
+        """The whole lines from here on that are behind a serial. Their serials are in a row."""
+        while (found := whole_line(file, self.serial + 1)) is not None:
+            line = Line.of(found, self.serial + 1)
+            if self.offset and line.serial != self.serial + 1:
+                raise Fault("bad_line", self.serial + 1)
+            if line.serial > serial:
+                yield line
+            self.serial, self.offset = line.serial, self.offset + len(found) + 1
+
+    def wait(self) -> None:
+        time.sleep(LOOK_SECONDS)
+
+    def words(self, serial: int) -> str:
+        return f"sed -n '/^{serial}\\t/{{p;q}}' {shlex.quote(str(self.path))}"
+
+
+def last_line(path: Path) -> Line | None:
+    """The last whole line of a journal's file; none where it has none, or is not there."""
+    try:
+        with path.open("rb") as file:
+            last = last_whole_line(file, path)
+    except FileNotFoundError:
+        return None
+    except OSError as error:
+        raise SourceAway(str(error)) from error
+    return None if last is None else Line.of(last, path)
+
+
+def last_whole_line(file: BinaryIO, path: Path) -> bytes | None:
+    """The last whole line of an open file, which is among its last two lines of the most bytes."""
+    start = max(0, os.fstat(file.fileno()).st_size - 2 * (MOST_OF_LINE + 1))
+    file.seek(start)
+    if start:
+        file.readline()
+    last = None
+    while (found := whole_line(file, path)) is not None:
+        last = found
+    return last
+
+
+class Pauses:
+    """Growing pauses between tries. What is away is said once, from the second try in a row on, and
+    that it is back."""
+
+    def __init__(self, name: str) -> None:
+        self.name = name
+        self.seconds = FIRST_PAUSE
+        self.told = ""
+
+    def wait(self, reason: str) -> None:
+        if self.seconds > FIRST_PAUSE and reason != self.told:
+            tell(self.name, f"away: {reason}")
+            self.told = reason
+        time.sleep(self.seconds)
+        self.seconds = min(2 * self.seconds, LONGEST_PAUSE)
+
+    def end(self) -> None:
+        if self.told:
+            tell(self.name, "back")
+        self.seconds, self.told = FIRST_PAUSE, ""
+
+
+def not_empty(text: str) -> str:
+    """A word of a command line that is not empty, as a setting may be that was forgotten."""
+    if not text:
+        raise ValueError(text)
+    return text
+
+
+def tell(name: str, line: str) -> None:
+    """Writes a line on standard error."""
+    print(f"{name}: {' '.join(line.split())}", file=sys.stderr, flush=True)
+
+
+def end(name: str, fault: Fault) -> int:
+    """Says what ends a script, and gives its exit status."""
+    for line in (str(fault), *fault.more):
+        print(f"{name}: {line}", file=sys.stderr, flush=True)
+    return fault.status

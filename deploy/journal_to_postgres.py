@@ -1,0 +1,128 @@
+"""Puts the lines of a journal into a table of PostgreSQL, as the journal grows.
+
+    python3 deploy/journal_to_postgres.py J DSN [--once]
+
+J is the journal that `streetmap serve --journal J` writes. DSN is that of a database
+(`postgresql://..`), in which it makes the table `streetmap_journal` where that is missing:
+journal_table.py says what it has. PostgreSQL carries the table to other sites by its own
+replication, and follow.py reads it there.
+
+It runs until it is stopped, at any time and in any way, and then goes on behind the last serial of
+the table. It begins by comparing the last line that both have. A database that is away, and a J
+that is not there yet, are tried again, with pauses that grow to ten seconds; standard error says
+so. With `--once` it ends with the lines that are there. It ends with status 1 at what a person has
+to look at, and puts nothing in behind it:
+
+    other_text SERIAL        the table has another text there: it is another server's
+    lines_missing FROM TO    J begins behind what the table needs next
+    bad_line SERIAL          J has no line there; line_too_long SERIAL likewise
+    bad_source CODE          the database refuses what is asked of it
+
+`usage` has status 2.
+"""
+
+import argparse
+import sys
+from collections.abc import Iterable, Iterator
+from pathlib import Path
+
+from journal_lines import (
+    Away,
+    Fault,
+    JournalFile,
+    Line,
+    Pauses,
+    end,
+    last_line,
+    not_empty,
+    tell,
+)
+from journal_table import JournalTable
+
+NAME = "journal_to_postgres"
+# A transaction has at most so many lines, or those that reach so many bytes.
+MOST_LINES, MOST_BYTES = 100, 4_194_304
+
+
+def groups(lines: Iterable[Line]) -> Iterator[list[Line]]:
+    """The lines of one transaction after the other."""
+    group: list[Line] = []
+    size = 0
+    for line in lines:
+        group.append(line)
+        size += len(line.text)
+        if len(group) == MOST_LINES or size >= MOST_BYTES:
+            yield group
+            group, size = [], 0
+    if group:
+        yield group
+
+
+class Copying:
+    """A journal, a table, and the serial behind which lines are put in or compared. It is not known
+    before both were looked at."""
+
+    def __init__(self, path: Path, dsn: str) -> None:
+        self.path = path
+        self.journal = JournalFile(path)
+        self.table = JournalTable(dsn)
+        self.serial: int | None = None
+
+    def begin(self) -> int:
+        """The serial before that of the last line that both have."""
+        self.table.make()
+        last = last_line(self.path)
+        begun = max(0, min(self.table.last(), last.serial if last else 0) - 1)
+        tell(NAME, f"going on behind serial {begun}")
+        return begun
+
+    def go_on(self) -> None:
+        """Puts in all lines that are there now."""
+        if self.serial is None:
+            self.serial = self.begin()
+        for group in groups(self.journal.behind(self.serial)):
+            if group[0].serial > self.serial + 1:
+                self.check_next(group[0].serial)
+            self.table.put(group)
+            self.serial = group[-1].serial
+
+    def check_next(self, serial: int) -> None:
+        """A journal that begins behind a serial may go on where the table ends."""
+        last = self.table.last()
+        if serial > last + 1:
+            raise Fault("lines_missing", last + 1, serial - 1)
+
+    def lose(self) -> None:
+        self.serial = None
+
+
+def run(copying: Copying, once: bool) -> None:
+    """Copies until it is stopped, or with `once` until all lines that are there are put in."""
+    pauses = Pauses(NAME)
+    while True:
+        try:
+            copying.go_on()
+            pauses.end()
+            if once:
+                return
+            copying.journal.wait()
+        except Away as away:
+            copying.lose()
+            pauses.wait(str(away))
+
+
+def main() -> int:
+    words = argparse.ArgumentParser(prog=NAME, description=(__doc__ or "").splitlines()[0])
+    words.add_argument("journal", type=not_empty, help="the journal's file")
+    words.add_argument("dsn", type=not_empty, help="the database, as postgresql://..")
+    words.add_argument("--once", action="store_true", help="ends with the lines that are there")
+    asked = words.parse_args()
+    try:
+        run(Copying(Path(asked.journal), asked.dsn), asked.once)
+    except Fault as fault:
+        return end(NAME, fault)
+    return 0
+
+
+if __name__ == "__main__":
+    sys.exit(main())
