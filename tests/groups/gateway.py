@@ -1,6 +1,7 @@
 """The gateway in real reference systems: boxes, edits, faults, and QGIS, GDAL and OWSLib."""
 
-from gateway_tests import answers, boxes, clients, edits, faults, orders, pages, settings
+from gateway_tests import answers, boxes, clients, edits, faults, orders, pages, round_trip
+from gateway_tests import settings
 from gateway_tests.data import batches, collections
 from gateway_tests.service import gateway
 from harness import Context
@@ -18,6 +19,8 @@ PACKAGES = (
     "python3-owslib",
     "mypy",
     "black",
+    "lintian",
+    "systemd",
 )
 
 
@@ -44,6 +47,8 @@ def run(context: Context) -> None:
             settings.check_place(context, asked)
             faults.check_many(context, asked)
         pages.check_secret(context, server.url)
+        boxes.check_turned_boxes(context, server.url)
+    round_trip.check_round_trips(context)
     boxes.check_antimeridian(context)
     orders.check_orders(context)
     pages.check_short_pages(context)
