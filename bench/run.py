@@ -14,7 +14,7 @@ import tempfile
 from pathlib import Path
 
 HERE = Path(__file__).resolve().parent
-NAMES = ("lines", "tables", "imports", "loading", "polygons", "serving", "clients")
+NAMES = ("lines", "tables", "imports", "loading", "polygons", "serving", "clients", "gateway")
 
 
 def arguments() -> argparse.Namespace:
