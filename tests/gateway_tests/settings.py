@@ -25,17 +25,17 @@ BRITAIN = 'name = "EPSG:27700"\neasting = 400000\nnorthing = 300000'
 
 
 def check_style(context: Context) -> None:
-    """The sources pass `black` and `mypy --strict`."""
+    """The sources pass Debian's `black` and `mypy --strict`."""
     file = str(ROOT / "gateway" / "pyproject.toml")
-    checks = (
-        ["black", "--config", file, "--check", "--quiet", str(ROOT / "gateway")],
-        ["mypy", "--strict", "--config-file", file, "--cache-dir", str(TYPES), "-p", "gateway"],
-    )
+    sources = [str(ROOT / "gateway"), str(ROOT / "tests" / "gateway_tests")]
+    types = ["--strict", "--config-file", file, "--cache-dir", str(TYPES), "-p", "gateway"]
+    checks = (["/usr/bin/black", "--config", file, "--check", *sources], ["/usr/bin/mypy", *types])
     for words in checks:
         ended = subprocess.run(
             words, cwd=ROOT, capture_output=True, text=True, timeout=TYPES_SECONDS
         )
-        context.check(words[0], ended.stdout if ended.returncode else "", "")
+        said = (ended.stdout + ended.stderr) if ended.returncode else ""
+        context.check(words[0], (ended.returncode, said), (0, ""))
 
 
 REFUSED = {
