@@ -1,14 +1,14 @@
 """Pages of 100 features by the gateway, beside QGIS Server and MapServer over the same 100,000.
 
-It needs the gateway's packages (tests/packages.txt), `wrk` and `nginx`. QGIS Server (`qgis-server`,
-`python3-qgis`) and MapServer (`cgi-mapserver`) stand beside it where these are installed, with
-`gdal-bin`: Debian's packages of these names, by apt-get, which no test needs. A dash stands for one
-that is missing.
+It needs the gateway's packages (tests/packages.txt), `wrk`, `nginx` and `gdal-bin`. QGIS Server
+(`qgis-server`, `python3-qgis`) and MapServer (`cgi-mapserver`) stand beside it where these are
+installed: Debian's packages of these names, by apt-get. No test needs them.
 
 The lamps are in a file of the program and in a GeoPackage in EPSG:25832, which has an R*Tree. Each
 server is four processes behind nginx: gateways in front of one `streetmap serve`, and QGIS Server
 and MapServer by FastCGI, which answer by OGC API - Features too. All write GeoJSON in degrees, and
-say how many lamps there are; of a box the gateway does not.
+say how many lamps there are; of a box the gateway does not. A dash stands for pages of a walk by
+MapServer 8.0, which passes over `offset`.
 """
 
 import contextlib
@@ -36,6 +36,8 @@ PYTHON = "/usr/bin/python3"
 EASTING, NORTHING = 565_000, 5_934_000
 LIMIT, BOXES, SECONDS, ROUNDS = 100, 200, 4, 3
 CONNECTIONS = (1, 4)
+# Of a walk through all lamps each so many-th page is asked for.
+EACH_WALKED = 50
 PROCESSES = 4
 # A box of some 160 m each way has some 250 lamps. Degrees.
 WIDE, HIGH = 0.0024, 0.00144
@@ -43,7 +45,7 @@ QGIS_SERVER = Path("/usr/lib/cgi-bin/qgis_mapserv.fcgi")
 MAPSERVER = Path("/usr/lib/cgi-bin/mapserv")
 
 SETTINGS = """
-address = "http://127.0.0.1:{port}/"
+address = "http://127.0.0.1/"
 [listen]
 port = {port}
 [server]
@@ -143,9 +145,9 @@ class Service:
     port: int
     items: str
 
-    def target(self, box: str | None) -> str:
+    def target(self, query: str = "") -> str:
         mark = "&" if "?" in self.items else "?"
-        return f"{self.items}{mark}limit={LIMIT}" + (f"&bbox={box}" if box else "")
+        return f"{self.items}{mark}limit={LIMIT}{query}"
 
     def page(self, target: str) -> bytes:
         with urllib.request.urlopen(f"http://127.0.0.1:{self.port}{target}", timeout=60) as answer:
@@ -163,7 +165,7 @@ def write_geopackage(folder: Path) -> Path:
             feature["geometry"]["coordinates"] = [EASTING + x / 1000, NORTHING + y / 1000]
             feature["properties"]["id"] = feature.pop("id")
             lines.write(f"{compact(feature)}\n")
-    words = ["ogr2ogr", "-f", "GPKG", "-a_srs", "EPSG:25832", "-nln", "lamps", made]
+    words = ["ogr2ogr", "-f", "GPKG", "-a_srs", "EPSG:25832", "-nln", "lamps", str(made)]
     subprocess.run([*words, f"GeoJSONSeq:{text}"], check=True)
     return made
 
@@ -216,7 +218,11 @@ def by_fastcgi(program: Path, folder: Path, seen: dict[str, str]) -> Iterator[in
         errors = started.enter_context((folder / "errors").open("wb"))
         for _ in range(PROCESSES):
             process = subprocess.Popen(
-                [program], env=os.environ | seen, stdin=listener, stdout=errors, stderr=errors
+                [str(program)],
+                env=os.environ | seen,
+                stdin=listener.fileno(),
+                stdout=errors,
+                stderr=errors,
             )
             started.callback(process.wait)
             started.callback(process.terminate)
@@ -228,7 +234,7 @@ def by_fastcgi(program: Path, folder: Path, seen: dict[str, str]) -> Iterator[in
 def qgis_server(lamps: Path, folder: Path) -> Iterator[Service]:
     project = lamps.with_suffix(".qgs")
     seen = {"QT_QPA_PLATFORM": "offscreen", "HOME": str(lamps.parent)}
-    words = [PYTHON, "-c", PROJECT, lamps, project]
+    words = [PYTHON, "-c", PROJECT, str(lamps), str(project)]
     subprocess.run(words, env=os.environ | seen, stderr=subprocess.DEVNULL, check=True)
     seen["QGIS_PROJECT_FILE"] = str(project)
     with by_fastcgi(QGIS_SERVER, folder, seen) as port:
@@ -259,52 +265,84 @@ def boxes(service: Service) -> list[str]:
     return found
 
 
+def next_target(service: Service, target: str) -> str | None:
+    """The page behind a page of the gateway, by its link."""
+    links = json.loads(service.page(target))["links"]
+    found = [link["href"] for link in links if link["rel"] == "next"]
+    return "/" + found[0].split("/", 3)[3] if found else None
+
+
+def walked(service: Service) -> list[str]:
+    """Pages spread over a walk through all lamps: the gateway goes on by `next`, the others by
+    `offset`. None where that is passed over."""
+    if service.name != "gateway":
+        offsets = range(0, FEATURES, EACH_WALKED * LIMIT)
+        targets = [service.target(f"&offset={offset}") for offset in offsets]
+        goes_on = f"lamp-{offsets[1]:06}" in service.page(targets[1]).decode()
+        return targets if goes_on else []
+    found: list[str] = []
+    target: str | None = service.target()
+    while target is not None:
+        found.append(target)
+        target = next_target(service, target)
+    return found[::EACH_WALKED]
+
+
 def bytes_of(service: Service, targets: list[str]) -> float:
-    """The bytes of these pages on the average. Each has to have 100 lamps."""
+    """The bytes of these pages on the average, 0 of none. Each has to have 100 lamps."""
     sizes = []
     for target in targets:
         text = service.page(target)
         if len(json.loads(text)["features"]) != LIMIT:
             fail(f"{service.name} has no page of {LIMIT} at {target}: {text[:300]!r}")
         sizes.append(len(text))
-    return statistics.mean(sizes)
+    return statistics.mean(sizes or [0])
 
 
 def rate(service: Service, targets: list[str], connections: int, folder: Path) -> float:
-    """Pages a second over so many connections."""
+    """Pages a second over so many connections, 0 of none."""
+    if not targets:
+        return 0
     script, listed = folder / "wrk.lua", folder / "targets"
     listed.write_text("\n".join(targets) + "\n")
     script.write_text(SCRIPT.format(targets=listed))
-    words = ["wrk", "-t1", f"-c{connections}", f"-d{SECONDS}s", "--timeout", "30s", "-s", script]
-    words.append(f"http://127.0.0.1:{service.port}/")
+    words = ["wrk", "-t1", f"-c{connections}", f"-d{SECONDS}s", "--timeout", "30s"]
+    words += ["-s", str(script), f"http://127.0.0.1:{service.port}/"]
     done = subprocess.run(words, capture_output=True, text=True, check=True).stdout
     if "Non-2xx" in done or "Socket errors" in done:
         fail(f"wrk reports errors of {service.name}: {done}")
     return float(done.partition("Requests/sec:")[2].split()[0])
 
 
-def rates(services: list[Service], asked: list[str | None], many: int, folder: Path) -> list[float]:
+def rates(asked: dict[Service, list[str]], many: int, folder: Path) -> list[float]:
     """The medians of several rounds, in each of which the servers take turns."""
     rounds = [
-        [rate(it, [it.target(box) for box in asked], many, folder) for it in services]
+        [rate(service, targets, many, folder) for service, targets in asked.items()]
         for _ in range(ROUNDS)
     ]
     return [statistics.median(taken) for taken in zip(*rounds)]
 
 
+def print_row(name: str, figures: list[float]) -> None:
+    shown = [f"{it:,.0f}" if it >= 10 else f"{it:,.1f}" if it > 0 else "-" for it in figures]
+    print(f"| {name} | {' | '.join(shown)} |", flush=True)
+
+
 def table(services: list[Service], folder: Path) -> None:
     """Prints the pages a second of each server."""
+    areas = boxes(services[0])
+    kinds = {
+        "the first": {it: [it.target()] for it in services},
+        "of a walk": {it: walked(it) for it in services},
+        "of a box": {it: [it.target(f"&bbox={area}") for area in areas] for it in services},
+    }
     print("| Pages of 100, a second | " + " | ".join(it.name for it in services) + " |")
     print("|---" * (len(services) + 1) + "|")
-    kinds: dict[str, list[str | None]] = {"of all": [None], "of a box": [*boxes(services[0])]}
     for name, asked in kinds.items():
-        sizes = [bytes_of(it, [it.target(box) for box in asked]) for it in services]
+        sizes = [bytes_of(service, targets) for service, targets in asked.items()]
         for many in CONNECTIONS:
-            found = rates(services, asked, many, folder)
-            row = [f"{name}, connections: {many}", *(f"{figure:,.0f}" for figure in found)]
-            print("| " + " | ".join(row) + " |", flush=True)
-        row = [f"{name}, bytes of a page", *(f"{size:,.0f}" for size in sizes)]
-        print("| " + " | ".join(row) + " |", flush=True)
+            print_row(f"{name}, connections: {many}", rates(asked, many, folder))
+        print_row(f"{name}, bytes of a page", sizes)
 
 
 def run(program: Path, folder: Path) -> None:

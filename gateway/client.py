@@ -35,7 +35,7 @@ class ServerClient:
     """A pool of connections to the server, fewer than its `--clients`.
 
     It is a transport of httpx alone. What a client of httpx adds (redirects, cookies, proxies of
-    the environment) the server has no use for, and it takes more time than all else of a request.
+    the environment) is of no use with this server, and takes as long again.
     """
 
     def __init__(self, address: str, connections: int) -> None:
