@@ -183,11 +183,10 @@ def check_many(context: Context, asked: Gateway) -> None:
 
     def client(number: int) -> list[int]:
         statuses = []
-        own = http.client.HTTPConnection(
-            "127.0.0.1", int(asked.url.rpartition(":")[2]), timeout=120
-        )
+        port = int(asked.url.rpartition(":")[2])
+        own = http.client.HTTPConnection("127.0.0.1", port, timeout=context.seconds)
         with contextlib.closing(own):
-            barrier.wait(120)
+            barrier.wait(context.seconds)
             for turn in range(EACH):
                 box = f"&bbox=9.9,53.5,{10 + number / 1000},{53.6 + turn / 100}" if turn % 2 else ""
                 own.request("GET", f"{ITEMS}?limit=20{box}")
