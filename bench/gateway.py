@@ -211,6 +211,7 @@ def gateways(program: Path, file: Path, folder: Path) -> Iterator[Service]:
 def by_fastcgi(program: Path, folder: Path, seen: dict[str, str]) -> Iterator[int]:
     """A program of FastCGI as so many processes behind nginx. Gives the port."""
     folder.mkdir()
+    seen = seen | {"TMPDIR": str(folder)}
     with contextlib.ExitStack() as started:
         listener = started.enter_context(socket.socket(socket.AF_UNIX))
         listener.bind(str(folder / "socket"))
