@@ -234,7 +234,7 @@ def by_fastcgi(program: Path, folder: Path, seen: dict[str, str]) -> Iterator[in
 @contextlib.contextmanager
 def qgis_server(lamps: Path, folder: Path) -> Iterator[Service]:
     project = lamps.with_suffix(".qgs")
-    seen = {"QT_QPA_PLATFORM": "offscreen", "HOME": str(lamps.parent)}
+    seen = {"QT_QPA_PLATFORM": "offscreen", "HOME": str(lamps.parent), "TMPDIR": str(lamps.parent)}
     words = [PYTHON, "-c", PROJECT, str(lamps), str(project)]
     subprocess.run(words, env=os.environ | seen, stderr=subprocess.DEVNULL, check=True)
     seen["QGIS_PROJECT_FILE"] = str(project)

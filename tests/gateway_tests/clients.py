@@ -34,7 +34,8 @@ def check_qgis(context: Context, asked: Gateway) -> None:
     """QGIS opens each collection, counts, reads all, asks boxes, and draws."""
     picture = context.folder / "map.png"
     words = [PYTHON, str(SCRIPT), asked.url, str(picture), GROUND, *collections(), *BOXES]
-    seen = environment() | {"QT_QPA_PLATFORM": "offscreen", "HOME": str(context.folder)}
+    folder = str(context.folder)
+    seen = environment() | {"QT_QPA_PLATFORM": "offscreen", "HOME": folder, "TMPDIR": folder}
     ended = subprocess.run(words, env=seen, capture_output=True, text=True, timeout=SECONDS)
     context.check("QGIS ends", ended.returncode, 0)
     found = json.loads(ended.stdout.splitlines()[-1])
