@@ -14,7 +14,9 @@ import tempfile
 from pathlib import Path
 
 HERE = Path(__file__).resolve().parent
-NAMES = ("lines", "tables", "imports", "loading", "polygons", "serving", "clients")
+NAMES = (
+    "lines", "tables", "imports", "loading", "polygons", "serving", "clients", "gateway", "sizes"
+)  # fmt: skip
 
 
 def arguments() -> argparse.Namespace:

@@ -16,8 +16,8 @@ from shapely.geometry import LineString, Point, Polygon
 from shapely.geometry.base import BaseGeometry
 from shapely.prepared import PreparedGeometry, prep
 
-from .grid import BOUND, Grid
-from .operation import Numbers, Operation
+from .grid import BOUND, Grid, Numbers
+from .operation import Operation
 from .problems import Problem
 from .reach import Reach
 
@@ -30,6 +30,8 @@ FINE, COARSE = 0.01, 0.1
 FIRST_PIECES, PIECES, MOST_PIECES = 8, 1024, 1 << 17
 
 Bounds = tuple[int, int, int, int]
+Rectangle = tuple[float, float, float, float]
+Outline = Sequence[tuple[float, float]]
 
 
 @dataclass(frozen=True)
@@ -52,10 +54,11 @@ class DegreeBox:
 
 @dataclass(frozen=True)
 class Part:
-    """A part of a region, prepared for tests, and a point of it."""
+    """A part of a region, prepared for tests, a point of it, and a rectangle that lies within."""
 
     shape: PreparedGeometry
     point: tuple[float, float]
+    inner: Rectangle | None
 
 
 @dataclass(frozen=True)
@@ -172,7 +175,7 @@ def factor_for(times: float) -> int:
     return 1 << max(0, math.ceil(math.log2(max(times, 1)) / 2))
 
 
-def region_of(outlines: Sequence[Sequence[tuple[float, float]]]) -> Region:
+def region_of(outlines: Sequence[Outline]) -> Region:
     """The region that these outlines bound."""
     if not outlines:
         return NOWHERE
@@ -186,10 +189,26 @@ def region_of(outlines: Sequence[Sequence[tuple[float, float]]]) -> Region:
     )
     if bounds[0] > bounds[2] or bounds[1] > bounds[3]:
         return NOWHERE
-    return Region(bounds, tuple(Part(prep(shape(each)), each[0]) for each in outlines))
+    return Region(bounds, tuple(part_of(each) for each in outlines))
 
 
-def shape(outline: Sequence[tuple[float, float]]) -> BaseGeometry:
+def part_of(outline: Outline) -> Part:
+    prepared = prep(shape(outline))
+    return Part(prepared, outline[0], inner_of(outline, prepared))
+
+
+def inner_of(outline: Outline, prepared: PreparedGeometry) -> Rectangle | None:
+    """The rectangle between the innermost points of the four sides, where it lies within. No side
+    goes into it, so its middle tells."""
+    side, ring = len(outline) // 4, [*outline, outline[0]]
+    south, east, north, west = (ring[n * side : (n + 1) * side + 1] for n in range(4))
+    x0, y0 = max(x for x, _ in west), max(y for _, y in south)
+    x1, y1 = min(x for x, _ in east), min(y for _, y in north)
+    is_within = x0 < x1 and y0 < y1 and prepared.contains(Point((x0 + x1) / 2, (y0 + y1) / 2))
+    return (x0, y0, x1, y1) if is_within else None
+
+
+def shape(outline: Outline) -> BaseGeometry:
     """A polygon, or the line or point that a box without an area is."""
     points = list(dict.fromkeys(outline))
     if len(points) == 1:

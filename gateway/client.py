@@ -9,14 +9,14 @@ import json
 from collections.abc import Mapping
 from dataclasses import dataclass
 from typing import Any
-from urllib.parse import quote
+from urllib.parse import quote, urlencode
 
 import httpx
 
 from .problems import Problem, not_found, server_away
 
 TRIES = 3
-TIMEOUT = httpx.Timeout(60, connect=15, pool=120)
+TIMEOUTS = {"timeout": httpx.Timeout(60, connect=15, pool=120).as_dict()}
 IDLE_SECONDS = 20
 # A connection that broke; the request on it may have been read or not.
 BROKEN = (httpx.RemoteProtocolError, httpx.ReadError, httpx.WriteError, httpx.CloseError)
@@ -32,7 +32,11 @@ class Page:
 
 
 class ServerClient:
-    """A pool of connections to the server, fewer than its `--clients`."""
+    """A pool of connections to the server, fewer than its `--clients`.
+
+    It is a transport of httpx alone. What a client of httpx adds (redirects, cookies, proxies of
+    the environment) is of no use with this server, and takes as long again.
+    """
 
     def __init__(self, address: str, connections: int) -> None:
         limits = httpx.Limits(
@@ -40,7 +44,9 @@ class ServerClient:
             max_keepalive_connections=connections,
             keepalive_expiry=IDLE_SECONDS,
         )
-        self.pool = httpx.AsyncClient(base_url=address, limits=limits, timeout=TIMEOUT)
+        self.pool = httpx.AsyncHTTPTransport(limits=limits)
+        self.address = httpx.URL(address)
+        self.path = self.address.raw_path.rstrip(b"/")
 
     async def close(self) -> None:
         await self.pool.aclose()
@@ -61,30 +67,44 @@ class ServerClient:
         return Page(answer["features"], answer["numberMatched"], goes_on)
 
     async def get(self, path: str, query: Mapping[str, str] | None = None) -> dict[str, Any]:
-        answer = await self.send(self.pool.build_request("GET", path, params=query))
-        if answer.status_code != 200:
-            raise refusal(answer)
-        found: dict[str, Any] = answer.json()
-        return found
+        asked = f"{path}?{urlencode(query)}" if query else path
+        return await self.ask("GET", asked)
 
     async def apply(self, batch: bytes) -> dict[str, Any]:
         """The reply of the server to a batch."""
-        answer = await self.send(self.pool.build_request("POST", "/batches", content=batch))
-        if answer.status_code != 200:
-            raise refusal(answer)
-        reply: dict[str, Any] = answer.json()
-        return reply
+        return await self.ask("POST", "/batches", batch)
 
-    async def send(self, request: httpx.Request) -> httpx.Response:
+    async def ask(self, method: str, target: str, content: bytes | None = None) -> dict[str, Any]:
+        """What the server answers at a target; what it refuses is refused with its code."""
+        url = self.address.copy_with(raw_path=self.path + target.encode())
+        request = httpx.Request(method, url, content=content, extensions=TIMEOUTS)
+        status, body = await self.send(request)
+        if status != 200:
+            raise refusal(status, body)
+        try:
+            found: dict[str, Any] = json.loads(body)
+        except ValueError as fault:
+            raise bad_answer() from fault
+        return found
+
+    async def send(self, request: httpx.Request) -> tuple[int, bytes]:
         for attempt in range(TRIES):
             try:
-                return await self.pool.send(request)
+                return await self.answer(request)
             except BROKEN:
                 if attempt == TRIES - 1:
                     break
             except httpx.TransportError:
                 break
         raise server_away("The server does not answer. What was sent may be sent again.")
+
+    async def answer(self, request: httpx.Request) -> tuple[int, bytes]:
+        """The status and body of an answer; its connection is given back, also where it broke."""
+        answer = await self.pool.handle_async_request(request)
+        try:
+            return answer.status_code, await answer.aread()
+        finally:
+            await answer.aclose()
 
 
 def collection_path(collection: str) -> str:
@@ -98,14 +118,17 @@ def escaped(segment: str) -> str:
     return quote(segment, safe="")
 
 
-def refusal(answer: httpx.Response) -> Problem:
+def refusal(status: int, text: bytes) -> Problem:
     """What the server refused, with its code."""
     try:
-        body = answer.json()
+        body = json.loads(text)
         code, detail = str(body["code"]), str(body["description"])
-    except (json.JSONDecodeError, UnicodeDecodeError, KeyError, TypeError):
-        return Problem(502, "bad_answer", "The server's answer cannot be read.")
-    if answer.status_code == 503:
+    except (ValueError, KeyError, TypeError):
+        return bad_answer()
+    if status == 503:
         return server_away(detail)
-    status = 502 if answer.status_code >= 500 else answer.status_code
-    return Problem(status, code, detail, cause=body.get("cause"))
+    return Problem(502 if status >= 500 else status, code, detail, cause=body.get("cause"))
+
+
+def bad_answer() -> Problem:
+    return Problem(502, "bad_answer", "The server's answer cannot be read.")

@@ -1,21 +1,18 @@
-"""GeoJSON texts of the server's features in a reference system.
-
-In the office's system no coordinate passes through a double.
-"""
+"""The features of the server and of requests: where their positions stand, and their texts."""
 
 import json
-from collections.abc import Iterator
+from collections.abc import Callable, Iterator
 from typing import Any
 
-from .systems import Position, System
+from .systems import System
 
 
 class NumberText(str):
     """A number of a request as it was written, where it is no whole number of 64 bits."""
 
 
-def compact(value: Any) -> str:
-    return json.dumps(value, ensure_ascii=False, separators=(",", ":"))
+# Made once: json.dumps makes an encoder for each value.
+compact: Callable[[Any], str] = json.JSONEncoder(ensure_ascii=False, separators=(",", ":")).encode
 
 
 def positions_of(geometry: dict[str, Any] | None) -> Iterator[list[Any]]:
@@ -36,33 +33,25 @@ def is_number(value: Any) -> bool:
     return isinstance(value, (int, NumberText)) and not isinstance(value, bool)
 
 
-def geometry_text(geometry: dict[str, Any] | None, texts: Iterator[str]) -> str:
-    """A geometry of the server with each position replaced by the next of the texts."""
+def positions_in(geometry: dict[str, Any] | None) -> Iterator[list[Any]]:
+    """All positions of a geometry of the server."""
     if geometry is None:
-        return "null"
-    kind = geometry["type"]
-    if kind == "GeometryCollection":
-        members = ",".join(geometry_text(member, texts) for member in geometry["geometries"])
-        return f'{{"type":"{kind}","geometries":[{members}]}}'
-    return f'{{"type":"{kind}","coordinates":{nested(geometry["coordinates"], texts)}}}'
+        return
+    if geometry["type"] == "GeometryCollection":
+        for member in geometry["geometries"]:
+            yield from positions_in(member)
+    else:
+        yield from leaves(geometry["coordinates"])
 
 
-def nested(coordinates: list[Any], texts: Iterator[str]) -> str:
-    if not isinstance(coordinates[0], list):
-        return next(texts)
-    return f"[{','.join(nested(each, texts) for each in coordinates)}]"
+def leaves(coordinates: list[Any]) -> Iterator[list[Any]]:
+    if isinstance(coordinates[0], list):
+        for each in coordinates:
+            yield from leaves(each)
+    else:
+        yield coordinates
 
 
-def feature_texts(features: list[dict[str, Any]], system: System) -> list[str]:
-    """Features of the server in a reference system, each without its last brace, so that links
-    can be put behind. All their positions are carried over at once."""
-    positions: list[Position] = [
-        position for feature in features for position in positions_of(feature["geometry"])
-    ]
-    texts = iter(system.written(positions))
-    return [
-        f'{{"type":"Feature","id":{compact(feature["id"])}'
-        f',"geometry":{geometry_text(feature["geometry"], texts)}'
-        f',"properties":{compact(feature["properties"])}'
-        for feature in features
-    ]
+def place_features(features: list[dict[str, Any]], system: System) -> None:
+    """Carries features of the server to a reference system, in place: all positions at once."""
+    system.place([each for feature in features for each in positions_in(feature["geometry"])])

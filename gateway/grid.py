@@ -7,6 +7,11 @@ decimal places, so each grid position has an exact coordinate of at most three.
 from dataclasses import dataclass
 from decimal import ROUND_HALF_UP, Context, Decimal, InvalidOperation
 
+import numpy
+from numpy.typing import NDArray
+
+Numbers = NDArray[numpy.float64]
+
 # Grid steps in one unit of the office's system; three decimal places are the same.
 STEPS = 1000
 PLACES = 3
@@ -18,6 +23,8 @@ FAR_PLACE = 500
 # All digits of such a number, and of a double, fit.
 EXACT = Context(prec=1200, rounding=ROUND_HALF_UP)
 ONE = Decimal(1)
+# Below 10^13 units a product is off by less than a tenth of it.
+NEAR_HALF = 1e-2
 
 
 @dataclass(frozen=True)
@@ -31,11 +38,9 @@ class Grid:
     def at(cls, easting: Decimal, northing: Decimal) -> "Grid":
         return cls(int(easting * STEPS), int(northing * STEPS))
 
-    def easting_text(self, x: int) -> str:
-        return fixed_text(self.easting + x, PLACES)
-
-    def northing_text(self, y: int) -> str:
-        return fixed_text(self.northing + y, PLACES)
+    def coordinates(self, x: int, y: int) -> tuple[float, float]:
+        """Easting and northing of a position."""
+        return double_of(self.easting + x, PLACES), double_of(self.northing + y, PLACES)
 
     def easting_steps(self, easting: Decimal) -> Decimal:
         """The exact steps of an easting, whole or not."""
@@ -45,12 +50,11 @@ class Grid:
         return EXACT.subtract(EXACT.multiply(northing, Decimal(STEPS)), Decimal(self.northing))
 
 
-def fixed_text(units: int, places: int) -> str:
-    """units / 10^places as a decimal text without needless zeros."""
-    sign = "-" if units < 0 else ""
-    whole, rest = divmod(abs(units), 10**places)
-    fraction = f"{rest:0{places}d}".rstrip("0") if rest else ""
-    return f"{sign}{whole}.{fraction}" if fraction else f"{sign}{whole}"
+def double_of(units: int, places: int) -> float:
+    """The double nearest to units / 10^places. Its shortest text, which JSON has, is that decimal
+    again, since a double keeps 15 digits and units have fewer."""
+    scale: int = 10**places
+    return units / scale
 
 
 def rounded(value: Decimal) -> int:
@@ -58,10 +62,19 @@ def rounded(value: Decimal) -> int:
     return int(value.quantize(ONE, context=EXACT))
 
 
-def rounded_text(value: float, places: int) -> str:
-    """The decimal text of a double at so many places, half away from zero."""
-    scaled = EXACT.scaleb(Decimal(value), places)
-    return fixed_text(rounded(scaled), places)
+def nearest_doubles(values: Numbers, places: int) -> list[float]:
+    """Values rounded to so many decimal places, half away from zero: doubles as of `double_of`.
+
+    A product of doubles is off by a 2^53rd of itself, so near a half the exact value decides.
+    """
+    scaled = values * 10.0**places
+    units = numpy.trunc(scaled + numpy.copysign(0.5, scaled))
+    off = numpy.abs(numpy.abs(scaled - numpy.trunc(scaled)) - 0.5)
+    for index in numpy.flatnonzero(off < NEAR_HALF):
+        units[index] = rounded(EXACT.scaleb(Decimal(float(values[index])), places))
+    # A zero is added so that none is negative.
+    found: list[float] = (units / 10.0**places + 0.0).tolist()
+    return found
 
 
 def nearest_step(steps: Decimal) -> int:

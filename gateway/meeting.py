@@ -11,7 +11,7 @@ from typing import Any
 import numpy
 from shapely.geometry import LineString, Point
 
-from .boxes import Part, Region
+from .boxes import Part, Rectangle, Region
 
 
 def meets(geometry: dict[str, Any] | None, region: Region) -> bool:
@@ -24,6 +24,8 @@ def meets_part(geometry: dict[str, Any], part: Part) -> bool:
     if kind == "GeometryCollection":
         return any(meets_part(member, part) for member in geometry["geometries"])
     coordinates = geometry["coordinates"]
+    if part.inner is not None and is_within(first_position(coordinates), part.inner):
+        return True
     if kind == "Point":
         return point_meets(coordinates, part)
     if kind == "MultiPoint":
@@ -35,6 +37,17 @@ def meets_part(geometry: dict[str, Any], part: Part) -> bool:
     if kind == "Polygon":
         return polygon_meets(coordinates, part)
     return any(polygon_meets(polygon, part) for polygon in coordinates)
+
+
+def first_position(coordinates: list[Any]) -> list[int]:
+    while isinstance(coordinates[0], list):
+        coordinates = coordinates[0]
+    return coordinates
+
+
+def is_within(position: list[int], rectangle: Rectangle) -> bool:
+    x0, y0, x1, y1 = rectangle
+    return x0 <= position[0] <= x1 and y0 <= position[1] <= y1
 
 
 def point_meets(position: Sequence[int], part: Part) -> bool:

@@ -8,16 +8,14 @@ import warnings
 
 import numpy
 import pyproj
-from numpy.typing import NDArray
 from pyproj.enums import TransformDirection
 from pyproj.exceptions import CRSError
 from pyproj.network import set_network_enabled
 from pyproj.transformer import Transformer, TransformerGroup
 
-from .grid import STEPS, Grid
+from .grid import STEPS, Grid, Numbers
 from .settings import Settings, SettingsFault
 
-Numbers = NDArray[numpy.float64]
 # What is off by so few steps is not corrected.
 CLOSE = 1e-4
 

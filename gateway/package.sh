@@ -3,6 +3,8 @@
 set -eu
 folder=$(mkdir -p "$1" && realpath "$1")
 root=$(dirname "$(dirname "$(realpath "$0")")")
+depends="python3 (>= 3.11), python3-fastapi, python3-httpx, python3-numpy"
+depends="$depends, python3-pyproj, python3-shapely, python3-uvicorn"
 version=$(sed -n 's/^VERSION = "\(.*\)"$/\1/p' "$root/gateway/openapi.py")
 tree=$(mktemp -d)
 trap 'rm -rf "$tree"' EXIT
@@ -16,9 +18,15 @@ install -m 644 "$root/deploy/streetmap-gateway.service" "$tree/lib/systemd/syste
 install -m 644 "$root/gateway/gateway.toml" "$documents/examples/"
 install -m 644 "$root/docs/CLIENTS.md" "$documents/"
 
-# The licence and the changes of the repository, where it has them.
-[ ! -e "$root/LICENSE" ] || install -m 644 "$root/LICENSE" "$documents/copyright"
-[ ! -e "$root/CHANGELOG" ] || gzip -9nc "$root/CHANGELOG" > "$documents/changelog.gz"
+install -m 644 "$root/LICENSE" "$documents/copyright"
+maintained=$(grep -m 1 '^ -- ' "$root/packaging/debian/changelog")
+gzip -9nc > "$documents/changelog.gz" << END
+streetmap-gateway ($version) bookworm; urgency=medium
+
+  * First package: the gateway, its unit and its settings.
+
+$maintained
+END
 chmod -R u=rwX,go=rX "$tree"
 
 cat > "$tree/DEBIAN/control" <<END
@@ -28,8 +36,7 @@ Architecture: all
 Maintainer: Yawlcurrant maintainers <maintainers@users.noreply.yawlcurrant.example>
 Section: web
 Priority: optional
-Depends: python3 (>= 3.11), python3-fastapi, python3-httpx, python3-numpy,
- python3-pyproj, python3-shapely, python3-uvicorn
+Depends: $depends
 Recommends: nginx, proj-data
 Description: OGC API - Features in real reference systems, in front of Streetmap
  A gateway for QGIS, GDAL and other GIS clients as they are. It serves the

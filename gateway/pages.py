@@ -15,6 +15,8 @@ from .query import MOST, ItemsQuery
 MORE = 20
 # Each further page of the server is so many times as long, up to the most.
 GROWTH = 4
+# One in so many more is asked for than are shown, for those of the bounds that do not meet.
+SPARE = 8
 
 
 @dataclass(frozen=True)
@@ -62,7 +64,7 @@ async def tested_page(
     after = query.after
     for number in range(1 + MORE):
         # Most features of the bounds meet the region, so the first page is mostly enough.
-        size = min(query.limit * GROWTH**number, MOST)
+        size = min((query.limit + query.limit // SPARE) * GROWTH**number, MOST)
         page = await client.page(collection, server_query(query, region, size, after))
         found += [feature for feature in page.features if meets(feature["geometry"], region)]
         if len(found) > query.limit:

@@ -19,8 +19,8 @@ import numpy
 
 from .client import ServerClient
 from .gateway import Gateway
-from .grid import BOUND, STEPS
-from .operation import Numbers, Operation
+from .grid import BOUND, STEPS, Numbers
+from .operation import Operation
 from .problems import Problem
 from .settings import SettingsFault, read_settings
 

@@ -65,10 +65,14 @@ async def answer_problem(_request: Request, fault: Exception) -> Response:
 
 
 async def answer_http_fault(request: Request, fault: Exception) -> Response:
-    """The answer to a refusal of the framework: an unknown path, a wrong method."""
+    """The answer to a refusal of the framework: an unknown path, a wrong method. `OPTIONS` is
+    answered with the methods of its path (RFC 9110, 9.3.7), by which clients learn whether they can edit.
+    """
     assert isinstance(fault, HTTPException)
     if fault.status_code == 405:
         headers = {"Allow": ", ".join(sorted(allowed(request)))}
+        if request.method == "OPTIONS":
+            return Response(status_code=204, headers=headers)
         detail = "The method is not allowed here."
         return Problem(405, "method_not_allowed", detail, headers=headers).response()
     if fault.status_code == 404:

@@ -9,8 +9,8 @@ from dataclasses import dataclass
 import numpy
 import pyproj
 
-from .grid import BOUND
-from .operation import Numbers, Operation
+from .grid import BOUND, Numbers
+from .operation import Operation
 from .settings import SettingsFault
 
 # The area of use is grown by the first of these degrees with which all of it can be placed.

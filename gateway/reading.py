@@ -8,7 +8,7 @@ from fastapi.responses import Response
 
 from . import openapi, resources
 from .gateway import Gateway
-from .geojson import compact, feature_texts
+from .geojson import compact, place_features
 from .links import GEOJSON, HTML, JSON, OPENAPI
 from .pages import Filled, fill
 from .query import ItemsQuery, read_items_query, read_parameters
@@ -108,13 +108,14 @@ def feature_routes(gateway: Gateway) -> APIRouter:
         openapi_extra={"parameters": [openapi.parameter(name) for name in names]},
     )
     @router.head(items, include_in_schema=False)
-    async def page(request: Request, collectionId: str) -> Response:
+    async def items_page(request: Request, collectionId: str) -> Response:
         query = read_items_query(request, collectionId, systems, gateway.signer)
         box_system = systems.named(query.box_crs, "bad_bbox_crs")
         region = box_system.box(query.bounds()) if query.box is not None else None
         filled = await fill(gateway.client, collectionId, query, region)
-        text = page_text(gateway, collectionId, request, query, filled)
-        return features_response(text, systems.named(query.crs, "bad_crs"))
+        system = systems.named(query.crs, "bad_crs")
+        place_features(filled.features, system)
+        return features_response(page(gateway, collectionId, request, query, filled), system)
 
     @router.get(
         items + "/{featureId:path}",
@@ -128,28 +129,25 @@ def feature_routes(gateway: Gateway) -> APIRouter:
         system = systems.named(found.get("crs", CRS84), "bad_crs")
         shown = await gateway.client.feature(collectionId, featureId)
         listed = links.feature(collectionId, featureId, list(found.items()))
-        (text,) = feature_texts([shown], system)
-        return features_response(f'{text},"links":{compact(listed)}}}', system)
+        place_features([shown], system)
+        return features_response(shown | {"links": listed}, system)
 
     return router
 
 
-def page_text(
+def page(
     gateway: Gateway, collection: str, request: Request, query: ItemsQuery, filled: Filled
-) -> str:
-    """A page as GeoJSON."""
-    system = gateway.systems.named(query.crs, "bad_crs")
-    features = [f"{text}}}" for text in feature_texts(filled.features, system)]
+) -> dict[str, Any]:
+    """A page, whose features are in place."""
     token = None
     if filled.after is not None:
         token = gateway.signer.token(query.members(collection, filled.after))
     links = gateway.links.page(collection, request.query_params.multi_items(), token)
-    matched = "" if filled.matched is None else f'"numberMatched":{filled.matched},'
-    return (
-        f'{{"type":"FeatureCollection","links":{compact(links)},{matched}'
-        f'"numberReturned":{len(features)},"features":[{",".join(features)}]}}'
-    )
+    matched = {} if filled.matched is None else {"numberMatched": filled.matched}
+    returned = {"numberReturned": len(filled.features), "features": filled.features}
+    return {"type": "FeatureCollection", "links": links, **matched, **returned}
 
 
-def features_response(text: str, system: System) -> Response:
-    return Response(text, headers={"Content-Crs": f"<{system.uri}>"}, media_type=GEOJSON)
+def features_response(value: dict[str, Any], system: System) -> Response:
+    headers = {"Content-Crs": f"<{system.uri}>"}
+    return Response(compact(value), headers=headers, media_type=GEOJSON)

@@ -1,13 +1,14 @@
-"""The reference systems that clients may ask for: names, axis order, and coordinates as texts.
+"""The reference systems that clients may ask for: names, axis order, and coordinates.
 
 OGC API - Features Part 2 gives coordinates in the order of the system's own axes: latitude first
 in EPSG:4326, longitude first in CRS84, northing first in systems as EPSG:31467.
 """
 
 from abc import ABC, abstractmethod
-from collections.abc import Sequence
+from collections.abc import Iterable, Sequence
 from dataclasses import dataclass
 from decimal import Decimal
+from typing import Any
 
 import numpy
 import pyproj
@@ -15,8 +16,8 @@ from pyproj.enums import TransformDirection
 from pyproj.transformer import Transformer
 
 from .boxes import DegreeBox, DegreeRegions, Region, office_region
-from .grid import PLACES, Grid, fixed_text, nearest_step, rounded_text
-from .operation import Numbers, Operation, choose, read_system
+from .grid import PLACES, Grid, Numbers, double_of, nearest_doubles, nearest_step
+from .operation import Operation, choose, read_system
 from .problems import Problem, bad_query
 from .reach import Reach, reach_of
 from .settings import Settings
@@ -39,8 +40,9 @@ class System(ABC):
         self.second_first = second_first
 
     @abstractmethod
-    def texts(self, positions: Sequence[Position]) -> list[tuple[str, str]]:
-        """The coordinates of positions, not yet in the order of the axes."""
+    def coordinates(self, positions: Sequence[Position]) -> Iterable[tuple[float, float]]:
+        """The coordinates of positions, not yet in the order of the axes: doubles whose shortest
+        text is the rounded decimal."""
 
     @abstractmethod
     def nearest(self, coordinates: Sequence[tuple[Decimal, Decimal]]) -> list[tuple[int, int]]:
@@ -50,15 +52,13 @@ class System(ABC):
     def region(self, box: Sequence[Decimal]) -> Region:
         """The region of a box: both lower bounds, then both upper ones, not in axis order."""
 
-    def written(self, positions: Sequence[Position]) -> list[str]:
-        """Positions as JSON arrays in the order of the axes, heights behind."""
-        return [
-            f"[{self.ordered(*pair)}{height_text(position)}]"
-            for pair, position in zip(self.texts(positions), positions)
-        ]
-
-    def ordered(self, first: str, second: str) -> str:
-        return f"{second},{first}" if self.second_first else f"{first},{second}"
+    def place(self, positions: Sequence[list[Any]]) -> None:
+        """Carries positions of the server over, in place: in the order of the axes, heights
+        behind."""
+        for position, (first, second) in zip(positions, self.coordinates(positions)):
+            position[:2] = (second, first) if self.second_first else (first, second)
+            if len(position) == 3:
+                position[2] = double_of(position[2], PLACES)
 
     def read(self, pairs: Sequence[tuple[Decimal, Decimal]]) -> list[tuple[int, int]]:
         """The nearest grid positions of pairs in the order of the axes."""
@@ -70,20 +70,15 @@ class System(ABC):
         return self.region((b0, a0, b1, a1) if self.second_first else (a0, b0, a1, b1))
 
 
-def height_text(position: Position) -> str:
-    return f",{fixed_text(position[2], PLACES)}" if len(position) == 3 else ""
-
-
 class OfficeSystem(System):
-    """The office's own system, by decimals alone."""
+    """The office's own system, by whole numbers and decimals alone."""
 
     def __init__(self, uri: str, second_first: bool, grid: Grid) -> None:
         super().__init__(uri, second_first)
         self.grid = grid
 
-    def texts(self, positions: Sequence[Position]) -> list[tuple[str, str]]:
-        easting, northing = self.grid.easting_text, self.grid.northing_text
-        return [(easting(position[0]), northing(position[1])) for position in positions]
+    def coordinates(self, positions: Sequence[Position]) -> Iterable[tuple[float, float]]:
+        return [self.grid.coordinates(position[0], position[1]) for position in positions]
 
     def nearest(self, coordinates: Sequence[tuple[Decimal, Decimal]]) -> list[tuple[int, int]]:
         easting, northing = self.grid.easting_steps, self.grid.northing_steps
@@ -105,7 +100,7 @@ class DegreeSystem(System):
         self.regions = regions
         self.operation = regions.operation
 
-    def texts(self, positions: Sequence[Position]) -> list[tuple[str, str]]:
+    def coordinates(self, positions: Sequence[Position]) -> Iterable[tuple[float, float]]:
         if not positions:
             return []
         x = numpy.array([position[0] for position in positions], float)
@@ -114,8 +109,7 @@ class DegreeSystem(System):
         if not (numpy.isfinite(first).all() and numpy.isfinite(second).all()):
             detail = "A feature lies where it has no coordinates in the system that was asked."
             raise Problem(500, "not_placed", detail)
-        pairs = zip(first.tolist(), second.tolist())
-        return [(rounded_text(a, self.places), rounded_text(b, self.places)) for a, b in pairs]
+        return zip(nearest_doubles(first, self.places), nearest_doubles(second, self.places))
 
     def nearest(self, coordinates: Sequence[tuple[Decimal, Decimal]]) -> list[tuple[int, int]]:
         if not coordinates:

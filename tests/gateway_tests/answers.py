@@ -190,6 +190,8 @@ def check_refusals(context: Context, gateway: Gateway) -> None:
         answer = gateway.send("PATCH", path)
         check_problem(context, answer, 405, "method_not_allowed")
         context.check("Allow", answer.headers["allow"], methods)
+        asked = gateway.send("OPTIONS", path)
+        context.check("OPTIONS", (asked.status_code, asked.headers["allow"]), (204, methods))
     head = gateway.client.head(gateway.url + LAMPS)
     context.check("HEAD", (head.status_code, head.content), (200, b""))
 

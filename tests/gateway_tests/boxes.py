@@ -4,6 +4,7 @@ import math
 import random
 from collections import Counter
 from concurrent.futures import ThreadPoolExecutor
+from dataclasses import dataclass, field
 from decimal import Decimal
 from pathlib import Path
 from typing import Any
@@ -11,7 +12,7 @@ from typing import Any
 import numpy
 import pyproj
 from gateway_tests.data import KILOMETRE, batches, collections, feature, shape
-from gateway_tests.plain import Box, Plain
+from gateway_tests.plain import Box, Plain, Shape
 from gateway_tests.service import EPSG, OFFICE, Gateway, gateway
 from harness import Context
 from messages import post
@@ -20,44 +21,96 @@ MERCATOR = f"{EPSG}3857"
 # In degrees: what the plain test itself may err by, and by how much a box may be too large.
 SURE, EDGE = 3e-10, 3e-9
 FEW, MANY = 400, 10_000
+# Of so many boxes one goes over the bounds of the office's system, and one is turned on its grid.
+FAR_EACH, TURNED_EACH = 20, 10
+# An office far from the middle of EPSG:3035 (LAEA Europe): parallels are turned by 20 degrees.
+TURNED = 'name = "EPSG:3035"\neasting = 5600000\nnorthing = 4400000'
 FIJI = 'name = "EPSG:3460"\neasting = 2000000\nnorthing = 4000000'
 
 
-def random_box(source: random.Random) -> Box:
-    """A box of some metres to some hundred kilometres near the office."""
-    longitude, latitude = source.gauss(9.98, 0.5), source.gauss(53.55, 0.3)
+def random_box(source: random.Random, longitude: float = 9.98, latitude: float = 53.55) -> Box:
+    """A box of some metres to some hundred kilometres near a place."""
+    west, south = source.gauss(longitude, 0.5), source.gauss(latitude, 0.3)
     wide, high = (10 ** source.uniform(-4, 0.5) for _ in range(2))
-    return Box(longitude, latitude, longitude + wide, latitude + high)
+    return Box(west, south, west + wide, south + high)
+
+
+def far_box(source: random.Random) -> Box:
+    """A box with a corner near the office, and the one across from it beyond the bounds of the
+    system's area of use, which is 6 to 12 degrees east."""
+    near = source.gauss(9.98, 0.5), source.gauss(53.55, 0.3)
+    far = source.choice((-60, -20, 1, 17, 40, 100)), source.choice((-85, 10, 40, 70, 89))
+    (west, east), (south, north) = (sorted(pair) for pair in zip(near, far))
+    return Box(west, south, east, north)
 
 
 def text_of(box: Box) -> str:
     return f"{box.west!r},{box.south!r},{box.east!r},{box.north!r}"
 
 
-def check_random_boxes(context: Context, asked: Gateway) -> None:
-    """None lost, none too many, over all collections."""
-    source = random.Random(5)
-    boxes = [random_box(source) for _ in range(MANY if context.slow else FEW)]
-    plain = Plain("EPSG:25832", 565000, 5934000)
-    counted: Counter[str] = Counter()
-    for number, (name, made) in enumerate(collections().items()):
-        shapes = {each["id"]: plain.shape(each) for each in made}
-        part = boxes[number :: len(collections())]
+@dataclass
+class Judge:
+    """Holds what the gateway has in boxes against the plain test, and counts."""
+
+    context: Context
+    asked: Gateway
+    plain: Plain
+    counted: Counter[str] = field(default_factory=Counter)
+
+    def check(self, name: str, made: list[dict[str, Any]], boxes: list[Box]) -> None:
+        """None lost, none too many, in these boxes of a collection."""
+        shapes = {each["id"]: self.plain.shape(each) for each in made}
         with ThreadPoolExecutor(4) as pool:
-            answers = pool.map(lambda box: asked.ids(name, bbox=text_of(box), limit=1000), part)
-            for box, found in zip(part, answers):
-                surely = {
-                    key for key, each in shapes.items() if plain.meets(each, box.grown(-SURE))
-                }
-                perhaps = {
-                    key for key, each in shapes.items() if plain.meets(each, box.grown(EDGE))
-                }
+            answers = pool.map(
+                lambda box: self.asked.ids(name, bbox=text_of(box), limit=1000), boxes
+            )
+            for box, found in zip(boxes, answers):
+                surely, perhaps = (self.met(shapes, box.grown(by)) for by in (-SURE, EDGE))
                 lost, more = surely - set(found), set(found) - perhaps
-                context.check(f"{name} {text_of(box)}", (lost, more), (set(), set()))
-                counted.update(boxes=1, found=len(found), undecided=len(perhaps - surely))
-    shown = f"{counted['boxes']} boxes, {counted['found']} found, {counted['undecided']} at an edge"
-    context.check(f"few at an edge: {shown}", counted["undecided"] * 500 < counted["found"], True)
-    print(f"  {shown}")
+                self.context.check(f"{name} {text_of(box)}", (lost, more), (set(), set()))
+                self.counted.update(boxes=1, found=len(found), undecided=len(perhaps - surely))
+
+    def met(self, shapes: dict[str, Shape | None], box: Box) -> set[str]:
+        return {key for key, each in shapes.items() if self.plain.meets(each, box)}
+
+    def end(self, what: str) -> None:
+        """Nearly all features are surely in a box or out of it."""
+        counts = self.counted
+        shown = (
+            f"{counts['boxes']} boxes, {counts['found']} found, {counts['undecided']} at an edge"
+        )
+        is_sharp = counts["undecided"] * 500 < counts["found"]
+        self.context.check(f"few at an edge: {shown}", is_sharp, True)
+        print(f"  {what}: {shown}")
+
+
+def check_random_boxes(context: Context, asked: Gateway) -> None:
+    """Random boxes over all collections, which have lines of 100 km. Some boxes go over the bounds
+    of the system."""
+    source, count = random.Random(5), MANY if context.slow else FEW
+    boxes = [
+        far_box(source) if number % FAR_EACH == 0 else random_box(source) for number in range(count)
+    ]
+    judge = Judge(context, asked, Plain("EPSG:25832", 565000, 5934000))
+    for number, (name, made) in enumerate(collections().items()):
+        judge.check(name, made, boxes[number :: len(collections())])
+    judge.end("in CRS84")
+
+
+def check_turned_boxes(context: Context, server: str) -> None:
+    """The same grid far from the middle of EPSG:3035, where each box in degrees is turned."""
+    source, count = random.Random(10), (MANY if context.slow else FEW) // TURNED_EACH
+    plain = Plain("EPSG:3035", 5600000, 4400000)
+    places = plain.degrees(float_array(0, 1e6), float_array(0, 0))
+    east, north = places[1] - places[0]
+    turn = math.degrees(math.atan2(north, east * math.cos(math.radians(places[0][1]))))
+    context.check(f"the grid is turned by {turn:.1f} degrees", abs(turn) > 10, True)
+    boxes = [random_box(source, *places[0]) for _ in range(count)]
+    with gateway(context, server, TURNED) as asked:
+        judge = Judge(context, asked, plain)
+        for number, name in enumerate(("kerbs", "parks")):
+            judge.check(name, collections()[name], boxes[number::2])
+        judge.end("turned")
 
 
 def check_office_boxes(context: Context, asked: Gateway) -> None:

@@ -7,6 +7,7 @@ from pathlib import Path
 from typing import Any
 
 from gateway_tests.data import collections
+from gateway_tests.round_trip import TO_SEQUENCE
 from gateway_tests.service import PYTHON, Gateway, environment
 from harness import Context
 from osgeo import gdal, ogr
@@ -33,7 +34,8 @@ def check_qgis(context: Context, asked: Gateway) -> None:
     """QGIS opens each collection, counts, reads all, asks boxes, and draws."""
     picture = context.folder / "map.png"
     words = [PYTHON, str(SCRIPT), asked.url, str(picture), GROUND, *collections(), *BOXES]
-    seen = environment() | {"QT_QPA_PLATFORM": "offscreen", "HOME": str(context.folder)}
+    folder = str(context.folder)
+    seen = environment() | {"QT_QPA_PLATFORM": "offscreen", "HOME": folder, "TMPDIR": folder}
     ended = subprocess.run(words, env=seen, capture_output=True, text=True, timeout=SECONDS)
     context.check("QGIS ends", ended.returncode, 0)
     found = json.loads(ended.stdout.splitlines()[-1])
@@ -78,8 +80,7 @@ def check_geopackage(context: Context, asked: Gateway) -> None:
 def check_sequence(context: Context, name: str, file: Path, made: list[dict[str, Any]]) -> None:
     """The GeoPackage as a text sequence in metres: the grid again, by decimals."""
     text = file.with_suffix(".jsonl")
-    words = ["ogr2ogr", "-f", "GeoJSONSeq", "-a_srs", "None", "-lco", "ID_FIELD=id"]
-    words += ["-lco", "COORDINATE_PRECISION=6", str(text), str(file)]
+    words = [*TO_SEQUENCE, str(text), str(file)]
     ended = subprocess.run(words, capture_output=True, text=True, timeout=SECONDS)
     context.check(f"{name} as a sequence", ended.returncode, 0)
     lines = [json.loads(line, parse_float=Decimal) for line in text.read_text().splitlines()]

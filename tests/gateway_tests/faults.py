@@ -10,6 +10,7 @@ import time
 from collections.abc import Callable, Iterator
 from concurrent.futures import ThreadPoolExecutor
 
+import httpx
 from gateway_tests.answers import check_problem
 from gateway_tests.data import batches, feature, lamps, shape
 from gateway_tests.service import Gateway, gateway
@@ -95,6 +96,7 @@ def check_faults(context: Context) -> None:
             with context.serve(file, "--clients", "32") as again:
                 between.port = again.port
                 check_again(context, asked)
+                check_killed_gateway(context, between)
     check_cut_connections(context, file)
 
 
@@ -138,6 +140,23 @@ def check_again(context: Context, asked: Gateway) -> None:
     context.check("once", asked.ask(ITEMS).json()["numberMatched"], before)
 
 
+def check_killed_gateway(context: Context, between: Relay) -> None:
+    """The gateway is stopped hard between batch and answer: another one answers the same request
+    under its key, and there is one feature."""
+    with gateway(context, between.url) as asked:
+        before = asked.ask(ITEMS).json()["numberMatched"]
+        between.action = asked.process.kill
+        with contextlib.suppress(httpx.TransportError):
+            asked.send("POST", ITEMS, lamp(None), Idempotency_Key="key 3")
+            context.check("the gateway is killed", "an answer", "none")
+    with gateway(context, between.url) as asked:
+        count = asked.ask(ITEMS).json()["numberMatched"]
+        context.check("the batch of the killed one", count, before + 1)
+        answer = asked.send("POST", ITEMS, lamp(None), Idempotency_Key="key 3")
+        context.check("sent to another", answer.status_code, 201)
+        context.check("it acted once", asked.ask(ITEMS).json()["numberMatched"], count)
+
+
 def check_cut_connections(context: Context, file: object) -> None:
     """The server cuts idle connections of the gateway, since others come, or since it is started
     anew; with --slow also after half a minute. The gateway's next requests are answered."""
@@ -164,11 +183,10 @@ def check_many(context: Context, asked: Gateway) -> None:
 
     def client(number: int) -> list[int]:
         statuses = []
-        own = http.client.HTTPConnection(
-            "127.0.0.1", int(asked.url.rpartition(":")[2]), timeout=120
-        )
+        port = int(asked.url.rpartition(":")[2])
+        own = http.client.HTTPConnection("127.0.0.1", port, timeout=context.seconds)
         with contextlib.closing(own):
-            barrier.wait(120)
+            barrier.wait(context.seconds)
             for turn in range(EACH):
                 box = f"&bbox=9.9,53.5,{10 + number / 1000},{53.6 + turn / 100}" if turn % 2 else ""
                 own.request("GET", f"{ITEMS}?limit=20{box}")

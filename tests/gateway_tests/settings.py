@@ -1,7 +1,9 @@
 """Settings that are refused, the table of the map page, and the style and types of the sources."""
 
 import json
+import math
 import random
+import re
 import shutil
 import subprocess
 from pathlib import Path
@@ -16,22 +18,24 @@ SECONDS = 240
 # Types are checked once from nothing, and then from what is kept.
 TYPES_SECONDS = 600
 TYPES = ROOT / "tests" / "out" / "mypy"
+# What `systemd-analyze security` may say of the unit: 0 is the best, 10 the worst.
+MOST_EXPOSURE = 2.0
 OSGB = "Inverse of British National Grid + OSGB36 to WGS 84 (6) + axis order change (2D)"
 BRITAIN = 'name = "EPSG:27700"\neasting = 400000\nnorthing = 300000'
 
 
 def check_style(context: Context) -> None:
-    """The sources pass `black` and `mypy --strict`."""
+    """The sources pass Debian's `black` and `mypy --strict`."""
     file = str(ROOT / "gateway" / "pyproject.toml")
-    checks = (
-        ["black", "--config", file, "--check", "--quiet", str(ROOT / "gateway")],
-        ["mypy", "--strict", "--config-file", file, "--cache-dir", str(TYPES), "-p", "gateway"],
-    )
+    sources = [str(ROOT / "gateway"), str(ROOT / "tests" / "gateway_tests")]
+    types = ["--strict", "--config-file", file, "--cache-dir", str(TYPES), "-p", "gateway"]
+    checks = (["/usr/bin/black", "--config", file, "--check", *sources], ["/usr/bin/mypy", *types])
     for words in checks:
         ended = subprocess.run(
             words, cwd=ROOT, capture_output=True, text=True, timeout=TYPES_SECONDS
         )
-        context.check(words[0], ended.stdout if ended.returncode else "", "")
+        said = (ended.stdout + ended.stderr) if ended.returncode else ""
+        context.check(words[0], (ended.returncode, said), (0, ""))
 
 
 REFUSED = {
@@ -133,6 +137,20 @@ def placed_by_page(folder: Path, reader: Path, table: str, spots: list[list[int]
     return json.loads(ended.stdout)
 
 
+def check_unit(context: Context, unit: Path) -> None:
+    """The unit of the package is one, starts the gateway, and gives it little to reach."""
+    started = "ExecStart=/usr/bin/python3 -m gateway %d/gateway.toml" in unit.read_text()
+    context.check("its unit", started, True)
+    analyse = ["systemd-analyze"]
+    options = {"capture_output": True, "text": True, "timeout": SECONDS}
+    ended = subprocess.run([*analyse, "verify", str(unit)], **options)
+    context.check("systemd-analyze verify", (ended.returncode, ended.stderr), (0, ""))
+    ended = subprocess.run([*analyse, "security", "--offline=true", str(unit)], **options)
+    exposure = re.search(r"exposure level for \S+: ([0-9.]+)", ended.stdout)
+    found = float(exposure[1]) if exposure else math.inf
+    context.check(f"its exposure is {found}", found <= MOST_EXPOSURE, True)
+
+
 def check_package(context: Context) -> None:
     """The Debian package has what the gateway needs to run, and its unit."""
     folder = context.folder / "package"
@@ -146,8 +164,10 @@ def check_package(context: Context) -> None:
     tree = folder / "tree"
     words = ["dpkg-deb", "-x", made.stdout.strip(), str(tree)]
     context.check("it is unpacked", subprocess.run(words, timeout=SECONDS).returncode, 0)
-    unit = (tree / "lib/systemd/system/streetmap-gateway.service").read_text()
-    context.check("its unit", "ExecStart=/usr/bin/python3 -m gateway %d/gateway.toml" in unit, True)
+    words = ["lintian", "--fail-on", "error,warning", made.stdout.strip()]
+    ended = subprocess.run(words, capture_output=True, text=True, timeout=SECONDS)
+    context.check("lintian", (ended.returncode, ended.stdout), (0, ""))
+    check_unit(context, tree / "lib/systemd/system/streetmap-gateway.service")
     file = write(context, settings_text("http://127.0.0.1:1", 1))
     share = tree / "usr/share/streetmap"
     seen = {"PYTHONPATH": str(share), "PATH": "/usr/bin:/bin"}

@@ -1,6 +1,7 @@
 """The gateway in real reference systems: boxes, edits, faults, and QGIS, GDAL and OWSLib."""
 
-from gateway_tests import answers, boxes, clients, edits, faults, orders, pages, settings
+from gateway_tests import answers, boxes, clients, doubles, edits, faults, orders, pages
+from gateway_tests import round_trip, settings
 from gateway_tests.data import batches, collections
 from gateway_tests.service import gateway
 from harness import Context
@@ -18,6 +19,8 @@ PACKAGES = (
     "python3-owslib",
     "mypy",
     "black",
+    "lintian",
+    "systemd",
 )
 
 
@@ -25,6 +28,7 @@ def run(context: Context) -> None:
     settings.check_style(context)
     settings.check_settings(context)
     settings.check_package(context)
+    doubles.check_doubles(context)
     file = context.new_file("town.streetmap", *map(post, batches(collections())))
     with context.serve(file, "--clients", "48") as server:
         with gateway(context, server.url) as asked:
@@ -44,6 +48,8 @@ def run(context: Context) -> None:
             settings.check_place(context, asked)
             faults.check_many(context, asked)
         pages.check_secret(context, server.url)
+        boxes.check_turned_boxes(context, server.url)
+    round_trip.check_round_trips(context)
     boxes.check_antimeridian(context)
     orders.check_orders(context)
     pages.check_short_pages(context)
