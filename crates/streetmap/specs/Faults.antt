@@ -10,6 +10,8 @@ use Rattle.streetmap_files.specs.declared.fault.OpenFault.{OpenFault}
 use Rattle.streetmap_files.specs.declared.fault.OpenFault.TheVariants as opening
 use Rattle.streetmap_checking.specs.declared.checking.CheckFault.{CheckFault}
 use Rattle.streetmap_checking.specs.declared.checking.CheckFault.TheVariants as checking
+use Rattle.streetmap_replaying.specs.declared.fault.ReplayStop.{ReplayStop}
+use Rattle.streetmap_replaying.specs.declared.fault.ReplayStop.TheVariants as replay
 use Rattle.streetmap_web.specs.declared.serving.End.{End}
 use Rattle.streetmap_web.specs.declared.serving.End.TheVariants as stream
 use Rattle.streetmap_following.specs.declared.following.Followed.{Followed}
@@ -44,6 +46,12 @@ fault_of_keeper keeper.Memory = Memory
 fault_of_keeper keeper.Damaged = Damaged
 fault_of_keeper keeper.Device = Device
 fault_of_keeper keeper.Reopen = Device
+
+-- where a replay does not come to its end
+abbrev pub fault_of_replay : ReplayStop → ProgramFault
+fault_of_replay (replay.Kept fault) = fault_of_keeper fault
+fault_of_replay (replay.Fresh fault) = fault_of_keeper fault
+fault_of_replay replay.Memory = Memory
 
 -- where the rows of a file are not told to be a state's
 abbrev pub fault_of_check : CheckFault → ProgramFault

@@ -3,6 +3,10 @@ use crate::fault;
 use sqlite::Alter;
 use streetmap_checking::check_tables;
 use streetmap_faults::ProgramFault;
+use streetmap_index::IndexedKeeper;
+use streetmap_kept::KeepsBatches;
+use streetmap_memory::PlainKeeper;
+use streetmap_replaying::{ReplayFault, check_replay};
 use streetmap_store::TableKeeper;
 
 /// Tells how many collections, features and batches there are, where the rows are those of a state.
@@ -18,4 +22,26 @@ pub(crate) fn check<S: Alter + Drop>(
         totals.collections, totals.features, totals.batches
     )
     .map_err(|_| ProgramFault::WriteFailed)
+}
+
+/// Says which collection is another in the replay: a line that cannot be written is left out.
+fn tell_collection(rt: &HostRuntime, name: &str) {
+    let _ = eprintln!(rt; "streetmap: not_replayed {name}");
+}
+
+/// Replays the kept batches in memory, and compares what they give with what the keeper shows.
+pub(crate) fn replay<K: KeepsBatches>(
+    rt: &HostRuntime,
+    keeper: &mut K,
+) -> Result<(), ProgramFault> {
+    let mut fresh = IndexedKeeper::new(rt.alloc(), PlainKeeper::new(rt.alloc()));
+    match check_replay(rt.alloc(), keeper, &mut fresh) {
+        Ok(()) => Ok(()),
+        Err(ReplayFault::Batch(serial)) => Err(ProgramFault::NotReplayed(Some(serial))),
+        Err(ReplayFault::Collection(name)) => {
+            tell_collection(rt, name.as_str());
+            Err(ProgramFault::NotReplayed(None))
+        }
+        Err(ReplayFault::Stopped(stop)) => Err(fault::of_replay(stop)),
+    }
 }

@@ -1,6 +1,6 @@
 //! Features in and out: an import, and an export.
 use crate::progress::ProgressLines;
-use crate::texts;
+use crate::{progress, texts};
 use std::io::writer;
 use streetmap_batch::Batch;
 use streetmap_command::Import;
@@ -12,7 +12,7 @@ use streetmap_ledger::Keeper;
 pub(crate) fn read_batch(rt: &HostRuntime, asked: Import<'_>) -> Result<Batch, ProgramFault> {
     let text = texts::read(rt, asked.text)?;
     let mut lines = ProgressLines {
-        output: asked.progress.then(|| rt.stderr()),
+        output: progress::output(rt, asked.progress),
     };
     let batch = import_batch(
         rt.alloc(),
@@ -40,11 +40,11 @@ pub(crate) fn export_collection<K: Keeper>(
     rt: &HostRuntime,
     keeper: &mut K,
     collection: &str,
-    progress: bool,
+    is_told: bool,
 ) -> Result<(), ProgramFault> {
     let mut output = writer(rt);
     let mut lines = ProgressLines {
-        output: progress.then(|| rt.stderr()),
+        output: progress::output(rt, is_told),
     };
     export(rt.alloc(), keeper, collection, &mut output, &mut lines).map_err(ProgramFault::from)
 }

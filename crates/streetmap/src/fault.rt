@@ -3,7 +3,7 @@ ghost use Rattle.std.specs.Prelude.{◌≡◌, ◌≢◌};
 ghost use Rattle.std.specs.IoError.{error_kind};
 ghost use Rattle.streetmap.specs.Faults.{fault_of_create, fault_of_open, fault_of_check};
 ghost use Rattle.streetmap.specs.Faults.{fault_of_text, end_of_stream, end_of_followed};
-ghost use Rattle.streetmap.specs.Faults.{fault_of_keeper};
+ghost use Rattle.streetmap.specs.Faults.{fault_of_keeper, fault_of_replay};
 
 use std::io::{Error, ErrorKind};
 use streetmap_checking::CheckFault;
@@ -11,6 +11,7 @@ use streetmap_faults::ProgramFault;
 use streetmap_files::{CreateFault, OpenFault};
 use streetmap_following::{End as FollowEnd, Followed};
 use streetmap_ledger::Fault;
+use streetmap_replaying::ReplayStop;
 use streetmap_web::End;
 
 /// The fault of words that cannot be had: one of them is no UTF-8, or memory is refused.
@@ -34,6 +35,19 @@ pub(crate) fn of_text(error: &Error) -> ProgramFault
         ErrorKind::NotFound => ProgramFault::NoText,
         ErrorKind::OutOfMemory => ProgramFault::Memory,
         _ => ProgramFault::ReadFailed,
+    }
+}
+
+/// The fault of a journal that cannot be opened: memory is refused, or the device fails.
+pub(crate) fn of_journal(error: &Error) -> ProgramFault
+    ensures memory { error_kind error.now ≡ ErrorKind.OutOfMemory → result ≡ ProgramFault.Memory }
+    ensures other { error_kind error.now ≢ ErrorKind.OutOfMemory →
+        result ≡ ProgramFault.NoJournal }
+{
+    if error.kind() == ErrorKind::OutOfMemory {
+        ProgramFault::Memory
+    } else {
+        ProgramFault::NoJournal
     }
 }
 
@@ -92,6 +106,17 @@ pub(crate) fn of_check(fault: &CheckFault) -> ProgramFault
         CheckFault::Damaged => ProgramFault::Damaged,
         CheckFault::Device(_) => ProgramFault::Device,
         CheckFault::Memory => ProgramFault::Memory,
+    }
+}
+
+/// The fault of a replay that does not come to its end.
+pub(crate) fn of_replay(stop: ReplayStop) -> ProgramFault
+    ensures { result ≡ fault_of_replay stop }
+{
+    match stop {
+        ReplayStop::Kept(fault) => of_keeper(fault),
+        ReplayStop::Fresh(fault) => of_keeper(fault),
+        ReplayStop::Memory => ProgramFault::Memory,
     }
 }
 

@@ -1,10 +1,11 @@
 //! The keeper of a file: here alone its store is named.
 use crate::exchange::read_batch;
+use crate::same::refuse_same;
 use crate::tasks::Task;
 use crate::{fault, loading};
 use sqlite::Unknown;
 use std::fs::{exists, metadata};
-use streetmap_command::{Connections, Import, LoadAsked};
+use streetmap_command::{Connections, Import, JournalAsked, LoadAsked};
 use streetmap_faults::ProgramFault;
 use streetmap_placing::Numbers;
 use streetmap_routes::Base;
@@ -62,13 +63,29 @@ pub(crate) fn serve(
     path: &str,
     connections: Connections,
     base: Base,
+    journal: Option<JournalAsked<'_>>,
 ) -> Result<(), ProgramFault> {
-    if is_there(rt, path)? {
-        tell_size(rt, path);
-        run_over(rt, path, Task::Serve(connections, base))
-    } else {
-        Err(ProgramFault::NoFile)
+    if !is_there(rt, path)? {
+        return Err(ProgramFault::NoFile);
     }
+    if let Some(asked) = journal {
+        refuse_same(rt, path, asked.path)?;
+    }
+    tell_size(rt, path);
+    let task = Task::Serve {
+        connections,
+        base,
+        journal,
+    };
+    run_over(rt, path, task)
+}
+
+/// Reads all rows of a file; before that its kept batches are replayed, where that is asked for.
+pub(crate) fn check(rt: &HostRuntime, path: &str, replay: bool) -> Result<(), ProgramFault> {
+    if replay {
+        run(rt, path, Task::Replay)?;
+    }
+    run(rt, path, Task::Check)
 }
 
 /// Puts the features of a text into a collection of a file. The text is read, and its batch made,
@@ -91,7 +108,7 @@ pub(crate) fn load(
 ) -> Result<(), ProgramFault> {
     let is_file = is_there(rt, path)?;
     let load = loading::read(rt, asked, numbers)?;
-    look_for(rt, asked.text)?;
+    look_for(rt, path, asked.text)?;
     if asked.print && (asked.opens || !asked.skip) {
         loading::print(rt, load, asked)
     } else if is_file {
@@ -104,20 +121,20 @@ pub(crate) fn load(
 /// Applies the lines of a text, or of standard input, to a file.
 pub(crate) fn apply(rt: &HostRuntime, path: &str, text: Option<&str>) -> Result<(), ProgramFault> {
     if is_there(rt, path)? {
-        look_for(rt, text)?;
+        look_for(rt, path, text)?;
         run_over(rt, path, Task::Apply { text })
     } else {
         Err(ProgramFault::NoFile)
     }
 }
 
-/// Looks whether a text is there, where one is named.
-fn look_for(rt: &HostRuntime, text: Option<&str>) -> Result<(), ProgramFault> {
+/// Looks whether a text is there, where one is named, and is another than the file.
+fn look_for(rt: &HostRuntime, file: &str, text: Option<&str>) -> Result<(), ProgramFault> {
     let Some(path) = text else {
         return Ok(());
     };
     match exists(rt, path) {
-        Ok(true) => Ok(()),
+        Ok(true) => refuse_same(rt, file, path),
         Ok(false) => Err(ProgramFault::NoText),
         Err(error) => Err(fault::of_text(&error)),
     }

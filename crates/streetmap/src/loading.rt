@@ -1,7 +1,8 @@
 //! Features of any number in: a load.
-use crate::fault;
+use crate::progress::Pace;
+use crate::{fault, progress};
 use std::fs::File;
-use std::io::{BufReader, IsTerminal, Read, Stderr, Write, writer};
+use std::io::{BufReader, Read, Stderr, Write, writer};
 use streetmap_command::LoadAsked;
 use streetmap_decimal::{Rounding, Scale, Shift};
 use streetmap_faults::ProgramFault;
@@ -15,6 +16,8 @@ use streetmap_placing::{Fractions, Numbers};
 /// What a load under way is told to: lines on standard error.
 #[derive(Drop)]
 struct LoadLines<'a, W> {
+    rt: &'a HostRuntime,
+    pace: Pace,
     /// Where lines of features at fault go.
     faults: W,
     /// Where lines of how far the load is go: none are written where there is nothing.
@@ -27,14 +30,15 @@ impl<'a> LoadLines<'a, Stderr> {
     /// Lines on standard error, those of how far the load is where it is asked for, or where that
     /// is a terminal.
     fn new(
-        rt: &HostRuntime,
+        rt: &'a HostRuntime,
         asked: LoadAsked<'_>,
         passed_over: &'a mut u64,
     ) -> LoadLines<'a, Stderr> {
-        let is_shown = asked.progress || rt.stderr().is_terminal();
         LoadLines {
+            rt,
+            pace: Pace::new(rt, asked.text),
             faults: rt.stderr(),
-            progress: if is_shown { Some(rt.stderr()) } else { None },
+            progress: progress::output(rt, asked.progress),
             passed_over,
         }
     }
@@ -45,7 +49,7 @@ impl<W: Write> Listener for LoadLines<'_, W> {
     fn reached(&mut self, features: u64, bytes: u64) {
         if features % 1000 == 0 {
             if let Some(output) = &mut self.progress {
-                let _ = writeln!(output, "streetmap: {features} features, {bytes} bytes");
+                self.pace.tell(self.rt, output, features, bytes);
             }
         }
     }

@@ -2,8 +2,9 @@
 //! and exported, or read and changed by lines.
 //!
 //! Modules, in the order of reading: `files` (the keeper of a file), `tasks` (what the commands do
-//! over it), and one for each group of commands: `serving` (`serve`, `pipe`), `exchange` (`import`,
-//! `export`), with `texts` and `progress` below it, `checking` (`check`), `lines` (`lines`).
+//! over it), and one for each group of commands: `serving` (`serve`, `pipe`), with `journal` below
+//! it, `exchange` (`import`, `export`), with `texts` and `progress` below it, `loading` (`load`),
+//! `batches` (`batches`, `apply`), `checking` (`check`), `lines` (`lines`).
 //! `fault` turns faults of the crates below into that of the program. The command line, what is
 //! printed for a fault, and what the commands do in turn, stand in those crates.
 #![tactic(auto)]
@@ -13,9 +14,11 @@ mod checking;
 mod exchange;
 mod fault;
 mod files;
+mod journal;
 mod lines;
 mod loading;
 mod progress;
+mod same;
 mod serving;
 mod tasks;
 mod texts;
@@ -51,9 +54,10 @@ fn perform(rt: &HostRuntime, command: Command<'_>) -> Result<(), ProgramFault> {
             file,
             connections,
             base,
+            journal,
         } => {
             let base = Base::new(rt.alloc(), base.as_str())?;
-            files::serve(rt, file, connections, base)
+            files::serve(rt, file, connections, base, journal)
         }
         Command::Import { file, import } => files::import(rt, file, import),
         Command::Export {
@@ -68,7 +72,7 @@ fn perform(rt: &HostRuntime, command: Command<'_>) -> Result<(), ProgramFault> {
                 progress,
             },
         ),
-        Command::Check { file } => files::run(rt, file, Task::Check),
+        Command::Check { file, replay } => files::check(rt, file, replay),
         Command::Load { file, load } => {
             let numbers = loading::numbers_of(load)?;
             files::load(rt, file, load, numbers)
@@ -84,9 +88,13 @@ fn print_version(rt: &HostRuntime) -> Result<(), ProgramFault> {
 }
 
 /// Prints the line of a fault, and of a text that is no sequence of features also what makes one.
-/// Features that were passed over have their lines already.
+/// Features that were passed over, and a collection that is another in a replay, have their lines
+/// already.
 fn print_fault(rt: &HostRuntime, fault: ProgramFault) {
-    if !matches!(fault, ProgramFault::PassedOver) {
+    if !matches!(
+        fault,
+        ProgramFault::PassedOver | ProgramFault::NotReplayed(None)
+    ) {
         let _ = eprintln!(rt; "{fault}");
     }
     if let ProgramFault::Load(End::AtFault(TextFault::NotASequence)) = fault {

@@ -1,8 +1,20 @@
-//! How far an import or an export is, on standard error.
-use std::io::Write;
+//! How far a command is, on standard error.
+use std::fs::metadata;
+use std::io::{IsTerminal, Stderr, Write};
+use std::time::Instant;
 use streetmap_exchange::Progress;
 
-/// Writes a line for each thousand features, where it is asked for.
+/// Standard error, where it is asked for how far a command is, or where that is a terminal.
+pub(crate) fn output(rt: &HostRuntime, is_asked: bool) -> Option<Stderr> {
+    let output = rt.stderr();
+    if is_asked || output.is_terminal() {
+        Some(output)
+    } else {
+        None
+    }
+}
+
+/// Writes a line for each thousand features of an import or an export, where there is an output.
 #[derive(Drop)]
 pub(crate) struct ProgressLines<W> {
     /// Where the lines go: none are written where there is nothing.
@@ -15,5 +27,58 @@ impl<W: Write> Progress for ProgressLines<W> {
         if let Some(output) = &mut self.output {
             let _ = writeln!(output, "streetmap: {features} features");
         }
+    }
+}
+
+/// When a load began, and how long its text is.
+#[derive(Clone, Copy, Drop)]
+pub(crate) struct Pace {
+    /// Nothing where the clock could not be read.
+    began: Option<Instant>,
+    /// In bytes; 0 where that is not known.
+    length: u64,
+}
+
+impl Pace {
+    /// The pace of a load that begins now, of a text or of standard input.
+    pub(crate) fn new(rt: &HostRuntime, text: Option<&str>) -> Pace {
+        let found = text.and_then(|path| metadata(rt, path).ok());
+        Pace {
+            began: Instant::now(rt).ok(),
+            length: found.map_or(0, |found| found.len()),
+        }
+    }
+
+    /// The milliseconds since it began.
+    fn milliseconds(&self, rt: &HostRuntime) -> Option<u64> {
+        let took = self.began?.elapsed(rt).ok()?;
+        let whole = took.as_secs().saturating_mul(1000);
+        Some(whole.saturating_add(took.subsec_millis() as u64))
+    }
+
+    /// Writes a line on how many features were met, in how many bytes, how much of the text that is,
+    /// how many features a second, and how long the rest may take, as far as these are known.
+    pub(crate) fn tell<W: Write>(
+        &self,
+        rt: &HostRuntime,
+        output: &mut W,
+        features: u64,
+        bytes: u64,
+    ) {
+        let _ = write!(output, "streetmap: {features} features, {bytes} bytes");
+        if let Some(percent) = bytes.saturating_mul(100).checked_div(self.length) {
+            let _ = write!(output, ", {percent} %");
+        }
+        let took = self.milliseconds(rt).unwrap_or(0);
+        if let Some(pace) = features.saturating_mul(1000).checked_div(took) {
+            let _ = write!(output, ", {pace} a second");
+        }
+        let rest = self.length.saturating_sub(bytes).saturating_mul(took);
+        if let Some(left) = rest.checked_div(bytes.saturating_mul(1000)) {
+            if self.length > 0 {
+                let _ = write!(output, ", {left} s left");
+            }
+        }
+        let _ = writeln!(output);
     }
 }

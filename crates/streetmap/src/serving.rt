@@ -1,13 +1,16 @@
 //! What serves requests: a stream, or the clients of a port.
 use crate::fault;
+use crate::journal::{Begun, JournalFile, begin};
 use sqlite::Alter;
 use std::io::{BufReader, Write, writer};
 use std::net::{Ipv4Addr, TcpListener};
-use streetmap_command::Connections;
+use streetmap_command::{Connections, JournalAsked};
 use streetmap_connections::{Clients, Limits};
 use streetmap_faults::ProgramFault;
 use streetmap_files::{serve_clients_over_tables, serve_over_tables};
 use streetmap_index::IndexedKeeper;
+use streetmap_journal::{Journal, JournaledKeeper};
+use streetmap_kept::KeepsBatches;
 use streetmap_ledger::Keeper;
 use streetmap_routes::Base;
 use streetmap_serving::KeeperService;
@@ -47,21 +50,53 @@ fn warm<K: Keeper>(keeper: &mut K) -> Result<(), ProgramFault> {
     Ok(())
 }
 
+/// Says which lines a journal has.
+fn tell_journal(
+    rt: &HostRuntime,
+    asked: JournalAsked<'_>,
+    begun: &Begun,
+) -> Result<(), ProgramFault> {
+    let (path, first) = (asked.path, begun.first);
+    let last = begun.journal.next.saturating_sub(1);
+    println!(rt; "journal {path} from {first} to {last}").map_err(|_| ProgramFault::WriteFailed)
+}
+
+/// Listens at a port, with the journal that is asked for.
+fn listen_with_journal<K: KeepsBatches>(
+    rt: &HostRuntime,
+    keeper: &mut K,
+    port: u16,
+    asked: Option<JournalAsked<'_>>,
+) -> Result<(TcpListener, Option<Journal<JournalFile>>), ProgramFault> {
+    let Some(asked) = asked else {
+        return Ok((listen(rt, port)?, None));
+    };
+    let begun = begin(rt, keeper, asked)?;
+    let listener = listen(rt, port)?;
+    tell_journal(rt, asked, &begun)?;
+    Ok((listener, Some(begun.journal)))
+}
+
 /// Serves connections: many clients at once, or one client after the other.
 pub(crate) fn serve<S: Alter + Drop>(
     rt: &HostRuntime,
     keeper: IndexedKeeper<TableKeeper<S>>,
     connections: Connections,
     base: Base,
+    journal: Option<JournalAsked<'_>>,
 ) -> Result<(), ProgramFault> {
     let mut keeper = keeper;
     if connections.warm {
         warm(&mut keeper)?;
     }
-    let listener = listen(rt, connections.port)?;
+    let (listener, journal) = listen_with_journal(rt, &mut keeper, connections.port, journal)?;
     let service = KeeperService {
         alloc: rt.alloc(),
-        keeper,
+        keeper: JournaledKeeper {
+            alloc: rt.alloc(),
+            keeper,
+            journal,
+        },
         base,
         log: connections.log.then(|| rt.stderr()),
     };
@@ -81,7 +116,7 @@ fn serve_clients<S: Alter + Drop, W: Write + Drop>(
     rt: &HostRuntime,
     listener: &TcpListener,
     connections: Connections,
-    mut service: KeeperService<IndexedKeeper<TableKeeper<S>>, W>,
+    mut service: KeeperService<JournaledKeeper<IndexedKeeper<TableKeeper<S>>, JournalFile>, W>,
 ) -> Result<(), ProgramFault> {
     let count = connections.count.map_or(u64::MAX, u64::from);
     let mut clients = Clients::new(rt.alloc(), limits_of(connections.clients))?;

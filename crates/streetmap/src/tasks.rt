@@ -2,7 +2,7 @@
 use crate::{batches, checking, exchange, loading, serving};
 use sqlite::Alter;
 use streetmap_batch::Batch;
-use streetmap_command::{Connections, LoadAsked};
+use streetmap_command::{Connections, JournalAsked, LoadAsked};
 use streetmap_faults::ProgramFault;
 use streetmap_index::IndexedKeeper;
 use streetmap_loading::Load;
@@ -14,21 +14,37 @@ use streetmap_store::TableKeeper;
 pub(crate) enum Task<'a> {
     /// The requests of standard input are served on standard output.
     Pipe(Base),
-    /// Connections are served.
-    Serve(Connections, Base),
+    /// Connections are served, and what is accepted is written to a journal.
+    Serve {
+        connections: Connections,
+        base: Base,
+        journal: Option<JournalAsked<'a>>,
+    },
     /// The batch that a text was read into is applied, and its reply is printed.
     Import(Batch),
     /// A collection is written on standard output; with `progress` lines on standard error tell how
     /// far it is.
-    Export { collection: &'a str, progress: bool },
+    Export {
+        collection: &'a str,
+        progress: bool,
+    },
     /// All rows are read, and it is printed how many there are.
     Check,
+    /// The kept batches are replayed, and compared with what the file shows.
+    Replay,
     /// The features of a text are put into a collection by batches.
-    Load { load: Load, asked: LoadAsked<'a> },
+    Load {
+        load: Load,
+        asked: LoadAsked<'a>,
+    },
     /// The kept batches behind a serial are printed.
-    Batches { after: u32 },
+    Batches {
+        after: u32,
+    },
     /// The lines of a text, or of standard input, are applied.
-    Apply { text: Option<&'a str> },
+    Apply {
+        text: Option<&'a str>,
+    },
 }
 
 impl Task<'_> {
@@ -40,14 +56,17 @@ impl Task<'_> {
     ) -> Result<(), ProgramFault> {
         match self {
             Task::Pipe(base) => serving::pipe(rt, IndexedKeeper::new(rt.alloc(), keeper), base),
-            Task::Serve(connections, base) => {
-                serving::serve(
-                    rt,
-                    IndexedKeeper::new(rt.alloc(), keeper),
-                    connections,
-                    base,
-                )
-            }
+            Task::Serve {
+                connections,
+                base,
+                journal,
+            } => serving::serve(
+                rt,
+                IndexedKeeper::new(rt.alloc(), keeper),
+                connections,
+                base,
+                journal,
+            ),
             Task::Import(batch) => {
                 let mut keeper = keeper;
                 exchange::apply_batch(rt, &mut keeper, &batch)
@@ -60,6 +79,10 @@ impl Task<'_> {
                 exchange::export_collection(rt, &mut keeper, collection, progress)
             }
             Task::Check => checking::check(rt, keeper),
+            Task::Replay => {
+                let mut keeper = IndexedKeeper::new(rt.alloc(), keeper);
+                checking::replay(rt, &mut keeper)
+            }
             Task::Load { load, asked } => loading::run(rt, keeper, load, asked),
             Task::Batches { after } => {
                 let mut keeper = keeper;

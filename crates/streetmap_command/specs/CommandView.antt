@@ -6,11 +6,13 @@ use Rattle.streetmap_command.specs.declared.command.Command.TheVariants.{Pipe, S
 use Rattle.streetmap_command.specs.declared.command.Command.TheVariants.{Import, Export, Check}
 use Rattle.streetmap_command.specs.declared.command.Command.TheVariants.{Load, Batches, Apply}
 use Rattle.streetmap_command.specs.declared.words.LoadAsked.{LoadAsked}
+use Rattle.streetmap_command.specs.declared.words.JournalAsked.{JournalAsked}
 use Rattle.std.specs.Prelude.{option_map}
 use Rattle.streetmap_command.specs.Program.{CommandValue, version_command, lines_command}
 use Rattle.streetmap_command.specs.Program.{create_command, pipe_command, serve_command}
 use Rattle.streetmap_command.specs.Program.{import_command, export_command, check_command}
-use Rattle.streetmap_command.specs.Program.{load_command, batches_command, apply_command, LoadWords}
+use Rattle.streetmap_command.specs.Program.{load_command, batches_command, apply_command}
+use Rattle.streetmap_command.specs.Program.{LoadWords, JournalWords}
 
 -- the options of a load as values
 abbrev pub load_value : LoadAsked → LoadWords
@@ -33,17 +35,22 @@ load_value l = record {
   progress = l.progress;
 }
 
+-- a journal as a value
+abbrev pub journal_value : JournalAsked → JournalWords
+journal_value j = record { path = j.path.now; after = j.after; sync = j.sync }
+
 abbrev pub command_value : Command → CommandValue
 command_value Version = version_command
 command_value Lines = lines_command
 command_value (Create file) = create_command file.now
 command_value (Pipe file base) = pipe_command file.now (string_bytes base)
-command_value (Serve file c base) =
+command_value (Serve file c base journal) =
     serve_command file.now c.port c.count c.clients c.log c.warm (string_bytes base)
+    (option_map journal_value journal)
 command_value (Import file i) =
     import_command file.now i.text.now i.key.now i.collection.now i.replace i.progress
 command_value (Export file collection progress) = export_command file.now collection.now progress
-command_value (Check file) = check_command file.now
+command_value (Check file replay) = check_command file.now replay
 command_value (Load file load) = load_command file.now (load_value load)
 command_value (Batches file after) = batches_command file.now after
 command_value (Apply file text) = apply_command file.now (option_map (λ s. s.now) text)

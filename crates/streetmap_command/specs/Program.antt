@@ -41,11 +41,17 @@ create = with_rule (new_app (codes "create")) file
 abbrev pub pipe : App
 pipe = with_rule (with_rule (new_app (codes "pipe")) file) (option (codes "base"))
 
-abbrev pub serve : App
-serve = with_rule (with_rule (with_rule (with_rule
+-- FILE, and the clients that are served
+abbrev pub serve_clients : App
+serve_clients = with_rule (with_rule (with_rule (with_rule
     (with_rule (with_rule (with_rule (new_app (codes "serve")) file)
     (required_option (codes "port"))) (option (codes "count"))) (option (codes "clients")))
     (flag (codes "log"))) (option (codes "base"))) (flag (codes "warm"))
+
+-- and a journal of what is accepted
+abbrev pub serve : App
+serve = with_rule (with_rule (with_rule serve_clients (option (codes "journal")))
+    (option (codes "journal-after"))) (flag (codes "journal-sync"))
 
 -- FILE, TEXT, the key, the collection, whether features are replaced, and whether it is told how
 -- far the import is
@@ -60,7 +66,7 @@ export = with_rule (with_rule (with_rule (new_app (codes "export")) file)
     (required_option (codes "collection"))) (flag (codes "progress"))
 
 abbrev pub check : App
-check = with_rule (new_app (codes "check")) file
+check = with_rule (with_rule (new_app (codes "check")) file) (flag (codes "replay"))
 
 -- FILE, and the serial behind which batches are printed
 abbrev pub batches : App
@@ -128,6 +134,13 @@ pub record LoadWords : Type 0 where
   pub print : Bool
   pub progress : Bool
 
+-- a journal, as it is asked for: its file, the serial behind which it begins where it has no line,
+-- and whether its lines are synchronised before answers
+pub record JournalWords : Type 0 where
+  pub path : Text
+  pub after : ℕ
+  pub sync : Bool
+
 -- what a command line asks for
 pub data CommandValue : Type 0 where
   version_command : CommandValue
@@ -135,10 +148,10 @@ pub data CommandValue : Type 0 where
   create_command : (file : Text) → CommandValue
   pipe_command : (file base : Text) → CommandValue
   serve_command : (file : Text) (port : ℕ) (count : Option ℕ) (clients : ℕ) (log warm : Bool)
-      (base : Text) → CommandValue
+      (base : Text) (journal : Option JournalWords) → CommandValue
   import_command : (file text key collection : Text) (replace progress : Bool) → CommandValue
   export_command : (file collection : Text) (progress : Bool) → CommandValue
-  check_command : (file : Text) → CommandValue
+  check_command : (file : Text) (replay : Bool) → CommandValue
   load_command : (file : Text) (load : LoadWords) → CommandValue
   batches_command : (file : Text) (after : ℕ) → CommandValue
   apply_command : (file : Text) (text : Option Text) → CommandValue
@@ -186,19 +199,37 @@ abbrev pub is_set : Option Text → Bool
 is_set None = false
 is_set (Some value) = bytes_eq value (codes "true")
 
--- what serves, of what is given for its file, port, count, clients, flags and base
+-- behind a serial up to 2^32 - 1, or behind none
+abbrev pub after_given : Option Text → Option ℕ
+after_given None = Some 0
+after_given (Some text) = if bytes_eq text (codes "0") then Some 0 else number_up_to 4294967295 text
+
+-- a journal, or none: its other options go with it
+abbrev pub journal_given : (path after : Option Text) (sync : Bool)
+    → Option (Option JournalWords)
+journal_given (Some path) after sync =
+    option_map (λ n. Some (record { path = path; after = n; sync = sync })) (after_given after)
+journal_given None None false = Some None
+journal_given None None true = None
+journal_given None (Some text) sync = None
+
+abbrev pub journal_by : List Row → Option (Option JournalWords)
+journal_by rows = journal_given (first_of (codes "journal") rows)
+    (first_of (codes "journal-after") rows) (is_set (first_of (codes "journal-sync") rows))
+
+-- what serves, of what is given for its file, port, count, clients, flags, base and journal
 abbrev pub serve_given : (file port count clients log warm base : Option Text)
-    → Option CommandValue
-serve_given file port count clients log warm base =
+    (journal : Option (Option JournalWords)) → Option CommandValue
+serve_given file port count clients log warm base journal =
     option_and_then (λ f. option_and_then (λ p.
-    option_and_then (λ n. option_map (λ c.
-    serve_command f p n c (is_set log) (is_set warm) (unwrap_or base (base_at p)))
-    (clients_given n clients)) (count_given count)) (port_given port)) file
+    option_and_then (λ n. option_and_then (λ c. option_map (λ j.
+    serve_command f p n c (is_set log) (is_set warm) (unwrap_or base (base_at p)) j)
+    journal) (clients_given n clients)) (count_given count)) (port_given port)) file
 
 abbrev pub serve_by : List Row → Option CommandValue
 serve_by rows = serve_given (first_of (codes "file") rows) (first_of (codes "port") rows)
     (first_of (codes "count") rows) (first_of (codes "clients") rows) (first_of (codes "log") rows)
-    (first_of (codes "warm") rows) (first_of (codes "base") rows)
+    (first_of (codes "warm") rows) (first_of (codes "base") rows) (journal_by rows)
 
 -- what imports, of what is given for its file, text, key, collection and flags
 abbrev pub import_given : (file text key collection replace progress : Option Text)
@@ -223,7 +254,8 @@ export_by rows = export_given (first_of (codes "file") rows) (first_of (codes "c
     (first_of (codes "progress") rows)
 
 abbrev pub check_by : List Row → Option CommandValue
-check_by rows = option_map check_command (first_of (codes "file") rows)
+check_by rows = option_map (λ f. check_command f (is_set (first_of (codes "replay") rows)))
+    (first_of (codes "file") rows)
 
 -- 1 to 10,000 edits a batch, or 1,000 where no number is given
 abbrev pub each_given : Option Text → Option ℕ
@@ -279,11 +311,6 @@ options_given rows =
 abbrev pub load_by : List Row → Option CommandValue
 load_by rows = option_and_then (λ f. option_and_then (λ w. load_of f w) (options_given rows))
     (first_of (codes "file") rows)
-
--- behind a serial up to 2^32 - 1, or behind none
-abbrev pub after_given : Option Text → Option ℕ
-after_given None = Some 0
-after_given (Some text) = if bytes_eq text (codes "0") then Some 0 else number_up_to 4294967295 text
 
 abbrev pub batches_by : List Row → Option CommandValue
 batches_by rows = option_and_then (λ f. option_map (λ n. batches_command f n)

@@ -13,7 +13,7 @@ ghost use Rattle.streetmap_command.specs.Program.{asked_by, IsFoundIn};
 ghost use Rattle.streetmap_command.specs.CommandView.{command_value};
 
 use crate::parser::make_parser;
-use crate::words::{LoadAsked, read_apply, read_batches, read_load};
+use crate::words::{JournalAsked, LoadAsked, read_apply, read_batches, read_journal, read_load};
 use clap::error::ErrorKind;
 use clap::{ArgMatches, Error};
 use std::alloc::{AllocError, Global};
@@ -69,11 +69,13 @@ pub enum Command<'a> {
         file: &'a str,
         base: String,
     },
-    /// `streetmap serve FILE`: serve connections, with links under the base.
+    /// `streetmap serve FILE`: serve connections, with links under the base, and write a journal of
+    /// what is accepted.
     Serve {
         file: &'a str,
         connections: Connections,
         base: String,
+        journal: Option<JournalAsked<'a>>,
     },
     /// `streetmap import FILE TEXT`: put the features of a text into a collection by one batch.
     Import {
@@ -88,9 +90,10 @@ pub enum Command<'a> {
         progress: bool,
     },
     /// `streetmap check FILE`: say whether the rows of a file are those of a state, and how many there
-    /// are.
+    /// are; with `replay` also whether its kept batches give that state.
     Check {
         file: &'a str,
+        replay: bool,
     },
     /// `streetmap load FILE TEXT`: put the features of a text, a feature a line, into a collection
     /// by batches.
@@ -245,6 +248,7 @@ fn read_serve<'a>(alloc: Global, found: &ArgMatches<'a>) -> Result<Command<'a>, 
     let base = read_base(alloc, value_of(found, "base"), default.as_str())?;
     let log = has_flag(found, "log");
     let warm = has_flag(found, "warm");
+    let journal = read_journal(found).ok_or(CommandFault::Usage)?;
     Ok(Command::Serve {
         file,
         connections: Connections {
@@ -255,6 +259,7 @@ fn read_serve<'a>(alloc: Global, found: &ArgMatches<'a>) -> Result<Command<'a>, 
             warm,
         },
         base,
+        journal,
     })
 }
 
@@ -327,7 +332,8 @@ fn read_check<'a>(found: &ArgMatches<'a>) -> Result<Command<'a>, CommandFault>
         → e ≡ CommandFault.Memory) }
 {
     let file = value_of(found, "file").ok_or(CommandFault::Usage)?;
-    Ok(Command::Check { file })
+    let replay = has_flag(found, "replay");
+    Ok(Command::Check { file, replay })
 }
 
 /// The command that was found, by its name and what is given with it.

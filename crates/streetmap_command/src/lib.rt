@@ -10,4 +10,4 @@ mod words;
 
 pub use command::{Command, CommandFault, Connections, Import, read_command, version_is_asked};
 pub use parser::VERSION;
-pub use words::LoadAsked;
+pub use words::{JournalAsked, LoadAsked};

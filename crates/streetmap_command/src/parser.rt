@@ -6,7 +6,8 @@ ghost use Rattle.streetmap_command.specs.Program.{optional, load, load_into, loa
 ghost use Rattle.streetmap_command.specs.Program.{batches, apply};
 ghost use Rattle.streetmap_command.specs.Program.{program, positional, option, required_option};
 ghost use Rattle.streetmap_command.specs.Program.{flag};
-ghost use Rattle.streetmap_command.specs.Program.{create, pipe, serve, import, export, check};
+ghost use Rattle.streetmap_command.specs.Program.{create, pipe, serve, serve_clients, import};
+ghost use Rattle.streetmap_command.specs.Program.{export, check};
 ghost use Rattle.streetmap_command.specs.Program.{versioned};
 
 use clap::{Arg, ArgAction, Command};
@@ -97,8 +98,8 @@ fn make_pipe<'a>(alloc: Global) -> Result<Command<'a>, AllocError>
     with_argument(command, option_arg(alloc, "base"))
 }
 
-fn make_serve<'a>(alloc: Global) -> Result<Command<'a>, AllocError>
-    ensures app { IfOk result (λ c. app_of c ≡ serve) }
+fn make_serve_clients<'a>(alloc: Global) -> Result<Command<'a>, AllocError>
+    ensures app { IfOk result (λ c. app_of c ≡ serve_clients) }
     ensures local { IfOk result (λ c. (fields_of c).has_globals ≡ false) }
 {
     let command = Command::new(alloc, "serve").arg(positional_arg(alloc, "file"));
@@ -108,6 +109,16 @@ fn make_serve<'a>(alloc: Global) -> Result<Command<'a>, AllocError>
     let command = with_argument(command, flag_arg(alloc, "log"));
     let command = with_argument(command, option_arg(alloc, "base"));
     with_argument(command, flag_arg(alloc, "warm"))
+}
+
+fn make_serve<'a>(alloc: Global) -> Result<Command<'a>, AllocError>
+    ensures app { IfOk result (λ c. app_of c ≡ serve) }
+    ensures local { IfOk result (λ c. (fields_of c).has_globals ≡ false) }
+{
+    let command = make_serve_clients(alloc);
+    let command = with_argument(command, option_arg(alloc, "journal"));
+    let command = with_argument(command, option_arg(alloc, "journal-after"));
+    with_argument(command, flag_arg(alloc, "journal-sync"))
 }
 
 fn make_import<'a>(alloc: Global) -> Result<Command<'a>, AllocError>
@@ -135,7 +146,8 @@ fn make_check<'a>(alloc: Global) -> Result<Command<'a>, AllocError>
     ensures app { IfOk result (λ c. app_of c ≡ check) }
     ensures local { IfOk result (λ c. (fields_of c).has_globals ≡ false) }
 {
-    Command::new(alloc, "check").arg(positional_arg(alloc, "file"))
+    let command = Command::new(alloc, "check").arg(positional_arg(alloc, "file"));
+    with_argument(command, flag_arg(alloc, "replay"))
 }
 
 fn make_batches<'a>(alloc: Global) -> Result<Command<'a>, AllocError>

@@ -1,9 +1,9 @@
 //! The commands that move features and batches in and out of a file.
 ghost use Rattle.std.specs.Prelude.{◌≡◌, ◌≤◌, IfOk, IfErr, IfSome, Some, IsSome, option_map};
 ghost use Rattle.clap.specs.Words.{rows_of, found_of};
-ghost use Rattle.streetmap_command.specs.CommandView.{command_value, load_value};
+ghost use Rattle.streetmap_command.specs.CommandView.{command_value, load_value, journal_value};
 ghost use Rattle.streetmap_command.specs.Program.{load_by, batches_by, apply_by, agrees};
-ghost use Rattle.streetmap_command.specs.Program.{options_given};
+ghost use Rattle.streetmap_command.specs.Program.{options_given, journal_by};
 ghost use Rattle.streetmap_command.specs.Program.{each_given, after_given, fractions_given};
 
 use crate::command::{Command, CommandFault, has_flag, read_number, value_of};
@@ -49,6 +49,17 @@ pub struct LoadAsked<'a> {
     pub progress: bool,
 }
 
+/// The journal of what is served.
+#[derive(Clone, Copy, Debug, Drop)]
+pub struct JournalAsked<'a> {
+    /// The path of its file.
+    pub path: &'a str,
+    /// The serial behind which it begins, where it has no line yet.
+    pub after: u32,
+    /// Whether its lines are synchronised before answers.
+    pub sync: bool,
+}
+
 /// The edits of a batch.
 fn read_each(given: Option<&str>) -> Option<u32>
     ensures value { result ≡ each_given (option_map (λ s. s.now) given.entry) }
@@ -79,6 +90,24 @@ fn read_after(given: Option<&str>) -> Option<u32>
         Some("0") => Some(0),
         Some(text) => read_number(text, u32::MAX),
         None => Some(0),
+    }
+}
+
+/// The journal that is given, or none: its other options go with it.
+pub(crate) fn read_journal<'a>(found: &ArgMatches<'a>) -> Option<Option<JournalAsked<'a>>>
+    ensures { option_map (option_map journal_value) result
+        ≡ journal_by (rows_of (found_of found.now)) }
+{
+    let after = value_of(found, "journal-after");
+    let sync = has_flag(found, "journal-sync");
+    match value_of(found, "journal") {
+        Some(path) => Some(Some(JournalAsked {
+            path,
+            after: read_after(after)?,
+            sync,
+        })),
+        None if after.is_none() && !sync => Some(None),
+        None => None,
     }
 }
 

@@ -29,6 +29,9 @@ use Rattle.streetmap_faults.specs.declared.fault.ProgramFault.TheVariants.{Expor
 use Rattle.streetmap_faults.specs.declared.fault.ProgramFault.TheVariants.{ReadFailed, WriteFailed}
 use Rattle.streetmap_faults.specs.declared.fault.ProgramFault.TheVariants.{Net, Damaged, Device}
 use Rattle.streetmap_faults.specs.declared.fault.ProgramFault.TheVariants.{Memory}
+use Rattle.streetmap_faults.specs.declared.fault.ProgramFault.TheVariants.{SameFile, NoJournal}
+use Rattle.streetmap_faults.specs.declared.fault.ProgramFault.TheVariants.{JournalAhead}
+use Rattle.streetmap_faults.specs.declared.fault.ProgramFault.TheVariants.{NotItsJournal, NotReplayed}
 use Rattle.streetmap_faults.specs.declared.fault.ProgramFault.TheVariants.{Load, NotLoaded}
 use Rattle.streetmap_faults.specs.declared.fault.ProgramFault.TheVariants.{Follow, Batches, PassedOver}
 use Rattle.streetmap_batch.specs.declared.batch_fault.BatchFault.TheVariants as batch
@@ -66,6 +69,11 @@ code_of PassedOver = codes "passed_over"
 code_of (NotLoaded fault) = load_fault_code fault
 code_of (Follow it) = unwrap_or (follow_code it.end) []
 code_of (Batches stop) = batches_code stop
+code_of SameFile = codes "same_file"
+code_of NoJournal = codes "no_journal"
+code_of JournalAhead = codes "journal_ahead"
+code_of (NotItsJournal serial) = codes "not_its_journal"
+code_of (NotReplayed serial) = codes "not_replayed"
 code_of LineTooLong = codes "line_too_long"
 code_of ReadFailed = codes "read_failed"
 code_of WriteFailed = codes "write_failed"
@@ -92,6 +100,12 @@ description_of PassedOver = codes "Features at fault were passed over."
 description_of (NotLoaded fault) = []
 description_of (Follow it) = []
 description_of (Batches stop) = []
+description_of SameFile = codes "The text or the journal is the file, or the log beside it."
+description_of NoJournal = codes "The journal cannot be opened or made."
+description_of JournalAhead = codes "The journal has serials that the file lacks."
+description_of (NotItsJournal serial) = codes "A line of the journal is not that of the batch."
+description_of (NotReplayed serial) =
+    codes "The kept batches do not give what the file shows."
 description_of LineTooLong = codes "A line has more than 8388608 bytes."
 description_of ReadFailed = codes "The input could not be read."
 description_of WriteFailed = codes "The output could not be written."
@@ -171,6 +185,11 @@ status_of PassedOver = 1
 status_of (NotLoaded fault) = not_loaded_status fault
 status_of (Follow it) = follow_status it.end
 status_of (Batches stop) = batches_status stop
+status_of SameFile = 1
+status_of NoJournal = 1
+status_of JournalAhead = 1
+status_of (NotItsJournal serial) = 1
+status_of (NotReplayed serial) = 1
 status_of LineTooLong = 1
 status_of ReadFailed = 3
 status_of WriteFailed = 3
@@ -207,10 +226,12 @@ has_line following.CutLine = true
 has_line (following.NotRead text.LineTooLong) = true
 has_line _ = false
 
--- the line of batches at fault, counted from 1
+-- the line of batches at fault, counted from 1, or the serial of a batch at fault
 abbrev pub batch_line_of : ProgramFault → Option ℕ
 batch_line_of (Follow it) = if has_line it.end && nat_lt it.count 18446744073709551615
     then Some (it.count + 1) else None
+batch_line_of (NotItsJournal serial) = Some serial
+batch_line_of (NotReplayed serial) = serial
 batch_line_of _ = None
 
 -- a space and the number of that line, where there is one

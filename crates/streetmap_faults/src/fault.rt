@@ -59,6 +59,17 @@ pub enum ProgramFault {
     Follow(Followed),
     /// The kept batches are not printed to their end: the name of the fault.
     Batches(LinesStop),
+    /// `same_file`: the text or the journal is the file, or the log beside it.
+    SameFile,
+    /// `no_journal`: the journal cannot be opened or made.
+    NoJournal,
+    /// `journal_ahead`: the journal has serials that the file lacks.
+    JournalAhead,
+    /// `not_its_journal`: the line with this serial is not that of the file's batch.
+    NotItsJournal(u64),
+    /// `not_replayed`: the kept batches do not give what the file shows. With the serial of the
+    /// first that its text does not give again; a collection that differs is listed.
+    NotReplayed(Option<u64>),
     /// `line_too_long`: a line of input has more than 8,388,608 bytes, its line feed not counted.
     LineTooLong,
     /// `read_failed`: the input could not be read.
@@ -97,6 +108,11 @@ impl ProgramFault {
             ProgramFault::NotLoaded(fault) => fault.code(),
             ProgramFault::Follow(it) => it.end.code().unwrap_or(""),
             ProgramFault::Batches(stop) => stop.code(),
+            ProgramFault::SameFile => "same_file",
+            ProgramFault::NoJournal => "no_journal",
+            ProgramFault::JournalAhead => "journal_ahead",
+            ProgramFault::NotItsJournal(_) => "not_its_journal",
+            ProgramFault::NotReplayed(_) => "not_replayed",
             ProgramFault::LineTooLong => "line_too_long",
             ProgramFault::ReadFailed => "read_failed",
             ProgramFault::WriteFailed => "write_failed",
@@ -127,6 +143,11 @@ impl ProgramFault {
             ProgramFault::Load(end) => end.description(),
             ProgramFault::PassedOver => "Features at fault were passed over.",
             ProgramFault::NotLoaded(_) | ProgramFault::Follow(_) | ProgramFault::Batches(_) => "",
+            ProgramFault::SameFile => "The text or the journal is the file, or the log beside it.",
+            ProgramFault::NoJournal => "The journal cannot be opened or made.",
+            ProgramFault::JournalAhead => "The journal has serials that the file lacks.",
+            ProgramFault::NotItsJournal(_) => "A line of the journal is not that of the batch.",
+            ProgramFault::NotReplayed(_) => "The kept batches do not give what the file shows.",
             ProgramFault::LineTooLong => "A line has more than 8388608 bytes.",
             ProgramFault::ReadFailed => "The input could not be read.",
             ProgramFault::WriteFailed => "The output could not be written.",
@@ -185,7 +206,7 @@ impl ProgramFault {
         }
     }
 
-    /// The line of batches at fault, counted from 1.
+    /// The line of batches at fault, counted from 1, or the serial of a batch at fault.
     pub fn line(self) -> Option<u64>
         ensures { result ≡ batch_line_of self }
     {
@@ -193,6 +214,8 @@ impl ProgramFault {
             ProgramFault::Follow(it) if has_line(it.end) && it.count < u64::MAX => {
                 Some(it.count + 1)
             }
+            ProgramFault::NotItsJournal(serial) => Some(serial),
+            ProgramFault::NotReplayed(serial) => serial,
             _ => None,
         }
     }

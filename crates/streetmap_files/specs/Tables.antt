@@ -10,6 +10,7 @@ use Rattle.streetmap_store.specs.Serving.{Serves, SparesOthers, cause_in}
 use Rattle.streetmap_store.specs.Sparing.{Spares, HasFailed}
 use Rattle.streetmap_index.specs.Index.{IsIndexOf}
 use Rattle.streetmap_index.specs.declared.index.Index.{Index}
+use Rattle.streetmap_journal.specs.Written.{OfReply}
 use Rattle.streetmap_web.specs.Sight.{Sight}
 
 -- by the keeper over tables in each, what shut that, what its store is and how many batches it
@@ -33,4 +34,19 @@ tables_sight tables shut seen count index = record {
       × Spares (shut (tables k)) (count (tables k)) (seen (tables k))
       (shut (tables after)) (count (tables after)) (seen (tables after));
   fails = λ k after. HasFailed (seen (tables k)) (shut (tables after)) (seen (tables after));
+}
+
+-- the same of a keeper with a journal, which holds what it has to for the state; lines that are
+-- missing are looked up before a batch is applied
+abbrev pub journaled_sight :
+    {K I : Type 0} (inner : K → I) (sight : Sight I) (holds : K → State → Type 0) → Sight K
+journaled_sight {K} {I} inner sight holds = record {
+  stands = λ k s. sight.stands (inner k) s × holds k s;
+  cause = λ k. sight.cause (inner k);
+  may_leave = λ k. sight.may_leave (inner k);
+  is_clean = λ k. sight.is_clean (inner k);
+  applies = λ k b result after. (looked : I) × sight.spares (inner k) looked
+      × OfReply (λ r. sight.applies looked b r (inner after)) result;
+  spares = λ k after. sight.spares (inner k) (inner after);
+  fails = λ k after. sight.fails (inner k) (inner after);
 }

@@ -21,7 +21,8 @@ ghost use Rattle.streetmap_serving.specs.ServingClients.{ServesClients};
 ghost use Rattle.streetmap_connections.specs.Served.{clients_of, ended_of};
 ghost use Rattle.streetmap_files.specs.Surviving.{Survives, ServesTables, ServesTablesAtOnce};
 ghost use Rattle.streetmap_files.specs.Surviving.{Holds};
-ghost use Rattle.streetmap_files.specs.Tables.{tables_sight};
+ghost use Rattle.streetmap_files.specs.Tables.{tables_sight, journaled_sight};
+ghost use Rattle.streetmap_journal.specs.Written.{TellBytes, HoldsIf};
 
 use mio::net::TcpStream;
 use sqlite::Alter;
@@ -31,6 +32,7 @@ use std::net::{Net, TcpListener};
 use std::time::Clock;
 use streetmap_connections::{Clients, ServeFault};
 use streetmap_index::IndexedKeeper;
+use streetmap_journal::{JournalWriter, JournaledKeeper};
 use streetmap_ledger::{Batch, Run, run};
 use streetmap_routes::Base;
 use streetmap_serving::{KeeperService, serve_clients};
@@ -130,7 +132,8 @@ pub fn serve_over_tables<S: Alter, R: BufRead, W: Write>(
 }
 
 /// Serves clients of a listener over tables, with an index in memory, many at once, until so many
-/// of them ended (`streetmap_serving::serve_clients`).
+/// of them ended (`streetmap_serving::serve_clients`). Where there is a journal, each accepted batch
+/// is a line of it before its answer (`streetmap_journal`).
 ///
 /// After a stop, before or within any write, whatever is opened again holds the state of a
 /// beginning of the batches of all clients, in the one order in which they were answered, that
@@ -140,37 +143,49 @@ pub fn serve_over_tables<S: Alter, R: BufRead, W: Write>(
 ///
 /// `Net` where no client can be accepted while there is none, or sockets cannot be waited for, and
 /// `Memory` where there is no room for what is waited for.
-pub fn serve_clients_over_tables<R: Net + Clock, S: Alter, W: Write>(
+pub fn serve_clients_over_tables<R: Net + Clock, S: Alter, J: JournalWriter, W: Write>(
     rt: &R,
     listener: &TcpListener,
     count: u64,
     clients: &mut Clients<TcpStream>,
-    service: &mut KeeperService<IndexedKeeper<TableKeeper<S>>, W>,
+    service: &mut KeeperService<JournaledKeeper<IndexedKeeper<TableKeeper<S>>, J>, W>,
 ) -> Result<(), ServeFault>
-    ensures serves { HasCleanDisk (state S.Store service.new.keeper.keeper.conn) → (s : State) →
-        Serves service.old.keeper.keeper.shut (state S.Store service.old.keeper.keeper.conn)
-        service.old.keeper.keeper.count s → IsIndexOf service.old.keeper.index s →
+    ensures serves { HasCleanDisk (state S.Store service.new.keeper.keeper.keeper.conn) →
+        (s : State) →
+        Serves service.old.keeper.keeper.keeper.shut
+        (state S.Store service.old.keeper.keeper.keeper.conn)
+        service.old.keeper.keeper.keeper.count s →
+        IsIndexOf service.old.keeper.keeper.index s →
+        (TellBytes J.contents → HoldsIf J.contents service.old.keeper.journal s) →
         ServesClients
+        (journaled_sight (λ k. k.keeper)
         (tables_sight (λ k. k.keeper) (λ t. t.shut) (λ t. state S.Store t.conn) (λ t. t.count)
         (λ k. k.index))
+        (λ k t. TellBytes J.contents → HoldsIf J.contents k.journal t))
         (root_of service.old.base) (of_state s) service.old.keeper service.new.keeper
         (clients_of clients.old) (clients_of clients.new) }
-    ensures survives { HasCleanDisk (state S.Store service.new.keeper.keeper.conn) → (s : State) →
-        Serves service.old.keeper.keeper.shut (state S.Store service.old.keeper.keeper.conn)
-        service.old.keeper.keeper.count s → IsIndexOf service.old.keeper.index s →
-        LeavesOnly (MayLeave (state S.Store service.old.keeper.keeper.conn)) (Some s) →
+    ensures survives { HasCleanDisk (state S.Store service.new.keeper.keeper.keeper.conn) →
+        (s : State) →
+        Serves service.old.keeper.keeper.keeper.shut
+        (state S.Store service.old.keeper.keeper.keeper.conn)
+        service.old.keeper.keeper.keeper.count s →
+        IsIndexOf service.old.keeper.keeper.index s →
+        (TellBytes J.contents → HoldsIf J.contents service.old.keeper.journal s) →
+        LeavesOnly (MayLeave (state S.Store service.old.keeper.keeper.keeper.conn)) (Some s) →
         ServesTablesAtOnce
+        (journaled_sight (λ k. k.keeper)
         (tables_sight (λ k. k.keeper) (λ t. t.shut) (λ t. state S.Store t.conn) (λ t. t.count)
         (λ k. k.index))
+        (λ k t. TellBytes J.contents → HoldsIf J.contents k.journal t))
         (root_of service.old.base) s service.old.keeper service.new.keeper
         (clients_of clients.old) (clients_of clients.new)
-        (state S.Store service.new.keeper.keeper.conn) }
+        (state S.Store service.new.keeper.keeper.keeper.conn) }
     ensures counted { IsOk result → count ≤ length (ended_of clients.new) }
     ensures spared { Spares
-        service.old.keeper.keeper.shut service.old.keeper.keeper.count
-        (state S.Store service.old.keeper.keeper.conn)
-        service.new.keeper.keeper.shut service.new.keeper.keeper.count
-        (state S.Store service.new.keeper.keeper.conn) }
+        service.old.keeper.keeper.keeper.shut service.old.keeper.keeper.keeper.count
+        (state S.Store service.old.keeper.keeper.keeper.conn)
+        service.new.keeper.keeper.keeper.shut service.new.keeper.keeper.keeper.count
+        (state S.Store service.new.keeper.keeper.keeper.conn) }
 {
     serve_clients(rt, listener, count, clients, service)
 }

@@ -25,6 +25,7 @@ use Rattle.streetmap_replay.proofs.Torn.{lines-append}
 use Rattle.streetmap_text_lines.specs.Reading.{HasNoLineFeed, WhereKnown}
 use Rattle.streetmap_text_lines.specs.Whole.{EndsWithin}
 use Rattle.streetmap_text_lines.specs.declared.fault.LineFault.{LineFault}
+use Rattle.streetmap_journal.proofs.Reached.{get_numbered, take_one}
 use Rattle.streetmap_journal.specs.Matching.{HasZero, IsLineWith, MatchesLine, lines_from}
 use Rattle.streetmap_journal.specs.Matching.{BeginsWith}
 use Rattle.streetmap_journal.specs.Matching.{serial_behind, IsCut, NextIs, MatchesBy, Matches}
@@ -61,26 +62,6 @@ no_line s serial line none h =
     let both : None ≡ Some h.0 = ap (option_map kept_text) none ∙ h.1 in cc
 
 -- ---- the journal's lines
-
-get_numbered : (m : ℕ) (ts : List Text) (n : ℕ) (t : Text) → slice_get ts n ≡ Some t →
-    slice_get (numbered_after m ts) n ≡ Some (numbered (m + n + 1) t)
-get_numbered m [] n t h = absurd cc
-get_numbered m (u ∷ ts) zero t h =
-    let same : u ≡ t = cc in
-    let serial : m + 1 ≡ m + 0 + 1 = omega arith in
-    ap (λ (x : Text). Some (numbered (m + 1) x)) same
-    ∙ ap (λ (k : ℕ). Some (numbered k t)) serial
-get_numbered m (u ∷ ts) (suc n) t h =
-    let serial : m + 1 + n + 1 ≡ m + suc n + 1 = omega arith in
-    get_numbered (m + 1) ts n t h ∙ ap (λ (k : ℕ). Some (numbered k t)) serial
-
-take_one : {A : Type 0} (n : ℕ) (xs : List A) (x : A) → slice_get xs n ≡ Some x →
-    take (n + 1) xs ≡ take n xs ++ x ∷ []
-take_one n [] x h = absurd cc
-take_one zero (y ∷ xs) x h = let same : y ≡ x = cc in ap (λ z. z ∷ []) same
-take_one (suc n) (y ∷ xs) x h =
-    let next : suc n + 1 ≡ suc (n + 1) = omega arith in
-    ap (λ (m : ℕ). take m (y ∷ xs)) next ∙ ap (λ zs. y ∷ zs) (take_one n xs x h)
 
 -- a serial that is there is small
 few : (s : State) → IsState s → (serial : ℕ) (text : Text) →

@@ -1,3 +1,5 @@
+pub mod Reached
 pub mod Noted
+pub mod Completed
 pub mod Alike
 pub mod Told

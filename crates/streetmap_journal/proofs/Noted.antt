@@ -1,12 +1,10 @@
--- The journal of the state after a batch, behind a line that was written.
+-- A line that is written behind an accepted batch.
 use Rattle.std.proofs.Common.{◌≡◌, ◌≤◌, ◌<◌, ◌+◌, ◌-◌, ◌^◌, ℕ, min, Bool, true, false, List, []}
 use Rattle.std.proofs.Common.{◌∷◌, ◌++◌}
-use Rattle.std.proofs.Common.{length, take, drop, Option, None, Some, Result, Ok, Err, refl, sym}
-use Rattle.std.proofs.Common.{ap, subst}
-use Rattle.std.proofs.Common.{◌∙◌, inl, arith, append_assoc, append-nil, length-append}
-use Rattle.std.proofs.lemmas.List.{take_all, take-append-le, drop-append-le}
-use Rattle.std.proofs.Math.Seq.{drop-append_seam}
-use Rattle.std.specs.Io.KnownBytes.{Appends}
+use Rattle.std.proofs.Common.{length, take, drop, Option, None, Some, Result, Ok, Err, option_map}
+use Rattle.std.proofs.Common.{refl, sym, ap, subst, ◌∙◌, inl, inr, arith, length-append}
+use Rattle.std.specs.Io.KnownBytes.{Appends, Keeps}
+use Rattle.std.specs.Prelude.{slice_get}
 use Rattle.streetmap_batch.specs.BatchText.{batch_text}
 use Rattle.streetmap_batch.specs.BatchValue.{BatchValue}
 use Rattle.streetmap_batch.specs.Text.{Text}
@@ -20,20 +18,109 @@ use Rattle.streetmap_ledger.specs.declared.reply.Fault.{Fault}
 use Rattle.streetmap_ledger.specs.declared.reply.Fault.TheVariants.{Memory, Device, Damaged, Reopen}
 use Rattle.streetmap_ledger.specs.declared.reply.Refusal.{Refusal}
 use Rattle.streetmap_ledger.specs.declared.reply.Reply.TheVariants.{Accepted, Repeated, Refused}
-use Rattle.streetmap_replay.specs.Journal.{journal, text_if}
+use Rattle.streetmap_kept.specs.Kept.{batch_in}
+use Rattle.streetmap_replay.specs.Journal.{journal, kept_text, text_if}
 use Rattle.streetmap_replay.specs.JournalText.{numbered_after, journal_lines, text_of_lines}
 use Rattle.streetmap_replay.specs.Lines.{Line, numbered, line_bytes}
 use Rattle.streetmap_replay.proofs.AllThere.{journal_is_whole}
 use Rattle.streetmap_replay.proofs.Growing.{act_grows}
-use Rattle.streetmap_replay.proofs.Listed.{numbered-append, length-numbered}
+use Rattle.streetmap_replay.proofs.Listed.{numbered-append, length-numbered, get_low}
 use Rattle.streetmap_replay.proofs.There.{act_stays}
-use Rattle.streetmap_replay.proofs.Torn.{lines-append}
-use Rattle.streetmap_journal.specs.Written.{Position, IsWritten, Holds, NotesBy, NotesLine}
-use Rattle.streetmap_journal.specs.Written.{FaultKeeps}
+use Rattle.streetmap_journal.specs.Written.{Position, Reaches, IsWritten, Holds, line_at}
+use Rattle.streetmap_journal.specs.Written.{PutsBy, PutsLine, NotesBy, NotesLine, FaultKeeps}
+use Rattle.streetmap_journal.specs.Completing.{IsKeptLine}
+use Rattle.streetmap_journal.proofs.Reached.{get_last, line_there, no_line_there, line_is}
+use Rattle.streetmap_journal.proofs.Reached.{no_line_at, put_whole, put_some, grown_reached}
 
--- ---- one line more
+few_lines : (s : State) → IsState s → length (journal_lines s) < 2 ^ 63
+few_lines s sound =
+    let many = length-numbered 0 (journal s) in
+    let count = (journal_is_whole s sound).0 in
+    let most = sound.not_too_many in
+    omega (arith, many, count, most)
 
--- the lines of the journal of the state after an accepted batch
+-- ---- a line of a state, put behind what is written
+
+module _ (s : State) (sound : IsState s) (p q : Position) (line : List ℕ) (x : Line)
+    (there : slice_get (journal_lines s) (p.next - 1) ≡ Some x)
+    (made : line ≡ line_bytes x ++ 10 ∷ []) where
+  put_reached : (whole : Bool) (bytes later : List ℕ) → Reaches p bytes s →
+      PutsBy whole p q (Some bytes) (Some later) line → Reaches q later s
+  put_reached true bytes later h puts =
+      let low = get_low (journal_lines s) (p.next - 1) x there in
+      let few = few_lines s sound in
+      put_whole s p q bytes later line x h there made puts.0
+      (omega (arith, puts.1, low, few)) puts.2 puts.3
+  put_reached false bytes later h puts =
+      put_some s p q bytes later line x h there made puts.0 puts.1 puts.2 puts.3 puts.4
+
+not_known : {A : Type 0} (whole : Bool) (p q : Position) (bytes line : List ℕ) →
+    PutsBy whole p q (Some bytes) None line → A
+not_known true p q bytes line puts = absurd puts.3
+not_known false p q bytes line puts = absurd puts.4
+
+-- ---- a line that was missing
+
+-- the line of a batch that is kept, of a journal that is behind
+pub completed_holds : (s : State) → IsState s → (whole : Bool) (p q : Position)
+    (old new : Option (List ℕ)) (line : List ℕ) → p.behind ≡ true →
+    IsKeptLine s p.next (Some line) → PutsLine whole p q old new line → Holds p old s →
+    Holds q new s
+completed_holds s sound whole p q None new line behind kept puts h = absurd h
+completed_holds s sound whole p q (Some bytes) new line behind kept puts h =
+    by_new new puts where
+      first : p.next - 1 + 1 ≡ p.next
+      first = let low = h.reaches.behind_first in omega (arith, low)
+
+      there : slice_get (journal_lines s) (p.next - 1) ≡ Some (numbered (p.next - 1 + 1) kept.0)
+      there =
+          line_there s sound (p.next - 1) kept.0
+          (subst (λ (n : ℕ). option_map kept_text (batch_in s n) ≡ Some kept.0) (sym first) kept.1)
+
+      made : line ≡ line_bytes (numbered (p.next - 1 + 1) kept.0) ++ 10 ∷ []
+      made = kept.2 ∙ ap (λ (n : ℕ). line_bytes (numbered n kept.0) ++ 10 ∷ []) (sym first)
+
+      part : p.part ≤ length line
+      part =
+          let long = ap length (line_is s (p.next - 1) (numbered (p.next - 1 + 1) kept.0) there
+          ∙ sym made) in
+          let low = h.reaches.part in
+          omega (arith, long, low)
+
+      by_new : (new : Option (List ℕ)) → PutsLine whole p q (Some bytes) new line → Holds q new s
+      by_new None puts = not_known whole p q bytes line (puts part).0
+      by_new (Some later) puts = record {
+        reaches = put_reached s sound p q line (numbered (p.next - 1 + 1) kept.0) there made whole
+            bytes later h.reaches (puts part).0;
+        whole = λ no. (let wrong : true ≡ false = sym behind ∙ (sym (puts part).1 ∙ no) in absurd cc);
+      }
+
+-- no line is missing any more
+pub settled_holds : (s : State) → IsState s → (p q : Position) (old new : Option (List ℕ)) →
+    batch_in s p.next ≡ None → q.after ≡ p.after → q.next ≡ p.next → q.part ≡ p.part →
+    Keeps old new → Holds p old s → Holds q new s
+settled_holds s sound p q None new none after next part keeps h = absurd h
+settled_holds s sound p q (Some bytes) None none after next part keeps h = absurd keeps
+settled_holds s sound p q (Some bytes) (Some later) none after next part keeps h =
+    let r = h.reaches in
+    let low = r.behind_first in
+    let within = r.within in
+    let first : p.next - 1 + 1 ≡ p.next = omega (arith, low) in
+    let few = no_line_there s sound (p.next - 1)
+    (subst (λ (n : ℕ). batch_in s n ≡ None) (sym first) none) in
+    record {
+      reaches = record {
+        behind_first = omega (arith, low, after, next);
+        within = omega (arith, within, next);
+        is = keeps ∙ rw (after, next, part) r.is;
+        part = rw (next, part) r.part;
+      };
+      whole = λ _. omega (arith, within, low, few, next);
+    }
+
+-- ---- the line of a batch that is accepted
+
+-- the lines of the journal of the state after it
 lines_grow : (s : State) (b : BatchValue) → IsState s → is_accepted (act s b).reply ≡ true →
     journal_lines (act s b).state
     ≡ journal_lines s ++ numbered (length (journal_lines s) + 1) (batch_text b) ∷ []
@@ -45,178 +132,93 @@ lines_grow s b sound accepted =
     ∙ (numbered-append 0 (journal s) (batch_text b ∷ [])
     ∙ ap (λ (n : ℕ). journal_lines s ++ numbered (n + 1) (batch_text b) ∷ []) size)
 
-few_lines : (s : State) → IsState s → length (journal_lines s) < 2 ^ 63
-few_lines s sound =
-    let many = length-numbered 0 (journal s) in
-    let count = (journal_is_whole s sound).0 in
-    let most = sound.not_too_many in
-    omega (arith, many, count, most)
-
-module _ (ls : List Line) (x : Line) (t : State) (grown : journal_lines t ≡ ls ++ x ∷ [])
-    (line : List ℕ) (is : line ≡ line_bytes x ++ 10 ∷ []) where
-  size : length (journal_lines t) ≡ length ls + 1
-  size = let long = length-append ls (x ∷ []) in ap length grown ∙ omega (arith, long)
-
-  text_more : text_of_lines (ls ++ x ∷ []) ≡ text_of_lines ls ++ line
-  text_more = lines-append ls (x ∷ []) ∙ ap (λ (bs : List ℕ). text_of_lines ls ++ bs) (sym is)
-
-  -- it was written whole
-  all_written : (q : Position) (bytes later : List ℕ) → bytes ≡ text_of_lines ls →
-      q.next ≡ length ls + 2 → q.part ≡ 0 → q.behind ≡ false → later ≡ bytes ++ line →
-      IsWritten q later t
-  all_written q bytes later there next part behind more =
-      let low : q.next - 1 ≡ length ls + 1 = omega (arith, next) in
-      let long = length-append ls (x ∷ []) in
-      let lines : take (q.next - 1) (journal_lines t) ≡ ls ++ x ∷ [] =
-      ap (take (q.next - 1)) grown
-      ∙ take_all (q.next - 1) (ls ++ x ∷ []) (omega (arith, low, long)) in
-      let none : take q.part (text_of_lines (drop (q.next - 1) (journal_lines t))) ≡ [] =
-      ap (λ (n : ℕ). take n (text_of_lines (drop (q.next - 1) (journal_lines t)))) part in
-      record {
-        from_one = omega (arith, next);
-        within = omega (arith, next, size);
-        is = more ∙ (ap (λ (bs : List ℕ). bs ++ line) there ∙ (sym text_more
-            ∙ (sym (append-nil (text_of_lines (ls ++ x ∷ [])))
-            ∙ (ap (λ (m : List Line). text_of_lines m ++ []) (sym lines)
-            ∙ ap (λ (r : List ℕ). text_of_lines (take (q.next - 1) (journal_lines t)) ++ r)
-            (sym none)))));
-        whole = λ no. (omega (arith, next, size), part);
-        lacks = λ yes. (let no : false ≡ true = sym behind ∙ yes in absurd cc);
-      }
-
-  -- a beginning of it was written
-  some_written : (q : Position) (bytes later : List ℕ) → bytes ≡ text_of_lines ls →
-      q.next ≡ length ls + 1 → q.part ≤ length line → q.behind ≡ true →
-      later ≡ bytes ++ take q.part line → IsWritten q later t
-  some_written q bytes later there next part behind more =
-      let low : q.next - 1 ≡ length ls = omega (arith, next) in
-      let lines : take (q.next - 1) (journal_lines t) ≡ ls =
-      ap (take (q.next - 1)) grown
-      ∙ (take-append-le (q.next - 1) ls (x ∷ []) (omega (arith, low))
-      ∙ take_all (q.next - 1) ls (omega (arith, low))) in
-      let rest : text_of_lines (drop (q.next - 1) (journal_lines t)) ≡ line =
-      ap (λ (n : ℕ). text_of_lines (drop n (journal_lines t))) low
-      ∙ (ap (λ (m : List Line). text_of_lines (drop (length ls) m)) grown
-      ∙ (ap text_of_lines (drop-append_seam ls (x ∷ [])) ∙ sym is)) in
-      let long = ap length rest in
-      record {
-        from_one = omega (arith, next);
-        within = omega (arith, next, size);
-        is = more ∙ (ap (λ (bs : List ℕ). bs ++ take q.part line)
-            (there ∙ ap text_of_lines (sym lines))
-            ∙ ap (λ (bs : List ℕ). text_of_lines (take (q.next - 1) (journal_lines t))
-            ++ take q.part bs) (sym rest));
-        whole = λ no. (let wrong : true ≡ false = sym behind ∙ no in absurd cc);
-        lacks = λ yes. (omega (arith, next, size), omega (arith, part, long));
-      }
-
--- nothing was written, behind a line that was not written whole
-none_written : (s t : State) (x : Line) → journal_lines t ≡ journal_lines s ++ x ∷ [] →
-    (p : Position) (bytes : List ℕ) → p.behind ≡ true → IsWritten p bytes s → IsWritten p bytes t
-none_written s t x grown p bytes behind h =
-    let ls = journal_lines s in
-    let long = length-append ls (x ∷ []) in
-    let size : length (journal_lines t) ≡ length ls + 1 = ap length grown ∙ omega (arith, long) in
-    let lack = h.lacks behind in
-    let low : p.next - 1 ≤ length ls = omega (arith, lack.0) in
-    let lines : take (p.next - 1) (journal_lines t) ≡ take (p.next - 1) ls =
-    ap (take (p.next - 1)) grown ∙ take-append-le (p.next - 1) ls (x ∷ []) low in
-    let old = text_of_lines (drop (p.next - 1) ls) in
-    let rest : text_of_lines (drop (p.next - 1) (journal_lines t)) ≡ old ++ text_of_lines (x ∷ []) =
-    ap (λ (m : List Line). text_of_lines (drop (p.next - 1) m)) grown
-    ∙ (ap text_of_lines (drop-append-le (p.next - 1) ls (x ∷ []) low)
-    ∙ lines-append (drop (p.next - 1) ls) (x ∷ [])) in
-    let same : take p.part (text_of_lines (drop (p.next - 1) (journal_lines t))) ≡ take p.part old =
-    ap (take p.part) rest ∙ take-append-le p.part old (text_of_lines (x ∷ [])) lack.1 in
-    let wide = ap length rest in
-    let both = length-append old (text_of_lines (x ∷ [])) in
-    record {
-      from_one = h.from_one;
-      within = omega (arith, h.within, size);
-      is = h.is ∙ (ap (λ (m : List Line). text_of_lines m ++ take p.part old) (sym lines)
-          ∙ ap (λ (bs : List ℕ). text_of_lines (take (p.next - 1) (journal_lines t)) ++ bs)
-          (sym same));
-      whole = λ no. (let wrong : true ≡ false = sym behind ∙ no in absurd cc);
-      lacks = λ yes. (omega (arith, lack.0, size), omega (arith, lack.1, wide, both));
-    }
-
-module _ (s : State) (b : BatchValue) (sound : IsState s)
+module _ (s : State) (b : BatchValue) (sound : IsState s) (later_sound : IsState (act s b).state)
     (accepted : is_accepted (act s b).reply ≡ true) where
   abbrev last : Line
   last = numbered (length (journal_lines s) + 1) (batch_text b)
 
-  behind_noted : (is_behind : Bool) (p q : Position) (bytes later line : List ℕ) →
-      p.behind ≡ true → NotesBy true is_behind p q (Some bytes) (Some later) line →
-      IsWritten p bytes s → IsWritten q later (act s b).state
-  behind_noted is_behind p q bytes later line was noted h =
-      let same : bytes ≡ later = (let both = noted.1 in cc) in
-      subst (λ (r : Position). IsWritten r later (act s b).state) (sym noted.0)
-      (subst (λ (bs : List ℕ). IsWritten p bs (act s b).state) same
-      (none_written s (act s b).state last (lines_grow s b sound accepted) p bytes was h))
+  abbrev t : State
+  t = (act s b).state
 
-  module _ (p q : Position) (bytes later line : List ℕ) (was : p.behind ≡ false)
-      (made : line ≡ line_bytes (numbered p.next (batch_text b)) ++ 10 ∷ [])
-      (h : IsWritten p bytes s) where
-    next_is : p.next ≡ length (journal_lines s) + 1
-    next_is = (h.whole was).0
+  size : length (journal_lines t) ≡ length (journal_lines s) + 1
+  size =
+      let long = length-append (journal_lines s) (last ∷ []) in
+      ap length (lines_grow s b sound accepted) ∙ omega (arith, long)
 
-    line_is : line ≡ line_bytes last ++ 10 ∷ []
-    line_is =
-        made ∙ ap (λ (n : ℕ). line_bytes (numbered n (batch_text b)) ++ 10 ∷ []) next_is
+  module _ (p q : Position) (bytes later line : List ℕ) (h : IsWritten p bytes s) where
+    behind_noted : p.behind ≡ true → (q ≡ p) → Some later ≡ Some bytes → IsWritten q later t
+    behind_noted was same kept =
+        let there : later ≡ bytes = cc in
+        subst (λ (r : Position). IsWritten r later t) (sym same)
+        (subst (λ (bs : List ℕ). IsWritten p bs t) (sym there) (record {
+          reaches = grown_reached s t last (lines_grow s b sound accepted) p bytes h.reaches;
+          whole = λ no. (let wrong : true ≡ false = sym was ∙ no in absurd cc);
+        }))
 
-    there : bytes ≡ text_of_lines (journal_lines s)
-    there =
-        let n = next_is in
-        let low : p.next - 1 ≡ length (journal_lines s) = omega (arith, n) in
-        let all = take_all (p.next - 1) (journal_lines s) (omega (arith, low)) in
-        let none : take p.part (text_of_lines (drop (p.next - 1) (journal_lines s))) ≡ [] =
-        ap (λ (m : ℕ). take m (text_of_lines (drop (p.next - 1) (journal_lines s))))
-        (h.whole was).1 in
-        h.is ∙ (ap (λ (bs : List ℕ). text_of_lines (take (p.next - 1) (journal_lines s)) ++ bs) none
-        ∙ (append-nil (text_of_lines (take (p.next - 1) (journal_lines s)))
-        ∙ ap text_of_lines all))
+    module _ (was : p.behind ≡ false)
+        (made : line ≡ line_bytes (numbered p.next (batch_text b)) ++ 10 ∷ []) where
+      next_is : p.next ≡ length (journal_lines s) + 1
+      next_is = h.whole was
 
-    line_noted : q.behind ≡ false → NotesBy false false p q (Some bytes) (Some later) line →
-        IsWritten q later (act s b).state
-    line_noted now noted =
-        let few = few_lines s sound in
-        let n = next_is in
-        let one : q.next ≡ length (journal_lines s) + 2 = omega (arith, noted.0, few, n) in
-        all_written (journal_lines s) last (act s b).state (lines_grow s b sound accepted) line
-        line_is q bytes later there one (noted.1 ∙ (h.whole was).1) now noted.2
+      part_is : p.part ≤ length line
+      part_is =
+          let next = next_is in
+          let none = ap length (no_line_at s p.next (omega (arith, next))) in
+          let low = h.reaches.part in
+          omega (arith, none, low)
 
-    part_noted : q.behind ≡ true → NotesBy false true p q (Some bytes) (Some later) line →
-        IsWritten q later (act s b).state
-    part_noted now noted =
-        some_written (journal_lines s) last (act s b).state (lines_grow s b sound accepted) line
-        line_is q bytes later there (noted.0 ∙ next_is) noted.1 now noted.2
+      line_noted : (whole : Bool) → PutsBy whole p q (Some bytes) (Some later) line →
+          (q.behind ≡ false → whole ≡ true) → IsWritten q later t
+      line_noted whole puts kept =
+          let next = next_is in
+          let place : p.next - 1 ≡ length (journal_lines s) = omega (arith, next) in
+          let there : slice_get (journal_lines t) (p.next - 1) ≡ Some last =
+          ap (λ (ls : List Line). slice_get ls (p.next - 1)) (lines_grow s b sound accepted)
+          ∙ (ap (slice_get (journal_lines s ++ last ∷ [])) place
+          ∙ get_last (journal_lines s) last) in
+          let line_made : line ≡ line_bytes last ++ 10 ∷ [] =
+          made ∙ ap (λ (n : ℕ). line_bytes (numbered n (batch_text b)) ++ 10 ∷ []) next in
+          record {
+            reaches = put_reached t later_sound p q line last there line_made whole bytes later
+                (grown_reached s t last (lines_grow s b sound accepted) p bytes h.reaches) puts;
+            whole = λ no. whole_noted whole puts (kept no);
+          }
+        where
+          whole_noted : (whole : Bool) → PutsBy whole p q (Some bytes) (Some later) line →
+              whole ≡ true → q.next ≡ length (journal_lines t) + 1
+          whole_noted true puts is =
+              let few = few_lines s sound in
+              let next = next_is in
+              let long = size in
+              omega (arith, puts.1, few, next, long)
+          whole_noted false puts is = absurd cc
 
-  noted_by : (behind is_behind : Bool) (p q : Position) (bytes later line : List ℕ) →
-      p.behind ≡ behind → q.behind ≡ is_behind →
+  noted_by : (behind : Bool) (p q : Position) (bytes later line : List ℕ) → p.behind ≡ behind →
       line ≡ line_bytes (numbered p.next (batch_text b)) ++ 10 ∷ [] →
-      NotesBy behind is_behind p q (Some bytes) (Some later) line → IsWritten p bytes s →
-      IsWritten q later (act s b).state
-  noted_by true is_behind p q bytes later line was now made noted h =
-      behind_noted is_behind p q bytes later line was noted h
-  noted_by false false p q bytes later line was now made noted h =
-      line_noted p q bytes later line was made h now noted
-  noted_by false true p q bytes later line was now made noted h =
-      part_noted p q bytes later line was made h now noted
+      NotesBy behind p q (Some bytes) (Some later) line → IsWritten p bytes s →
+      IsWritten q later t
+  noted_by true p q bytes later line was made noted h =
+      behind_noted p q bytes later line h was noted.0 noted.1
+  noted_by false p q bytes later line was made noted h =
+      let it = noted (part_is p q bytes later line h was made) in
+      line_noted p q bytes later line h was made it.0 it.1 it.2
 
-  not_known : {A : Type 0} (behind is_behind : Bool) (p q : Position) (bytes line : List ℕ) →
-      NotesBy behind is_behind p q (Some bytes) None line → A
-  not_known true is_behind p q bytes line noted = (let both = noted.1 in absurd cc)
-  not_known false false p q bytes line noted = absurd noted.2
-  not_known false true p q bytes line noted = absurd noted.2
+  unknown : {A : Type 0} (behind : Bool) (p q : Position) (bytes line : List ℕ) →
+      p.behind ≡ behind → line ≡ line_bytes (numbered p.next (batch_text b)) ++ 10 ∷ [] →
+      NotesBy behind p q (Some bytes) None line → IsWritten p bytes s → A
+  unknown true p q bytes line was made noted h = (let both = noted.1 in absurd cc)
+  unknown false p q bytes line was made noted h =
+      let it = noted (part_is p q bytes bytes line h was made) in
+      not_known it.0 p q bytes line it.1
 
   pub accepted_holds : (p q : Position) (old new : Option (List ℕ)) (line : List ℕ) →
       line ≡ line_bytes (numbered p.next (batch_text b)) ++ 10 ∷ [] →
-      NotesLine p q old new line → Holds p old s → Holds q new (act s b).state
+      NotesLine p q old new line → Holds p old s → Holds q new t
   accepted_holds p q None new line made noted h = absurd h
   accepted_holds p q (Some bytes) None line made noted h =
-      not_known p.behind q.behind p q bytes line noted
+      unknown p.behind p q bytes line refl made noted h
   accepted_holds p q (Some bytes) (Some later) line made noted h =
-      noted_by p.behind q.behind p q bytes later line refl refl made noted h
+      noted_by p.behind p q bytes later line refl made noted h
 
 -- what is not accepted leaves the state
 pub repeated_stays : (s : State) (b : BatchValue) (counts : Counts) (serial : ℕ) →

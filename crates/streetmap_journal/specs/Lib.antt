@@ -1,2 +1,4 @@
 pub mod Written
+pub mod Completing
+pub mod Starting
 pub mod Matching

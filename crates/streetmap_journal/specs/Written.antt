@@ -9,52 +9,98 @@ use Rattle.streetmap_ledger.specs.declared.reply.Fault.TheVariants.{Memory, Devi
 use Rattle.streetmap_ledger.specs.declared.reply.Reply.{Reply}
 use Rattle.streetmap_replay.specs.Lines.{Line}
 use Rattle.streetmap_replay.specs.JournalText.{journal_lines, text_of_lines}
+use Rattle.streetmap_journal.specs.declared.journal.Journal.{Journal}
 
--- how far a journal is: the serial of its next line, how many bytes of that are there, and whether
--- it is behind
+-- how far a journal is: the serial behind which it begins, that of its next line, how many bytes of
+-- that are there, and whether it is behind
 pub record Position : Type 0 where
+  pub after : ℕ
   pub next : ℕ
   pub part : ℕ
   pub behind : Bool
 
-abbrev pub position_of : ℕ → ℕ → Bool → Position
-position_of next part behind = record { next = next; part = part; behind = behind }
+abbrev pub position_of : {W : Type 0} → Journal W → Position
+position_of journal = record {
+  after = journal.after;
+  next = journal.next;
+  part = journal.part;
+  behind = journal.is_behind;
+}
 
 -- each writer of this type tells its bytes
 abbrev pub TellBytes : {W : Type 0} → (W → Option (List ℕ)) → Type 0
 TellBytes {W} contents = (w : W) → IsSome (contents w)
 
--- the bytes are the lines of the state's journal before the next, and a beginning of that one,
--- which
--- is there where the journal is behind
-pub record IsWritten (p : Position) (bytes : List ℕ) (s : State) : Type 0 where
-  pub from_one : 1 ≤ p.next
+-- the lines of the state's journal behind one serial and before another
+abbrev pub lines_between : State → (after next : ℕ) → List Line
+lines_between s after next = drop after (take (next - 1) (journal_lines s))
+
+-- the bytes of the line with this serial, with its line feed: none where no batch has it
+abbrev pub line_at : State → ℕ → List ℕ
+line_at s serial = text_of_lines (take 1 (drop (serial - 1) (journal_lines s)))
+
+-- the bytes are the lines before the next, and a beginning of that one
+pub record Reaches (p : Position) (bytes : List ℕ) (s : State) : Type 0 where
+  pub behind_first : p.after < p.next
   pub within : p.next ≤ length (journal_lines s) + 1
   pub is :
-      bytes ≡ text_of_lines (take (p.next - 1) (journal_lines s))
-      ++ take p.part (text_of_lines (drop (p.next - 1) (journal_lines s)))
-  pub whole : p.behind ≡ false → (p.next ≡ length (journal_lines s) + 1) × (p.part ≡ 0)
-  pub lacks : p.behind ≡ true →
-      (p.next ≤ length (journal_lines s))
-      × (p.part ≤ length (text_of_lines (drop (p.next - 1) (journal_lines s))))
+      bytes ≡ text_of_lines (lines_between s p.after p.next) ++ take p.part (line_at s p.next)
+  pub part : p.part ≤ length (line_at s p.next)
+
+-- and they are all lines, where the journal is not behind
+pub record IsWritten (p : Position) (bytes : List ℕ) (s : State) : Type 0 where
+  pub reaches : Reaches p bytes s
+  pub whole : p.behind ≡ false → p.next ≡ length (journal_lines s) + 1
 
 -- where they are known
 abbrev pub Holds : Position → Option (List ℕ) → State → Type 0
 Holds p None s = ⊥
 Holds p (Some bytes) s = IsWritten p bytes s
 
--- a line was written, and the next is behind it; or a beginning of it; or, behind one that was not
--- written whole, nothing
-abbrev pub NotesBy : (behind is_behind : Bool) → Position → Position → Option (List ℕ) →
+-- a journal is written for this state
+abbrev pub HoldsIn : {W : Type 0} → (W → Option (List ℕ)) → Journal W → State → Type 0
+HoldsIn contents journal s = Holds (position_of journal) (contents journal.writer) s
+
+-- where there is one
+abbrev pub HoldsIf : {W : Type 0} → (W → Option (List ℕ)) → Option (Journal W) → State → Type 0
+HoldsIf contents None s = Unit {0}
+HoldsIf contents (Some journal) s = HoldsIn contents journal s
+
+-- what lacks of the next line was written, and the next is behind it; or a beginning of that
+abbrev pub PutsBy : (whole : Bool) → Position → Position → Option (List ℕ) → Option (List ℕ) →
+    List ℕ → Type 0
+PutsBy true p q old new line =
+    (q.after ≡ p.after) × (q.next ≡ min (p.next + 1) (2 ^ 64 - 1)) × (q.part ≡ 0)
+    × Appends old new (drop p.part line)
+PutsBy false p q old new line =
+    (q.after ≡ p.after) × (q.next ≡ p.next) × (p.part ≤ q.part) × (q.part ≤ length line)
+    × Appends old new (drop p.part (take q.part line))
+
+-- of a line of which no more bytes are there than it has
+abbrev pub PutsLine : (whole : Bool) → Position → Position → Option (List ℕ) → Option (List ℕ) →
+    List ℕ → Type 0
+PutsLine whole p q old new line =
+    p.part ≤ length line → PutsBy whole p q old new line × (q.behind ≡ p.behind)
+
+-- the same, and it is kept where the whole line was written
+abbrev pub KeepsLine : (kept : Bool) → Position → Position → Option (List ℕ) →
     Option (List ℕ) → List ℕ → Type 0
-NotesBy true is_behind p q old new line = (q ≡ p) × (new ≡ old)
-NotesBy false false p q old new line =
-    (q.next ≡ min (p.next + 1) (2 ^ 64 - 1)) × (q.part ≡ p.part) × Appends old new line
-NotesBy false true p q old new line =
-    (q.next ≡ p.next) × (q.part ≤ length line) × Appends old new (take q.part line)
+KeepsLine kept p q old new line =
+    p.part ≤ length line →
+    (whole : Bool) × PutsBy whole p q old new line × (q.behind ≡ p.behind)
+    × (kept ≡ true → whole ≡ true)
+
+-- a line was written and kept; or a beginning of it, or it was not kept, and the journal is behind;
+-- one that is behind stays as it is
+abbrev pub NotesBy : (behind : Bool) → Position → Position → Option (List ℕ) → Option (List ℕ) →
+    List ℕ → Type 0
+NotesBy true p q old new line = (q ≡ p) × (new ≡ old)
+NotesBy false p q old new line =
+    p.part ≤ length line →
+    (whole : Bool) × PutsBy whole p q old new line × (q.behind ≡ false → whole ≡ true)
 
 abbrev pub NotesLine : Position → Position → Option (List ℕ) → Option (List ℕ) → List ℕ → Type 0
-NotesLine p q old new line = NotesBy p.behind q.behind p q old new line
+NotesLine p q old new line = NotesBy p.behind p q old new line
 
 -- the reply to a batch is one that came
 abbrev pub OfReply : (Result Reply Fault → Type 0) → Result Reply Fault → Type 0

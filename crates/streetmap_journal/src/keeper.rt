@@ -1,9 +1,13 @@
 //! A keeper with a journal.
 ghost use Rattle.std.specs.Prelude.{◌≡◌, [], Some, None, Err, IsErr, IsErrOf};
+ghost use Rattle.streetmap_batch.specs.BatchView.{batch_value};
 ghost use Rattle.streetmap_ledger.specs.State.{State};
-ghost use Rattle.streetmap_ledger.specs.Keep.{Looks, LeavesOnly, ShutsBy, AsBefore};
-ghost use Rattle.streetmap_journal.specs.Written.{FaultKeeps};
+ghost use Rattle.streetmap_ledger.specs.Keep.{Acts, ApplyLeaves, Looks, LeavesOnly, ShutsBy};
+ghost use Rattle.streetmap_ledger.specs.Keep.{AsBefore};
+ghost use Rattle.streetmap_journal.specs.Written.{FaultKeeps, HoldsIf, HoldsIn, OfReply};
+ghost use Rattle.streetmap_journal.specs.Written.{TellBytes};
 
+use crate::completing::complete;
 use crate::journal::{Journal, JournalWriter, line_of};
 use std::alloc::Global;
 use streetmap_geojson::Feature;
@@ -11,13 +15,13 @@ use streetmap_kept::KeepsBatches;
 use streetmap_ledger::{Batch, Fault, FeatureOutline, Keeper, Page, Reply, Summary};
 use streetmap_query::Query;
 
-/// A keeper that writes each batch that it accepts as a line of a journal, behind its commit and
-/// before its answer.
+/// A keeper that writes each batch that it accepts as a line of a journal, where there is one,
+/// behind its commit and before its answer.
 #[derive(Drop)]
 pub struct JournaledKeeper<K, W> {
     pub alloc: Global,
     pub keeper: K,
-    pub journal: Journal<W>,
+    pub journal: Option<Journal<W>>,
 }
 
 /// Why a batch was not asked for, where memory was refused: a shut keeper answers as ever.
@@ -42,13 +46,48 @@ fn refuse<K: KeepsBatches>(keeper: &mut K) -> Fault
     }
 }
 
-impl<K: KeepsBatches, W: JournalWriter> Keeper for JournaledKeeper<K, W> {
-    ghost use Rattle.streetmap_journal.specs.Written.{TellBytes, Holds, position_of, OfReply};
+/// Applies a batch, and writes its line where it is accepted: the memory for it is taken before.
+fn apply_and_note<K: KeepsBatches, W: JournalWriter>(
+    alloc: Global,
+    keeper: &mut K,
+    journal: &mut Journal<W>,
+    batch: &Batch,
+) -> Result<Reply, Fault>
+    ensures applied { OfReply (λ r. K.applies keeper.old (batch_value batch.now) r keeper.new)
+        result }
+    ensures spared { K.spares keeper.old keeper.new }
+    ensures began_clean { K.is_clean keeper.new → K.is_clean keeper.old }
+    ensures faults { ShutsBy result (K.cause keeper.old) (K.cause keeper.new) }
+    ensures acts { K.is_clean keeper.new → (s : State) → K.stands keeper.old s →
+        (TellBytes W.contents → HoldsIn W.contents journal.old s) →
+        Acts s (batch_value batch.now) result (λ t. K.stands keeper.new t
+        × (TellBytes W.contents → HoldsIn W.contents journal.new t)) }
+    ensures device { K.is_clean keeper.new → (s : State) → K.stands keeper.old s →
+        IsErrOf result Fault.Device → K.fails keeper.old keeper.new }
+    ensures leaves { K.is_clean keeper.new → (s : State) → K.stands keeper.old s →
+        LeavesOnly (K.may_leave keeper.old) (Some s) →
+        ApplyLeaves s (batch_value batch.now) result (K.may_leave keeper.new) }
+    ensures reopen { IsErrOf result Fault.Reopen →
+        AsBefore (K.stands keeper.old) (K.stands keeper.new)
+        (K.may_leave keeper.old) (K.may_leave keeper.new) }
+{
+    let Ok(line) = line_of(alloc, journal.next, batch) else {
+        return Err(refuse(keeper));
+    };
+    match keeper.apply(batch) {
+        Ok(Reply::Accepted(counts, serial)) => {
+            journal.note(line.as_slice());
+            Ok(Reply::Accepted(counts, serial))
+        }
+        Ok(Reply::Repeated(counts, serial)) => Ok(Reply::Repeated(counts, serial)),
+        Ok(Reply::Refused(why, place)) => Ok(Reply::Refused(why, place)),
+        Err(fault) => Err(fault),
+    }
+}
 
+impl<K: KeepsBatches, W: JournalWriter> Keeper for JournaledKeeper<K, W> {
     ghost stands = { λ k s. K.stands k.keeper s
-        × (TellBytes W.contents →
-        Holds (position_of k.journal.next k.journal.part k.journal.is_behind)
-        (W.contents k.journal.writer) s) };
+        × (TellBytes W.contents → HoldsIf W.contents k.journal s) };
 
     ghost may_leave = { λ k. K.may_leave k.keeper };
 
@@ -56,8 +95,9 @@ impl<K: KeepsBatches, W: JournalWriter> Keeper for JournaledKeeper<K, W> {
 
     ghost is_clean = { λ k. K.is_clean k.keeper };
 
-    ghost applies = { λ k b result after.
-        OfReply (λ r. K.applies k.keeper b r after.keeper) result };
+    // Lines that are missing are looked up first.
+    ghost applies = { λ k b result after. (looked : K) × K.spares k.keeper looked
+        × OfReply (λ r. K.applies looked b r after.keeper) result };
 
     ghost spares = { λ k l. K.spares k.keeper l.keeper };
 
@@ -82,17 +122,14 @@ impl<K: KeepsBatches, W: JournalWriter> Keeper for JournaledKeeper<K, W> {
         K.fails_still k.keeper l.keeper m.keeper failed shut next };
 
     fn apply(&mut self, batch: &Batch) -> Result<Reply, Fault> {
-        let Ok(line) = line_of(self.alloc, self.journal.next, batch) else {
-            return Err(refuse(&mut self.keeper));
-        };
-        match self.keeper.apply(batch) {
-            Ok(Reply::Accepted(counts, serial)) => {
-                self.journal.note(line.as_slice());
-                Ok(Reply::Accepted(counts, serial))
+        match &mut self.journal {
+            Some(journal) => {
+                match complete(self.alloc, &mut self.keeper, journal) {
+                    Ok(()) => apply_and_note(self.alloc, &mut self.keeper, journal, batch),
+                    Err(fault) => Err(fault),
+                }
             }
-            Ok(Reply::Repeated(counts, serial)) => Ok(Reply::Repeated(counts, serial)),
-            Ok(Reply::Refused(why, place)) => Ok(Reply::Refused(why, place)),
-            Err(fault) => Err(fault),
+            None => self.keeper.apply(batch),
         }
     }
 

@@ -1,0 +1,23 @@
+use Rattle.std.specs.Prelude.{◌≡◌, Some}
+use Rattle.streetmap_ledger.specs.Keep.{LeavesOnly}
+use Rattle.streetmap_ledger.specs.State.{State}
+use Rattle.streetmap_journal.specs.Completing.{StaysOpen}
+use Rattle.streetmap_journal.specs.Written.{HoldsIn}
+use Rattle.streetmap_journal.proofs.completing.complete.Given as goal
+
+-- the keeper was looked at and no more, and the journal holds what it has to
+abbrev pub invariant-loop-turn : goal.invariant-loop-turn
+invariant-loop-turn g l =
+    let k = g.K.Keeper in
+    record {
+      spared : k.spares l.fn.keeper l.keeper;
+      clean : k.is_clean l.keeper → k.is_clean l.fn.keeper;
+      after : l.journal.after ≡ l.fn.journal.after;
+      opened : StaysOpen k.cause l.fn.keeper l.keeper;
+      stood : k.is_clean l.keeper → (s : State) → k.stands l.fn.keeper s → k.stands l.keeper s;
+      leaves : k.is_clean l.keeper → (s : State) → k.stands l.fn.keeper s →
+          LeavesOnly (k.may_leave l.fn.keeper) (Some s) →
+          LeavesOnly (k.may_leave l.keeper) (Some s);
+      holds : k.is_clean l.keeper → (s : State) → k.stands l.fn.keeper s →
+          HoldsIn g.W.Write.contents l.fn.journal s → HoldsIn g.W.Write.contents l.journal s;
+    }

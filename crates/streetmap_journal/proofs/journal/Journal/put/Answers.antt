@@ -1,0 +1,16 @@
+use Rattle.std.proofs.Common.{refl, arith}
+use Rattle.streetmap_journal.proofs.Told.{lacking_put}
+use Rattle.streetmap_journal.proofs.journal.Journal.put.Goals as goal
+
+pub returns-in-Err : goal.returns-in-Err
+returns-in-Err g c = record {
+  after = refl;
+  line = λ low.
+      let part = c.args.self.now.part in
+      let line = c.args.line.now in
+      let wrote = rw c.lacking.ensures at c.in-Err.ensures.err in
+      let it = lacking_put part c.in-Err.stopped.written c.saturating_add-self-in-Err.result line
+      _ _ low (omega (arith, c.type_inv.line)) wrote.0 c.saturating_add-self-in-Err.ensures
+      wrote.1 in
+      ((refl, refl, it.0, it.1, it.2), refl);
+}

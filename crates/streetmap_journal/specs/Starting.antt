@@ -1,0 +1,27 @@
+-- How a journal begins.
+use Rattle.std.specs.Prelude.{◌≡◌, ◌<◌, ℕ, List, [], Option, Some, Result, Ok, Err}
+use Rattle.streetmap_ledger.specs.State.{State}
+use Rattle.streetmap_ledger.specs.declared.reply.Fault.{Fault}
+use Rattle.streetmap_kept.specs.Kept.{batch_count}
+use Rattle.streetmap_journal.specs.Written.{HoldsIn, FaultKeeps}
+use Rattle.streetmap_journal.specs.declared.journal.Journal.{Journal}
+use Rattle.streetmap_journal.specs.declared.starting.StartFault.{StartFault}
+use Rattle.streetmap_journal.specs.declared.starting.StartFault.TheVariants.{Ahead, Stopped}
+
+-- a journal holds what it has to, as far as it did before, and the state stays
+abbrev pub BeginsBy : {W : Type 0} → State → (W → Option (List ℕ)) → Journal W →
+    Result (Journal W) Fault → (State → Type 0) → Type 0
+BeginsBy s contents old (Ok new) stands =
+    (new.after ≡ old.after) × (HoldsIn contents old s → HoldsIn contents new s) × stands s
+BeginsBy s contents old (Err fault) stands = FaultKeeps s fault stands
+
+-- A journal that begins with no bytes holds the lines behind the serial, all or, where it is
+-- behind, some first ones; it is not begun where fewer batches are kept. The state stays.
+abbrev pub StartsBy : {W : Type 0} → State → (after : ℕ) → Option (List ℕ) →
+    (W → Option (List ℕ)) → Result (Journal W) StartFault → (State → Type 0) → Type 0
+StartsBy s after first contents (Ok journal) stands =
+    (journal.after ≡ after)
+    × (first ≡ Some [] → HoldsIn contents journal s)
+    × stands s
+StartsBy s after first contents (Err Ahead) stands = (batch_count s < after) × stands s
+StartsBy s after first contents (Err (Stopped fault)) stands = FaultKeeps s fault stands

@@ -1,0 +1,119 @@
+//! A journal that lacks lines, completed from the batches that a keeper keeps.
+ghost use Rattle.std.specs.Prelude.{◌≡◌, Some, Err, IfErr, OnOk};
+ghost use Rattle.std.specs.Option.{option_map};
+ghost use Rattle.std.specs.Io.KnownBytes.{Keeps};
+ghost use Rattle.streetmap_ledger.specs.State.{State};
+ghost use Rattle.streetmap_ledger.specs.Keep.{Looks, LeavesOnly, ShutsBy, AsBefore};
+ghost use Rattle.streetmap_journal.specs.Completing.{IsKeptLine, StaysOpen, StaysBy};
+ghost use Rattle.streetmap_journal.specs.Written.{position_of, HoldsIn};
+
+use crate::journal::{Journal, JournalWriter, whole_line};
+use std::alloc::Global;
+use streetmap_kept::KeepsBatches;
+use streetmap_ledger::Fault;
+
+/// The line of the batch with a serial, with its line feed; none where there is no such batch.
+fn kept_line<K: KeepsBatches>(
+    alloc: Global,
+    keeper: &mut K,
+    serial: u64,
+) -> Result<Option<Vec<u8>>, Fault>
+    ensures spared { K.spares keeper.old keeper.new }
+    ensures began_clean { K.is_clean keeper.new → K.is_clean keeper.old }
+    ensures faults { ShutsBy result (K.cause keeper.old) (K.cause keeper.new) }
+    ensures finds { K.is_clean keeper.new → (s : State) → K.stands keeper.old s →
+        Looks s (λ line. IsKeptLine s serial (option_map (λ bytes. bytes.items) line)) result
+        (K.stands keeper.new) }
+    ensures device { K.is_clean keeper.new → (s : State) → K.stands keeper.old s →
+        result ≡ Err Fault.Device → K.fails keeper.old keeper.new }
+    ensures leaves { K.is_clean keeper.new → (s : State) → K.stands keeper.old s →
+        LeavesOnly (K.may_leave keeper.old) (Some s) →
+        LeavesOnly (K.may_leave keeper.new) (Some s) }
+    ensures reopen { result ≡ Err Fault.Reopen →
+        AsBefore (K.stands keeper.old) (K.stands keeper.new)
+        (K.may_leave keeper.old) (K.may_leave keeper.new) }
+{
+    match keeper.batch(serial) {
+        Ok(Some(kept)) => match whole_line(alloc, serial, kept.text.as_slice()) {
+            Ok(line) => Ok(Some(line)),
+            Err(_) => Err(Fault::Memory),
+        },
+        Ok(None) => Ok(None),
+        Err(fault) => Err(fault),
+    }
+}
+
+impl<W: JournalWriter> Journal<W> {
+    /// Has all lines kept, of which none is missing, and is no longer behind.
+    fn settle(&mut self)
+        ensures position { (self.new.after ≡ self.old.after) × (self.new.next ≡ self.old.next)
+            × (self.new.part ≡ self.old.part) }
+        ensures bytes { Keeps (W.contents self.old.writer) (W.contents self.new.writer) }
+    {
+        if self.writer.sync().is_ok() {
+            self.is_behind = false;
+            self.writer.whole(self.next.saturating_sub(1));
+        }
+    }
+
+    /// Tells the writer where lines are missing.
+    pub(crate) fn tell_missing(&mut self)
+        ensures position { position_of self.new ≡ position_of self.old }
+        ensures bytes { Keeps (W.contents self.old.writer) (W.contents self.new.writer) }
+    {
+        if self.is_behind {
+            self.writer.behind(self.next);
+        }
+    }
+}
+
+/// Writes the lines that a journal lacks, in order of their serials, as far as it can: where a
+/// write fails, or memory is refused, it stays behind.
+///
+/// # Errors
+///
+/// `Device`, `Damaged` and `Reopen` of the keeper, as it answers them to a look.
+pub(crate) fn complete<K: KeepsBatches, W: JournalWriter>(
+    alloc: Global,
+    keeper: &mut K,
+    journal: &mut Journal<W>,
+) -> Result<(), Fault>
+    ensures spared { K.spares keeper.old keeper.new }
+    ensures began_clean { K.is_clean keeper.new → K.is_clean keeper.old }
+    ensures opened { OnOk result (StaysOpen K.cause keeper.old keeper.new) }
+    ensures faults { IfErr result (λ fault.
+        ShutsBy {T = Unit {0}} (Err fault) (K.cause keeper.old) (K.cause keeper.new)) }
+    ensures keeps { K.is_clean keeper.new → (s : State) → K.stands keeper.old s →
+        StaysBy s result (K.stands keeper.new) }
+    ensures device { K.is_clean keeper.new → (s : State) → K.stands keeper.old s →
+        result ≡ Err Fault.Device → K.fails keeper.old keeper.new }
+    ensures leaves { K.is_clean keeper.new → (s : State) → K.stands keeper.old s →
+        LeavesOnly (K.may_leave keeper.old) (Some s) →
+        LeavesOnly (K.may_leave keeper.new) (Some s) }
+    ensures reopen { result ≡ Err Fault.Reopen →
+        AsBefore (K.stands keeper.old) (K.stands keeper.new)
+        (K.may_leave keeper.old) (K.may_leave keeper.new) }
+    ensures after { journal.new.after ≡ journal.old.after }
+    ensures holds { K.is_clean keeper.new → (s : State) → K.stands keeper.old s →
+        HoldsIn W.contents journal.old s → HoldsIn W.contents journal.new s }
+{
+    for _turn in 0..u64::MAX {
+        if !journal.is_behind {
+            return Ok(());
+        }
+        match kept_line(alloc, keeper, journal.next) {
+            Ok(Some(line)) => {
+                if !journal.put(line.as_slice()) {
+                    return Ok(());
+                }
+            }
+            Ok(None) => {
+                journal.settle();
+                return Ok(());
+            }
+            Err(Fault::Memory) => return Ok(()),
+            Err(fault) => return Err(fault),
+        }
+    }
+    Ok(())
+}
