@@ -66,8 +66,8 @@ async def answer_problem(_request: Request, fault: Exception) -> Response:
 
 async def answer_http_fault(request: Request, fault: Exception) -> Response:
     """The answer to a refusal of the framework: an unknown path, a wrong method. `OPTIONS` is
-    answered with the methods of its path (RFC 9110, 9.3.7), by which clients learn whether they can edit.
-    """
+    answered with the methods of its path (RFC 9110, 9.3.7): clients learn by it whether they can
+    edit."""
     assert isinstance(fault, HTTPException)
     if fault.status_code == 405:
         headers = {"Allow": ", ".join(sorted(allowed(request)))}

@@ -14,7 +14,11 @@ _streetmap() {
     # The values of --port, --key, --collection and others are not known here.
     case $prev in
         --port | --key | --collection | --count | --title | --time | --after) return ;;
-        --scale | --shift) return ;;
+        --scale | --shift | --journal-after) return ;;
+        --journal)
+            _filedir
+            return
+            ;;
         --fractions)
             mapfile -t COMPREPLY < <(compgen -W "text" -- "$cur")
             return
@@ -39,7 +43,10 @@ _streetmap() {
         local options=
         case ${words[1]} in
             pipe) options="--base" ;;
-            serve) options="--port --count --clients --log --warm --base" ;;
+            serve)
+                options="--port --count --clients --log --warm --base --journal --journal-after
+                    --journal-sync"
+                ;;
             import) options="--key --collection --replace --progress" ;;
             export) options="--collection --progress" ;;
             load)
@@ -47,6 +54,7 @@ _streetmap() {
                     --fractions --replace --skip --check --print --progress"
                 ;;
             batches) options="--after" ;;
+            check) options="--replay" ;;
         esac
         mapfile -t COMPREPLY < <(compgen -W "$options" -- "$cur")
         return

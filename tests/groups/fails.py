@@ -2,9 +2,9 @@
 
 The stream is two batches with a page between them, and a page behind. The program writes the
 beginning of the answers that it could, and ends with its fault; the file holds the state of a
-beginning of the batches that has each one whose answer was begun. A server whose writes of a journal
-fail answers all, and completes the journal. The short form fails after some counts of bytes, the
-long one after each.
+beginning of the batches that has each one whose answer was begun. A server whose writes of a
+journal fail answers all, and completes the journal. The short form fails after some counts of
+bytes, the long one after each.
 """
 
 import os
@@ -100,4 +100,4 @@ def run(context: Context) -> None:
         check_failures(context, first, file, wanted, name)
     words = ("--port", "1", "--journal", context.folder / "none.journal")
     if context.takes("serve", context.folder / "none", *words):
-        check_failing_writes(context, context.new_file("town", *REQUESTS[:1], *REQUESTS[2:3]))
+        check_failing_writes(context, context.new_file("sent", *REQUESTS[:1], *REQUESTS[2:3]))

@@ -1,9 +1,9 @@
-"""`batches`, `apply`, `serve --journal`: journals that are cut, swapped, repeated, and another's.
+"""`batches`, `apply`, `serve --journal`, `check --replay`: journals cut, swapped, and another's.
 
 What `batches` prints is compared with the rows that SQLite finds. `apply` of it, in any number of
 sittings, makes the same rows in all four tables. Lines that are cut, left out, swapped or refused
 are reported by their numbers, and the lines before them are applied. A server completes a journal
-that begins its own, and refuses any other.
+that begins its own, and refuses any other. A replay finds each row that no batch made.
 """
 
 import json
@@ -20,7 +20,7 @@ from loading import load_words, sequence
 from messages import Edit, delete, feature, insert_lamp, open_collection, point, post, put
 from model import compact
 from served_journal import check_serving, journal_of
-from sqlite_file import Rows, copy_file, forget, kept_rows, make_format_1, rows
+from sqlite_file import Rows, change, copy_file, forget, kept_rows, make_format_1, rows
 
 MOST_OF_LINE = 16 * 2**20
 MOST_OF_BODY = 8_388_608
@@ -339,6 +339,48 @@ def check_applying(context: Context, town: Path) -> None:
     check_words(context, town)
 
 
+# What check --replay finds
+
+# Changes of the town's rows, each of which leaves the rows of a state, and what is found.
+CHANGES = {
+    "body = replace(body, '\"no\":1', '\"no\":2') WHERE id = 'W1'": "works",
+    "x0 = 999, x1 = 999, body = replace(body, '1000,', '999,') WHERE id = 'L1'": "lamps",
+    "title = 'Woods' WHERE id = 'trees'": "trees",
+    "time = 'when' WHERE id = 'trees'": "trees",
+    "body = 'none' WHERE serial = 2": "2",
+    'body = \'{"edits":[],"key":"b3"}\' WHERE serial = 3': "3",
+    "inserted = 7 WHERE serial = 7": "7",
+    "key = 'b9' WHERE serial = 8": "8",
+}
+
+
+def table_of(changed: str) -> str:
+    """The table that has the column which says where a change is."""
+    if "serial" in changed:
+        return "batches"
+    return "collections" if "'trees'" in changed else "features"
+
+
+def check_replays(context: Context, town: Path) -> None:
+    def replayed(file: Path) -> tuple[int, bytes, bytes]:
+        ended = context.start("check", file, "--replay")
+        return ended.returncode, ended.stdout, ended.stderr
+
+    context.check("a town is its replay", replayed(town), (0, COUNTED, b""))
+    empty = context.new_file("no batches")
+    context.check("so is no batch at all", replayed(empty), (0, b"ok 0 0 0\n", b""))
+    file = context.folder / "changed"
+    for changed, wanted in CHANGES.items():
+        copy_file(town, file)
+        change(file, f"UPDATE streetmap_{table_of(changed)} SET {changed}")
+        fault = f"streetmap: not_replayed {wanted}\n".encode()
+        context.check(changed, replayed(file), (1, b"", fault))
+    copy_file(town, file)
+    change(file, "DELETE FROM streetmap_collections WHERE id = 'trees'")
+    fault = b"streetmap: not_replayed trees\n"
+    context.check("a collection is missing", replayed(file), (1, b"", fault))
+
+
 def run(context: Context) -> None:
     town, none = town_file(context, "town"), context.folder / "none"
     context.check("the counts of the town", context.run("check", town), COUNTED)
@@ -356,3 +398,5 @@ def run(context: Context) -> None:
     words = ("--port", "1", "--journal", context.folder / "none.journal")
     if context.takes("serve", none, *words):
         check_serving(context, town)
+    if context.takes("check", none, "--replay"):
+        check_replays(context, town)

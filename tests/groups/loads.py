@@ -9,6 +9,7 @@ TEXT, the same again, and changed ones, into one file. The rows of each file are
 import json
 import os
 import random
+import re
 import sqlite3
 import subprocess
 import time
@@ -358,7 +359,9 @@ def check_faults(context: Context) -> None:
     context.run(*load_words(file, context.folder, "k"), status=3, code="read_failed")
     words: list[Word] = ["load", file, source, "--key", "k", "--collection"]
     context.run(*words, "a b", status=1, code="bad_batch")
-    context.run(*load_words(source, source, "k"), status=1, code="not_ours")
+    context.run(*load_words(source, source, "k"), status=1, code="same_file")
+    other = text_path(context, "other.text", sequence(many(1)))
+    context.run(*load_words(source, other, "k"), status=1, code="not_ours")
     context.check("nothing is applied", context.run("check", file), b"ok 1 0 1\n")
     with context.serve(file):
         context.run(*load_words(file, source, "k"), status=3, code="device")
@@ -404,7 +407,13 @@ def check_progress(context: Context) -> None:
     context.check("progress: output", ended.stdout, output_line(4, 3_000, 4))
     told = [line.startswith(b"streetmap: ") for line in ended.stderr.splitlines()]
     context.check(f"progress: {ended.stderr!r}", told and all(told), True)
-    context.check("progress in features", b"features" in ended.stderr, True)
+    line = rb"streetmap: 2000 features, \d+ bytes, \d+ %(, \d+ a second)?, \d+ s left\n"
+    context.check("progress of the text", bool(re.search(line, ended.stderr)), True)
+    with source.open("rb") as text:
+        words = load_words(context.new_file("piped"), None, "k", "--open", "--progress")
+        ended = context.start(*words, stdin=text)
+    line = rb"streetmap: 2000 features, \d+ bytes(, \d+ a second)?\n"
+    context.check("progress of standard input", bool(re.search(line, ended.stderr)), True)
     other = context.new_file("quiet")
     context.run(*load_words(other, source, "k", "--open"))
     context.check("the rows are the same", kept_rows(file) == kept_rows(other), True)

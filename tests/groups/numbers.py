@@ -1,4 +1,4 @@
-"""`load --scale --shift --round --fractions` beside Python's `fractions`, and a GeoPackage in metres.
+"""`load --scale --shift --round --fractions` beside Python's `fractions`, and layers in metres.
 
 A load has a feature for each number, as an easting, a northing or a height, and passes over those at
 fault: what is exported, and what is listed, is what the rules in plain Python say of each.
@@ -13,10 +13,15 @@ from pathlib import Path
 from random import Random
 from typing import Any
 
+from followers_tests import postgres
+from followers_tests.processes import wait_until
 from harness import Context
 from loading import faults_in, load_words, sequence
 
-PACKAGES = ("gdal-bin",)
+PACKAGES = ("gdal-bin", "postgresql", "python3-psycopg2")
+# A table of it is loaded too where it is installed.
+POSTGIS = Path("/usr/share/postgresql/15/extension/postgis.control")
+METRES = ("--open", "--round", "--scale", "1000", "--shift", "412000,5712000")
 SEED, NUMBERS = 39, 120
 GREATEST, PLACES, MOST_CHARACTERS = 10**9, 18, 38
 SCALES = ("1", "1000", "1e3", "0.001", "304.8", "0.3048", "0.000000001", "999999.999999999")
@@ -186,8 +191,25 @@ def check_other_words(context: Context) -> None:
     context.run(*load_words(file, None, "l"), sent=text, status=1, code="bad_feature 1 fraction")
 
 
-def check_geopackage(context: Context) -> None:
-    """A GeoPackage in metres (EPSG:25832), by `ogr2ogr` and a pipe, comes in to the millimetre."""
+def ogr2ogr(context: Context, *words: str | Path) -> bytes:
+    """What a run of `ogr2ogr` writes on standard output."""
+    return subprocess.run(
+        ["ogr2ogr", *words], check=True, timeout=context.seconds, capture_output=True
+    ).stdout
+
+
+def lamps_of(context: Context, name: str, source: str) -> dict[str, tuple[int, ...]]:
+    """The layer `lamps` of a source in metres, by a pipe into a load: ids and positions."""
+    words = ["-f", "GeoJSONSeq", "-a_srs", "None", "-lco", "ID_FIELD=lamp"]
+    words += ["-lco", "COORDINATE_PRECISION=3", "/vsistdout/", source, "lamps"]
+    file = context.new_file(name)
+    context.run(*load_words(file, None, "k", *METRES), sent=ogr2ogr(context, *words))
+    return {it["id"]: tuple(it["geometry"]["coordinates"]) for it in exported(context, file)}
+
+
+def check_layers(context: Context) -> None:
+    """A GeoPackage in metres (EPSG:25832), and where PostGIS is installed a table of it, come in to
+    the millimetre by `ogr2ogr`."""
     chance = Random(SEED)
     positions = [
         (chance.randrange(10**7), chance.randrange(10**7), chance.randrange(10**5))
@@ -201,16 +223,25 @@ def check_geopackage(context: Context) -> None:
     ]
     source, layer = context.folder / "lamps.geojson", context.folder / "lamps.gpkg"
     source.write_text(f'{{"type":"FeatureCollection","features":[{",".join(features)}]}}')
-    make = ["ogr2ogr", "-f", "GPKG", "-a_srs", "EPSG:25832", "-nln", "lamps", layer, source]
-    subprocess.run(make, check=True, timeout=context.seconds, capture_output=True)
-    read = ["ogr2ogr", "-f", "GeoJSONSeq", "-a_srs", "None", "-lco", "ID_FIELD=lamp"]
-    read += ["-lco", "COORDINATE_PRECISION=3", "/vsistdout/", str(layer), "lamps"]
-    made = subprocess.run(read, check=True, timeout=context.seconds, capture_output=True)
-    file = context.new_file("geopackage")
-    words = ("--open", "--round", "--scale", "1000", "--shift", "412000,5712000")
-    context.run(*load_words(file, None, "k", *words), sent=made.stdout)
-    found = {it["id"]: tuple(it["geometry"]["coordinates"]) for it in exported(context, file)}
-    context.check("lamps of a GeoPackage", found, {f"L{at}": it for at, it in enumerate(positions)})
+    ogr2ogr(context, "-f", "GPKG", "-a_srs", "EPSG:25832", "-nln", "lamps", layer, source)
+    wanted = {f"L{at}": it for at, it in enumerate(positions)}
+    context.check("a GeoPackage", lamps_of(context, "geopackage", str(layer)), wanted)
+    if POSTGIS.exists():
+        context.check("a table of PostGIS", lamps_of_table(context, layer), wanted)
+
+
+def lamps_of_table(context: Context, layer: Path) -> dict[str, tuple[int, ...]]:
+    """The same layer, put into a table of PostGIS and read from it."""
+    database = postgres.primary(context)
+    database.process.start()
+    wait_until("PostgreSQL answers", database.answers, context.seconds)
+    try:
+        database.ask_alone("CREATE EXTENSION postgis")
+        source = f"PG:host=127.0.0.1 port={database.port} user={postgres.USER} dbname=postgres"
+        ogr2ogr(context, "-f", "PostgreSQL", source, layer, "lamps")
+        return lamps_of(context, "postgis", source)
+    finally:
+        database.process.kill()
 
 
 def run(context: Context) -> None:
@@ -222,4 +253,4 @@ def run(context: Context) -> None:
     check_fractions(context)
     check_words(context)
     check_other_words(context)
-    check_geopackage(context)
+    check_layers(context)
