@@ -285,6 +285,7 @@ def run(context: Context) -> None:
     check_command(refuser, "batches")
     check_command(refuser, "export", "--collection", "lamps")
     check_command(refuser, "check")
+    check_command(refuser, "check", "--replay")
     if context.slow:
         for crate, test in TESTED.items():
             check_test(refuser, crate, test)
