@@ -201,7 +201,7 @@ def check_unit(context: Context) -> None:
     trace = context.folder / "trace"
     traced = context.folder / "traced"
     # The unit's shell is the program then, so its calls count too.
-    shell = "/bin/sh -c 'exec \"$0\" \"$@\"'"
+    shell = '/bin/sh -c \'exec "$0" "$@"\''
     words = f'strace -f -qq -o "{trace}" {shell} "{context.program}" "$@"'
     traced.write_text(f"#!/bin/sh\nexec {words}\n")
     traced.chmod(0o755)
