@@ -65,7 +65,7 @@ COMPLETIONS = {
     "load town --each ": "100 1000 10000",
     "batches town --": "--after",
     "apply town --": "",
-    "check town --": "",
+    "check town --": "--replay",
 }
 COMPLETE = """
 . /usr/share/bash-completion/bash_completion
