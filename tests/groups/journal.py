@@ -31,9 +31,9 @@ DATED = {"when": "2024-05-01T00:00:00Z/..", "no": 1, "t": '"\\\t\u007f\u20ac\U00
 WORKS = open_collection("works", time="when", title="Works")
 TOWN: dict[str, list[Edit]] = {
     "b1": [open_collection("lamps"), put("insert", "lamps", feature("L1", point(1000, 2000)))],
-    "b2": [WORKS, put("insert", "works", feature("W1", LINE, DATED))],
+    "b2": [WORKS, put("insert", "works", feature("dig", LINE, DATED))],
     "b3": [insert_lamp(2), insert_lamp(3)],
-    "b4": [put("replace", "works", feature("W1", None, DATED)), delete("lamps", "L3")],
+    "b4": [put("replace", "works", feature("dig", None, DATED)), delete("lamps", "L3")],
     "b5": [],
     "b6": [open_collection("trees")],
     "b7": [insert_lamp(4)],
@@ -343,7 +343,7 @@ def check_applying(context: Context, town: Path) -> None:
 
 # Changes of the town's rows, each of which leaves the rows of a state, and what is found.
 CHANGES = {
-    "body = replace(body, '\"no\":1', '\"no\":2') WHERE id = 'W1'": "works",
+    "body = replace(body, '\"no\":1', '\"no\":2') WHERE id = 'dig'": "works",
     "x0 = 999, x1 = 999, body = replace(body, '1000,', '999,') WHERE id = 'L1'": "lamps",
     "title = 'Woods' WHERE id = 'trees'": "trees",
     "time = 'when' WHERE id = 'trees'": "trees",
