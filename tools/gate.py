@@ -7,14 +7,21 @@
 But the proof of a function sees the contracts of others and not their bodies. So wrong bodies of
 different functions are tried in one check, and each must have its own function refused. One whose
 function is refused only because it calls another, or is not refused, is tried again, without the
-others at the end; that last check is `rt ci`'s own. With another toolchain, whose parts have other
-names, this is `rt ci` alone.
+others at the end; that last check is `rt ci`'s own.
+
+`rt ci` also proves each crate twice, the second time for its wrong bodies to begin with. Here the
+built crate holds its checked proofs, and they begin with these: a check of the crate as it stands
+over them is still asked to pass, before the first wrong body and behind the last. The proof itself
+is made from nothing, by one check, as before. With another toolchain, whose parts have other names,
+this is `rt ci` alone.
 """
 
+import json
 import os
 import re
 import subprocess
 import sys
+import tempfile
 import threading
 from collections.abc import Callable
 from dataclasses import dataclass
@@ -24,7 +31,12 @@ from typing import Any
 
 import toolchain
 
-NEEDED = ("ci", "edits_alone", "edits_of", "must_fail", "checked", "unread", "REFUSED", "rtlib")
+NEEDED = (
+    *("ci", "edits_alone", "edits_of", "must_fail", "checked", "unread", "REFUSED", "rtlib"),
+    *("seeded", "in_lanes", "Crate"),
+)
+# A chain of crates is long where it has this part of the longest one's lines.
+NEARLY = 0.95
 LANES = int(os.environ.get("RT_JOBS") or len(os.sched_getaffinity(0)))
 FUNCTION = re.compile(r"^( *)(?:pub(?:\([\w ]+\))? )?(?:const |unsafe )*fn (\w+)", re.MULTILINE)
 IMPL = re.compile(
@@ -44,6 +56,11 @@ class Function:
     module: str
     kind: str  # the type of its `impl`, and the trait, or nothing
     name: str
+
+    @property
+    def path(self) -> str:
+        """The toolchain's name for it, without its crate."""
+        return "::".join(it for it in (self.module, self.kind.replace(" ", ""), self.name) if it)
 
     def is_called(self, path: str) -> bool:
         """Whether the toolchain's name for a function, without its crate, can be this one's."""
@@ -220,7 +237,7 @@ class Rounds:
         lines = ran.stdout.rstrip("\n").split("\n")
         return (
             ran.returncode == 1
-            and lines[-1].startswith("logic=not-proved")
+            and lines[-1].startswith(("logic=not-proved", "only="))
             and not self.rt.rtlib.STALE.search(ran.stdout)
             and not any(self.rt.unread(it, texts) for it in lines)
         )
@@ -237,13 +254,23 @@ class Rounds:
             self.running -= {it.path for it in together}
             self.changed.notify_all()
 
+    def check(
+        self, together: list[Edit], texts: dict[str, str], flags: list[str], kept: str
+    ) -> Any:
+        """A check of the changed functions and of those that they call; of the whole crate where the
+        toolchain has no function of such a name."""
+        changed = {function.path for edit in together for function in edit.functions or ()}
+        only = [word for path in sorted(changed) for word in ("--only", path)]
+        ran = self.rt.checked(self.crate, texts, [*flags, *only], kept)
+        return self.rt.checked(self.crate, texts, flags, kept) if ran.returncode == 2 else ran
+
     def tried(self, path: str, flags: list[str], kept: str) -> str | None:
         """The line that refuses a wrong body beside others, where one does."""
         together, texts = self.take(path)
         if together:
             ran = None
             try:
-                ran = self.rt.checked(self.crate, texts, flags, kept)
+                ran = self.check(together, texts, flags, kept)
             finally:
                 self.settle(together, ran, texts)
         return self.refused.get(path)
@@ -273,12 +300,130 @@ def must_fail_by(rt: ModuleType) -> Callable[..., tuple[str, str]]:
     return must_fail
 
 
+def hold_proofs(rt: ModuleType) -> None:
+    """Has each built crate hold its checked proofs: `rt ci` leaves them out (`--statements`)."""
+    prove = rt.Crate.prove
+
+    def with_proofs(crate: Any, *commands: list[str]) -> Any:
+        return prove(crate, *[[it for it in words if it != "--statements"] for words in commands])
+
+    rt.Crate.prove = with_proofs
+
+
+def take_out(rlib: Path, folder: Path) -> bool:
+    """Writes the checked modules that a built crate holds into a folder, a file each; returns
+    whether it holds them. Its list has a line for each: the name, and where its bytes stand. Those
+    whose name has a folder are parts of other crates."""
+    archive, listed = rlib / "toolchain" / "checked.a", rlib / "toolchain" / "checked.json"
+    if not archive.is_file() or not listed.is_file():
+        return False
+    held = archive.read_bytes()
+    for line in listed.read_text(encoding="utf-8").splitlines():
+        name, start, size = json.loads(line)
+        if "/" not in name:
+            (folder / f"{name}.oantt").write_bytes(held[start : start + size])
+    return True
+
+
+def seeded_by(rt: ModuleType) -> Callable[..., str | None]:
+    """What stands for `seeded` of `rt ci`: what wrong bodies begin with is a check of the crate as
+    it stands, over the proofs that the built crate holds."""
+    alone: Callable[..., str | None] = rt.seeded
+    guard = threading.Lock()
+    found: list[str] = []
+
+    def name_of_kept(crate: Any, room: str) -> str | None:
+        """The name that the prover gives to a folder of checked modules."""
+        with guard:
+            if not found:
+                rt.checked(crate, {}, ["--jobs", "1", "--only", ""], room)
+                found.extend(os.listdir(room)[:1])
+        return found[0] if found else None
+
+    def seeded(crate: Any, flags: list[str], start: str | None = None) -> str | None:
+        with tempfile.TemporaryDirectory(prefix="streetmap-proofs-") as room:
+            name = name_of_kept(crate, room)
+            if name is None:
+                return alone(crate, flags, start)
+            folder = Path(room, name)
+            folder.mkdir(exist_ok=True)
+            try:
+                held = take_out(Path(crate.rlib), folder)
+            except (OSError, ValueError):
+                held = False
+            return alone(crate, flags, room if held else start)
+
+    return seeded
+
+
+def give_way(rt: ModuleType) -> None:
+    """Has checks of wrong bodies give way to proofs, which others wait for."""
+    guarded, checked = rt.rtlib.guarded, rt.checked
+    this = threading.local()
+
+    def guarded_or_nice() -> list[str]:
+        return [*(["nice", "-n", "10"] if getattr(this, "gives_way", False) else []), *guarded()]
+
+    def checked_so(*given: Any) -> Any:
+        this.gives_way = True
+        try:
+            return checked(*given)
+        finally:
+            this.gives_way = False
+
+    rt.rtlib.guarded = guarded_or_nice
+    setattr(rt, "checked", checked_so)
+
+
+def long_chain(tasks: dict[Any, Any]) -> set[Any]:
+    """The proofs on the longest chain of crates, each of which waits for the one before, by lines
+    of code; and those on chains nearly as long."""
+    proofs = {key: task for key, task in tasks.items() if key[1] == "proof"}
+    before = dict.fromkeys(proofs, 0)
+    for key, (waits, *_) in proofs.items():
+        lengths = [before[it] + proofs[it][1] for it in waits if it in proofs]
+        before[key] = max(lengths, default=0)
+    behind = {key: task[1] for key, task in proofs.items()}
+    for key in reversed([*proofs]):
+        for it in proofs[key][0]:
+            if it in proofs:
+                behind[it] = max(behind[it], behind[key] + proofs[it][1])
+    longest = max((before[key] + behind[key] for key in proofs), default=0)
+    return {key for key in proofs if before[key] + behind[key] >= NEARLY * longest}
+
+
+def in_lanes_by(rt: ModuleType) -> Callable[..., Any]:
+    """What stands for `in_lanes` of `rt ci`: what wrong bodies begin with waits for the proof; and
+    where there are lanes enough, a proof that many others wait for takes two processes or more."""
+    alone = rt.in_lanes
+
+    def with_jobs(call: Callable[..., Any], least: int) -> Callable[..., Any]:
+        return lambda given, jobs: call(given, max(jobs, least))
+
+    def in_lanes(tasks: dict[Any, Any]) -> Any:
+        chain = long_chain(tasks) if LANES >= 4 else set()
+        last = next(reversed([it for it in tasks if it in chain]), None)
+        for key, (waits, lines, memory, call) in tasks.items():
+            if key[1] == "seed" and (key[0], "proof") in tasks:
+                tasks[key] = ([*waits, (key[0], "proof")], lines, memory, call)
+            elif key in chain:
+                tasks[key] = (waits, lines, memory, with_jobs(call, 3 if key == last else 2))
+        return alone(tasks)
+
+    return in_lanes
+
+
 def main(names: list[str]) -> int:
     rt = toolchain.load(*NEEDED)
     if rt is None:
         words = ["must-fail", *names] if names else ["ci"]
         return subprocess.run(["rt", *words], check=False).returncode
     setattr(rt, "must_fail", must_fail_by(rt))
+    if not names:
+        give_way(rt)
+        hold_proofs(rt)
+        setattr(rt, "seeded", seeded_by(rt))
+        setattr(rt, "in_lanes", in_lanes_by(rt))
     return int(rt.edits_alone(names) if names else rt.ci(anew=False))
 
 

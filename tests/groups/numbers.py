@@ -139,6 +139,56 @@ def check_placing(context: Context, number: int, placing: Placing, chance: Rando
         context.check(what, found.get(place, faults.get(place)), millimetres)
 
 
+# Numbers whose millimetres, or faults, are written down: the scale, the shift, whether it rounds,
+# the axis (easting, northing, height), the number, and what it comes to.
+WRITTEN = (
+    ("1000", "-500000.125,0", False, 0, "412345.678", 912345803),
+    ("1000", "0,0", False, 0, "-1.5e3", -1500000),
+    ("1", "0,0", True, 0, "-0.5", -1),
+    ("1", "0,0", True, 0, "2.5", 3),
+    ("1", "0,0", True, 0, "-2.5", -3),
+    ("1", "0,0", True, 0, "0.49999999", 0),
+    ("1", "1,0", True, 0, "0.5", -1),
+    ("0.3048", "0,0", True, 0, "1000", 305),
+    ("1000", "0,0", True, 0, "1000000.0004", 1000000000),
+    ("1000", "0,0", True, 0, "1000000.0005", "out_of_grid"),
+    ("1000", "0,0", True, 0, "-1.1368683772161603e-13", 0),
+    ("1", "0,0", True, 0, "0.4999999999999999999", "too_many_digits"),
+    ("1", "0,0", True, 0, "0.5000000000000000001", 1),
+    ("1", "0,0", True, 0, "1e-19", 0),
+    ("1", "0,0", True, 0, "1e18", "out_of_grid"),
+    ("1", "0,0", False, 0, "1e-19", "too_many_digits"),
+    ("1", "0,0", False, 0, "-0.5", "fraction"),
+    ("1", "-1e17,0", False, 0, "-1e17", 0),
+    ("0.000000001", "0,0", True, 0, "4.99999999e8", 0),
+    ("10", "100,7", False, 1, "8.5", 15),
+    ("10", "100,7", False, 2, "8.5", 85),
+)
+# A line string whose two positions are at fault: the first in the order of the text is reported.
+FIRST_FAULTS = (
+    ("[[1e18,1],[1,0.49999999999999999999]]", "out_of_grid"),
+    ("[[1,0.49999999999999999999],[1e18,1]]", "too_many_digits"),
+)
+
+
+def check_written(context: Context) -> None:
+    """What the numbers of the table come to, and which of two faults comes first."""
+    for number, (scale, shift, rounds, axis, text, wanted) in enumerate(WRITTEN):
+        placing = Placing(scale, shift, rounds)
+        file = context.new_file(f"written-{number}")
+        words = load_words(file, None, "k", "--open", "--skip", *placing.words())
+        ended = context.start(*words, sent=sequence([feature_text(text, placing, axis)]))
+        found = [it["geometry"]["coordinates"][axis] for it in exported(context, file)]
+        found += faults_in(ended.stderr).values()
+        context.check(f"{text} at {axis}, {placing}", found, [wanted])
+    for coordinates, fault in FIRST_FAULTS:
+        geometry = f'{{"type":"LineString","coordinates":{coordinates}}}'
+        text = f'{{"type":"Feature","id":"a","geometry":{geometry},"properties":null}}\n'
+        words = load_words(context.new_file(fault), None, "k", "--open", "--round", "--scale", "1")
+        code = f"bad_feature 1 {fault}"
+        context.run(*words, sent=text.encode(), status=1, code=code)
+
+
 # Numbers within properties, as they are written, and what is kept of them.
 KEPT = (
     *(("3.5", "3.5"), ("-0.50", "-0.50"), ("1e400", "1e400"), ("1E2", "1E2")),
@@ -250,6 +300,7 @@ def run(context: Context) -> None:
     chance = Random(SEED)
     for number, placing in enumerate(placings()):
         check_placing(context, number, placing, chance)
+    check_written(context)
     check_fractions(context)
     check_words(context)
     check_other_words(context)

@@ -1,7 +1,10 @@
 //! The journal beside a file that is served: how it is begun, and what it is written to.
+ghost use Rattle.std.specs.Prelude.{◌≡◌, ◌≤◌, true};
+ghost use Rattle.streetmap.specs.Counted.{HasFailed};
+
 use crate::fault;
 use std::fs::{File, OpenOptions};
-use std::io::{BufReader, Error, ErrorKind, Result as IoResult, Stderr, Write};
+use std::io::{BufReader, Error, ErrorKind, Stderr, Write};
 use std::str;
 use streetmap_command::JournalAsked;
 use streetmap_faults::ProgramFault;
@@ -9,7 +12,7 @@ use streetmap_journal::{
     Journal, JournalWriter, MAX_LINE, MatchEnd, Matched, StartFault, match_lines, start_journal,
 };
 use streetmap_kept::KeepsBatches;
-use streetmap_text_lines::{LineFault, WholeLine, next_whole_line};
+use streetmap_text_lines::{LineFault, NotWritten, WholeLine, next_whole_line, write_bytes};
 
 /// The file of a journal, to whose end its lines are written.
 #[derive(Drop)]
@@ -20,32 +23,68 @@ pub(crate) struct JournalFile {
     messages: Stderr,
     /// Whether lines are synchronised before answers.
     syncs: bool,
-    /// Whether it was told that lines are missing.
-    is_behind: bool,
+    /// The serial from which on it was told that lines are missing.
+    told: Option<u64>,
+    /// Whether all that was written was synchronised, where that is asked for. Of this and of the
+    /// next field the contract speaks, and no code reads them.
+    is_kept: bool,
+    /// How many writes and synchronisings failed: as many at least, where it is the most of 64 bits.
+    failures: u64,
 }
 
-impl Write for JournalFile {
-    fn write(&mut self, bytes: &[u8]) -> IoResult<usize> {
-        self.file.write(bytes)
-    }
-
-    fn flush(&mut self) -> IoResult<()> {
-        self.file.flush()
-    }
+/// A failure more.
+fn one_more(failures: u64) -> u64
+    ensures grows { failures ≤ result }
+    ensures failed { HasFailed failures result }
+{
+    failures.saturating_add(1)
 }
 
 impl JournalWriter for JournalFile {
+    ghost use Rattle.streetmap.specs.Counted as counted;
+
+    ghost told = { λ f. f.told };
+
+    ghost is_kept = { λ f. f.is_kept ≡ true };
+
+    ghost goes = { λ k l. k.failures ≤ l.failures };
+
+    ghost fails = { λ k l. counted.HasFailed k.failures l.failures };
+
+    ghost goes_itself = { λ k. counted.itself k.failures };
+
+    ghost goes_then = { λ k l m first next.
+        counted.both k.failures l.failures m.failures first next };
+
+    ghost fails_later = { λ k l m first failed.
+        counted.later k.failures l.failures m.failures first failed };
+
+    ghost fails_still = { λ k l m failed next.
+        counted.still k.failures l.failures m.failures failed next };
+
+    fn append(&mut self, bytes: &[u8]) -> Result<(), NotWritten> {
+        self.is_kept = false;
+        let written = write_bytes(&mut self.file, bytes);
+        if written.is_err() {
+            self.failures = one_more(self.failures);
+        }
+        written
+    }
+
     fn sync(&mut self) -> Result<(), Error> {
         if self.syncs {
-            self.file.sync_data()
-        } else {
-            Ok(())
+            if let Err(error) = self.file.sync_data() {
+                self.failures = one_more(self.failures);
+                return Err(error);
+            }
         }
+        self.is_kept = true;
+        Ok(())
     }
 
     /// A line that cannot be written is left out.
     fn behind(&mut self, serial: u64) {
-        self.is_behind = true;
+        self.told = Some(serial);
         let _ = writeln!(
             self.messages,
             "streetmap: journal behind from serial {serial}"
@@ -54,8 +93,8 @@ impl JournalWriter for JournalFile {
 
     /// A line that cannot be written is left out.
     fn whole(&mut self, serial: u64) {
-        if self.is_behind {
-            self.is_behind = false;
+        if self.told.is_some() {
+            self.told = None;
             let _ = writeln!(self.messages, "streetmap: journal whole at {serial}");
         }
     }
@@ -109,8 +148,8 @@ fn beginning(
     }
 }
 
-/// How many of a journal's lines behind a serial are those of the file's batches, and how many bytes
-/// they have. What a cut left behind them is none.
+/// How many of a journal's lines behind a serial are those of the file's batches, and how many
+/// bytes they have. What a cut left behind them is none.
 fn compare<K: KeepsBatches>(
     rt: &HostRuntime,
     keeper: &mut K,
@@ -158,7 +197,9 @@ fn open_behind(
         file,
         messages: rt.stderr(),
         syncs: asked.sync,
-        is_behind: false,
+        told: None,
+        is_kept: false,
+        failures: 0,
     })
 }
 

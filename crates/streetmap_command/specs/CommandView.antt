@@ -5,6 +5,7 @@ use Rattle.streetmap_command.specs.declared.command.Command.TheVariants.{Version
 use Rattle.streetmap_command.specs.declared.command.Command.TheVariants.{Pipe, Serve}
 use Rattle.streetmap_command.specs.declared.command.Command.TheVariants.{Import, Export, Check}
 use Rattle.streetmap_command.specs.declared.command.Command.TheVariants.{Load, Batches, Apply}
+use Rattle.streetmap_command.specs.declared.command.Connections.{Connections}
 use Rattle.streetmap_command.specs.declared.words.LoadAsked.{LoadAsked}
 use Rattle.streetmap_command.specs.declared.words.JournalAsked.{JournalAsked}
 use Rattle.std.specs.Prelude.{option_map}
@@ -12,7 +13,7 @@ use Rattle.streetmap_command.specs.Program.{CommandValue, version_command, lines
 use Rattle.streetmap_command.specs.Program.{create_command, pipe_command, serve_command}
 use Rattle.streetmap_command.specs.Program.{import_command, export_command, check_command}
 use Rattle.streetmap_command.specs.Program.{load_command, batches_command, apply_command}
-use Rattle.streetmap_command.specs.Program.{LoadWords, JournalWords}
+use Rattle.streetmap_command.specs.Program.{LoadWords, JournalWords, ConnectionsWords}
 
 -- the options of a load as values
 abbrev pub load_value : LoadAsked → LoadWords
@@ -39,13 +40,23 @@ load_value l = record {
 abbrev pub journal_value : JournalAsked → JournalWords
 journal_value j = record { path = j.path.now; after = j.after; sync = j.sync }
 
+-- connections as a value
+abbrev pub connections_value : Connections → ConnectionsWords
+connections_value c = record {
+  port = c.port;
+  count = c.count;
+  clients = c.clients;
+  log = c.log;
+  warm = c.warm;
+}
+
 abbrev pub command_value : Command → CommandValue
 command_value Version = version_command
 command_value Lines = lines_command
 command_value (Create file) = create_command file.now
 command_value (Pipe file base) = pipe_command file.now (string_bytes base)
 command_value (Serve file c base journal) =
-    serve_command file.now c.port c.count c.clients c.log c.warm (string_bytes base)
+    serve_command file.now (connections_value c) (string_bytes base)
     (option_map journal_value journal)
 command_value (Import file i) =
     import_command file.now i.text.now i.key.now i.collection.now i.replace i.progress

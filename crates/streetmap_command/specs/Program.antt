@@ -141,14 +141,23 @@ pub record JournalWords : Type 0 where
   pub after : ℕ
   pub sync : Bool
 
+-- the connections that are served: the port, how many in all, how many at once, whether each answer
+-- has a line, and whether indexes are learnt first
+pub record ConnectionsWords : Type 0 where
+  pub port : ℕ
+  pub count : Option ℕ
+  pub clients : ℕ
+  pub log : Bool
+  pub warm : Bool
+
 -- what a command line asks for
 pub data CommandValue : Type 0 where
   version_command : CommandValue
   lines_command : CommandValue
   create_command : (file : Text) → CommandValue
   pipe_command : (file base : Text) → CommandValue
-  serve_command : (file : Text) (port : ℕ) (count : Option ℕ) (clients : ℕ) (log warm : Bool)
-      (base : Text) (journal : Option JournalWords) → CommandValue
+  serve_command : (file : Text) (connections : ConnectionsWords) (base : Text)
+      (journal : Option JournalWords) → CommandValue
   import_command : (file text key collection : Text) (replace progress : Bool) → CommandValue
   export_command : (file collection : Text) (progress : Bool) → CommandValue
   check_command : (file : Text) (replay : Bool) → CommandValue
@@ -217,19 +226,29 @@ abbrev pub journal_by : List Row → Option (Option JournalWords)
 journal_by rows = journal_given (first_of (codes "journal") rows)
     (first_of (codes "journal-after") rows) (is_set (first_of (codes "journal-sync") rows))
 
--- what serves, of what is given for its file, port, count, clients, flags, base and journal
-abbrev pub serve_given : (file port count clients log warm base : Option Text)
-    (journal : Option (Option JournalWords)) → Option CommandValue
-serve_given file port count clients log warm base journal =
-    option_and_then (λ f. option_and_then (λ p.
-    option_and_then (λ n. option_and_then (λ c. option_map (λ j.
-    serve_command f p n c (is_set log) (is_set warm) (unwrap_or base (base_at p)) j)
-    journal) (clients_given n clients)) (count_given count)) (port_given port)) file
+-- the connections, of what is given for their port, count, clients and flags
+abbrev pub connections_given : (port count clients log warm : Option Text)
+    → Option ConnectionsWords
+connections_given port count clients log warm =
+    option_and_then (λ p. option_and_then (λ n. option_map (λ c.
+    record { port = p; count = n; clients = c; log = is_set log; warm = is_set warm })
+    (clients_given n clients)) (count_given count)) (port_given port)
+
+abbrev pub connections_by : List Row → Option ConnectionsWords
+connections_by rows = connections_given (first_of (codes "port") rows)
+    (first_of (codes "count") rows) (first_of (codes "clients") rows)
+    (first_of (codes "log") rows) (first_of (codes "warm") rows)
+
+-- what serves, of what is given for its file, connections, journal and base
+abbrev pub serve_given : (file : Option Text) (connections : Option ConnectionsWords)
+    (journal : Option (Option JournalWords)) (base : Option Text) → Option CommandValue
+serve_given file connections journal base =
+    option_and_then (λ f. option_and_then (λ c. option_map (λ j.
+    serve_command f c (unwrap_or base (base_at c.port)) j) journal) connections) file
 
 abbrev pub serve_by : List Row → Option CommandValue
-serve_by rows = serve_given (first_of (codes "file") rows) (first_of (codes "port") rows)
-    (first_of (codes "count") rows) (first_of (codes "clients") rows) (first_of (codes "log") rows)
-    (first_of (codes "warm") rows) (first_of (codes "base") rows) (journal_by rows)
+serve_by rows = serve_given (first_of (codes "file") rows) (connections_by rows)
+    (journal_by rows) (first_of (codes "base") rows)
 
 -- what imports, of what is given for its file, text, key, collection and flags
 abbrev pub import_given : (file text key collection replace progress : Option Text)
@@ -338,8 +357,7 @@ abbrev pub command_by : Option (Text × List Row) → Option CommandValue
 command_by found = option_and_then (λ p. command_named p.0 p.1) found
 
 -- `clap` finds no fault in the words, and this is the command that they ask for; or it finds one,
--- the
--- request for the version, and this is it
+-- the request for the version, and this is it
 abbrev pub Finds : Kinds → Option CommandValue → CommandValue → Type 0
 Finds [] asked command = Some command ≡ asked
 Finds (k ∷ ks) asked command =

@@ -6,11 +6,11 @@ ghost use Rattle.clap.specs.Words.{kind_of, rows_of, found_of, first_of};
 ghost use Rattle.std.specs.List.{list_all};
 ghost use Rattle.std.specs.Char.{is_ascii_digit};
 ghost use Rattle.streetmap_command.specs.Program.{program, command_by, create_by, pipe_by};
-ghost use Rattle.streetmap_command.specs.Program.{serve_by};
+ghost use Rattle.streetmap_command.specs.Program.{serve_by, connections_by};
 ghost use Rattle.streetmap_command.specs.Program.{import_by, export_by, check_by, number_up_to};
 ghost use Rattle.streetmap_command.specs.Program.{port_given, count_given, clients_given, is_set};
 ghost use Rattle.streetmap_command.specs.Program.{asked_by, IsFoundIn};
-ghost use Rattle.streetmap_command.specs.CommandView.{command_value};
+ghost use Rattle.streetmap_command.specs.CommandView.{command_value, connections_value};
 
 use crate::parser::make_parser;
 use crate::words::{JournalAsked, LoadAsked, read_apply, read_batches, read_journal, read_load};
@@ -89,8 +89,8 @@ pub enum Command<'a> {
         collection: &'a str,
         progress: bool,
     },
-    /// `streetmap check FILE`: say whether the rows of a file are those of a state, and how many there
-    /// are; with `replay` also whether its kept batches give that state.
+    /// `streetmap check FILE`: say whether the rows of a file are those of a state, and how many
+    /// there are; with `replay` also whether its kept batches give that state.
     Check {
         file: &'a str,
         replay: bool,
@@ -233,6 +233,22 @@ fn read_clients(given: Option<&str>, count: Option<u32>) -> Option<u32>
     }
 }
 
+/// The connections that are asked for, of what is given with the command.
+fn read_connections(found: &ArgMatches<'_>) -> Option<Connections>
+    ensures { option_map connections_value result ≡ connections_by (rows_of (found_of found.now)) }
+{
+    let port = read_port(value_of(found, "port"))?;
+    let count = read_count(value_of(found, "count"))?;
+    let clients = read_clients(value_of(found, "clients"), count)?;
+    Some(Connections {
+        port,
+        count,
+        clients,
+        log: has_flag(found, "log"),
+        warm: has_flag(found, "warm"),
+    })
+}
+
 /// The command `serve`, of what is given with it.
 fn read_serve<'a>(alloc: Global, found: &ArgMatches<'a>) -> Result<Command<'a>, CommandFault>
     ensures found { IfOk result (λ c. Some (command_value c)
@@ -241,23 +257,14 @@ fn read_serve<'a>(alloc: Global, found: &ArgMatches<'a>) -> Result<Command<'a>, 
         → e ≡ CommandFault.Memory) }
 {
     let file = value_of(found, "file").ok_or(CommandFault::Usage)?;
-    let port = read_port(value_of(found, "port")).ok_or(CommandFault::Usage)?;
-    let count = read_count(value_of(found, "count")).ok_or(CommandFault::Usage)?;
-    let clients = read_clients(value_of(found, "clients"), count).ok_or(CommandFault::Usage)?;
+    let connections = read_connections(found).ok_or(CommandFault::Usage)?;
+    let journal = read_journal(found).ok_or(CommandFault::Usage)?;
+    let port = connections.port;
     let default = format!(in alloc; "http://localhost:{port}/")?;
     let base = read_base(alloc, value_of(found, "base"), default.as_str())?;
-    let log = has_flag(found, "log");
-    let warm = has_flag(found, "warm");
-    let journal = read_journal(found).ok_or(CommandFault::Usage)?;
     Ok(Command::Serve {
         file,
-        connections: Connections {
-            port,
-            count,
-            clients,
-            log,
-            warm,
-        },
+        connections,
         base,
         journal,
     })

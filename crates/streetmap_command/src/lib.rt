@@ -1,7 +1,7 @@
 //! The command line of the program: what its words ask for.
 //!
-//! Modules, in the order of reading: `parser` (the command line as `clap` reads it), `command` (what
-//! was found, as a command), `words` (the commands that move features and batches).
+//! Modules, in the order of reading: `parser` (the command line as `clap` reads it), `command`
+//! (what was found, as a command), `words` (the commands that move features and batches).
 #![tactic(auto)]
 
 mod command;

@@ -36,17 +36,18 @@ tables_sight tables shut seen count index = record {
   fails = λ k after. HasFailed (seen (tables k)) (shut (tables after)) (seen (tables after));
 }
 
--- the same of a keeper with a journal, which holds what it has to for the state; lines that are
--- missing are looked up before a batch is applied
+-- the same of a keeper with a journal, which is the state's; lines that are missing are looked up
+-- before a batch is applied, and behind a reply the journal has gone on
 abbrev pub journaled_sight :
-    {K I : Type 0} (inner : K → I) (sight : Sight I) (holds : K → State → Type 0) → Sight K
-journaled_sight {K} {I} inner sight holds = record {
+    {K I : Type 0} (inner : K → I) (sight : Sight I) (holds : K → State → Type 0)
+    (reaches : K → K → Type 0) → Sight K
+journaled_sight {K} {I} inner sight holds reaches = record {
   stands = λ k s. sight.stands (inner k) s × holds k s;
   cause = λ k. sight.cause (inner k);
   may_leave = λ k. sight.may_leave (inner k);
   is_clean = λ k. sight.is_clean (inner k);
   applies = λ k b result after. (looked : I) × sight.spares (inner k) looked
-      × OfReply (λ r. sight.applies looked b r (inner after)) result;
+      × OfReply (λ r. sight.applies looked b r (inner after) × reaches k after) result;
   spares = λ k after. sight.spares (inner k) (inner after);
   fails = λ k after. sight.fails (inner k) (inner after);
 }

@@ -22,7 +22,7 @@ ghost use Rattle.streetmap_connections.specs.Served.{clients_of, ended_of};
 ghost use Rattle.streetmap_files.specs.Surviving.{Survives, ServesTables, ServesTablesAtOnce};
 ghost use Rattle.streetmap_files.specs.Surviving.{Holds};
 ghost use Rattle.streetmap_files.specs.Tables.{tables_sight, journaled_sight};
-ghost use Rattle.streetmap_journal.specs.Written.{TellBytes, HoldsIf};
+ghost use Rattle.streetmap_journal.specs.Telling.{IsForIf, ReachesUnless};
 
 use mio::net::TcpStream;
 use sqlite::Alter;
@@ -132,8 +132,9 @@ pub fn serve_over_tables<S: Alter, R: BufRead, W: Write>(
 }
 
 /// Serves clients of a listener over tables, with an index in memory, many at once, until so many
-/// of them ended (`streetmap_serving::serve_clients`). Where there is a journal, each accepted batch
-/// is a line of it before its answer (`streetmap_journal`).
+/// of them ended (`streetmap_serving::serve_clients`). Where there is a journal, each accepted
+/// batch is a line of it before its answer, or its writer failed and was told
+/// (`streetmap_journal`).
 ///
 /// After a stop, before or within any write, whatever is opened again holds the state of a
 /// beginning of the batches of all clients, in the one order in which they were answered, that
@@ -156,12 +157,13 @@ pub fn serve_clients_over_tables<R: Net + Clock, S: Alter, J: JournalWriter, W: 
         (state S.Store service.old.keeper.keeper.keeper.conn)
         service.old.keeper.keeper.keeper.count s →
         IsIndexOf service.old.keeper.keeper.index s →
-        (TellBytes J.contents → HoldsIf J.contents service.old.keeper.journal s) →
+        IsForIf J.contents J.told J.is_kept service.old.keeper.journal s →
         ServesClients
         (journaled_sight (λ k. k.keeper)
         (tables_sight (λ k. k.keeper) (λ t. t.shut) (λ t. state S.Store t.conn) (λ t. t.count)
         (λ k. k.index))
-        (λ k t. TellBytes J.contents → HoldsIf J.contents k.journal t))
+        (λ k t. IsForIf J.contents J.told J.is_kept k.journal t)
+        (λ k l. ReachesUnless J.fails k.journal l.journal))
         (root_of service.old.base) (of_state s) service.old.keeper service.new.keeper
         (clients_of clients.old) (clients_of clients.new) }
     ensures survives { HasCleanDisk (state S.Store service.new.keeper.keeper.keeper.conn) →
@@ -170,13 +172,14 @@ pub fn serve_clients_over_tables<R: Net + Clock, S: Alter, J: JournalWriter, W: 
         (state S.Store service.old.keeper.keeper.keeper.conn)
         service.old.keeper.keeper.keeper.count s →
         IsIndexOf service.old.keeper.keeper.index s →
-        (TellBytes J.contents → HoldsIf J.contents service.old.keeper.journal s) →
+        IsForIf J.contents J.told J.is_kept service.old.keeper.journal s →
         LeavesOnly (MayLeave (state S.Store service.old.keeper.keeper.keeper.conn)) (Some s) →
         ServesTablesAtOnce
         (journaled_sight (λ k. k.keeper)
         (tables_sight (λ k. k.keeper) (λ t. t.shut) (λ t. state S.Store t.conn) (λ t. t.count)
         (λ k. k.index))
-        (λ k t. TellBytes J.contents → HoldsIf J.contents k.journal t))
+        (λ k t. IsForIf J.contents J.told J.is_kept k.journal t)
+        (λ k l. ReachesUnless J.fails k.journal l.journal))
         (root_of service.old.base) s service.old.keeper service.new.keeper
         (clients_of clients.old) (clients_of clients.new)
         (state S.Store service.new.keeper.keeper.keeper.conn) }

@@ -1,9 +1,9 @@
 -- Lines that are those of a journal so far.
-use Rattle.std.proofs.Common.{◌≡◌, ◌≤◌, ◌<◌, ◌+◌, ◌-◌, ◌^◌, ℕ, zero, suc, min, List, [], ◌∷◌, ◌++◌}
+use Rattle.std.proofs.Common.{◌≡◌, ◌≤◌, ◌<◌, ◌+◌, ◌-◌, ◌^◌, ℕ, min, List, [], ◌∷◌, ◌++◌}
 use Rattle.std.proofs.Common.{length}
-use Rattle.std.proofs.Common.{take, drop, Bool, true, false, Option, None, Some, Result, Ok, Err}
+use Rattle.std.proofs.Common.{drop, true, false, Option, None, Some, Err}
 use Rattle.std.proofs.Common.{IfSome}
-use Rattle.std.proofs.Common.{refl, sym, ap, subst, ◌∙◌, ◌⊎◌, inl, inr, arith, append_assoc}
+use Rattle.std.proofs.Common.{refl, sym, ap, subst, ◌∙◌, inl, inr, arith, append_assoc}
 use Rattle.std.proofs.Common.{append-nil}
 use Rattle.std.proofs.Common.{length-append, option_map}
 use Rattle.std.specs.Prelude.{slice_get, bytes_eq}
@@ -17,19 +17,18 @@ use Rattle.streetmap_ledger.specs.WellFormed.{IsState}
 use Rattle.streetmap_kept.specs.Kept.{KeyedBatch, batch_in}
 use Rattle.streetmap_kept.proofs.Serials.{found_under}
 use Rattle.streetmap_replay.specs.Journal.{journal, kept_text}
-use Rattle.streetmap_replay.specs.JournalText.{numbered_after, journal_lines, text_of_lines}
-use Rattle.streetmap_replay.specs.Lines.{Line, numbered, line_bytes}
+use Rattle.streetmap_replay.specs.JournalText.{journal_lines, text_of_lines}
+use Rattle.streetmap_replay.specs.Lines.{numbered, line_bytes}
 use Rattle.streetmap_replay.proofs.AllThere.{journal_is_whole}
-use Rattle.streetmap_replay.proofs.Listed.{get_drop, get_low, length-numbered}
+use Rattle.streetmap_replay.proofs.Listed.{get_drop, get_low}
 use Rattle.streetmap_replay.proofs.Torn.{lines-append}
 use Rattle.streetmap_text_lines.specs.Reading.{HasNoLineFeed, WhereKnown}
 use Rattle.streetmap_text_lines.specs.Whole.{EndsWithin}
 use Rattle.streetmap_text_lines.specs.declared.fault.LineFault.{LineFault}
 use Rattle.streetmap_journal.proofs.Reached.{get_numbered, take_one}
-use Rattle.streetmap_journal.specs.Matching.{HasZero, IsLineWith, MatchesLine, lines_from}
+use Rattle.streetmap_journal.specs.Matching.{IsLineWith, MatchesLine, lines_from}
 use Rattle.streetmap_journal.specs.Matching.{BeginsWith}
 use Rattle.streetmap_journal.specs.Matching.{serial_behind, IsCut, NextIs, MatchesBy, Matches}
-use Rattle.streetmap_journal.specs.declared.matching.Matched.{Matched}
 use Rattle.streetmap_journal.specs.declared.matching.MatchEnd.{MatchEnd}
 use Rattle.streetmap_journal.specs.declared.matching.MatchEnd.TheVariants.{All, Cut, Other, Ahead}
 use Rattle.streetmap_journal.specs.declared.matching.MatchEnd.TheVariants.{NotRead, Stopped}

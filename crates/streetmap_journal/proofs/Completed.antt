@@ -1,7 +1,8 @@
 -- Looks at a keeper, one behind the other; and how a journal begins.
-use Rattle.std.proofs.Common.{◌≡◌, ◌≤◌, ◌<◌, ◌+◌, ◌-◌, ◌^◌, ℕ, min, Bool, true, false, List, []}
-use Rattle.std.proofs.Common.{take, drop, length, Option, None, Some, Result, Ok, Err, IsSome}
-use Rattle.std.proofs.Common.{refl, sym, ap, subst, ◌∙◌, ◌⊎◌, inl, inr, arith, ◌++◌}
+use Rattle.std.proofs.Math.ListN.{drop_of_length-le}
+use Rattle.std.proofs.Common.{◌≡◌, ◌≤◌, ◌+◌, ◌-◌, ◌^◌, ℕ, min, true, false, List, []}
+use Rattle.std.proofs.Common.{take, drop, Option, None, Some, Result, Ok, Err, IsSome}
+use Rattle.std.proofs.Common.{sym, ap, subst, ◌∙◌, inl, inr, arith, ◌++◌}
 use Rattle.std.proofs.lemmas.List.{length-take}
 use Rattle.std.specs.Io.KnownBytes.{Keeps}
 use Rattle.streetmap_ledger.specs.Keep.{AsBefore, Looks, ShutsBy}
@@ -20,7 +21,6 @@ use Rattle.streetmap_replay.proofs.Listed.{length-numbered}
 use Rattle.streetmap_journal.specs.Completing.{StaysOpen}
 use Rattle.streetmap_journal.specs.Written.{Position, Holds, FaultKeeps, OfReply, line_at}
 use Rattle.streetmap_journal.specs.Written.{lines_between}
-use Rattle.streetmap_journal.proofs.Reached.{drop_past}
 
 pub of_reply : (came : Result Reply Fault → Type 0) (r : Result Reply Fault) → came r →
     OfReply came r
@@ -81,7 +81,7 @@ begun_holds s sound p (Some bytes) few next part behind is =
     let long = length-take p.after (journal_lines s) in
     let nothing : lines_between s p.after p.next ≡ [] =
     ap (λ (n : ℕ). drop p.after (take n (journal_lines s))) place
-    ∙ drop_past p.after (take p.after (journal_lines s)) (omega (arith, long)) in
+    ∙ drop_of_length-le (take p.after (journal_lines s)) {i = p.after} (omega (arith, long)) in
     let torn : take p.part (line_at s p.next) ≡ [] =
     ap (λ (n : ℕ). take n (line_at s p.next)) part in
     record {

@@ -3,3 +3,4 @@ pub mod Noted
 pub mod Completed
 pub mod Alike
 pub mod Told
+pub mod Telling

@@ -1,14 +1,13 @@
 -- A line that is written behind an accepted batch.
-use Rattle.std.proofs.Common.{◌≡◌, ◌≤◌, ◌<◌, ◌+◌, ◌-◌, ◌^◌, ℕ, min, Bool, true, false, List, []}
+use Rattle.std.proofs.Common.{◌≡◌, ◌≤◌, ◌<◌, ◌+◌, ◌-◌, ◌^◌, ℕ, Bool, true, false, List, []}
 use Rattle.std.proofs.Common.{◌∷◌, ◌++◌}
-use Rattle.std.proofs.Common.{length, take, drop, Option, None, Some, Result, Ok, Err, option_map}
-use Rattle.std.proofs.Common.{refl, sym, ap, subst, ◌∙◌, inl, inr, arith, length-append}
-use Rattle.std.specs.Io.KnownBytes.{Appends, Keeps}
+use Rattle.std.proofs.Common.{length, Option, None, Some, Err, option_map}
+use Rattle.std.proofs.Common.{refl, sym, ap, subst, ◌∙◌, inl, arith, length-append}
+use Rattle.std.specs.Io.KnownBytes.{Keeps}
 use Rattle.std.specs.Prelude.{slice_get}
 use Rattle.streetmap_batch.specs.BatchText.{batch_text}
 use Rattle.streetmap_batch.specs.BatchValue.{BatchValue}
-use Rattle.streetmap_batch.specs.Text.{Text}
-use Rattle.streetmap_ledger.specs.Batches.{act, most_batches}
+use Rattle.streetmap_ledger.specs.Batches.{act}
 use Rattle.streetmap_ledger.specs.Keep.{Acts, ApplyLeaves, LeavesOnly}
 use Rattle.streetmap_ledger.specs.Laws.{is_accepted}
 use Rattle.streetmap_ledger.specs.State.{State}
@@ -17,16 +16,16 @@ use Rattle.streetmap_ledger.specs.declared.reply.Counts.{Counts}
 use Rattle.streetmap_ledger.specs.declared.reply.Fault.{Fault}
 use Rattle.streetmap_ledger.specs.declared.reply.Fault.TheVariants.{Memory, Device, Damaged, Reopen}
 use Rattle.streetmap_ledger.specs.declared.reply.Refusal.{Refusal}
-use Rattle.streetmap_ledger.specs.declared.reply.Reply.TheVariants.{Accepted, Repeated, Refused}
+use Rattle.streetmap_ledger.specs.declared.reply.Reply.TheVariants.{Repeated, Refused}
 use Rattle.streetmap_kept.specs.Kept.{batch_in}
 use Rattle.streetmap_replay.specs.Journal.{journal, kept_text, text_if}
-use Rattle.streetmap_replay.specs.JournalText.{numbered_after, journal_lines, text_of_lines}
+use Rattle.streetmap_replay.specs.JournalText.{numbered_after, journal_lines}
 use Rattle.streetmap_replay.specs.Lines.{Line, numbered, line_bytes}
 use Rattle.streetmap_replay.proofs.AllThere.{journal_is_whole}
 use Rattle.streetmap_replay.proofs.Growing.{act_grows}
 use Rattle.streetmap_replay.proofs.Listed.{numbered-append, length-numbered, get_low}
 use Rattle.streetmap_replay.proofs.There.{act_stays}
-use Rattle.streetmap_journal.specs.Written.{Position, Reaches, IsWritten, Holds, line_at}
+use Rattle.streetmap_journal.specs.Written.{Position, Reaches, IsWritten, Holds}
 use Rattle.streetmap_journal.specs.Written.{PutsBy, PutsLine, NotesBy, NotesLine, FaultKeeps}
 use Rattle.streetmap_journal.specs.Completing.{IsKeptLine}
 use Rattle.streetmap_journal.proofs.Reached.{get_last, line_there, no_line_there, line_is}

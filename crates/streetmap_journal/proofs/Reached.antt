@@ -1,7 +1,8 @@
 -- What is written of a journal, a line further.
+use Rattle.std.proofs.Math.ListN.{drop_of_length-le}
 use Rattle.std.proofs.Common.{◌≡◌, ◌≤◌, ◌<◌, ◌+◌, ◌-◌, ℕ, zero, suc, List, [], ◌∷◌, ◌++◌}
-use Rattle.std.proofs.Common.{length, take, drop, Option, None, Some, option_map}
-use Rattle.std.proofs.Common.{refl, sym, ap, subst, ◌∙◌, ◌⊎◌, inl, inr, arith, append_assoc}
+use Rattle.std.proofs.Common.{length, take, drop, None, Some, option_map}
+use Rattle.std.proofs.Common.{refl, sym, ap, ◌∙◌, arith, append_assoc}
 use Rattle.std.proofs.Common.{append-nil, length-append}
 use Rattle.std.proofs.lemmas.List.{take-append-drop, take-append-le, drop-append-le, length-take}
 use Rattle.std.specs.Prelude.{slice_get}
@@ -49,12 +50,6 @@ take_first (suc p) zero xs low = absurd (omega (arith, low))
 take_first (suc p) (suc q) [] low = refl
 take_first (suc p) (suc q) (x ∷ xs) low = ap (λ zs. x ∷ zs) (take_first p q xs (omega (arith, low)))
 
-pub drop_past : {A : Type 0} (n : ℕ) (xs : List A) → length xs ≤ n → drop n xs ≡ []
-drop_past zero [] low = refl
-drop_past zero (x ∷ xs) low = absurd (omega (arith, low))
-drop_past (suc n) [] low = refl
-drop_past (suc n) (x ∷ xs) low = drop_past n xs (omega (arith, low))
-
 get_none : {A : Type 0} (xs : List A) (n : ℕ) → slice_get xs n ≡ None → length xs ≤ n
 get_none [] n h = omega arith
 get_none (x ∷ xs) zero h = absurd cc
@@ -93,7 +88,7 @@ line_is s n x h =
 pub no_line_at : (s : State) (n : ℕ) → length (journal_lines s) < n → line_at s n ≡ []
 no_line_at s n low =
     ap (λ (ls : List Line). text_of_lines (take 1 ls))
-    (drop_past (n - 1) (journal_lines s) (omega (arith, low)))
+    (drop_of_length-le (journal_lines s) {i = n - 1} (omega (arith, low)))
 
 -- ---- a line of the state, put behind what is written
 

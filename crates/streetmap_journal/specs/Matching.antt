@@ -1,11 +1,10 @@
 -- Lines beside the journal of a state.
-use Rattle.std.specs.Prelude.{◌≡◌, ◌≤◌, ◌<◌, ◌+◌, ◌-◌, ◌^◌, ℕ, min, List, [], ◌∷◌, ◌++◌, ◌⊎◌}
+use Rattle.std.specs.Prelude.{◌≡◌, ◌≤◌, ◌<◌, ◌+◌, ◌-◌, ◌^◌, ℕ, min, List, [], ◌++◌, ◌⊎◌}
 use Rattle.std.specs.Prelude.{Option, None}
 use Rattle.std.specs.Prelude.{Some, Result, Ok, Err, IfSome, length, take, drop, option_map}
 use Rattle.std.specs.Prelude.{slice_get}
 use Rattle.streetmap_batch.specs.Text.{Text}
 use Rattle.streetmap_ledger.specs.State.{State}
-use Rattle.streetmap_ledger.specs.declared.reply.Fault.{Fault}
 use Rattle.streetmap_kept.specs.Kept.{batch_in}
 use Rattle.streetmap_replay.specs.Journal.{kept_text}
 use Rattle.streetmap_replay.specs.JournalText.{journal_lines, text_of_lines}

@@ -1,6 +1,8 @@
 -- How a journal begins.
-use Rattle.std.specs.Prelude.{◌≡◌, ◌<◌, ℕ, List, [], Option, Some, Result, Ok, Err}
+use Rattle.std.specs.Prelude.{◌≡◌, ◌<◌, ℕ, List, [], Option, None, Some, Result, Ok, Err}
+use Rattle.streetmap_ledger.specs.Keep.{ShutsBy}
 use Rattle.streetmap_ledger.specs.State.{State}
+use Rattle.streetmap_ledger.specs.declared.reply.Cause.{Cause}
 use Rattle.streetmap_ledger.specs.declared.reply.Fault.{Fault}
 use Rattle.streetmap_kept.specs.Kept.{batch_count}
 use Rattle.streetmap_journal.specs.Written.{HoldsIn, FaultKeeps}
@@ -25,3 +27,10 @@ StartsBy s after first contents (Ok journal) stands =
     × stands s
 StartsBy s after first contents (Err Ahead) stands = (batch_count s < after) × stands s
 StartsBy s after first contents (Err (Stopped fault)) stands = FaultKeeps s fault stands
+
+-- what shut the keeper, where the start of a journal came to this
+abbrev pub StartShuts :
+    {W : Type 0} → Result (Journal W) StartFault → (old new : Option Cause) → Type 0
+StartShuts (Ok journal) old new = (old ≡ None) × (new ≡ None)
+StartShuts (Err Ahead) old new = (old ≡ None) × (new ≡ None)
+StartShuts (Err (Stopped fault)) old new = ShutsBy {T = Unit {0}} (Err fault) old new

@@ -1,6 +1,6 @@
 -- What is written of a journal.
-use Rattle.std.specs.Prelude.{◌≡◌, ◌≤◌, ◌<◌, ◌+◌, ◌-◌, ◌^◌, ℕ, min, Bool, true, false, List, []}
-use Rattle.std.specs.Prelude.{◌∷◌, ◌++◌}
+use Rattle.std.specs.Prelude.{◌≡◌, ◌≤◌, ◌<◌, ◌+◌, ◌-◌, ◌^◌, ℕ, min, Bool, true, false, List}
+use Rattle.std.specs.Prelude.{◌++◌}
 use Rattle.std.specs.Prelude.{take, drop, length, Option, None, Some, Result, Ok, Err, IsSome}
 use Rattle.std.specs.Io.KnownBytes.{Appends}
 use Rattle.streetmap_ledger.specs.State.{State}
@@ -60,11 +60,6 @@ Holds p (Some bytes) s = IsWritten p bytes s
 -- a journal is written for this state
 abbrev pub HoldsIn : {W : Type 0} → (W → Option (List ℕ)) → Journal W → State → Type 0
 HoldsIn contents journal s = Holds (position_of journal) (contents journal.writer) s
-
--- where there is one
-abbrev pub HoldsIf : {W : Type 0} → (W → Option (List ℕ)) → Option (Journal W) → State → Type 0
-HoldsIf contents None s = Unit {0}
-HoldsIf contents (Some journal) s = HoldsIn contents journal s
 
 -- what lacks of the next line was written, and the next is behind it; or a beginning of that
 abbrev pub PutsBy : (whole : Bool) → Position → Position → Option (List ℕ) → Option (List ℕ) →

@@ -1,11 +1,12 @@
 //! A journal that lacks lines, completed from the batches that a keeper keeps.
-ghost use Rattle.std.specs.Prelude.{◌≡◌, Some, Err, IfErr, OnOk};
+ghost use Rattle.std.specs.Prelude.{◌≡◌, Some, Err, IfErr, IsOk, OnOk, true, false};
 ghost use Rattle.std.specs.Option.{option_map};
 ghost use Rattle.std.specs.Io.KnownBytes.{Keeps};
 ghost use Rattle.streetmap_ledger.specs.State.{State};
 ghost use Rattle.streetmap_ledger.specs.Keep.{Looks, LeavesOnly, ShutsBy, AsBefore};
 ghost use Rattle.streetmap_journal.specs.Completing.{IsKeptLine, StaysOpen, StaysBy};
-ghost use Rattle.streetmap_journal.specs.Written.{position_of, HoldsIn};
+ghost use Rattle.streetmap_journal.specs.Telling.{IsTold};
+ghost use Rattle.streetmap_journal.specs.Written.{position_of, FaultKeeps, HoldsIn};
 
 use crate::journal::{Journal, JournalWriter, whole_line};
 use std::alloc::Global;
@@ -43,12 +44,41 @@ fn kept_line<K: KeepsBatches>(
     }
 }
 
+/// Why a batch was not asked for, where memory was refused: a shut keeper answers as ever.
+pub(crate) fn refuse<K: KeepsBatches>(keeper: &mut K) -> Fault
+    ensures spared { K.spares keeper.old keeper.new }
+    ensures began_clean { K.is_clean keeper.new → K.is_clean keeper.old }
+    ensures faults { ShutsBy {T = Unit {0}} (Err result) (K.cause keeper.old) (K.cause keeper.new) }
+    ensures keeps { K.is_clean keeper.new → (s : State) → K.stands keeper.old s →
+        FaultKeeps s result (K.stands keeper.new) }
+    ensures device { K.is_clean keeper.new → (s : State) → K.stands keeper.old s →
+        result ≡ Fault.Device → K.fails keeper.old keeper.new }
+    ensures leaves { K.is_clean keeper.new → (s : State) → K.stands keeper.old s →
+        LeavesOnly (K.may_leave keeper.old) (Some s) →
+        LeavesOnly (K.may_leave keeper.new) (Some s) }
+    ensures reopen { result ≡ Fault.Reopen →
+        AsBefore (K.stands keeper.old) (K.stands keeper.new)
+        (K.may_leave keeper.old) (K.may_leave keeper.new) }
+{
+    match keeper.batch_count() {
+        Ok(_) => Fault::Memory,
+        Err(fault) => fault,
+    }
+}
+
 impl<W: JournalWriter> Journal<W> {
-    /// Has all lines kept, of which none is missing, and is no longer behind.
+    /// Has all lines kept, of which none is missing: then it is no longer behind, and the writer is
+    /// told.
     fn settle(&mut self)
         ensures position { (self.new.after ≡ self.old.after) × (self.new.next ≡ self.old.next)
             × (self.new.part ≡ self.old.part) }
         ensures bytes { Keeps (W.contents self.old.writer) (W.contents self.new.writer) }
+        ensures told { self.old.is_behind ≡ true →
+            IsTold W.told W.is_kept self.old → IsTold W.told W.is_kept self.new }
+        ensures whole { self.old.is_behind ≡ true → self.new.is_behind ≡ false →
+            IsTold W.told W.is_kept self.new }
+        ensures goes { W.goes self.old.writer self.new.writer }
+        ensures failed { self.new.is_behind ≡ true → W.fails self.old.writer self.new.writer }
     {
         if self.writer.sync().is_ok() {
             self.is_behind = false;
@@ -60,6 +90,9 @@ impl<W: JournalWriter> Journal<W> {
     pub(crate) fn tell_missing(&mut self)
         ensures position { position_of self.new ≡ position_of self.old }
         ensures bytes { Keeps (W.contents self.old.writer) (W.contents self.new.writer) }
+        ensures told { (self.old.is_behind ≡ false → IsTold W.told W.is_kept self.old) →
+            IsTold W.told W.is_kept self.new }
+        ensures goes { W.goes self.old.writer self.new.writer }
     {
         if self.is_behind {
             self.writer.behind(self.next);
@@ -67,12 +100,12 @@ impl<W: JournalWriter> Journal<W> {
     }
 }
 
-/// Writes the lines that a journal lacks, in order of their serials, as far as it can: where a
-/// write fails, or memory is refused, it stays behind.
+/// Writes the lines that a journal lacks, in order of their serials: where a write fails, it stays
+/// behind.
 ///
 /// # Errors
 ///
-/// `Device`, `Damaged` and `Reopen` of the keeper, as it answers them to a look.
+/// Those of the keeper, as it answers them to a look, and `Memory` where a line has no room.
 pub(crate) fn complete<K: KeepsBatches, W: JournalWriter>(
     alloc: Global,
     keeper: &mut K,
@@ -94,6 +127,12 @@ pub(crate) fn complete<K: KeepsBatches, W: JournalWriter>(
         AsBefore (K.stands keeper.old) (K.stands keeper.new)
         (K.may_leave keeper.old) (K.may_leave keeper.new) }
     ensures after { journal.new.after ≡ journal.old.after }
+    ensures told { IsTold W.told W.is_kept journal.old → IsTold W.told W.is_kept journal.new }
+    ensures whole { journal.old.is_behind ≡ true → journal.new.is_behind ≡ false →
+        IsTold W.told W.is_kept journal.new }
+    ensures goes { W.goes journal.old.writer journal.new.writer }
+    ensures failed { IsOk result → journal.new.is_behind ≡ true →
+        W.fails journal.old.writer journal.new.writer }
     ensures holds { K.is_clean keeper.new → (s : State) → K.stands keeper.old s →
         HoldsIn W.contents journal.old s → HoldsIn W.contents journal.new s }
 {
@@ -111,9 +150,9 @@ pub(crate) fn complete<K: KeepsBatches, W: JournalWriter>(
                 journal.settle();
                 return Ok(());
             }
-            Err(Fault::Memory) => return Ok(()),
             Err(fault) => return Err(fault),
         }
     }
-    Ok(())
+    // No keeper keeps so many batches.
+    Err(refuse(keeper))
 }

@@ -1,30 +1,95 @@
 //! A journal that is written.
-ghost use Rattle.std.specs.Prelude.{◌≡◌, ◌++◌, ◌∷◌, [], drop, IfOk};
-ghost use Rattle.std.specs.Io.KnownBytes.{Keeps};
+ghost use Rattle.std.specs.Prelude.{◌≡◌, ◌++◌, ◌∷◌, ℕ, List, [], drop, IfOk, OnOk, IfErr, IsErr, IsOk};
+ghost use Rattle.std.specs.Prelude.{Option, None, Some, true, false, ◌≤◌};
+ghost use Rattle.std.specs.Io.KnownBytes.{Keeps, Appends};
 ghost use Rattle.streetmap_batch.specs.BatchText.{batch_text};
 ghost use Rattle.streetmap_batch.specs.BatchView.{batch_value};
 ghost use Rattle.streetmap_replay.specs.Lines.{numbered, line_bytes};
+ghost use Rattle.streetmap_text_lines.specs.Written.{AppendsFirst};
 ghost use Rattle.streetmap_journal.specs.Written.{position_of, PutsLine, KeepsLine, NotesLine};
+ghost use Rattle.streetmap_journal.specs.Telling.{IsTold};
 
 use itoa::Buffer;
 use std::alloc::{AllocError, Global};
-use std::io::{Error, Write};
+use std::io::Error;
 use streetmap_batch::Batch;
-use streetmap_text_lines::write_bytes;
+use streetmap_text_lines::NotWritten;
 
 /// What a journal is written to.
-pub trait JournalWriter: Write {
+///
+/// An implementer says by five meanings which bytes it has, what it was told last, whether they are
+/// kept, and when a call failed. Over any writer nothing but its own calls gives that one failed: so
+/// a journal cannot be behind where none did.
+pub trait JournalWriter {
+    /// Its bytes, where they are known.
+    ghost contents: { Self → Option (List ℕ) } = { λ _. None };
+
+    /// The serial from which on it was told that lines are missing: none where it was told that no
+    /// line is.
+    ghost told: { Self → Option ℕ };
+
+    /// The device keeps all that was written, where that is asked for.
+    ghost is_kept: { Self → Type 0 };
+
+    /// From the first to the second it was called, any number of times.
+    ghost goes: { Self → Self → Type 0 };
+
+    /// A write or a synchronising failed between the first and the second.
+    ghost fails: { Self → Self → Type 0 };
+
+    /// Writes bytes to its end.
+    ///
+    /// # Errors
+    ///
+    /// Where a write fails, or takes none of them: a beginning of the bytes was written.
+    fn append(&mut self, bytes: &[u8]) -> Result<(), NotWritten>
+        ensures written { OnOk result (Appends (contents self.old) (contents self.new) bytes.now) }
+        ensures first { IfErr result (λ stopped. AppendsFirst stopped.written
+            (contents self.old) (contents self.new) bytes.now) }
+        ensures told { told self.new ≡ told self.old }
+        ensures goes { goes self.old self.new }
+        ensures failed { IsErr result → fails self.old self.new };
+
     /// Has the device keep what was written, where that is asked for.
+    ///
+    /// # Errors
+    ///
+    /// Where it may not have been kept.
     fn sync(&mut self) -> Result<(), Error>
-        ensures { Keeps (Self.contents self.old) (Self.contents self.new) };
+        ensures bytes { Keeps (contents self.old) (contents self.new) }
+        ensures kept { IsOk result → is_kept self.new }
+        ensures told { told self.new ≡ told self.old }
+        ensures goes { goes self.old self.new }
+        ensures failed { IsErr result → fails self.old self.new };
 
     /// Is told that from the line with this serial on lines are missing, or were not kept.
     fn behind(&mut self, serial: u64)
-        ensures { Keeps (Self.contents self.old) (Self.contents self.new) };
+        ensures bytes { Keeps (contents self.old) (contents self.new) }
+        ensures kept { is_kept self.old → is_kept self.new }
+        ensures told { told self.new ≡ Some serial }
+        ensures goes { goes self.old self.new };
 
     /// Is told that no line is missing up to the one with this serial.
     fn whole(&mut self, serial: u64)
-        ensures { Keeps (Self.contents self.old) (Self.contents self.new) };
+        ensures bytes { Keeps (contents self.old) (contents self.new) }
+        ensures kept { is_kept self.old → is_kept self.new }
+        ensures told { told self.new ≡ None }
+        ensures goes { goes self.old self.new };
+
+    /// Where it is not called it goes on as it is.
+    ghost goes_itself: { (writer : Self) → goes writer writer };
+
+    /// Two stretches of calls are one.
+    ghost goes_then: { (first mid last : Self) → goes first mid → goes mid last →
+        goes first last };
+
+    /// Where it failed in the second of two stretches, it failed in the two together.
+    ghost fails_later: { (first mid last : Self) → goes first mid → fails mid last →
+        fails first last };
+
+    /// Where it failed in the first of two stretches, it failed in the two together.
+    ghost fails_still: { (first mid last : Self) → fails first mid → goes mid last →
+        fails first last };
 }
 
 /// What a journal is written to, and how far it is.
@@ -87,11 +152,16 @@ impl<W: JournalWriter> Journal<W> {
     /// Writes what lacks of the next line; answers whether the whole line is there then.
     pub(crate) fn put(&mut self, line: &[u8]) -> bool
         ensures after { self.new.after ≡ self.old.after }
+        ensures behind { self.new.is_behind ≡ self.old.is_behind }
+        ensures next { self.old.next ≤ self.new.next }
         ensures line { PutsLine result
             (position_of self.old) (position_of self.new)
             (W.contents self.old.writer) (W.contents self.new.writer) line.now }
+        ensures told { W.told self.new.writer ≡ W.told self.old.writer }
+        ensures goes { W.goes self.old.writer self.new.writer }
+        ensures failed { result ≡ false → W.fails self.old.writer self.new.writer }
     {
-        match write_bytes(&mut self.writer, lacking(line, self.part)) {
+        match self.writer.append(lacking(line, self.part)) {
             Ok(()) => {
                 self.next = self.next.saturating_add(1);
                 self.part = 0;
@@ -106,8 +176,14 @@ impl<W: JournalWriter> Journal<W> {
 
     /// Writes what lacks of the next line, and has it kept; answers whether it is.
     fn put_and_keep(&mut self, line: &[u8]) -> bool
-        ensures { KeepsLine result (position_of self.old) (position_of self.new)
+        ensures behind { self.new.is_behind ≡ self.old.is_behind }
+        ensures next { self.old.next ≤ self.new.next }
+        ensures line { KeepsLine result (position_of self.old) (position_of self.new)
             (W.contents self.old.writer) (W.contents self.new.writer) line.now }
+        ensures kept { result ≡ true → W.is_kept self.new.writer }
+        ensures told { W.told self.new.writer ≡ W.told self.old.writer }
+        ensures goes { W.goes self.old.writer self.new.writer }
+        ensures failed { result ≡ false → W.fails self.old.writer self.new.writer }
     {
         if self.put(line) {
             self.writer.sync().is_ok()
@@ -119,9 +195,14 @@ impl<W: JournalWriter> Journal<W> {
     /// Writes the next line, and has it kept. Where that fails, the writer is told, and none is
     /// written until the journal is completed.
     pub(crate) fn note(&mut self, line: &[u8])
-        ensures { NotesLine
+        ensures line { NotesLine
             (position_of self.old) (position_of self.new)
             (W.contents self.old.writer) (W.contents self.new.writer) line.now }
+        ensures told { IsTold W.told W.is_kept self.old →
+            IsTold W.told W.is_kept self.new }
+        ensures goes { W.goes self.old.writer self.new.writer }
+        ensures failed { self.old.is_behind ≡ false → self.new.is_behind ≡ true →
+            W.fails self.old.writer self.new.writer }
     {
         if self.is_behind {
             return;

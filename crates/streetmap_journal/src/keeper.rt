@@ -1,13 +1,13 @@
 //! A keeper with a journal.
-ghost use Rattle.std.specs.Prelude.{◌≡◌, [], Some, None, Err, IsErr, IsErrOf};
+ghost use Rattle.std.specs.Prelude.{◌≡◌, [], Some, None, Err, IsErr, IsErrOf, true, false};
 ghost use Rattle.streetmap_batch.specs.BatchView.{batch_value};
 ghost use Rattle.streetmap_ledger.specs.State.{State};
 ghost use Rattle.streetmap_ledger.specs.Keep.{Acts, ApplyLeaves, Looks, LeavesOnly, ShutsBy};
 ghost use Rattle.streetmap_ledger.specs.Keep.{AsBefore};
-ghost use Rattle.streetmap_journal.specs.Written.{FaultKeeps, HoldsIf, HoldsIn, OfReply};
-ghost use Rattle.streetmap_journal.specs.Written.{TellBytes};
+ghost use Rattle.streetmap_journal.specs.Telling.{IsFor, IsForIf, ReachesUnless};
+ghost use Rattle.streetmap_journal.specs.Written.{OfReply};
 
-use crate::completing::complete;
+use crate::completing::{complete, refuse};
 use crate::journal::{Journal, JournalWriter, line_of};
 use std::alloc::Global;
 use streetmap_geojson::Feature;
@@ -24,28 +24,6 @@ pub struct JournaledKeeper<K, W> {
     pub journal: Option<Journal<W>>,
 }
 
-/// Why a batch was not asked for, where memory was refused: a shut keeper answers as ever.
-fn refuse<K: KeepsBatches>(keeper: &mut K) -> Fault
-    ensures spared { K.spares keeper.old keeper.new }
-    ensures began_clean { K.is_clean keeper.new → K.is_clean keeper.old }
-    ensures faults { ShutsBy {T = Unit {0}} (Err result) (K.cause keeper.old) (K.cause keeper.new) }
-    ensures keeps { K.is_clean keeper.new → (s : State) → K.stands keeper.old s →
-        FaultKeeps s result (K.stands keeper.new) }
-    ensures device { K.is_clean keeper.new → (s : State) → K.stands keeper.old s →
-        result ≡ Fault.Device → K.fails keeper.old keeper.new }
-    ensures leaves { K.is_clean keeper.new → (s : State) → K.stands keeper.old s →
-        LeavesOnly (K.may_leave keeper.old) (Some s) →
-        LeavesOnly (K.may_leave keeper.new) (Some s) }
-    ensures reopen { result ≡ Fault.Reopen →
-        AsBefore (K.stands keeper.old) (K.stands keeper.new)
-        (K.may_leave keeper.old) (K.may_leave keeper.new) }
-{
-    match keeper.batch_count() {
-        Ok(_) => Fault::Memory,
-        Err(fault) => fault,
-    }
-}
-
 /// Applies a batch, and writes its line where it is accepted: the memory for it is taken before.
 fn apply_and_note<K: KeepsBatches, W: JournalWriter>(
     alloc: Global,
@@ -59,9 +37,12 @@ fn apply_and_note<K: KeepsBatches, W: JournalWriter>(
     ensures began_clean { K.is_clean keeper.new → K.is_clean keeper.old }
     ensures faults { ShutsBy result (K.cause keeper.old) (K.cause keeper.new) }
     ensures acts { K.is_clean keeper.new → (s : State) → K.stands keeper.old s →
-        (TellBytes W.contents → HoldsIn W.contents journal.old s) →
+        IsFor W.contents W.told W.is_kept journal.old s →
         Acts s (batch_value batch.now) result (λ t. K.stands keeper.new t
-        × (TellBytes W.contents → HoldsIn W.contents journal.new t)) }
+        × IsFor W.contents W.told W.is_kept journal.new t) }
+    ensures goes { W.goes journal.old.writer journal.new.writer }
+    ensures failed { journal.old.is_behind ≡ false → journal.new.is_behind ≡ true →
+        W.fails journal.old.writer journal.new.writer }
     ensures device { K.is_clean keeper.new → (s : State) → K.stands keeper.old s →
         IsErrOf result Fault.Device → K.fails keeper.old keeper.new }
     ensures leaves { K.is_clean keeper.new → (s : State) → K.stands keeper.old s →
@@ -87,7 +68,7 @@ fn apply_and_note<K: KeepsBatches, W: JournalWriter>(
 
 impl<K: KeepsBatches, W: JournalWriter> Keeper for JournaledKeeper<K, W> {
     ghost stands = { λ k s. K.stands k.keeper s
-        × (TellBytes W.contents → HoldsIf W.contents k.journal s) };
+        × IsForIf W.contents W.told W.is_kept k.journal s };
 
     ghost may_leave = { λ k. K.may_leave k.keeper };
 
@@ -95,9 +76,11 @@ impl<K: KeepsBatches, W: JournalWriter> Keeper for JournaledKeeper<K, W> {
 
     ghost is_clean = { λ k. K.is_clean k.keeper };
 
-    // Lines that are missing are looked up first.
+    // Lines that are missing are looked up first. Where one is missing behind a reply, a write or a
+    // synchronising of the journal failed in this call.
     ghost applies = { λ k b result after. (looked : K) × K.spares k.keeper looked
-        × OfReply (λ r. K.applies looked b r after.keeper) result };
+        × OfReply (λ r. K.applies looked b r after.keeper
+        × ReachesUnless W.fails k.journal after.journal) result };
 
     ghost spares = { λ k l. K.spares k.keeper l.keeper };
 

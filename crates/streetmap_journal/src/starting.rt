@@ -1,7 +1,11 @@
 //! A journal, begun behind a serial.
-ghost use Rattle.std.specs.Prelude.{◌≡◌, ◌+◌, ◌-◌, ◌^◌, min, true};
+ghost use Rattle.std.specs.Prelude.{◌≡◌, ◌+◌, ◌-◌, ◌^◌, min, true, Some, Err, IfErr, IfOk, OnOk};
+ghost use Rattle.std.specs.Prelude.{IsErrOf};
 ghost use Rattle.streetmap_ledger.specs.State.{State};
-ghost use Rattle.streetmap_journal.specs.Starting.{BeginsBy, StartsBy};
+ghost use Rattle.streetmap_ledger.specs.Keep.{AsBefore, LeavesOnly, ShutsBy};
+ghost use Rattle.streetmap_journal.specs.Completing.{StaysOpen};
+ghost use Rattle.streetmap_journal.specs.Starting.{BeginsBy, StartsBy, StartShuts};
+ghost use Rattle.streetmap_journal.specs.Telling.{IsTold, IsWholeUnless};
 
 use crate::completing::complete;
 use crate::journal::{Journal, JournalWriter};
@@ -41,8 +45,21 @@ fn begin<K: KeepsBatches, W: JournalWriter + Drop>(
 ) -> Result<Journal<W>, Fault>
     ensures spared { K.spares keeper.old keeper.new }
     ensures began_clean { K.is_clean keeper.new → K.is_clean keeper.old }
+    ensures opened { OnOk result (StaysOpen K.cause keeper.old keeper.new) }
+    ensures faults { IfErr result (λ fault.
+        ShutsBy {T = Unit {0}} (Err fault) (K.cause keeper.old) (K.cause keeper.new)) }
+    ensures device { K.is_clean keeper.new → (s : State) → K.stands keeper.old s →
+        IsErrOf result Fault.Device → K.fails keeper.old keeper.new }
+    ensures leaves { K.is_clean keeper.new → (s : State) → K.stands keeper.old s →
+        LeavesOnly (K.may_leave keeper.old) (Some s) →
+        LeavesOnly (K.may_leave keeper.new) (Some s) }
+    ensures reopen { IsErrOf result Fault.Reopen →
+        AsBefore (K.stands keeper.old) (K.stands keeper.new)
+        (K.may_leave keeper.old) (K.may_leave keeper.new) }
     ensures begins { K.is_clean keeper.new → (s : State) → K.stands keeper.old s →
         BeginsBy s W.contents journal result (K.stands keeper.new) }
+    ensures told { journal.is_behind ≡ true → IfOk result (λ begun.
+        IsTold W.told W.is_kept begun × IsWholeUnless W.fails journal begun) }
 {
     let mut journal = journal;
     match complete(alloc, keeper, &mut journal) {
@@ -59,7 +76,8 @@ fn begin<K: KeepsBatches, W: JournalWriter + Drop>(
 ///
 /// # Errors
 ///
-/// `Ahead` where fewer batches are kept: no byte is written. `Stopped` with the fault of the keeper.
+/// `Ahead` where fewer batches are kept: no byte is written. `Stopped` with the fault of the keeper,
+/// or with `Memory` where a line has no room.
 pub fn start_journal<K: KeepsBatches, W: JournalWriter + Drop>(
     alloc: Global,
     keeper: &mut K,
@@ -68,8 +86,20 @@ pub fn start_journal<K: KeepsBatches, W: JournalWriter + Drop>(
 ) -> Result<Journal<W>, StartFault>
     ensures spared { K.spares keeper.old keeper.new }
     ensures began_clean { K.is_clean keeper.new → K.is_clean keeper.old }
+    ensures faults { StartShuts result (K.cause keeper.old) (K.cause keeper.new) }
+    ensures device { K.is_clean keeper.new → (s : State) → K.stands keeper.old s →
+        IsErrOf result (StartFault.Stopped Fault.Device) → K.fails keeper.old keeper.new }
+    ensures leaves { K.is_clean keeper.new → (s : State) → K.stands keeper.old s →
+        LeavesOnly (K.may_leave keeper.old) (Some s) →
+        LeavesOnly (K.may_leave keeper.new) (Some s) }
+    ensures reopen { IsErrOf result (StartFault.Stopped Fault.Reopen) →
+        AsBefore (K.stands keeper.old) (K.stands keeper.new)
+        (K.may_leave keeper.old) (K.may_leave keeper.new) }
     ensures starts { K.is_clean keeper.new → (s : State) → K.stands keeper.old s →
         StartsBy s after (W.contents writer) W.contents result (K.stands keeper.new) }
+    // The writer knows what is missing; and where something is, it failed.
+    ensures told { IfOk result (λ journal. IsTold W.told W.is_kept journal
+        × (journal.is_behind ≡ true → W.fails writer journal.writer)) }
 {
     let count = match keeper.batch_count() {
         Ok(count) => count,

@@ -1,13 +1,15 @@
-use Rattle.std.proofs.Common.{◌≡◌, ◌∙◌, List, ℕ, Some, Err, refl, sym, ap, subst, option_map}
+use Rattle.std.proofs.Common.{◌≡◌, ◌∙◌, List, ℕ, Some, Err, sym, ap, subst, option_map}
+use Rattle.std.proofs.Common.{true, false}
 use Rattle.std.proofs.Common.{Option}
 use Rattle.std.specs.Prelude.{Vec}
 use Rattle.std.specs.declared.alloc.Global.{Global}
-use Rattle.streetmap_ledger.specs.declared.reply.Fault.{Fault}
 use Rattle.streetmap_ledger.specs.declared.reply.Fault.TheVariants.{Device, Reopen}
 use Rattle.streetmap_journal.specs.Completing.{IsKeptLine}
+use Rattle.streetmap_journal.specs.Telling.{IsTold}
 use Rattle.streetmap_journal.specs.Written.{position_of}
 use Rattle.streetmap_journal.proofs.Completed.{looks_fault, shut_further, reopen_further}
 use Rattle.streetmap_journal.proofs.Noted.{completed_holds, settled_holds}
+use Rattle.streetmap_journal.proofs.Telling.{still_told}
 use Rattle.streetmap_journal.proofs.Told.{opened_further}
 use Rattle.streetmap_journal.proofs.completing.complete.Goals as goal
 
@@ -20,6 +22,11 @@ loop-turn-preserved g c =
       spared = met.spares_then _ _ _ inv.spared says.spared;
       clean = λ h. inv.clean (says.began_clean h);
       after = c.put.ensures.after ∙ inv.after;
+      behind = c.put.ensures.behind ∙ inv.behind;
+      told = λ h. still_told c.loop-turn.journal.is_behind c.put.new.self.is_behind _ _ _ _ _ _
+          c.if-not-journal.false c.put.ensures.behind c.put.ensures.next c.put.ensures.told
+          (inv.told h);
+      goes = g.met.W.JournalWriter.goes_then _ _ _ inv.goes c.put.ensures.goes;
       opened = opened_further g.K.Keeper.cause c.args.keeper.now c.loop-turn.keeper
           c.kept_line.new.keeper inv.opened says.faults.0 says.faults.1;
       stood = λ h s e. (says.finds h s (inv.stood (says.began_clean h) s e)).1;
@@ -59,6 +66,12 @@ returns-then-not-put-clause-leaves g c = λ h s e only.
     let was = c.kept_line.ensures.began_clean h in
     c.kept_line.ensures.leaves h s (inv.stood was s e) (inv.leaves was s e only)
 
+pub returns-then-not-put-clause-told : goal.returns-then-not-put-clause-told
+returns-then-not-put-clause-told g c = λ h.
+    still_told c.loop-turn.journal.is_behind c.put.new.self.is_behind _ _ _ _ _ _
+    c.if-not-journal.false c.put.ensures.behind c.put.ensures.next c.put.ensures.told
+    (c.loop-turn.invariant.told h)
+
 pub returns-in-Ok-None-clause-leaves : goal.returns-in-Ok-None-clause-leaves
 returns-in-Ok-None-clause-leaves g c = λ h s e only.
     let inv = c.loop-turn.invariant in
@@ -77,18 +90,13 @@ returns-in-Ok-None-clause-holds g c = λ h s e j.
     (position_of c.loop-turn.journal) (position_of c.settle.new.self) _ _ told.0 same.0 same.1
     same.2 c.settle.ensures.bytes (inv.holds was s e j)
 
-pub returns-in-Err-Memory-clause-leaves : goal.returns-in-Err-Memory-clause-leaves
-returns-in-Err-Memory-clause-leaves g c = λ h s e only.
-    let inv = c.loop-turn.invariant in
-    let was = c.kept_line.ensures.began_clean h in
-    c.kept_line.ensures.leaves h s (inv.stood was s e) (inv.leaves was s e only)
-
 pub returns-in-Err : goal.returns-in-Err
 returns-in-Err g c =
     let inv = c.loop-turn.invariant in
     let says = c.in-Err.ensures in
     let met = g.met.K.Keeper in
     let k = g.K.Keeper in
+    let W = g.W.JournalWriter in
     let fault = c.in-Err.fault in
     let line : Type 0 = Option (Vec ℕ Global) in
     record {
@@ -115,5 +123,47 @@ returns-in-Err g c =
           reopen_further k.cause c.args.keeper.now c.loop-turn.keeper c.kept_line.new.keeper
           line k.stands k.may_leave fault same inv.opened says.faults (says.reopen (ap Err same));
       after = inv.after;
+      told = inv.told;
+      whole = λ was is. absurd {A = IsTold W.told W.is_kept c.loop-turn.journal}
+          (let no : true ≡ false = sym was ∙ (sym inv.behind ∙ is) in cc);
+      goes = inv.goes;
+      failed = λ ok was. absurd {A = W.fails c.args.journal.now.writer c.loop-turn.journal.writer}
+          (let no : false ≡ true = ok in cc);
+      holds = λ h s e j. inv.holds (says.began_clean h) s e j;
+    }
+
+pub returns : goal.returns
+returns g c =
+    let inv = c.loop-turn.invariant in
+    let says = c.refuse.ensures in
+    let met = g.met.K.Keeper in
+    let k = g.K.Keeper in
+    let W = g.W.JournalWriter in
+    let fault = c.refuse.result in
+    record {
+      spared = met.spares_then _ _ _ inv.spared says.spared;
+      began_clean = λ h. inv.clean (says.began_clean h);
+      opened = tt;
+      faults = shut_further k.cause c.args.keeper.now c.loop-turn.keeper c.refuse.new.keeper
+          (Unit {0}) fault inv.opened says.faults;
+      keeps = λ h s e. says.keeps h s (inv.stood (says.began_clean h) s e);
+      device = λ h s e is.
+          let same : fault ≡ Device = cc in
+          met.fails_later _ _ _ inv.spared says.spared
+          (says.device h s (inv.stood (says.began_clean h) s e) same);
+      leaves = λ h s e only.
+          let was = says.began_clean h in
+          says.leaves h s (inv.stood was s e) (inv.leaves was s e only);
+      reopen = λ is.
+          let same : fault ≡ Reopen = cc in
+          reopen_further k.cause c.args.keeper.now c.loop-turn.keeper c.refuse.new.keeper
+          (Unit {0}) k.stands k.may_leave fault same inv.opened says.faults (says.reopen same);
+      after = inv.after;
+      told = inv.told;
+      whole = λ was is. absurd {A = IsTold W.told W.is_kept c.loop-turn.journal}
+          (let no : true ≡ false = sym was ∙ (sym inv.behind ∙ is) in cc);
+      goes = inv.goes;
+      failed = λ ok was. absurd {A = W.fails c.args.journal.now.writer c.loop-turn.journal.writer}
+          (let no : false ≡ true = ok in cc);
       holds = λ h s e j. inv.holds (says.began_clean h) s e j;
     }

@@ -15,9 +15,12 @@ returns-in-Ok-Accepted-clause-acts g c = λ h s e holds.
       sym is ∙ says.0,
       (
         says.1,
-        λ tells. accepted_holds s b (well c.args.keeper.now s e)
-            (well c.apply.new.self (act s b).state says.1) accepted _ _ _ _ _
-            (c.as_slice.ensures.value ∙ c.in-Ok.ensures) c.note.ensures (holds tells),
+        (
+          c.note.ensures.told holds.0,
+          λ tells. accepted_holds s b (well c.args.keeper.now s e)
+              (well c.apply.new.self (act s b).state says.1) accepted _ _ _ _ _
+              (c.as_slice.ensures.value ∙ c.in-Ok.ensures) c.note.ensures.line (holds.1 tells),
+        ),
       ),
     )
 

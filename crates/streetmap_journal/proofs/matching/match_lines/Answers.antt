@@ -1,4 +1,4 @@
-use Rattle.std.proofs.Common.{◌≡◌, List, ℕ, Ok, Err, sym, ap, ap₂, subst, ◌∙◌, arith}
+use Rattle.std.proofs.Common.{◌≡◌, List, ℕ, Ok, Err, subst, arith}
 use Rattle.streetmap_text_lines.specs.declared.fault.LineFault.TheVariants.{ReadFailed}
 use Rattle.streetmap_journal.specs.Matching.{MatchesLine, Matches, serial_behind}
 use Rattle.streetmap_journal.specs.declared.matching.MatchEnd.TheVariants.{NotRead}

@@ -19,6 +19,18 @@ returns-in-Ok-begin-clause-starts g c = λ h s e.
       begun.0 ∙ made.1,
       λ first. begun.1 (begun_holds s (g.met.K.Keeper.well_formed c.args.keeper.now s e)
           (position_of c.empty.result) _ few next made.2 made.4
-          (ap g.W.Write.contents made.0 ∙ first)),
+          (ap g.W.JournalWriter.contents made.0 ∙ first)),
       begun.2,
     )
+
+pub returns-in-Ok-begin-clause-leaves : goal.returns-in-Ok-begin-clause-leaves
+returns-in-Ok-begin-clause-leaves g c = λ h s e only.
+    let was = c.in-Ok-begin.ensures.began_clean h in
+    let seen = c.in-Ok.ensures.counts was s e in
+    c.in-Ok-begin.ensures.leaves h s seen.1 (c.in-Ok.ensures.leaves was s e only)
+
+pub returns-in-Err-begin-clause-leaves : goal.returns-in-Err-begin-clause-leaves
+returns-in-Err-begin-clause-leaves g c = λ h s e only.
+    let was = c.in-Err-begin.ensures.began_clean h in
+    let seen = c.in-Ok.ensures.counts was s e in
+    c.in-Err-begin.ensures.leaves h s seen.1 (c.in-Ok.ensures.leaves was s e only)

@@ -1,0 +1,41 @@
+-- What a writer was told stays true as lines are written; and where it failed.
+use Rattle.std.proofs.Common.{◌≡◌, ◌≤◌, ℕ, Bool, true, false, Option, Result, Ok, Err}
+use Rattle.std.proofs.Common.{refl, ◌∙◌, arith}
+use Rattle.streetmap_ledger.specs.declared.reply.Fault.{Fault}
+use Rattle.streetmap_ledger.specs.declared.reply.Reply.{Reply}
+use Rattle.streetmap_journal.specs.Telling.{IsToldBy}
+use Rattle.streetmap_journal.specs.Written.{OfReply}
+
+-- lines were written where some are missing
+pub still_told : (old new : Bool) (low high : ℕ) (was is : Option ℕ) (kept keeps : Type 0) →
+    old ≡ true → new ≡ old → low ≤ high → is ≡ was → IsToldBy old low was kept →
+    IsToldBy new high is keeps
+still_told false new low high was is kept keeps behind same grows told h = absurd cc
+still_told true false low high was is kept keeps behind same grows told h = absurd cc
+still_told true true low high was is kept keeps behind same grows told h =
+    (h.0, told ∙ h.1, omega (arith, grows, h.2))
+
+-- a line was written and kept where none is missing
+pub kept_told : (old new : Bool) (low high : ℕ) (was is : Option ℕ) (kept keeps : Type 0) →
+    old ≡ false → new ≡ old → is ≡ was → keeps → IsToldBy old low was kept →
+    IsToldBy new high is keeps
+kept_told true new low high was is kept keeps whole same told all h = absurd cc
+kept_told false true low high was is kept keeps whole same told all h = absurd cc
+kept_told false false low high was is kept keeps whole same told all h = (told ∙ h.0, all)
+
+-- two stretches of calls, where lines were completed in the first
+pub fails_through : {W : Type 0} (goes fails : W → W → Type 0) →
+    ((a b c : W) → goes a b → fails b c → fails a c) →
+    ((a b c : W) → fails a b → goes b c → fails a c) →
+    (first mid last : W) (behind : Bool) → goes first mid → goes mid last →
+    (behind ≡ true → fails first mid) → (behind ≡ false → fails mid last) → fails first last
+fails_through goes fails later still first mid last true begins ends failed fails_next =
+    still first mid last (failed refl) ends
+fails_through goes fails later still first mid last false begins ends failed fails_next =
+    later first mid last begins (fails_next refl)
+
+-- what came of a reply, with what holds behind each
+pub with_reply : (came : Result Reply Fault → Type 0) (P : Type 0) (r : Result Reply Fault) → P →
+    OfReply came r → OfReply (λ reply. came reply × P) r
+with_reply came P (Ok reply) p h = (h, p)
+with_reply came P (Err fault) p h = tt
