@@ -18,7 +18,7 @@ ghost use Rattle.streetmap_web.specs.Coming.{around};
 ghost use Rattle.streetmap_web.specs.Standing.{of_state};
 ghost use Rattle.streetmap_web.specs.Exchanges.{Serves as ServesStream};
 ghost use Rattle.streetmap_serving.specs.ServingClients.{ServesClients};
-ghost use Rattle.streetmap_connections.specs.Served.{clients_of, ended_of};
+ghost use Rattle.streetmap_connections.specs.Served.{ended_of, slots_of};
 ghost use Rattle.streetmap_files.specs.Surviving.{Survives, ServesTables, ServesTablesAtOnce};
 ghost use Rattle.streetmap_files.specs.Surviving.{Holds};
 ghost use Rattle.streetmap_files.specs.Tables.{tables_sight, journaled_sight};
@@ -163,7 +163,7 @@ pub fn serve_clients_over_tables<R: Net + Clock, S: Alter, J: JournalWriter, W: 
         (λ k. k.index))
         (λ k t. TellBytes J.contents → HoldsIf J.contents k.journal t))
         (root_of service.old.base) (of_state s) service.old.keeper service.new.keeper
-        (clients_of clients.old) (clients_of clients.new) }
+        (slots_of clients.old) (slots_of clients.new) }
     ensures survives { HasCleanDisk (state S.Store service.new.keeper.keeper.keeper.conn) →
         (s : State) →
         Serves service.old.keeper.keeper.keeper.shut
@@ -178,7 +178,7 @@ pub fn serve_clients_over_tables<R: Net + Clock, S: Alter, J: JournalWriter, W: 
         (λ k. k.index))
         (λ k t. TellBytes J.contents → HoldsIf J.contents k.journal t))
         (root_of service.old.base) s service.old.keeper service.new.keeper
-        (clients_of clients.old) (clients_of clients.new)
+        (slots_of clients.old) (slots_of clients.new)
         (state S.Store service.new.keeper.keeper.keeper.conn) }
     ensures counted { IsOk result → count ≤ length (ended_of clients.new) }
     ensures spared { Spares
