@@ -6,7 +6,7 @@ use Rattle.std.proofs.Math.Seq.{take-append_seam}
 use Rattle.streetmap_connections.specs.declared.client.Client.{Client}
 use Rattle.streetmap_connections.specs.Counts.{CountsOn, count_of}
 use Rattle.streetmap_connections.specs.Slots.{present}
-use Rattle.streetmap_connections.proofs.ServingLemmas.{set_differs}
+use Rattle.streetmap_connections.proofs.Changed.{set_differs}
 
 pub counts_kept : {A : Type 0} (n : ℕ) (xs ys : List A) → ys ≡ xs → CountsOn n n xs ys
 counts_kept {A} n xs ys same = let long : length ys ≡ length xs = ap (λ (zs : List A). length zs) same in (0, omega (arith, long), omega arith)

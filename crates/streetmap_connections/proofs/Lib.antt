@@ -1,8 +1,10 @@
 pub mod Answering
+pub mod Changed
 pub mod Counting
 pub mod Cutting
 pub mod InOrder
 pub mod Idling
+pub mod InTurn
 pub mod Interleavings
 pub mod Lateness
 pub mod MoveLemmas

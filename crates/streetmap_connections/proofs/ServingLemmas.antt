@@ -1,5 +1,5 @@
 -- What many clients were answered, one turn after another.
-use Rattle.std.proofs.Common.{◌≡◌, inl, inr, ℕ, zero, suc, ◌<◌, List, [], ◌∷◌, ◌++◌, length, map, get_or, set, All, Option, refl, sym, subst, ◌∙◌, ap, append_assoc, arith}
+use Rattle.std.proofs.Common.{◌≡◌, inl, inr, ℕ, ◌<◌, List, [], ◌∷◌, ◌++◌, length, map, get_or, set, All, Option, refl, sym, subst, ◌∙◌, ap, append_assoc}
 use Rattle.std.specs.List.{flat_map}
 use Rattle.std.proofs.lemmas.List.{append-nil, map-append}
 use Rattle.std.proofs.lemmas.List.Elements.{All-nil, All-cons}
@@ -9,45 +9,20 @@ use Rattle.streetmap_connections.specs.declared.limits.TheConstants.{MOST_INPUT}
 use Rattle.streetmap_connections.specs.Clients.{exchanges_of, place_of, IsOrderly}
 use Rattle.streetmap_connections.specs.History.{Exchange}
 use Rattle.streetmap_connections.specs.Interleaving.{GoesOnAs, IsInterleaving}
-use Rattle.streetmap_connections.specs.Leads.{Answering}
+use Rattle.streetmap_connections.specs.Leads.{Answering, Leads}
 use Rattle.streetmap_connections.specs.Serving.{EachMoves, Serves, TakesTurn}
-use Rattle.streetmap_connections.specs.Slots.{clients_in}
-use Rattle.streetmap_connections.proofs.Interleavings.{begins, goes_on}
+use Rattle.streetmap_connections.specs.Slots.{clients_in, exchanges_in}
+use Rattle.streetmap_connections.proofs.Changed.{Differs, set_differs}
+use Rattle.streetmap_connections.proofs.InTurn.{grows_in_slots, in_turn_kept, in_turn_then, last_gives}
+use Rattle.streetmap_connections.proofs.Interleavings.{begins, goes_on, goes_on_then, same_goes_on}
 use Rattle.streetmap_connections.proofs.MoveLemmas.{leads_then, moves_then, stays_put}
 
-below_none : (i : ℕ) → ¬ (i < 0)
-below_none i lt = omega arith
-
--- two lists that differ in one place only
-pub record Differs {A B : Type 0} (f : A → List B) (xs ys : List A) (x y : A) : Type 0 where
-  pub front : List B
-  pub back : List B
-  pub before : flat_map f xs ≡ front ++ (f x ++ back)
-  pub after : flat_map f ys ≡ front ++ (f y ++ back)
-
-behind : {A B : Type 0} (f : A → List B) (a : A) (xs ys : List A) (x y : A) → Differs f xs ys x y → Differs f (a ∷ xs) (a ∷ ys) x y
-behind {B = B} f a xs ys x y d = record {
-  front = f a ++ d.front;
-  back = d.back;
-  before = ap (λ (l : List B). f a ++ l) d.before ∙ sym (append_assoc (f a) d.front (f x ++ d.back));
-  after = ap (λ (l : List B). f a ++ l) d.after ∙ sym (append_assoc (f a) d.front (f y ++ d.back));
-}
-
-pub set_differs : {A B : Type 0} (f : A → List B) (xs : List A) (i : ℕ) (x y : A) → i < length xs → x ≡ get_or xs i x → Differs f xs (set xs i y) x y
-set_differs f [] i x y lt is = absurd (below_none i lt)
-set_differs {A = A} f (a ∷ xs) zero x y lt is = record {
-  front = [];
-  back = flat_map f xs;
-  before = ap (λ (z : A). f z ++ flat_map f xs) (sym is);
-  after = refl;
-}
-set_differs f (a ∷ xs) (suc i) x y lt is = behind f a xs (set xs i y) x y (set_differs f xs i x y (omega arith) is)
-
-pub same_goes_on : {A : Type 0} (before after : List (List A)) → after ≡ before → GoesOnAs before [] after
-same_goes_on {A = A} before after e all i = subst (λ (xs : List A). IsInterleaving after xs) (sym (append-nil all)) (subst (λ (ls : List (List A)). IsInterleaving ls all) (sym e) i)
-
-pub goes_on_then : {A : Type 0} (a b c : List (List A)) (xs ys : List A) → GoesOnAs a xs b → GoesOnAs b ys c → GoesOnAs a (xs ++ ys) c
-goes_on_then {A = A} a b c xs ys x y all i = subst (λ (l : List A). IsInterleaving c l) (append_assoc all xs ys) (y (all ++ xs) (x all i))
+-- what a turn adds: exchanges by which the list of the last client goes on
+record Adds {V S : Type 0} (answers : Answering V) (old new : V) (before after : List (Client S)) : Type 0 where
+  made : List Exchange
+  leads : Leads answers old made new
+  interleaved : (front back : List (Client S)) → GoesOnAs (map exchanges_of (front ++ (before ++ back))) made (map exchanges_of (front ++ (after ++ back)))
+  grown : flat_map exchanges_of after ≡ flat_map exchanges_of before ++ made
 
 module _ {S : Type 0} where
   all_in_order : (cs : List (Client S)) → All IsOrderly cs
@@ -89,39 +64,45 @@ module _ {S : Type 0} where
       (begins before behind_it all was))
 
   module _ {V : Type 0} (answers : Answering V) where
-    pub serves_none : (s : V) (cs : List (Client S)) → Serves answers s s cs cs
-    serves_none s cs = record { exchanges = []; leads = refl; interleaved = same_goes_on _ _ refl; in_order = all_in_order cs }
+    pub serves_none : (s : V) (slots : List (Slot S)) → Serves answers s s slots slots
+    serves_none s slots = record { exchanges = []; leads = refl; interleaved = same_goes_on _ _ refl; in_turn = in_turn_kept slots slots refl; in_order = all_in_order _ }
 
-    pub serves_then : (a b c : V) (xs ys zs : List (Client S)) → Serves answers a b xs ys → Serves answers b c ys zs → Serves answers a c xs zs
+    pub serves_then : (a b c : V) (xs ys zs : List (Slot S)) → Serves answers a b xs ys → Serves answers b c ys zs → Serves answers a c xs zs
     serves_then a b c xs ys zs x y = record {
       exchanges = x.exchanges ++ y.exchanges;
       leads = leads_then answers x.exchanges y.exchanges a b c x.leads y.leads;
-      interleaved = goes_on_then (map exchanges_of xs) (map exchanges_of ys) (map exchanges_of zs) x.exchanges y.exchanges x.interleaved y.interleaved;
+      interleaved = goes_on_then (map exchanges_of (flat_map clients_in xs)) (map exchanges_of (flat_map clients_in ys)) (map exchanges_of (flat_map clients_in zs))
+          x.exchanges y.exchanges x.interleaved y.interleaved;
+      in_turn = in_turn_then xs ys zs x.exchanges y.exchanges x.in_turn y.in_turn;
       in_order = y.in_order;
     }
 
     -- the clients alone changed
-    pub serves_by : (s : V) (xs ys : List (Client S)) → GoesOnAs (map exchanges_of xs) [] (map exchanges_of ys) → Serves answers s s xs ys
-    serves_by s xs ys goes = record { exchanges = []; leads = refl; interleaved = goes; in_order = all_in_order ys }
+    pub serves_by : (s : V) (xs ys : List (Slot S)) → GoesOnAs (map exchanges_of (flat_map clients_in xs)) [] (map exchanges_of (flat_map clients_in ys))
+        → map exchanges_in ys ≡ map exchanges_in xs → Serves answers s s xs ys
+    serves_by s xs ys goes kept = record { exchanges = []; leads = refl; interleaved = goes; in_turn = in_turn_kept xs ys kept; in_order = all_in_order _ }
 
-    pub serves_same : (s : V) (xs ys : List (Client S)) → map exchanges_of ys ≡ map exchanges_of xs → Serves answers s s xs ys
-    serves_same s xs ys same = serves_by s xs ys (same_goes_on _ _ same)
+    pub serves_same : (s : V) (xs ys : List (Slot S)) → map exchanges_of (flat_map clients_in ys) ≡ map exchanges_of (flat_map clients_in xs)
+        → map exchanges_in ys ≡ map exchanges_in xs → Serves answers s s xs ys
+    serves_same s xs ys same kept = serves_by s xs ys (same_goes_on _ _ same) kept
 
-    pub turn_among : (remaining contents : S → Option (List ℕ)) (old new : V) (front back before after : List (Client S))
-        → TakesTurn remaining contents answers old new before after → Serves answers old new (front ++ (before ++ back)) (front ++ (after ++ back))
-    turn_among remaining contents old new front back before after (inl t) = record {
-      exchanges = t.calls.0;
+    turn_adds : (remaining contents : S → Option (List ℕ)) (old new : V) (before after : List (Client S))
+        → TakesTurn remaining contents answers old new before after → Adds answers old new before after
+    turn_adds remaining contents old new before after (inl t) = record {
+      made = t.calls.0;
       leads = t.calls.2;
-      interleaved = λ all i. subst (λ (cs : List (Client S)). IsInterleaving (map exchanges_of (front ++ (cs ++ back))) (all ++ t.calls.0)) (sym t.is)
+      interleaved = λ front back all i. subst (λ (cs : List (Client S)). IsInterleaving (map exchanges_of (front ++ (cs ++ back))) (all ++ t.calls.0)) (sym t.is)
           (grow_at front t.others back t.client t.served t.calls.0 t.calls.1 all
           (subst (λ (cs : List (Client S)). IsInterleaving (map exchanges_of (front ++ (cs ++ back))) all) t.was i));
-      in_order = all_in_order _;
+      grown = ap (λ (cs : List (Client S)). flat_map exchanges_of cs) t.is
+          ∙ (last_gives exchanges_of t.others t.client t.served t.calls.0 t.calls.1
+          ∙ ap (λ (cs : List (Client S)). flat_map exchanges_of cs ++ t.calls.0) (sym t.was));
     }
-    turn_among remaining contents old new front back before after (inr (same, still)) = record {
-      exchanges = [];
+    turn_adds remaining contents old new before after (inr (same, still)) = record {
+      made = [];
       leads = still;
-      interleaved = same_goes_on _ _ (ap (λ (cs : List (Client S)). map exchanges_of (front ++ (cs ++ back))) same);
-      in_order = all_in_order _;
+      interleaved = λ front back. same_goes_on _ _ (ap (λ (cs : List (Client S)). map exchanges_of (front ++ (cs ++ back))) same);
+      grown = ap (λ (cs : List (Client S)). flat_map exchanges_of cs) same ∙ sym (append-nil (flat_map exchanges_of before));
     }
 
 -- one of the slots changes
@@ -129,21 +110,31 @@ module _ {S : Type 0} (slots : List (Slot S)) (i : ℕ) (x y : Slot S) (lt : i <
   differs : Differs clients_in slots (set slots i y) x y
   differs = set_differs clients_in slots i x y lt is
 
+  goes_on_in_slots : (made : List Exchange)
+      → GoesOnAs (map exchanges_of (differs.front ++ (clients_in x ++ differs.back))) made (map exchanges_of (differs.front ++ (clients_in y ++ differs.back)))
+      → GoesOnAs (map exchanges_of (flat_map clients_in slots)) made (map exchanges_of (flat_map clients_in (set slots i y)))
+  goes_on_in_slots made goes =
+      subst (λ (cs : List (Client S)). GoesOnAs (map exchanges_of cs) made (map exchanges_of (flat_map clients_in (set slots i y)))) (sym differs.before)
+      (subst (λ (cs : List (Client S)). GoesOnAs (map exchanges_of (differs.front ++ (clients_in x ++ differs.back))) made (map exchanges_of cs)) (sym differs.after) goes)
+
   pub turn_in_slots : {V : Type 0} (answers : Answering V) (remaining contents : S → Option (List ℕ)) (old new : V)
-      → TakesTurn remaining contents answers old new (clients_in x) (clients_in y)
-      → Serves answers old new (flat_map clients_in slots) (flat_map clients_in (set slots i y))
+      → TakesTurn remaining contents answers old new (clients_in x) (clients_in y) → Serves answers old new slots (set slots i y)
   turn_in_slots answers remaining contents old new turn =
-      subst (λ (cs : List (Client S)). Serves answers old new cs (flat_map clients_in (set slots i y))) (sym differs.before)
-      (subst (λ (cs : List (Client S)). Serves answers old new (differs.front ++ (clients_in x ++ differs.back)) cs) (sym differs.after)
-      (turn_among answers remaining contents old new differs.front differs.back (clients_in x) (clients_in y) turn))
+      let adds : Adds answers old new (clients_in x) (clients_in y) = turn_adds answers remaining contents old new (clients_in x) (clients_in y) turn in
+      record {
+        exchanges = adds.made;
+        leads = adds.leads;
+        interleaved = goes_on_in_slots adds.made (adds.interleaved differs.front differs.back);
+        in_turn = grows_in_slots slots i x y lt is adds.made adds.grown;
+        in_order = all_in_order _;
+      }
 
   pub begins_in_slots : (c : Client S) → clients_in y ≡ clients_in x ++ c ∷ [] → exchanges_of c ≡ []
       → GoesOnAs (map exchanges_of (flat_map clients_in slots)) [] (map exchanges_of (flat_map clients_in (set slots i y)))
   begins_in_slots c one none =
-      subst (λ (cs : List (Client S)). GoesOnAs (map exchanges_of cs) [] (map exchanges_of (flat_map clients_in (set slots i y)))) (sym differs.before)
-      (subst (λ (cs : List (Client S)). GoesOnAs (map exchanges_of (differs.front ++ (clients_in x ++ differs.back))) [] (map exchanges_of cs))
-      (sym (differs.after ∙ ap (λ (cs : List (Client S)). differs.front ++ (cs ++ differs.back)) one))
-      (begin_at differs.front (clients_in x) differs.back c none))
+      goes_on_in_slots []
+      (subst (λ (cs : List (Client S)). GoesOnAs (map exchanges_of (differs.front ++ (clients_in x ++ differs.back))) [] (map exchanges_of (differs.front ++ (cs ++ differs.back))))
+      (sym one) (begin_at differs.front (clients_in x) differs.back c none))
 
   lists_around : (front own back : List (Client S)) → map exchanges_of (front ++ (own ++ back)) ≡ map exchanges_of front ++ (map exchanges_of own ++ map exchanges_of back)
   lists_around front own back = simp (map-append) refl

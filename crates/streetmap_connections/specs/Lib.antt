@@ -6,6 +6,7 @@ pub mod Counts
 pub mod Cuts
 pub mod Faults
 pub mod History
+pub mod InTurn
 pub mod Interleaving
 pub mod Leads
 pub mod Moves

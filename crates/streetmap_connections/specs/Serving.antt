@@ -1,23 +1,29 @@
 -- What a service answered, over one client and over many.
-use Rattle.std.specs.Prelude.{◌≡◌, ◌⊎◌, ℕ, List, [], ◌∷◌, ◌++◌, map, Option, All}
+use Rattle.std.specs.Prelude.{◌≡◌, ◌⊎◌, ℕ, List, [], ◌∷◌, ◌++◌, map, flat_map, Option, All}
 use Rattle.std.specs.List.{AllZip}
 use Rattle.streetmap_connections.specs.declared.client.Client.{Client}
 use Rattle.streetmap_connections.specs.declared.limits.TheConstants.{MOST_INPUT}
+use Rattle.streetmap_connections.specs.declared.slot.Slot.{Slot}
 use Rattle.streetmap_connections.specs.Clients.{exchanges_of, place_of, IsOrderly}
 use Rattle.streetmap_connections.specs.History.{Exchange}
+use Rattle.streetmap_connections.specs.InTurn.{IsInTurn}
 use Rattle.streetmap_connections.specs.Interleaving.{GoesOnAs}
 use Rattle.streetmap_connections.specs.Moves.{Moves}
 use Rattle.streetmap_connections.specs.Leads.{Answering, Leads, Calls}
+use Rattle.streetmap_connections.specs.Slots.{clients_in}
 
 -- One list of exchanges leads the service from one state to the other, each answered in the state
 -- that the one before
--- left. It is an interleaving of the clients' own lists, and each client's connection is in order.
+-- left. It is an interleaving of the clients' own lists, in which the clients of each slot were
+-- answered in turn, and each client's connection is in order.
 pub record Serves {V S : Type 0} (answers : Answering V) (old new : V)
-    (before after : List (Client S)) : Type 0 where
+    (before after : List (Slot S)) : Type 0 where
   pub exchanges : List Exchange
   pub leads : Leads answers old exchanges new
-  pub interleaved : GoesOnAs (map exchanges_of before) exchanges (map exchanges_of after)
-  pub in_order : All IsOrderly after
+  pub interleaved : GoesOnAs (map exchanges_of (flat_map clients_in before)) exchanges
+      (map exchanges_of (flat_map clients_in after))
+  pub in_turn : IsInTurn before exchanges after
+  pub in_order : All IsOrderly (flat_map clients_in after)
 
 -- the last of the clients had its turn
 pub record LastServed {V S : Type 0} (remaining contents : S

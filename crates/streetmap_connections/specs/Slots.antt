@@ -3,7 +3,8 @@ use Rattle.std.specs.Prelude.{◌≡◌, ◌≤◌, ◌-◌, ℕ, Bool, List, []
 use Rattle.std.specs.Prelude.{Some, None, option_map, IsSome, All, slice_get}
 use Rattle.streetmap_connections.specs.declared.client.Client.{Client}
 use Rattle.streetmap_connections.specs.declared.slot.Slot.{Slot}
-use Rattle.streetmap_connections.specs.Clients.{IsAtRest, IsIdle, IsLate, woken}
+use Rattle.streetmap_connections.specs.Clients.{exchanges_of, IsAtRest, IsIdle, IsLate, woken}
+use Rattle.streetmap_connections.specs.History.{Exchange}
 
 module _ {S : Type 0} where
   abbrev pub present : Option (Client S) → List (Client S)
@@ -16,6 +17,10 @@ module _ {S : Type 0} where
 
   abbrev pub clients_in : Slot S → List (Client S)
   clients_in s = past_of s ++ present s.client
+
+  -- what they all were answered, one client behind the other
+  abbrev pub exchanges_in : Slot S → List Exchange
+  exchanges_in s = flat_map exchanges_of (clients_in s)
 
   -- the slot is free, or its client is at rest
   abbrev pub GivesWay : Slot S → Type 0

@@ -64,8 +64,7 @@ impl Round {
 
     /// The client of each slot takes its turn.
     fn give_turns<S: Stream + Drop, V: Service>(&mut self, slots: &mut [Slot<S>], service: &mut V)
-        ensures serves { Serves V.answers service.old service.new (flat_map clients_in slots.old)
-            (flat_map clients_in slots.new) }
+        ensures serves { Serves V.answers service.old service.new slots.old slots.new }
         ensures moves { EachMoves S.remaining S.contents (flat_map clients_in slots.old)
             (flat_map clients_in slots.new) }
         ensures late { AllZip (EndsLate self.old.now self.old.limits.patience) slots.old slots.new }
@@ -82,9 +81,10 @@ impl<S: Stream + Drop> Clients<S> {
     ghost use Rattle.streetmap_connections.specs.Clients.{exchanges_of};
     ghost use Rattle.streetmap_connections.specs.Interleaving.{GoesOnAs};
     ghost use Rattle.streetmap_connections.specs.Serving.{EachMoves, Serves};
-    ghost use Rattle.streetmap_connections.specs.Served.{clients_of, ended_of};
-    ghost use Rattle.streetmap_connections.specs.Slots.{woken_in, CameAt, GivesWayAt, IsFreeAt};
-    ghost use Rattle.streetmap_connections.specs.Slots.{IsLongestIdleAt, IsTaken, NoneIdlesBeyond};
+    ghost use Rattle.streetmap_connections.specs.Served.{clients_of, ended_of, slots_of};
+    ghost use Rattle.streetmap_connections.specs.Slots.{exchanges_in, woken_in, CameAt, GivesWayAt};
+    ghost use Rattle.streetmap_connections.specs.Slots.{IsFreeAt, IsLongestIdleAt, IsTaken};
+    ghost use Rattle.streetmap_connections.specs.Slots.{NoneIdlesBeyond};
     ghost use Rattle.streetmap_connections.specs.declared.slot.Slot.{Slot};
 
     /// No client, and room for as many as the limits allow.
@@ -185,6 +185,8 @@ impl<S: Stream + Drop> Clients<S> {
         requires { GivesWayAt self.old.slots.items place }
         ensures unanswered { GoesOnAs (map exchanges_of (clients_of self.old)) []
             (map exchanges_of (clients_of self.new)) }
+        ensures kept { map exchanges_in (slots_of self.new)
+            ≡ map exchanges_in (slots_of self.old) }
         ensures one_more { length (clients_of self.new) ≡ length (clients_of self.old) + 1 }
         ensures here { CameAt now self.new.slots.items place }
     {
@@ -199,6 +201,8 @@ impl<S: Stream + Drop> Clients<S> {
     pub fn wake(&mut self, place: usize, readable: bool, writable: bool)
         ensures same { map exchanges_of (clients_of self.new)
             ≡ map exchanges_of (clients_of self.old) }
+        ensures kept { map exchanges_in (slots_of self.new)
+            ≡ map exchanges_in (slots_of self.old) }
         ensures woken { (s : Slot S) → slice_get self.old.slots.items place ≡ Some s
             → slice_get self.new.slots.items place ≡ Some (woken_in readable writable s) }
     {
@@ -219,8 +223,8 @@ impl<S: Stream + Drop> Clients<S> {
     /// Each client takes its turn, and those that are late, or over, leave. Whether one can go on
     /// at once.
     pub fn work<V: Service>(&mut self, service: &mut V, now: u64) -> bool
-        ensures serves { Serves V.answers service.old service.new (clients_of self.old)
-            (clients_of self.new) }
+        ensures serves { Serves V.answers service.old service.new (slots_of self.old)
+            (slots_of self.new) }
         ensures moves { EachMoves S.remaining S.contents (clients_of self.old)
             (clients_of self.new) }
         ensures late { AllZip (EndsLate now self.old.limits.patience) self.old.slots.items

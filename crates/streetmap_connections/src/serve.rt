@@ -3,8 +3,8 @@ ghost use Rattle.std.specs.Prelude.{◌≡◌, ◌≤◌, ◌↔◌, [], length,
 ghost use Rattle.streetmap_connections.specs.Clients.{exchanges_of};
 ghost use Rattle.streetmap_connections.specs.Interleaving.{GoesOnAs};
 ghost use Rattle.streetmap_connections.specs.Serving.{Serves};
-ghost use Rattle.streetmap_connections.specs.Served.{clients_of, ended_of};
-ghost use Rattle.streetmap_connections.specs.Slots.{GivesWayAt};
+ghost use Rattle.streetmap_connections.specs.Served.{clients_of, ended_of, slots_of};
+ghost use Rattle.streetmap_connections.specs.Slots.{exchanges_in, GivesWayAt};
 
 use crate::clients::Clients;
 use crate::service::Service;
@@ -134,8 +134,10 @@ impl Acceptor {
         clients: &mut Clients<TcpStream>,
         longest: u64,
     ) -> Result<(), ServeFault>
-        ensures { map exchanges_of (clients_of clients.new)
+        ensures same { map exchanges_of (clients_of clients.new)
             ≡ map exchanges_of (clients_of clients.old) }
+        ensures kept { map exchanges_in (slots_of clients.new)
+            ≡ map exchanges_in (slots_of clients.old) }
     {
         self.poll
             .poll(events, Some(Duration::from_millis(longest)))?;
@@ -155,8 +157,10 @@ impl Acceptor {
 
     /// Lets in the clients that wait, as far as there are places.
     fn let_in(&mut self, clients: &mut Clients<TcpStream>, now: u64) -> Result<(), ServeFault>
-        ensures { GoesOnAs (map exchanges_of (clients_of clients.old)) []
+        ensures unanswered { GoesOnAs (map exchanges_of (clients_of clients.old)) []
             (map exchanges_of (clients_of clients.new)) }
+        ensures kept { map exchanges_in (slots_of clients.new)
+            ≡ map exchanges_in (slots_of clients.old) }
     {
         for _attempt in 0..self.token {
             if !self.pending || clients.begun() >= self.count {
@@ -180,8 +184,10 @@ impl Acceptor {
         now: u64,
     ) -> Result<bool, ServeFault>
         requires { GivesWayAt clients.old.slots.items place }
-        ensures { GoesOnAs (map exchanges_of (clients_of clients.old)) []
+        ensures unanswered { GoesOnAs (map exchanges_of (clients_of clients.old)) []
             (map exchanges_of (clients_of clients.new)) }
+        ensures kept { map exchanges_in (slots_of clients.new)
+            ≡ map exchanges_in (slots_of clients.old) }
     {
         match self.accept(place) {
             Ok(Accepted::Client(stream)) => {
@@ -230,8 +236,8 @@ impl Acceptor {
         service: &mut V,
         now: u64,
     ) -> Result<bool, ServeFault>
-        ensures { Serves V.answers service.old service.new (clients_of clients.old)
-            (clients_of clients.new) }
+        ensures { Serves V.answers service.old service.new (slots_of clients.old)
+            (slots_of clients.new) }
     {
         self.let_in(clients, now)?;
         Ok(clients.work(service, now))
@@ -246,8 +252,8 @@ impl Acceptor {
         clients: &mut Clients<TcpStream>,
         service: &mut V,
     ) -> Result<(), ServeFault>
-        ensures serves { Serves V.answers service.old service.new (clients_of clients.old)
-            (clients_of clients.new) }
+        ensures serves { Serves V.answers service.old service.new (slots_of clients.old)
+            (slots_of clients.new) }
         ensures counted { IsOk result → count ≤ length (ended_of clients.new) }
     {
         let start = Instant::now(rt)?;
@@ -281,9 +287,10 @@ pub fn serve_connections<R: Net + Clock, V: Service>(
 ) -> Result<(), ServeFault>
     // There is one list of exchanges along which the service was led, each answered in the state
     // that the one before left; it goes on from any interleaving of the clients' own lists before
-    // as one of their lists after.
-    ensures serves { Serves V.answers service.old service.new (clients_of clients.old)
-        (clients_of clients.new) }
+    // as one of their lists after. The clients of a place were answered in turn, each to its end
+    // before the next was answered at all.
+    ensures serves { Serves V.answers service.old service.new (slots_of clients.old)
+        (slots_of clients.new) }
     ensures counted { IsOk result → count ≤ length (ended_of clients.new) }
 {
     let mut events = Events::with_capacity(clients.alloc, MOST_EVENTS)?;

@@ -19,7 +19,7 @@ use Rattle.streetmap_web.specs.declared.serving.End.{End}
 use Rattle.streetmap_web.proofs.Beginnings.{served_leaves}
 use Rattle.streetmap_web.specs.Sight.{Sight}
 use Rattle.mio.specs.declared.net.stream.TcpStream.{TcpStream}
-use Rattle.streetmap_connections.specs.declared.client.Client.{Client}
+use Rattle.streetmap_connections.specs.declared.slot.Slot.{Slot}
 use Rattle.streetmap_serving.specs.SurvivingClients.{SurvivesClients}
 use Rattle.streetmap_store.specs.Sparing.{LeavesStates}
 use Rattle.streetmap_files.specs.Surviving.{Holds}
@@ -93,7 +93,7 @@ served_survives root end count s a seen serves known bound = record {
 }
 
 -- and of many clients at once
-pub clients_survive : {K : Type 0} (sight : Sight K) (root : Text) (s : State) (old new : K) (before after : List (Client TcpStream)) (seen : Seen)
+pub clients_survive : {K : Type 0} (sight : Sight K) (root : Text) (s : State) (old new : K) (before after : List (Slot TcpStream)) (seen : Seen)
     → SurvivesClients sight root s old new before after → ((o : Option State) → MayLeave seen o → sight.may_leave new o)
     → ServesTablesAtOnce sight root s old new before after seen
 clients_survive sight root s old new before after seen it bound = record {

@@ -12,7 +12,7 @@ use Rattle.streetmap_web.specs.Exchanges.{Around, Serves, batches_of, last_of}
 use Rattle.streetmap_web.specs.Beginnings.{IsAfterBeginning, batches_acted}
 use Rattle.streetmap_web.specs.declared.serving.End.{End}
 use Rattle.mio.specs.declared.net.stream.TcpStream.{TcpStream}
-use Rattle.streetmap_connections.specs.declared.client.Client.{Client}
+use Rattle.streetmap_connections.specs.declared.slot.Slot.{Slot}
 use Rattle.streetmap_serving.specs.SurvivingClients.{SurvivesClients, acted_over, answered_over}
 
 -- The database is that of one of these states: it is of no other, and it cannot be that it is of
@@ -46,7 +46,7 @@ pub record ServesTables (root : Text) (end : End) (count : ℕ) (s : State) (a :
 -- beginning of the batches of all clients, in the one order in which they were answered, that
 -- contains each that was answered without a fault.
 pub record ServesTablesAtOnce {K : Type 0} (sight : Sight K) (root : Text) (s : State) (old new : K)
-    (before after : List (Client TcpStream)) (seen : Seen) : Type 0 where
+    (before after : List (Slot TcpStream)) (seen : Seen) : Type 0 where
   pub serves : SurvivesClients sight root s old new before after
   pub survives : Survives s (acted_over (of_state s) serves.requests)
       (length (answered_over (of_state s) serves.requests)) seen

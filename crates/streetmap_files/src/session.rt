@@ -18,7 +18,7 @@ ghost use Rattle.streetmap_web.specs.Coming.{around};
 ghost use Rattle.streetmap_web.specs.Standing.{of_state};
 ghost use Rattle.streetmap_web.specs.Exchanges.{Serves as ServesStream};
 ghost use Rattle.streetmap_serving.specs.ServingClients.{ServesClients};
-ghost use Rattle.streetmap_connections.specs.Served.{clients_of, ended_of};
+ghost use Rattle.streetmap_connections.specs.Served.{ended_of, slots_of};
 ghost use Rattle.streetmap_files.specs.Surviving.{Survives, ServesTables, ServesTablesAtOnce};
 ghost use Rattle.streetmap_files.specs.Surviving.{Holds};
 ghost use Rattle.streetmap_files.specs.Tables.{tables_sight, journaled_sight};
@@ -165,7 +165,7 @@ pub fn serve_clients_over_tables<R: Net + Clock, S: Alter, J: JournalWriter, W: 
         (λ k t. IsForIf J.contents J.told J.is_kept k.journal t)
         (λ k l. ReachesUnless J.fails k.journal l.journal))
         (root_of service.old.base) (of_state s) service.old.keeper service.new.keeper
-        (clients_of clients.old) (clients_of clients.new) }
+        (slots_of clients.old) (slots_of clients.new) }
     ensures survives { HasCleanDisk (state S.Store service.new.keeper.keeper.keeper.conn) →
         (s : State) →
         Serves service.old.keeper.keeper.keeper.shut
@@ -181,7 +181,7 @@ pub fn serve_clients_over_tables<R: Net + Clock, S: Alter, J: JournalWriter, W: 
         (λ k t. IsForIf J.contents J.told J.is_kept k.journal t)
         (λ k l. ReachesUnless J.fails k.journal l.journal))
         (root_of service.old.base) s service.old.keeper service.new.keeper
-        (clients_of clients.old) (clients_of clients.new)
+        (slots_of clients.old) (slots_of clients.new)
         (state S.Store service.new.keeper.keeper.keeper.conn) }
     ensures counted { IsOk result → count ≤ length (ended_of clients.new) }
     ensures spared { Spares

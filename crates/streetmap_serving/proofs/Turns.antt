@@ -4,7 +4,7 @@ use Rattle.mio.specs.declared.net.stream.TcpStream.{TcpStream}
 use Rattle.streetmap_batch.specs.Text.{Text}
 use Rattle.streetmap_ledger.specs.State.{State}
 use Rattle.streetmap_ledger.specs.Keep.{LeavesOnly}
-use Rattle.streetmap_connections.specs.declared.client.Client.{Client}
+use Rattle.streetmap_connections.specs.declared.slot.Slot.{Slot}
 use Rattle.streetmap_connections.specs.History.{Exchange}
 use Rattle.streetmap_connections.specs.Leads.{Leads}
 use Rattle.streetmap_connections.specs.Serving.{Serves}
@@ -65,13 +65,14 @@ module _ {K W : Type 0} (sight : Sight K) where
         comes = (l.0.keeper, one.comes, rest.comes);
       }
 
-  module _ (old new : KeeperService K W) (before after : List (Client TcpStream)) (s : Serves Answers old new before after) (clean : sight.is_clean new.keeper) where
+  module _ (old new : KeeperService K W) (before after : List (Slot TcpStream)) (s : Serves Answers old new before after) (clean : sight.is_clean new.keeper) where
     pub serves_clients : (x : Standing) → StandsSo sight old.keeper x → ServesClients sight (root_of old.base) x old.keeper new.keeper before after
     serves_clients x stands =
         let turns = in_turn old new s.exchanges s.leads clean x stands in
         record {
           exchanges = s.exchanges;
           interleaved = s.interleaved;
+          in_turn = s.in_turn;
           in_order = s.in_order;
           last = turns.last;
           answered = turns.answered;

@@ -1,11 +1,13 @@
 -- Many clients served over one keeper.
-use Rattle.std.specs.Prelude.{◌≡◌, List, [], ◌∷◌, map, All}
+use Rattle.std.specs.Prelude.{◌≡◌, List, [], ◌∷◌, map, flat_map, All}
 use Rattle.mio.specs.declared.net.stream.TcpStream.{TcpStream}
 use Rattle.streetmap_batch.specs.Text.{Text}
-use Rattle.streetmap_connections.specs.declared.client.Client.{Client}
+use Rattle.streetmap_connections.specs.declared.slot.Slot.{Slot}
 use Rattle.streetmap_connections.specs.Clients.{exchanges_of, IsOrderly}
 use Rattle.streetmap_connections.specs.History.{Exchange}
+use Rattle.streetmap_connections.specs.InTurn.{IsInTurn}
 use Rattle.streetmap_connections.specs.Interleaving.{GoesOnAs}
+use Rattle.streetmap_connections.specs.Slots.{clients_in}
 use Rattle.streetmap_web.specs.Coming.{ComesAll}
 use Rattle.streetmap_web.specs.Exchanges as web
 use Rattle.streetmap_web.specs.Sight.{Sight, StandsSo}
@@ -34,17 +36,20 @@ requests_of root x (e ∷ es) last answered = answered.0
 -- There is one list of requests with their answers, each answered for what the keeper stood for
 -- behind the one before.
 -- It is an interleaving of the clients' own lists: it goes on from those before as one of those
--- after. What a client
+-- after. The clients of each slot were answered in turn: each to its end before the next was
+-- answered at all. What a client
 -- sent is, in order, the requests of its list and what was not answered; what it was sent are their
 -- answers, as far as
 -- they were sent. The keeper came along these requests: each batch was answered by what `apply`
 -- came to, or was never
 -- asked.
 pub record ServesClients {K : Type 0} (sight : Sight K) (root : Text) (x : Standing) (old new : K)
-    (before after : List (Client TcpStream)) : Type 0 where
+    (before after : List (Slot TcpStream)) : Type 0 where
   pub exchanges : List Exchange
-  pub interleaved : GoesOnAs (map exchanges_of before) exchanges (map exchanges_of after)
-  pub in_order : All IsOrderly after
+  pub interleaved : GoesOnAs (map exchanges_of (flat_map clients_in before)) exchanges
+      (map exchanges_of (flat_map clients_in after))
+  pub in_turn : IsInTurn before exchanges after
+  pub in_order : All IsOrderly (flat_map clients_in after)
   pub last : Standing
   pub answered : AnsweredInTurn root x exchanges last
   pub standing : StandsSo sight new last

@@ -4,7 +4,7 @@ use Rattle.mio.specs.declared.net.stream.TcpStream.{TcpStream}
 use Rattle.streetmap_batch.specs.Text.{Text}
 use Rattle.streetmap_batch.specs.BatchValue.{BatchValue}
 use Rattle.streetmap_ledger.specs.State.{State}
-use Rattle.streetmap_connections.specs.declared.client.Client.{Client}
+use Rattle.streetmap_connections.specs.declared.slot.Slot.{Slot}
 use Rattle.streetmap_web.specs.Standing.{Standing, of_state, shut, unknown}
 use Rattle.streetmap_web.specs.Exchanges as web
 use Rattle.streetmap_web.specs.Beginnings.{LeavesBeginning, batches_acted}
@@ -33,7 +33,7 @@ answered_over x ws = web.batches_of (while_open x ws)
 -- clients, in the order
 -- of that list, that contains each that was answered without a fault.
 pub record SurvivesClients {K : Type 0} (sight : Sight K) (root : Text) (s : State) (old new : K)
-    (before after : List (Client TcpStream)) : Type 0 where
+    (before after : List (Slot TcpStream)) : Type 0 where
   pub serves : ServesClients sight root (of_state s) old new before after
   pub requests : List web.Exchange
   pub are : requests ≡ requests_of root (of_state s) serves.exchanges serves.last serves.answered

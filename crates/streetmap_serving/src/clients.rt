@@ -5,7 +5,7 @@ ghost use Rattle.streetmap_ledger.specs.Keep.{LeavesOnly};
 ghost use Rattle.streetmap_routes.specs.BaseView.{root_of};
 ghost use Rattle.streetmap_web.specs.Sight.{sight_of};
 ghost use Rattle.streetmap_web.specs.Standing.{Standing, Stands};
-ghost use Rattle.streetmap_connections.specs.Served.{clients_of, ended_of};
+ghost use Rattle.streetmap_connections.specs.Served.{ended_of, slots_of};
 ghost use Rattle.streetmap_serving.specs.ServingClients.{ServesClients};
 ghost use Rattle.streetmap_serving.specs.SurvivingClients.{SurvivesClients};
 
@@ -38,12 +38,13 @@ pub fn serve_clients<R: Net + Clock, K: Keeper, W: Write>(
     service: &mut KeeperService<K, W>,
 ) -> Result<(), ServeFault>
     // Where the store was clean: one list of requests, answered one behind the other, which is an
-    // interleaving of the clients' own lists.
+    // interleaving of the clients' own lists. The clients of a place were answered in turn, each to
+    // its end before the next was answered at all.
     ensures serves { K.is_clean service.new.keeper → (x : Standing) →
         Stands (K.stands service.old.keeper) (K.cause service.old.keeper) x →
         ServesClients (sight_of K.stands K.cause K.may_leave K.is_clean K.applies K.spares K.fails)
         (root_of service.old.base) x service.old.keeper service.new.keeper
-        (clients_of clients.old) (clients_of clients.new) }
+        (slots_of clients.old) (slots_of clients.new) }
     // Where a stop could leave only the state that the keeper stood for, it may leave the state of
     // a beginning of the batches of all clients, in the order of such a list, that contains each
     // that was answered without a fault.
@@ -52,7 +53,7 @@ pub fn serve_clients<R: Net + Clock, K: Keeper, W: Write>(
         SurvivesClients
         (sight_of K.stands K.cause K.may_leave K.is_clean K.applies K.spares K.fails)
         (root_of service.old.base) s service.old.keeper service.new.keeper
-        (clients_of clients.old) (clients_of clients.new) }
+        (slots_of clients.old) (slots_of clients.new) }
     // What else the store has is kept.
     ensures spared { K.spares service.old.keeper service.new.keeper }
     ensures began_clean { K.is_clean service.new.keeper → K.is_clean service.old.keeper }

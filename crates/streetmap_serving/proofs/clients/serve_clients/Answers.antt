@@ -1,4 +1,4 @@
-use Rattle.streetmap_connections.specs.Served.{clients_of}
+use Rattle.streetmap_connections.specs.Served.{slots_of}
 use Rattle.streetmap_web.specs.Sight.{Sight, sight_of}
 use Rattle.streetmap_serving.proofs.Turns.{base_kept, clean_back, rest_spared, serves_clients, survives_clients}
 use Rattle.streetmap_serving.proofs.clients.serve_clients.Given.{Over}
@@ -11,12 +11,12 @@ seen g =
 
 pub returns-clause-serves : goal.returns-clause-serves
 returns-clause-serves g c clean x stands =
-    serves_clients (seen g) c.args.service.now c.serve_connections.new.service (clients_of c.args.clients.now) (clients_of c.serve_connections.new.clients)
+    serves_clients (seen g) c.args.service.now c.serve_connections.new.service (slots_of c.args.clients.now) (slots_of c.serve_connections.new.clients)
     c.serve_connections.ensures.serves clean x stands
 
 pub returns-clause-survives : goal.returns-clause-survives
 returns-clause-survives g c clean s stands only =
-    survives_clients (seen g) c.args.service.now c.serve_connections.new.service (clients_of c.args.clients.now) (clients_of c.serve_connections.new.clients)
+    survives_clients (seen g) c.args.service.now c.serve_connections.new.service (slots_of c.args.clients.now) (slots_of c.serve_connections.new.clients)
     c.serve_connections.ensures.serves clean s stands only
 
 pub returns-clause-began_clean : goal.returns-clause-began_clean

@@ -4,6 +4,7 @@ use Rattle.streetmap_connections.specs.Moves.{Place}
 use Rattle.streetmap_connections.specs.Slots.{clients_in, past_of, present}
 use Rattle.streetmap_connections.proofs.Counting.{count_goes_on, length_behind, longer_in_slots}
 use Rattle.streetmap_connections.proofs.Idling.{found_put}
+use Rattle.streetmap_connections.proofs.InTurn.{newcomer_in_slots}
 use Rattle.streetmap_connections.proofs.ServingLemmas.{begins_in_slots}
 use Rattle.streetmap_connections.proofs.clients.Clients.let_in.Goals as goal
 
@@ -11,6 +12,12 @@ pub returns-clause-unanswered : goal.returns-clause-unanswered
 returns-clause-unanswered g c =
     let within : c.args.place < length c.args.self.now.slots.items = slice_get_within _ _ _ c.requires.1 in
     begins_in_slots c.args.self.now.slots.items c.args.place c.index_mut-slot.result.now c.let_in.new.self within c.index_mut-slot.ensures.value
+    c.new-client.result c.let_in.ensures.one_more (ap (λ (p : Place). p.history.exchanges) c.new-client.ensures.place)
+
+pub returns-clause-kept : goal.returns-clause-kept
+returns-clause-kept g c =
+    let within : c.args.place < length c.args.self.now.slots.items = slice_get_within _ _ _ c.requires.1 in
+    newcomer_in_slots c.args.self.now.slots.items c.args.place c.index_mut-slot.result.now c.let_in.new.self within c.index_mut-slot.ensures.value
     c.new-client.result c.let_in.ensures.one_more (ap (λ (p : Place). p.history.exchanges) c.new-client.ensures.place)
 
 pub returns-clause-one_more : goal.returns-clause-one_more

@@ -5,6 +5,7 @@ use Rattle.std.proofs.lemmas.Option.{slice_get_within}
 use Rattle.streetmap_connections.specs.Slots.{clients_in, ended_in, past_of, woken_in}
 use Rattle.streetmap_connections.proofs.Counting.{count_by_length, count_by_map, longer_in_slots}
 use Rattle.streetmap_connections.proofs.Idling.{found_changed}
+use Rattle.streetmap_connections.proofs.InTurn.{same_in_turn}
 use Rattle.streetmap_connections.proofs.ServingLemmas.{same_in_slots}
 use Rattle.streetmap_connections.proofs.clients.Clients.wake.Goals as goal
 
@@ -12,6 +13,11 @@ pub returns-then-place-len-clause-same : goal.returns-then-place-len-clause-same
 returns-then-place-len-clause-same g c =
     let within : c.args.place < length c.args.self.now.slots.items = omega (arith, c.if-place-len.true, c.len.ensures) in
     same_in_slots c.args.self.now.slots.items c.args.place c.index_mut.result.now c.wake.new.self within c.index_mut.ensures.value c.wake.ensures.same
+
+pub returns-then-place-len-clause-kept : goal.returns-then-place-len-clause-kept
+returns-then-place-len-clause-kept g c =
+    let within : c.args.place < length c.args.self.now.slots.items = omega (arith, c.if-place-len.true, c.len.ensures) in
+    same_in_turn c.args.self.now.slots.items c.args.place c.index_mut.result.now c.wake.new.self within c.index_mut.ensures.value c.wake.ensures.same
 
 pub invariant_of-self : goal.invariant_of-self
 invariant_of-self g c =

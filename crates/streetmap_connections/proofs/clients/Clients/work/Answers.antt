@@ -27,7 +27,7 @@ invariant_of-self g c =
 pub returns-clause-serves : goal.returns-clause-serves
 returns-clause-serves g c =
     let slots = c.args.self.now.slots in
-    lent_and_back (λ (xs ys : List (Slot g.row.S.Denot)). Serves g.V.Service.answers c.args.service.now c.give_turns.new.service (flat_map clients_in xs) (flat_map clients_in ys))
+    lent_and_back (λ (xs ys : List (Slot g.row.S.Denot)). Serves g.V.Service.answers c.args.service.now c.give_turns.new.service xs ys)
     slots.len c.as_mut_slice.result.now slots.items c.give_turns.new.slots c.as_mut_slice.ensures.value (c.give_turns.auto.slots ∙ c.as_mut_slice.ensures.len) c.give_turns.ensures.serves
 
 pub returns-clause-moves : goal.returns-clause-moves

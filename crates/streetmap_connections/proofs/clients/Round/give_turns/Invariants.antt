@@ -8,7 +8,7 @@ use Rattle.streetmap_connections.proofs.clients.Round.give_turns.Given as goal
 
 abbrev pub invariant-loop-slot : goal.invariant-loop-slot
 invariant-loop-slot g l = record {
-  serves : Serves g.V.Service.answers l.fn.service l.service (flat_map clients_in l.fn.slots) (flat_map clients_in l.slots);
+  serves : Serves g.V.Service.answers l.fn.service l.service l.fn.slots l.slots;
   moves : EachMoves g.S.Stream.remaining g.S.Stream.contents (flat_map clients_in l.fn.slots) (flat_map clients_in l.slots);
   same : (l.self.now ≡ l.fn.self.now) × (l.self.limits ≡ l.fn.self.limits);
   late : Turned (EndsLate l.fn.self.now l.fn.self.limits.patience) l.slot-index l.fn.slots l.slots;
