@@ -6,14 +6,13 @@
 `rt ci` tries each wrong body in a check of its own, most of which is loading what stands below.
 But the proof of a function sees the contracts of others and not their bodies. So wrong bodies of
 different functions are tried in one check, and each must have its own function refused. One whose
-function is refused only because it calls another, or is not refused, is tried again, without the
-others at the end; that last check is `rt ci`'s own.
+function is refused only because it calls another, or is not refused, is tried again, and at last
+without others; that check is `rt ci`'s own.
 
 `rt ci` also proves each crate twice, the second time for its wrong bodies to begin with. Here the
-built crate holds its checked proofs, and they begin with these: a check of the crate as it stands
-over them is still asked to pass, before the first wrong body and behind the last. The proof itself
-is made from nothing, by one check, as before. With another toolchain, whose parts have other names,
-this is `rt ci` alone.
+built crate holds its checked proofs, and they begin with these, once a check of the crate as it
+stands has passed over them. The proof itself is made from nothing, by one check, as before. With
+another toolchain, whose parts have other names, this is `rt ci` alone.
 """
 
 import json
@@ -35,6 +34,8 @@ NEEDED = (
     *("ci", "edits_alone", "edits_of", "must_fail", "checked", "unread", "REFUSED", "rtlib"),
     *("seeded", "in_lanes", "Crate"),
 )
+# How many wrong bodies one check tries, and in how many such checks one is tried.
+MOST_TOGETHER, MOST_ROUNDS = 12, 2
 # A chain of crates is long where it has this part of the longest one's lines.
 NEARLY = 0.95
 LANES = int(os.environ.get("RT_JOBS") or len(os.sched_getaffinity(0)))
@@ -205,32 +206,30 @@ def only_edited(crate: str, edits: list[Edit], output: str) -> bool:
 
 
 class Rounds:
-    """The wrong bodies of a crate, tried several in one check. Each lane leads a round of the one
-    that it was given, with some of the last that are left, so that the next lanes lead their own.
+    """The wrong bodies of a crate, tried several in one check, one check after the other. A round
+    is led by the one that is asked for. What a round does not show as refused is tried in another.
     """
 
     def __init__(self, rt: ModuleType, crate: Any) -> None:
         paths, _ = rt.edits_of(crate)
         self.rt, self.crate = rt, crate
-        self.left = [read_edit(crate.folder, it) for it in paths]
-        self.most = max(2, -(-len(paths) // LANES))
+        self.left = {it: read_edit(crate.folder, it) for it in paths}
+        self.rounds = dict.fromkeys(paths, 0)
         self.refused: dict[str, str] = {}
-        self.running: set[str] = set()
-        self.changed = threading.Condition()
 
     def take(self, path: str) -> tuple[list[Edit], dict[str, str]]:
-        """A round that a wrong body leads, once no other lane tries it: no round where it is
-        refused already, or was tried with others before."""
-        with self.changed:
-            self.changed.wait_for(lambda: path not in self.running)
-            led = [it for it in self.left if it.path == path]
-            others = [it for it in reversed(self.left) if it.path not in (path, *self.running)]
-            together, texts = round_of(self.crate.folder, [*led, *others], self.most)
-            if not led or len(together) < 2 or together[0].path != path:
-                return [], {}
-            self.running |= {it.path for it in together}
-            self.left = [it for it in self.left if it not in together]
-            return together, texts
+        """A round that a wrong body leads, but none once it was in as many as are tried."""
+        if path not in self.left or self.rounds[path] == MOST_ROUNDS:
+            return [], {}
+        led = [it for it in self.left.values() if it.path == path]
+        others = [it for it in self.left.values() if it.path != path]
+        others = [it for it in others if self.rounds[it.path] < MOST_ROUNDS]
+        together, texts = round_of(self.crate.folder, [*led, *others], MOST_TOGETHER)
+        if not together or together[0].path != path:
+            return [], {}
+        for edit in together:
+            self.rounds[edit.path] += 1
+        return together, texts
 
     def judges(self, ran: Any, texts: dict[str, str]) -> bool:
         """Whether a check of a round read all texts, and did not prove the crate."""
@@ -244,21 +243,20 @@ class Rounds:
 
     def settle(self, together: list[Edit], ran: Any, texts: dict[str, str]) -> None:
         """Keeps which of a round are refused, each by a line of its own."""
-        found: dict[str, str | None] = {}
-        if ran is not None and self.judges(ran, texts):
-            is_apart = only_edited(self.crate.name, together, ran.stdout)
-            for edit in together:
-                found[edit.path] = refusal(self.crate.name, edit, ran.stdout, is_apart)
-        with self.changed:
-            self.refused |= {path: line for path, line in found.items() if line}
-            self.running -= {it.path for it in together}
-            self.changed.notify_all()
+        if not self.judges(ran, texts):
+            return
+        is_apart = only_edited(self.crate.name, together, ran.stdout)
+        for edit in together:
+            line = refusal(self.crate.name, edit, ran.stdout, is_apart)
+            if line:
+                self.refused[edit.path] = line
+                del self.left[edit.path]
 
     def check(
         self, together: list[Edit], texts: dict[str, str], flags: list[str], kept: str
     ) -> Any:
-        """A check of the changed functions and of those that they call; of the whole crate where the
-        toolchain has no function of such a name."""
+        """A check of the changed functions and of those that they call; of the whole crate where
+        the toolchain has no function of such a name."""
         changed = {function.path for edit in together for function in edit.functions or ()}
         only = [word for path in sorted(changed) for word in ("--only", path)]
         ran = self.rt.checked(self.crate, texts, [*flags, *only], kept)
@@ -266,13 +264,11 @@ class Rounds:
 
     def tried(self, path: str, flags: list[str], kept: str) -> str | None:
         """The line that refuses a wrong body beside others, where one does."""
-        together, texts = self.take(path)
-        if together:
-            ran = None
-            try:
-                ran = self.check(together, texts, flags, kept)
-            finally:
-                self.settle(together, ran, texts)
+        while path not in self.refused:
+            together, texts = self.take(path)
+            if not together:
+                break
+            self.settle(together, self.check(together, texts, flags, kept), texts)
         return self.refused.get(path)
 
 
@@ -357,19 +353,26 @@ def seeded_by(rt: ModuleType) -> Callable[..., str | None]:
 
 
 def give_way(rt: ModuleType) -> None:
-    """Has checks of wrong bodies give way to proofs, which others wait for."""
+    """Has checks of wrong bodies give way to proofs, which others wait for. What wrong bodies begin
+    with is checked once: `rt ci` looks whether its files stayed, and would check them again."""
     guarded, checked = rt.rtlib.guarded, rt.checked
     this = threading.local()
+    passed: dict[str, Any] = {}
 
     def guarded_or_nice() -> list[str]:
         return [*(["nice", "-n", "10"] if getattr(this, "gives_way", False) else []), *guarded()]
 
-    def checked_so(*given: Any) -> Any:
+    def checked_so(crate: Any, texts: dict[str, str], flags: list[str], kept: str | None) -> Any:
+        if not texts and kept in passed:
+            return passed[kept]
         this.gives_way = True
         try:
-            return checked(*given)
+            ran = checked(crate, texts, flags, kept)
         finally:
             this.gives_way = False
+        if not texts and kept and "--only" not in flags and ran.returncode == 0:
+            passed[kept] = ran
+        return ran
 
     rt.rtlib.guarded = guarded_or_nice
     setattr(rt, "checked", checked_so)
@@ -393,8 +396,9 @@ def long_chain(tasks: dict[Any, Any]) -> set[Any]:
 
 
 def in_lanes_by(rt: ModuleType) -> Callable[..., Any]:
-    """What stands for `in_lanes` of `rt ci`: what wrong bodies begin with waits for the proof; and
-    where there are lanes enough, a proof that many others wait for takes two processes or more."""
+    """What stands for `in_lanes` of `rt ci`: what wrong bodies begin with waits for the proof, and
+    those of a crate are tried one after the other, since one check tries many. Where there are
+    lanes enough, a proof that many others wait for takes two processes or more."""
     alone = rt.in_lanes
 
     def with_jobs(call: Callable[..., Any], least: int) -> Callable[..., Any]:
@@ -406,6 +410,8 @@ def in_lanes_by(rt: ModuleType) -> Callable[..., Any]:
         for key, (waits, lines, memory, call) in tasks.items():
             if key[1] == "seed" and (key[0], "proof") in tasks:
                 tasks[key] = ([*waits, (key[0], "proof")], lines, memory, call)
+            elif key[1] == "edits" and key[2] > 0:
+                tasks[key] = ([*waits, (*key[:2], key[2] - 1)], lines, memory, call)
             elif key in chain:
                 tasks[key] = (waits, lines, memory, with_jobs(call, 3 if key == last else 2))
         return alone(tasks)
@@ -419,11 +425,11 @@ def main(names: list[str]) -> int:
         words = ["must-fail", *names] if names else ["ci"]
         return subprocess.run(["rt", *words], check=False).returncode
     setattr(rt, "must_fail", must_fail_by(rt))
+    setattr(rt, "in_lanes", in_lanes_by(rt))
+    give_way(rt)
     if not names:
-        give_way(rt)
         hold_proofs(rt)
         setattr(rt, "seeded", seeded_by(rt))
-        setattr(rt, "in_lanes", in_lanes_by(rt))
     return int(rt.edits_alone(names) if names else rt.ci(anew=False))
 
 
