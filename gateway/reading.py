@@ -12,6 +12,7 @@ from .geojson import compact, place_features
 from .links import GEOJSON, HTML, JSON, OPENAPI
 from .pages import Filled, fill
 from .query import ItemsQuery, read_items_query, read_parameters
+from .routes import plain_router
 from .systems import CRS84, System
 
 API_PAGE = Path(__file__).parent / "static" / "api.html"
@@ -42,7 +43,7 @@ def add_description(app: FastAPI, gateway: Gateway) -> None:
 
 def service_routes(gateway: Gateway) -> APIRouter:
     """Landing page and conformance."""
-    router = APIRouter(default_response_class=Response)
+    router = plain_router()
     settings, links = gateway.settings, gateway.links
 
     @router.get("/", summary="Landing page", responses=openapi.answer("Links", JSON, "landingPage"))
@@ -66,7 +67,7 @@ def service_routes(gateway: Gateway) -> APIRouter:
 
 def collection_routes(gateway: Gateway) -> APIRouter:
     """The collections."""
-    router = APIRouter(default_response_class=Response)
+    router = plain_router()
     systems, links = gateway.systems, gateway.links
 
     @router.get(
@@ -96,7 +97,7 @@ def collection_routes(gateway: Gateway) -> APIRouter:
 
 def feature_routes(gateway: Gateway) -> APIRouter:
     """Pages of features and single features."""
-    router = APIRouter(default_response_class=Response)
+    router = plain_router()
     systems, links = gateway.systems, gateway.links
     items = "/collections/{collectionId}/items"
     names = ("bbox", "bbox-crs", "crs", "datetime", "limit", "next")

@@ -10,6 +10,8 @@ from messages import post
 PACKAGES = (
     "python3-fastapi",
     "python3-uvicorn",
+    "python3-httptools",
+    "python3-uvloop",
     "python3-httpx",
     "python3-pyproj",
     "python3-shapely",
