@@ -1,7 +1,7 @@
 """The features of the server and of requests: where their positions stand, and their texts."""
 
 import json
-from collections.abc import Callable, Iterator
+from collections.abc import Callable, Iterable, Iterator
 from typing import Any
 
 from .systems import System
@@ -35,11 +35,11 @@ def is_number(value: Any) -> bool:
     return isinstance(value, (int, NumberText)) and not isinstance(value, bool)
 
 
-def place_features(features: list[dict[str, Any]], system: System) -> None:
-    """Carries features of the server to a reference system, in place: all positions at once."""
+def place_geometries(geometries: Iterable[dict[str, Any] | None], system: System) -> None:
+    """Carries geometries of the server to a reference system, in place: all positions at once."""
     found: list[list[Any]] = []
-    for feature in features:
-        add_positions(feature["geometry"], found)
+    for geometry in geometries:
+        add_positions(geometry, found)
     system.place(found)
 
 

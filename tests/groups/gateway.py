@@ -1,7 +1,7 @@
 """The gateway in real reference systems: boxes, edits, faults, and QGIS, GDAL and OWSLib."""
 
-from gateway_tests import answers, boxes, clients, doubles, edits, faults, orders, pages
-from gateway_tests import round_trip, settings
+from gateway_tests import answers, boxes, clients, connections, doubles, edits, faults, orders
+from gateway_tests import pages, round_trip, settings, texts
 from gateway_tests.data import batches, collections
 from gateway_tests.service import gateway
 from harness import Context
@@ -31,6 +31,8 @@ def run(context: Context) -> None:
     settings.check_settings(context)
     settings.check_package(context)
     doubles.check_doubles(context)
+    texts.check_texts(context)
+    connections.check_connections(context)
     file = context.new_file("town.streetmap", *map(post, batches(collections())))
     with context.serve(file, "--clients", "48") as server:
         with gateway(context, server.url) as asked:
