@@ -58,6 +58,8 @@ class StandIn:
             while True:
                 self.requests.append(await reader.readuntil(b"\r\n\r\n"))
                 for start in range(0, len(self.sent), self.piece):
+                    if writer.is_closing():
+                        return
                     writer.write(self.sent[start : start + self.piece])
                     await asyncio.sleep(0)
                 if self.is_cut:
