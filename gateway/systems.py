@@ -55,8 +55,9 @@ class System(ABC):
     def place(self, positions: Sequence[list[Any]]) -> None:
         """Carries positions of the server over, in place: in the order of the axes, heights
         behind."""
+        x, y = (1, 0) if self.second_first else (0, 1)
         for position, (first, second) in zip(positions, self.coordinates(positions)):
-            position[:2] = (second, first) if self.second_first else (first, second)
+            position[x], position[y] = first, second
             if len(position) == 3:
                 position[2] = double_of(position[2], PLACES)
 
