@@ -10,22 +10,38 @@ from collections.abc import Callable, Mapping
 from typing import Any, TypeVar
 from urllib.parse import quote, urlencode
 
-from .connections import Answer, Broken, Pool
+import httpx
+
 from .features import Page, read_page
 from .problems import Problem, not_found, server_away
 
 TRIES = 3
+TIMEOUTS = {"timeout": httpx.Timeout(60, connect=15, pool=120).as_dict()}
+IDLE_SECONDS = 20
+# A connection that broke; the request on it may have been read or not.
+BROKEN = (httpx.RemoteProtocolError, httpx.ReadError, httpx.WriteError, httpx.CloseError)
 Value = TypeVar("Value")
 
 
 class ServerClient:
-    """What the server answers, over connections of which there are fewer than its `--clients`."""
+    """A pool of connections to the server, fewer than its `--clients`.
+
+    It is a transport of httpx alone. What a client of httpx adds (redirects, cookies, proxies of
+    the environment) is of no use with this server, and takes as long again.
+    """
 
     def __init__(self, address: str, connections: int) -> None:
-        self.pool = Pool(address, connections)
+        limits = httpx.Limits(
+            max_connections=connections,
+            max_keepalive_connections=connections,
+            keepalive_expiry=IDLE_SECONDS,
+        )
+        self.pool = httpx.AsyncHTTPTransport(limits=limits)
+        self.address = httpx.URL(address)
+        self.path = self.address.raw_path.rstrip(b"/")
 
     async def close(self) -> None:
-        self.pool.close()
+        await self.pool.aclose()
 
     async def collections(self) -> list[dict[str, Any]]:
         found: list[dict[str, Any]] = (await self.get("/collections"))["collections"]
@@ -53,7 +69,9 @@ class ServerClient:
     ) -> Value:
         """What the server answers at a target, as it is read; what it refuses is refused with its
         code."""
-        status, body = await self.send(self.pool.request(method, target, content))
+        url = self.address.copy_with(raw_path=self.path + target.encode())
+        request = httpx.Request(method, url, content=content, extensions=TIMEOUTS)
+        status, body = await self.send(request)
         if status != 200:
             raise refusal(status, body)
         try:
@@ -61,15 +79,24 @@ class ServerClient:
         except ValueError as fault:
             raise bad_answer() from fault
 
-    async def send(self, request: bytes) -> Answer:
-        for _ in range(TRIES):
+    async def send(self, request: httpx.Request) -> tuple[int, bytes]:
+        for attempt in range(TRIES):
             try:
-                return await self.pool.ask(request)
-            except Broken:
-                continue
-            except OSError:
+                return await self.answer(request)
+            except BROKEN:
+                if attempt == TRIES - 1:
+                    break
+            except httpx.TransportError:
                 break
         raise server_away("The server does not answer. What was sent may be sent again.")
+
+    async def answer(self, request: httpx.Request) -> tuple[int, bytes]:
+        """The status and body of an answer; its connection is given back, also where it broke."""
+        answer = await self.pool.handle_async_request(request)
+        try:
+            return answer.status_code, await answer.aread()
+        finally:
+            await answer.aclose()
 
 
 def collection_path(collection: str) -> str:

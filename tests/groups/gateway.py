@@ -1,6 +1,6 @@
 """The gateway in real reference systems: boxes, edits, faults, and QGIS, GDAL and OWSLib."""
 
-from gateway_tests import answers, boxes, clients, connections, doubles, edits, faults, orders
+from gateway_tests import answers, boxes, clients, doubles, edits, faults, orders
 from gateway_tests import pages, round_trip, settings, texts
 from gateway_tests.data import batches, collections
 from gateway_tests.service import gateway
@@ -32,7 +32,6 @@ def run(context: Context) -> None:
     settings.check_package(context)
     doubles.check_doubles(context)
     texts.check_texts(context)
-    connections.check_connections(context)
     file = context.new_file("town.streetmap", *map(post, batches(collections())))
     with context.serve(file, "--clients", "48") as server:
         with gateway(context, server.url) as asked:
