@@ -25,6 +25,11 @@ def main() -> int:
         make_app(gateway),
         host=settings.host,
         port=settings.port,
+        loop="uvloop",
+        http="httptools",
+        ws="none",
+        # Links stand under the address of the settings, whoever asks.
+        proxy_headers=False,
         log_level="warning",
         access_log=False,
         server_header=False,

@@ -6,13 +6,13 @@ where another client waits.
 """
 
 import json
-from collections.abc import Mapping
-from dataclasses import dataclass
-from typing import Any
+from collections.abc import Callable, Mapping
+from typing import Any, TypeVar
 from urllib.parse import quote, urlencode
 
 import httpx
 
+from .features import Page, read_page
 from .problems import Problem, not_found, server_away
 
 TRIES = 3
@@ -20,15 +20,7 @@ TIMEOUTS = {"timeout": httpx.Timeout(60, connect=15, pool=120).as_dict()}
 IDLE_SECONDS = 20
 # A connection that broke; the request on it may have been read or not.
 BROKEN = (httpx.RemoteProtocolError, httpx.ReadError, httpx.WriteError, httpx.CloseError)
-
-
-@dataclass(frozen=True)
-class Page:
-    """A page of the server."""
-
-    features: list[dict[str, Any]]
-    matched: int
-    goes_on: bool
+Value = TypeVar("Value")
 
 
 class ServerClient:
@@ -62,30 +54,30 @@ class ServerClient:
         return await self.get(f"{collection_path(collection)}/items/{escaped(feature)}")
 
     async def page(self, collection: str, query: Mapping[str, str]) -> Page:
-        answer = await self.get(f"{collection_path(collection)}/items", query)
-        goes_on = any(link["rel"] == "next" for link in answer["links"])
-        return Page(answer["features"], answer["numberMatched"], goes_on)
+        target = f"{collection_path(collection)}/items?{urlencode(query)}"
+        return await self.ask(read_page, "GET", target)
 
-    async def get(self, path: str, query: Mapping[str, str] | None = None) -> dict[str, Any]:
-        asked = f"{path}?{urlencode(query)}" if query else path
-        return await self.ask("GET", asked)
+    async def get(self, target: str) -> dict[str, Any]:
+        return await self.ask(json.loads, "GET", target)
 
     async def apply(self, batch: bytes) -> dict[str, Any]:
         """The reply of the server to a batch."""
-        return await self.ask("POST", "/batches", batch)
+        return await self.ask(json.loads, "POST", "/batches", batch)
 
-    async def ask(self, method: str, target: str, content: bytes | None = None) -> dict[str, Any]:
-        """What the server answers at a target; what it refuses is refused with its code."""
+    async def ask(
+        self, read: Callable[[bytes], Value], method: str, target: str, content: bytes | None = None
+    ) -> Value:
+        """What the server answers at a target, as it is read; what it refuses is refused with its
+        code."""
         url = self.address.copy_with(raw_path=self.path + target.encode())
         request = httpx.Request(method, url, content=content, extensions=TIMEOUTS)
         status, body = await self.send(request)
         if status != 200:
             raise refusal(status, body)
         try:
-            found: dict[str, Any] = json.loads(body)
+            return read(body)
         except ValueError as fault:
             raise bad_answer() from fault
-        return found
 
     async def send(self, request: httpx.Request) -> tuple[int, bytes]:
         for attempt in range(TRIES):

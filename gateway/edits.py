@@ -20,6 +20,7 @@ from .bodies import grid_feature, json_text, read_body
 from .gateway import Gateway
 from .problems import Problem, not_found
 from .query import read_parameters
+from .routes import plain_router
 from .systems import CRS84, System, Systems
 
 LARGEST = 8_388_608
@@ -96,7 +97,7 @@ def is_feature_id(text: str) -> bool:
 
 def edit_routes(gateway: Gateway) -> APIRouter:
     """The paths that write."""
-    router = APIRouter(default_response_class=Response)
+    router = plain_router()
     add_create(router, gateway)
     add_replace(router, gateway)
     add_delete(router, gateway)

@@ -1,7 +1,7 @@
 """The features of the server and of requests: where their positions stand, and their texts."""
 
 import json
-from collections.abc import Callable, Iterator
+from collections.abc import Callable, Iterable, Iterator
 from typing import Any
 
 from .systems import System
@@ -11,8 +11,10 @@ class NumberText(str):
     """A number of a request as it was written, where it is no whole number of 64 bits."""
 
 
-# Made once: json.dumps makes an encoder for each value.
-compact: Callable[[Any], str] = json.JSONEncoder(ensure_ascii=False, separators=(",", ":")).encode
+# Made once: json.dumps makes an encoder for each value. What comes out of JSON has no circles.
+compact: Callable[[Any], str] = json.JSONEncoder(
+    ensure_ascii=False, check_circular=False, separators=(",", ":")
+).encode
 
 
 def positions_of(geometry: dict[str, Any] | None) -> Iterator[list[Any]]:
@@ -33,25 +35,32 @@ def is_number(value: Any) -> bool:
     return isinstance(value, (int, NumberText)) and not isinstance(value, bool)
 
 
-def positions_in(geometry: dict[str, Any] | None) -> Iterator[list[Any]]:
-    """All positions of a geometry of the server."""
+def place_geometries(geometries: Iterable[dict[str, Any] | None], system: System) -> None:
+    """Carries geometries of the server to a reference system, in place: all positions at once."""
+    found: list[list[Any]] = []
+    for geometry in geometries:
+        add_positions(geometry, found)
+    system.place(found)
+
+
+def add_positions(geometry: dict[str, Any] | None, found: list[list[Any]]) -> None:
+    """Adds all positions of a geometry of the server."""
     if geometry is None:
         return
     if geometry["type"] == "GeometryCollection":
         for member in geometry["geometries"]:
-            yield from positions_in(member)
+            add_positions(member, found)
     else:
-        yield from leaves(geometry["coordinates"])
+        add_leaves(geometry["coordinates"], found)
 
 
-def leaves(coordinates: list[Any]) -> Iterator[list[Any]]:
-    if isinstance(coordinates[0], list):
+def add_leaves(coordinates: list[Any], found: list[list[Any]]) -> None:
+    """Adds the positions of a position, a line of positions, or lists of such."""
+    first = coordinates[0]
+    if not isinstance(first, list):
+        found.append(coordinates)
+    elif not isinstance(first[0], list):
+        found += coordinates
+    else:
         for each in coordinates:
-            yield from leaves(each)
-    else:
-        yield coordinates
-
-
-def place_features(features: list[dict[str, Any]], system: System) -> None:
-    """Carries features of the server to a reference system, in place: all positions at once."""
-    system.place([each for feature in features for each in positions_in(feature["geometry"])])
+            add_leaves(each, found)

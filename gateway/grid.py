@@ -23,8 +23,8 @@ FAR_PLACE = 500
 # All digits of such a number, and of a double, fit.
 EXACT = Context(prec=1200, rounding=ROUND_HALF_UP)
 ONE = Decimal(1)
-# Below 10^13 units a product is off by less than a tenth of it.
-NEAR_HALF = 1e-2
+# A product of doubles is off by a 2^53rd of itself. Nearer to a half the exact value decides.
+NEAR_HALF = 2.0**-50
 
 
 @dataclass(frozen=True)
@@ -63,14 +63,11 @@ def rounded(value: Decimal) -> int:
 
 
 def nearest_doubles(values: Numbers, places: int) -> list[float]:
-    """Values rounded to so many decimal places, half away from zero: doubles as of `double_of`.
-
-    A product of doubles is off by a 2^53rd of itself, so near a half the exact value decides.
-    """
+    """Values rounded to so many decimal places, half away from zero: doubles as of `double_of`."""
     scaled = values * 10.0**places
     units = numpy.trunc(scaled + numpy.copysign(0.5, scaled))
     off = numpy.abs(numpy.abs(scaled - numpy.trunc(scaled)) - 0.5)
-    for index in numpy.flatnonzero(off < NEAR_HALF):
+    for index in numpy.flatnonzero(off <= numpy.abs(scaled) * NEAR_HALF):
         units[index] = rounded(EXACT.scaleb(Decimal(float(values[index])), places))
     # A zero is added so that none is negative.
     found: list[float] = (units / 10.0**places + 0.0).tolist()

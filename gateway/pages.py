@@ -5,10 +5,10 @@ short, and still has a `next`.
 """
 
 from dataclasses import dataclass
-from typing import Any
 
 from .boxes import Region
 from .client import ServerClient
+from .features import Feature
 from .meeting import meets
 from .query import MOST, ItemsQuery
 
@@ -24,7 +24,7 @@ class Filled:
     """A page: its features on the grid, the id behind which the next begins, and how many match
     in all, where that is known."""
 
-    features: list[dict[str, Any]]
+    features: list[Feature]
     after: str | None
     matched: int | None
 
@@ -46,7 +46,7 @@ async def exact_page(
     """The page of the server itself."""
     asked = server_query(query, region, query.limit, query.after)
     page = await client.page(collection, asked)
-    after = page.features[-1]["id"] if page.goes_on else None
+    after = page.features[-1].id if page.goes_on else None
     return Filled(page.features, after, page.matched)
 
 
@@ -60,19 +60,19 @@ async def tested_page(
     client: ServerClient, collection: str, query: ItemsQuery, region: Region
 ) -> Filled:
     """The features of the server's pages that meet the region, until there are enough."""
-    found: list[dict[str, Any]] = []
+    found: list[Feature] = []
     after = query.after
     for number in range(1 + MORE):
         # Most features of the bounds meet the region, so the first page is mostly enough.
         size = min((query.limit + query.limit // SPARE) * GROWTH**number, MOST)
         page = await client.page(collection, server_query(query, region, size, after))
-        found += [feature for feature in page.features if meets(feature["geometry"], region)]
+        found += [feature for feature in page.features if meets(feature.geometry, region)]
         if len(found) > query.limit:
             shown = found[: query.limit]
-            return Filled(shown, shown[-1]["id"], None)
+            return Filled(shown, shown[-1].id, None)
         if not page.goes_on:
             return Filled(found, None, None)
-        after = page.features[-1]["id"]
+        after = page.features[-1].id
         if len(found) == query.limit:
             break
     return Filled(found, after, None)

@@ -7,11 +7,13 @@ from fastapi import APIRouter, FastAPI, Request
 from fastapi.responses import Response
 
 from . import openapi, resources
+from .features import placed_texts
 from .gateway import Gateway
-from .geojson import compact, place_features
+from .geojson import compact, place_geometries
 from .links import GEOJSON, HTML, JSON, OPENAPI
 from .pages import Filled, fill
 from .query import ItemsQuery, read_items_query, read_parameters
+from .routes import plain_router
 from .systems import CRS84, System
 
 API_PAGE = Path(__file__).parent / "static" / "api.html"
@@ -42,7 +44,7 @@ def add_description(app: FastAPI, gateway: Gateway) -> None:
 
 def service_routes(gateway: Gateway) -> APIRouter:
     """Landing page and conformance."""
-    router = APIRouter(default_response_class=Response)
+    router = plain_router()
     settings, links = gateway.settings, gateway.links
 
     @router.get("/", summary="Landing page", responses=openapi.answer("Links", JSON, "landingPage"))
@@ -66,7 +68,7 @@ def service_routes(gateway: Gateway) -> APIRouter:
 
 def collection_routes(gateway: Gateway) -> APIRouter:
     """The collections."""
-    router = APIRouter(default_response_class=Response)
+    router = plain_router()
     systems, links = gateway.systems, gateway.links
 
     @router.get(
@@ -96,7 +98,7 @@ def collection_routes(gateway: Gateway) -> APIRouter:
 
 def feature_routes(gateway: Gateway) -> APIRouter:
     """Pages of features and single features."""
-    router = APIRouter(default_response_class=Response)
+    router = plain_router()
     systems, links = gateway.systems, gateway.links
     items = "/collections/{collectionId}/items"
     names = ("bbox", "bbox-crs", "crs", "datetime", "limit", "next")
@@ -114,8 +116,10 @@ def feature_routes(gateway: Gateway) -> APIRouter:
         region = box_system.box(query.bounds()) if query.box is not None else None
         filled = await fill(gateway.client, collectionId, query, region)
         system = systems.named(query.crs, "bad_crs")
-        place_features(filled.features, system)
-        return features_response(page(gateway, collectionId, request, query, filled), system)
+        texts = placed_texts(filled.features, system)
+        members = page_members(gateway, collectionId, request, query, filled)
+        text = f'{compact(members)[:-1]},"features":[{",".join(texts)}]}}'
+        return geojson_response(text, system)
 
     @router.get(
         items + "/{featureId:path}",
@@ -129,25 +133,25 @@ def feature_routes(gateway: Gateway) -> APIRouter:
         system = systems.named(found.get("crs", CRS84), "bad_crs")
         shown = await gateway.client.feature(collectionId, featureId)
         listed = links.feature(collectionId, featureId, list(found.items()))
-        place_features([shown], system)
-        return features_response(shown | {"links": listed}, system)
+        place_geometries([shown["geometry"]], system)
+        return geojson_response(compact(shown | {"links": listed}), system)
 
     return router
 
 
-def page(
+def page_members(
     gateway: Gateway, collection: str, request: Request, query: ItemsQuery, filled: Filled
 ) -> dict[str, Any]:
-    """A page, whose features are in place."""
+    """The members of a page before its features."""
     token = None
     if filled.after is not None:
         token = gateway.signer.token(query.members(collection, filled.after))
     links = gateway.links.page(collection, request.query_params.multi_items(), token)
     matched = {} if filled.matched is None else {"numberMatched": filled.matched}
-    returned = {"numberReturned": len(filled.features), "features": filled.features}
+    returned = {"numberReturned": len(filled.features)}
     return {"type": "FeatureCollection", "links": links, **matched, **returned}
 
 
-def features_response(value: dict[str, Any], system: System) -> Response:
+def geojson_response(text: str, system: System) -> Response:
     headers = {"Content-Crs": f"<{system.uri}>"}
-    return Response(compact(value), headers=headers, media_type=GEOJSON)
+    return Response(text, headers=headers, media_type=GEOJSON)

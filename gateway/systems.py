@@ -55,8 +55,9 @@ class System(ABC):
     def place(self, positions: Sequence[list[Any]]) -> None:
         """Carries positions of the server over, in place: in the order of the axes, heights
         behind."""
+        x, y = (1, 0) if self.second_first else (0, 1)
         for position, (first, second) in zip(positions, self.coordinates(positions)):
-            position[:2] = (second, first) if self.second_first else (first, second)
+            position[x], position[y] = first, second
             if len(position) == 3:
                 position[2] = double_of(position[2], PLACES)
 
@@ -105,11 +106,12 @@ class DegreeSystem(System):
             return []
         x = numpy.array([position[0] for position in positions], float)
         y = numpy.array([position[1] for position in positions], float)
-        first, second = self.of_degrees(*self.operation.degrees(x, y))
-        if not (numpy.isfinite(first).all() and numpy.isfinite(second).all()):
+        placed = numpy.concatenate(self.of_degrees(*self.operation.degrees(x, y)))
+        if not numpy.isfinite(placed).all():
             detail = "A feature lies where it has no coordinates in the system that was asked."
             raise Problem(500, "not_placed", detail)
-        return zip(nearest_doubles(first, self.places), nearest_doubles(second, self.places))
+        found = nearest_doubles(placed, self.places)
+        return zip(found[: len(x)], found[len(x) :])
 
     def nearest(self, coordinates: Sequence[tuple[Decimal, Decimal]]) -> list[tuple[int, int]]:
         if not coordinates:

@@ -6,7 +6,7 @@ from decimal import ROUND_HALF_UP, Decimal
 from pathlib import Path
 from typing import Any
 
-from gateway_tests.data import collections
+from gateway_tests.data import collections, feature, shape
 from gateway_tests.round_trip import TO_SEQUENCE
 from gateway_tests.service import PYTHON, Gateway, environment
 from harness import Context
@@ -28,6 +28,7 @@ def check_clients(context: Context, asked: Gateway) -> None:
     check_ogrinfo(context, asked)
     check_geopackage(context, asked)
     check_owslib(context, asked)
+    check_owslib_edits(context, asked)
 
 
 def check_qgis(context: Context, asked: Gateway) -> None:
@@ -155,3 +156,24 @@ def check_owslib(context: Context, asked: Gateway) -> None:
     context.check("collection_items", [each["id"] for each in found["features"]], wanted)
     item = service.collection_item("lamps", "L00001")
     context.check("collection_item", item["id"], "L00001")
+
+
+def check_owslib_edits(context: Context, asked: Gateway) -> None:
+    """OWSLib 0.27 has no calls for edits. Plain requests to the URLs that it builds are edits, and
+    it reads what they leave."""
+    service = Features(f"{asked.url}/")
+    calls = [f"collection_item_{kind}" for kind in ("create", "update", "delete")]
+    context.check("OWSLib's edits", [name for name in calls if hasattr(service, name)], [])
+    items, item = (
+        service._build_url(f"collections/lamps/items{end}").removeprefix(asked.url)
+        for end in ("", "/by-owslib")
+    )
+    for number, (method, path, status) in enumerate((("POST", items, 201), ("PUT", item, 204))):
+        sent = feature("by-owslib", shape("Point", [9.98, 53.55]), {"no": number})
+        answer = asked.send(method, path, sent)
+        context.check(f"{method} at OWSLib's URL", answer.status_code, status)
+        shown = service.collection_item("lamps", "by-owslib")
+        context.check(f"what {method} left", shown["properties"], {"no": number})
+    context.check("DELETE at OWSLib's URL", asked.send("DELETE", item).status_code, 204)
+    left = service.collection_items("lamps", limit=1000)["features"]
+    context.check("what DELETE left", "by-owslib" in [each["id"] for each in left], False)

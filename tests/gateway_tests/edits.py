@@ -32,6 +32,7 @@ def check_edits(context: Context) -> None:
     with context.serve(file, "--clients", "32") as server:
         with gateway(context, server.url, more=WRITER + password_entry()) as asked:
             check_life(context, asked)
+            check_nested(context, asked)
             check_keys(context, asked)
             check_rounding(context, asked)
             check_other_systems(context, asked)
@@ -76,6 +77,18 @@ def check_life(context: Context, asked: Gateway) -> None:
         check_problem(context, asked.send(method, path, lamp("a")), 404, "no_collection")
     number = asked.send("POST", ITEMS, lamp("7") | {"id": 7.0})
     context.check("a number as id", number.headers["location"], f"{asked.url}{ITEMS}/7")
+
+
+def check_nested(context: Context, asked: Gateway) -> None:
+    """Properties that look like features stay as they are, alone and on a page."""
+    inner = feature("inner", shape("Point", [1, 2]))
+    sent = lamp("nested", like=[inner, {"features": [inner]}], text='"},{"geometry":null,"id":"a')
+    context.check("nested", asked.send("POST", ITEMS, sent).status_code, 201)
+    alone = asked.ask(f"{ITEMS}/nested").json()
+    context.check("nested: alone", alone["properties"], sent["properties"])
+    shown = {each["id"]: each for each in asked.all_items("lamps", limit=1000)}
+    del alone["links"]
+    context.check("nested: on a page", shown["nested"], alone)
 
 
 def check_keys(context: Context, asked: Gateway) -> None:

@@ -86,6 +86,7 @@ def draw(url: str, names: list[str], ground: str, picture: str) -> int:
     settings.setDestinationCrs(QgsCoordinateReferenceSystem("EPSG:25832"))
     settings.setExtent(rectangle(ground))
     settings.setOutputSize(SIZE)
+    settings.setOutputImageFormat(QImage.Format_RGB32)
     settings.setBackgroundColor(PAPER)
     settings.setFlag(QgsMapSettings.Antialiasing, True)
     settings.setTransformContext(QgsProject.instance().transformContext())

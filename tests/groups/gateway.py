@@ -1,7 +1,7 @@
 """The gateway in real reference systems: boxes, edits, faults, and QGIS, GDAL and OWSLib."""
 
-from gateway_tests import answers, boxes, clients, doubles, edits, faults, orders, pages
-from gateway_tests import round_trip, settings
+from gateway_tests import answers, boxes, clients, doubles, edits, faults, orders
+from gateway_tests import pages, round_trip, settings, texts
 from gateway_tests.data import batches, collections
 from gateway_tests.service import gateway
 from harness import Context
@@ -10,6 +10,8 @@ from messages import post
 PACKAGES = (
     "python3-fastapi",
     "python3-uvicorn",
+    "python3-httptools",
+    "python3-uvloop",
     "python3-httpx",
     "python3-pyproj",
     "python3-shapely",
@@ -29,6 +31,7 @@ def run(context: Context) -> None:
     settings.check_settings(context)
     settings.check_package(context)
     doubles.check_doubles(context)
+    texts.check_texts(context)
     file = context.new_file("town.streetmap", *map(post, batches(collections())))
     with context.serve(file, "--clients", "48") as server:
         with gateway(context, server.url) as asked:

@@ -1,0 +1,86 @@
+"""Features of the server: their geometries, and the rest of their texts as it is.
+
+The server writes compact JSON with the members of each object in byte order of their names
+(docs/API.md). So a feature is {"geometry":..,"id":..,"properties":..,"type":"Feature"}. Its
+geometry is read, carried over and written. What stands behind it is passed on as it came.
+"""
+
+import json
+from dataclasses import dataclass
+from typing import Any, NamedTuple
+
+from .geojson import compact, place_geometries
+from .systems import System
+
+FEATURES, GEOMETRY, ID, LINKS = '{"features":[', '{"geometry":', ',"id":', '],"links":['
+# Stands between texts of geometries, none of which has it.
+BETWEEN = "|"
+DECODER = json.JSONDecoder()
+
+Geometry = dict[str, Any] | None
+
+
+class Feature(NamedTuple):
+    """A geometry on the grid, and the text behind `,"id":`, which begins with the id."""
+
+    geometry: Geometry
+    rest: str
+
+    @property
+    def id(self) -> str:
+        found: str = DECODER.raw_decode(self.rest)[0]
+        return found
+
+
+@dataclass(frozen=True)
+class Page:
+    """A page of the server."""
+
+    features: list[Feature]
+    matched: int
+    goes_on: bool
+
+
+def read_page(body: bytes) -> Page:
+    """The page that an answer holds; a ValueError where it holds none."""
+    text = body.decode()
+    listed, mark, behind = text.rpartition(LINKS)
+    pieces = listed.split(GEOMETRY)
+    members = json.loads(f"{FEATURES}{mark}{behind}" if mark else text)
+    # Each feature begins one piece. Where there are more, properties have members `geometry`.
+    if pieces[0] == FEATURES and len(pieces) == 1 + members["numberReturned"]:
+        features = split_features(pieces[1:])
+    else:
+        features = [parsed_feature(each) for each in json.loads(text)["features"]]
+    goes_on = any(link["rel"] == "next" for link in members["links"])
+    return Page(features, members["numberMatched"], goes_on)
+
+
+def split_features(pieces: list[str]) -> list[Feature]:
+    """Features of texts that begin with a geometry. All geometries are read at once."""
+    halves = [piece.rstrip(",").partition(ID) for piece in pieces]
+    geometries = json.loads(f"[{','.join(geometry for geometry, _, _ in halves)}]")
+    return [
+        Feature(geometry, rest) for geometry, (_, _, rest) in zip(geometries, halves, strict=True)
+    ]
+
+
+def parsed_feature(feature: dict[str, Any]) -> Feature:
+    """The same of a feature that was read whole."""
+    geometry, identity = feature.pop("geometry"), feature.pop("id")
+    return Feature(geometry, f"{compact(identity)},{compact(feature)[1:]}")
+
+
+def placed_texts(features: list[Feature], system: System) -> list[str]:
+    """The texts of features, carried to a reference system."""
+    geometries = [feature.geometry for feature in features]
+    place_geometries(geometries, system)
+    texts = geometry_texts(geometries)
+    return [f"{GEOMETRY}{text}{ID}{each.rest}" for text, each in zip(texts, features)]
+
+
+def geometry_texts(geometries: list[Geometry]) -> list[str]:
+    """The texts of geometries. They are written at once, since each beginning takes time."""
+    listed: list[Any] = [BETWEEN] * (2 * len(geometries) - 1)
+    listed[::2] = geometries
+    return compact(listed)[1:-1].split(f',"{BETWEEN}",')
