@@ -60,18 +60,19 @@ class Function:
 
     @property
     def path(self) -> str:
-        """The toolchain's name for it, without its crate."""
-        return "::".join(it for it in (self.module, self.kind.replace(" ", ""), self.name) if it)
+        """A name that the toolchain finds it by. A method's begins with its type, which may stand
+        in another module than the `impl`."""
+        before = self.kind.replace(" ", "") or self.module
+        return f"{before}::{self.name}" if before else self.name
 
     def is_called(self, path: str) -> bool:
         """Whether the toolchain's name for a function, without its crate, can be this one's."""
         *before, name = path.split("::")
-        module = [it for it in self.module.split("::") if it]
-        if name != self.name or before[: len(module)] != module:
+        if name != self.name:
             return False
-        return "".join(before[len(module) :]) in (self.kind, self.kind.partition(" ")[0]) or (
-            " " in self.kind and "".join(before[len(module) :]) == self.kind.replace(" ", "")
-        )
+        if self.kind:
+            return before[-1:] in ([self.kind.partition(" ")[0]], [self.kind.replace(" ", "")])
+        return before == [it for it in self.module.split("::") if it]
 
 
 @dataclass
