@@ -22,6 +22,8 @@ from tables import PLAIN_TABLES, lamp
 
 Word = str | Path
 FEATURES, MANY, EACH = 100_000, 1_000_000, 1_000
+# Opening a file takes longer than its texts, so each is timed so often.
+TURNS = 9
 OPENING = open_collection("lamps")
 TEXTS = "SELECT serial, body FROM streetmap_batches WHERE serial > 0 ORDER BY serial"
 INSERT_FEATURE = "INSERT INTO streetmap_features VALUES ('lamps', ?, ?, ?, ?, ?, ?, NULL, NULL)"
@@ -129,9 +131,9 @@ def batches(program: Path, file: Path, after: int = 0) -> tuple[float, int]:
 
 def behind_opening(program: Path, file: Path, count: int) -> tuple[float, int]:
     """The seconds of the texts of all batches, opening the file not counted, and their bytes."""
-    idle = best(3, lambda: batches(program, file, count)[0])
+    idle = best(TURNS, lambda: batches(program, file, count)[0])
     size = batches(program, file)[1]
-    return best(3, lambda: batches(program, file)[0]) - idle, size
+    return best(TURNS, lambda: batches(program, file)[0]) - idle, size
 
 
 def plain_texts(file: Path) -> float:

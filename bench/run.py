@@ -15,8 +15,9 @@ from pathlib import Path
 
 HERE = Path(__file__).resolve().parent
 NAMES = (
-    "lines", "tables", "imports", "loading", "polygons", "serving", "clients", "gateway", "sizes"
-)  # fmt: skip
+    *("lines", "tables", "imports", "loading", "journal", "polygons", "serving", "clients"),
+    *("gateway", "sizes"),
+)
 
 
 def arguments() -> argparse.Namespace:

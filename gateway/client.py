@@ -54,8 +54,14 @@ class ServerClient:
         return await self.get(f"{collection_path(collection)}/items/{escaped(feature)}")
 
     async def page(self, collection: str, query: Mapping[str, str]) -> Page:
+        return await self.page_by(read_page, collection, query)
+
+    async def page_by(
+        self, read: Callable[[bytes], Value], collection: str, query: Mapping[str, str]
+    ) -> Value:
+        """A page as it is read; a ValueError of `read` says that the answer is none."""
         target = f"{collection_path(collection)}/items?{urlencode(query)}"
-        return await self.ask(read_page, "GET", target)
+        return await self.ask(read, "GET", target)
 
     async def get(self, target: str) -> dict[str, Any]:
         return await self.ask(json.loads, "GET", target)

@@ -7,6 +7,7 @@ geometry is read, carried over and written. What stands behind it is passed on a
 
 import json
 from dataclasses import dataclass
+from functools import lru_cache
 from typing import Any, NamedTuple
 
 from .geojson import compact, place_geometries
@@ -16,6 +17,9 @@ FEATURES, GEOMETRY, ID, LINKS = '{"features":[', '{"geometry":', ',"id":', '],"l
 # Stands between texts of geometries, none of which has it.
 BETWEEN = "|"
 DECODER = json.JSONDecoder()
+# So many pages are kept as they were placed. Where the server answers the same bytes again, as to
+# many clients that begin with the same page, they are not placed again.
+KEPT = 64
 
 Geometry = dict[str, Any] | None
 
@@ -39,6 +43,26 @@ class Page:
     features: list[Feature]
     matched: int
     goes_on: bool
+
+
+@dataclass(frozen=True)
+class PlacedPage:
+    """A page of the server in a reference system: the texts of its features, with commas between."""
+
+    text: str
+    count: int
+    last: str | None
+    matched: int
+    goes_on: bool
+
+
+@lru_cache(maxsize=KEPT)
+def placed_page(body: bytes, system: System) -> PlacedPage:
+    """The page that an answer holds, carried over; a ValueError where it holds none."""
+    page = read_page(body)
+    last = page.features[-1].id if page.features else None
+    text = ",".join(placed_texts(page.features, system))
+    return PlacedPage(text, len(page.features), last, page.matched, page.goes_on)
 
 
 def read_page(body: bytes) -> Page:

@@ -5,12 +5,14 @@ short, and still has a `next`.
 """
 
 from dataclasses import dataclass
+from functools import partial
 
 from .boxes import Region
 from .client import ServerClient
-from .features import Feature
+from .features import Feature, placed_page, placed_texts
 from .meeting import meets
 from .query import MOST, ItemsQuery
+from .systems import System
 
 MORE = 20
 # Each further page of the server is so many times as long, up to the most.
@@ -21,45 +23,65 @@ SPARE = 8
 
 @dataclass(frozen=True)
 class Filled:
-    """A page: its features on the grid, the id behind which the next begins, and how many match
-    in all, where that is known."""
+    """A page: the texts of its features with commas between, how many they are, the id behind which
+    the next page begins, and how many match in all, where that is known."""
 
-    features: list[Feature]
+    text: str
+    count: int
     after: str | None
     matched: int | None
 
 
 async def fill(
-    client: ServerClient, collection: str, query: ItemsQuery, region: Region | None
+    client: ServerClient,
+    collection: str,
+    query: ItemsQuery,
+    region: Region | None,
+    system: System,
 ) -> Filled:
-    """The page of a query. `region` is that of its box, where it has one."""
+    """The page of a query in a reference system. `region` is that of its box, where it has one."""
     if region is None or (region.is_exact and region.bounds is not None):
-        return await exact_page(client, collection, query, region)
+        return await exact_page(client, collection, query, region, system)
     if region.bounds is None:
         return await empty_page(client, collection, query)
-    return await tested_page(client, collection, query, region)
+    return await tested_page(client, collection, query, region, system)
 
 
 async def exact_page(
-    client: ServerClient, collection: str, query: ItemsQuery, region: Region | None
+    client: ServerClient,
+    collection: str,
+    query: ItemsQuery,
+    region: Region | None,
+    system: System,
 ) -> Filled:
     """The page of the server itself."""
     asked = server_query(query, region, query.limit, query.after)
-    page = await client.page(collection, asked)
-    after = page.features[-1].id if page.goes_on else None
-    return Filled(page.features, after, page.matched)
+    page = await client.page_by(partial(placed_page, system=system), collection, asked)
+    return Filled(page.text, page.count, page.last if page.goes_on else None, page.matched)
 
 
 async def empty_page(client: ServerClient, collection: str, query: ItemsQuery) -> Filled:
     """The page of a box beyond all features; the server judges the rest of the query."""
     await client.page(collection, server_query(query, None, 1, query.after))
-    return Filled([], None, None)
+    return Filled("", 0, None, None)
 
 
 async def tested_page(
-    client: ServerClient, collection: str, query: ItemsQuery, region: Region
+    client: ServerClient,
+    collection: str,
+    query: ItemsQuery,
+    region: Region,
+    system: System,
 ) -> Filled:
     """The features of the server's pages that meet the region, until there are enough."""
+    found, after = await tested_features(client, collection, query, region)
+    return Filled(",".join(placed_texts(found, system)), len(found), after, None)
+
+
+async def tested_features(
+    client: ServerClient, collection: str, query: ItemsQuery, region: Region
+) -> tuple[list[Feature], str | None]:
+    """These features, and the id behind which the next page begins."""
     found: list[Feature] = []
     after = query.after
     for number in range(1 + MORE):
@@ -69,13 +91,13 @@ async def tested_page(
         found += [feature for feature in page.features if meets(feature.geometry, region)]
         if len(found) > query.limit:
             shown = found[: query.limit]
-            return Filled(shown, shown[-1].id, None)
+            return shown, shown[-1].id
         if not page.goes_on:
-            return Filled(found, None, None)
+            return found, None
         after = page.features[-1].id
         if len(found) == query.limit:
             break
-    return Filled(found, after, None)
+    return found, after
 
 
 def server_query(

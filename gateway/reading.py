@@ -7,7 +7,6 @@ from fastapi import APIRouter, FastAPI, Request
 from fastapi.responses import Response
 
 from . import openapi, resources
-from .features import placed_texts
 from .gateway import Gateway
 from .geojson import compact, place_geometries
 from .links import GEOJSON, HTML, JSON, OPENAPI
@@ -114,11 +113,10 @@ def feature_routes(gateway: Gateway) -> APIRouter:
         query = read_items_query(request, collectionId, systems, gateway.signer)
         box_system = systems.named(query.box_crs, "bad_bbox_crs")
         region = box_system.box(query.bounds()) if query.box is not None else None
-        filled = await fill(gateway.client, collectionId, query, region)
         system = systems.named(query.crs, "bad_crs")
-        texts = placed_texts(filled.features, system)
+        filled = await fill(gateway.client, collectionId, query, region, system)
         members = page_members(gateway, collectionId, request, query, filled)
-        text = f'{compact(members)[:-1]},"features":[{",".join(texts)}]}}'
+        text = f'{compact(members)[:-1]},"features":[{filled.text}]}}'
         return geojson_response(text, system)
 
     @router.get(
@@ -148,7 +146,7 @@ def page_members(
         token = gateway.signer.token(query.members(collection, filled.after))
     links = gateway.links.page(collection, request.query_params.multi_items(), token)
     matched = {} if filled.matched is None else {"numberMatched": filled.matched}
-    returned = {"numberReturned": len(filled.features)}
+    returned = {"numberReturned": filled.count}
     return {"type": "FeatureCollection", "links": links, **matched, **returned}
 
 

@@ -1,11 +1,11 @@
 """Runs the test groups over a built program.
 
     python3 tests/run.py [PROGRAM] [GROUP ..] [--list] [--slow] [--complete] [--missing]
-                         [--patience N]
+                         [--patience N] [--jobs N]
 
 PROGRAM is crates/streetmap/out/streetmap where it is left out, and all groups run where none is
-named. A group is a module of tests/groups/. It is skipped where it needs a Debian package that is
-not installed. The last line counts the groups.
+named, several side by side, each in a process of its own. A group is a module of tests/groups/. It
+is skipped where it needs a Debian package that is not installed. The last line counts the groups.
 """
 
 import argparse
@@ -20,6 +20,7 @@ import tempfile
 import time
 import traceback
 from collections import Counter
+from concurrent.futures import ThreadPoolExecutor, as_completed
 from dataclasses import dataclass
 from pathlib import Path
 from types import FrameType
@@ -32,6 +33,11 @@ DEBIAN_PYTHON = Path("/usr/bin/python3")
 BUILT = TESTS.parent / "crates" / "streetmap" / "out" / "streetmap"
 # A group, and a command of the program, has failed that is not over after so many seconds.
 LIMIT, SLOW_LIMIT, COMMAND_LIMIT = 900, 7200, 120
+# So many groups run side by side where nothing else is said. One processor is left to this process
+# and to what clients of the groups do.
+JOBS = max(1, len(os.sched_getaffinity(0)) - 1)
+# These take longest, and begin first.
+LONG = ("gateway", "map", "package", "pieces")
 
 
 def use_debian_python() -> None:
@@ -123,17 +129,49 @@ class Runner:
         print(f"{group.name:12} {verdict:7} {counts}, {time.monotonic() - begun:.1f} s", flush=True)
         return passed
 
-    def run_all(self, groups: list[Group]) -> Counter[str]:
+    def run_apart(self, group: Group) -> tuple[str, bool]:
+        """Runs a group in a process of its own. Gives what it printed, but for its summary, and
+        whether it passed."""
+        words = [sys.executable, "-B", __file__, str(self.program), group.name, "--jobs", "1"]
+        words += ["--patience", str(self.patience), *(["--slow"] if self.slow else [])]
+        ended = subprocess.run(
+            words, stdout=subprocess.PIPE, stderr=subprocess.STDOUT, text=True, check=False
+        )
+        printed, _, _ = ended.stdout.rstrip("\n").rpartition("\n")
+        return printed or ended.stdout, ended.returncode == 0
+
+    def run_together(self, groups: list[Group], jobs: int) -> Counter[str]:
+        """Runs groups side by side, so many at once, and prints each as it ends."""
         counted: Counter[str] = Counter()
-        signal.signal(signal.SIGALRM, stop_late_group)
-        for group in groups:
-            if missing := group.missing():
-                kind = "failed" if self.complete else "skipped"
-                print(f"{group.name:12} {kind}, not installed: {' '.join(missing)}", flush=True)
-                counted[kind] += 1
-            else:
-                counted["passed" if self.run(group) else "failed"] += 1
+        with ThreadPoolExecutor(jobs) as pool:
+            begun = [pool.submit(self.run_apart, group) for group in groups]
+            for ended in as_completed(begun):
+                printed, passed = ended.result()
+                print(printed, flush=True)
+                counted["passed" if passed else "failed"] += 1
         return counted
+
+    def run_in_turn(self, groups: list[Group]) -> Counter[str]:
+        """Runs groups one after the other in this process, which may use its alarm for them."""
+        signal.signal(signal.SIGALRM, stop_late_group)
+        return Counter("passed" if self.run(group) else "failed" for group in groups)
+
+    def pass_over(self, group: Group, missing: list[str]) -> str:
+        """Prints why a group is not run, and gives what that counts as."""
+        kind = "failed" if self.complete else "skipped"
+        print(f"{group.name:12} {kind}, not installed: {' '.join(missing)}", flush=True)
+        return kind
+
+    def run_all(self, groups: list[Group], jobs: int) -> Counter[str]:
+        lacking = {group.name: group.missing() for group in groups}
+        counted = Counter(
+            self.pass_over(group, lacking[group.name]) for group in groups if lacking[group.name]
+        )
+        whole = [group for group in groups if not lacking[group.name]]
+        if jobs > 1 and len(whole) > 1:
+            long_first = sorted(whole, key=lambda group: group.name not in LONG)
+            return counted + self.run_together(long_first, jobs)
+        return counted + self.run_in_turn(whole)
 
 
 def summary(counted: Counter[str]) -> str:
@@ -151,6 +189,7 @@ def arguments() -> argparse.ArgumentParser:
     parser.add_argument(
         "--patience", type=int, default=1, metavar="N", help="N times the usual time limits"
     )
+    parser.add_argument("--jobs", type=int, default=JOBS, metavar="N", help="N groups side by side")
     return parser
 
 
@@ -175,7 +214,7 @@ def main() -> int:
         parser.error(f"no program at {program}: make build leaves one")
     chosen = [groups[name] for name in words or groups]
     runner = Runner(program.resolve(), given.slow, given.patience, given.complete)
-    counted = runner.run_all(chosen)
+    counted = runner.run_all(chosen, given.jobs)
     print(summary(counted), flush=True)
     return 1 if counted["failed"] else 0
 

@@ -32,6 +32,7 @@ def check_edits(context: Context) -> None:
     with context.serve(file, "--clients", "32") as server:
         with gateway(context, server.url, more=WRITER + password_entry()) as asked:
             check_life(context, asked)
+            check_kept_pages(context, asked)
             check_nested(context, asked)
             check_keys(context, asked)
             check_rounding(context, asked)
@@ -77,6 +78,25 @@ def check_life(context: Context, asked: Gateway) -> None:
         check_problem(context, asked.send(method, path, lamp("a")), 404, "no_collection")
     number = asked.send("POST", ITEMS, lamp("7") | {"id": 7.0})
     context.check("a number as id", number.headers["location"], f"{asked.url}{ITEMS}/7")
+
+
+def check_kept_pages(context: Context, asked: Gateway) -> None:
+    """A page that the gateway has carried over before is not shown once the server's is another, nor
+    in another system."""
+
+    def shown(**query: Any) -> list[dict[str, Any]]:
+        found = asked.all_items("lamps", limit=1000, **query)
+        return [each for each in found if each["id"] == "kept"]
+
+    asked.send("POST", ITEMS, lamp("kept", no=1))
+    (first,) = shown()
+    context.check("a page again", shown(), [first])
+    (placed,) = shown(crs=OFFICE)
+    context.check("a page in another system", placed["geometry"] == first["geometry"], False)
+    asked.send("PUT", f"{ITEMS}/kept", lamp("kept", no=2))
+    context.check("a page behind a change", [it["properties"] for it in shown()], [{"no": 2}])
+    asked.send("DELETE", f"{ITEMS}/kept")
+    context.check("a page behind a deletion", shown(), [])
 
 
 def check_nested(context: Context, asked: Gateway) -> None:

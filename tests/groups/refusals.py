@@ -1,7 +1,7 @@
 """Refused allocations: the same answers, or want of memory and the state as it was.
 
-Refused are those of `lines`; of `pipe` over a file, and of `serve` for one of many clients; and of
-`create`, `import`, `load`, `apply`, `batches`, `export` and `check`. A stream is answered as with
+Refused are those of `lines`; of `pipe` over a file, and of `serve` for one of many clients, with a
+journal and without; and of `create`, `import`, `load`, `apply`, `batches`, `export` and `check`. A stream is answered as with
 memory, or by a beginning of that and then the 503 or 500 that closes the connection, or it ends for
 want of memory before the first answer; one of many clients may be let go behind any answer. Opened
 again with memory, the file holds the state before the batch or the one behind it, and the latter
@@ -144,10 +144,10 @@ def check_create(refuser: Refuser) -> None:
     print(f"  create: {dict(counted)}")
 
 
-def serve_one(refuser: Refuser, number: int, file: Path) -> Ended:
+def serve_one(refuser: Refuser, number: int, file: Path, *more: str) -> Ended:
     """Serves one of many clients, who sends the stream and reads to the end."""
     port = free_port()
-    words = ["serve", str(file), "--port", str(port), "--count", "1", "--clients", "4"]
+    words = ["serve", str(file), "--port", str(port), "--count", "1", "--clients", "4", *more]
     # The port is another one in each run, and the links are the same.
     words += ["--base", "http://localhost/"]
     given, environment = [str(refuser.context.program), *words], refuser.environment(number)
@@ -201,12 +201,30 @@ def check_stream(refuser: Refuser, what: str, run: Callable[[int, Path], Ended])
         return run(number, copy_file(refuser.first, file))
 
     for number, ended in refuser.each(what, run_copy):
-        kind = how_it_ended(ended, whole, lets_go=what == "serve")
+        kind = how_it_ended(ended, whole, lets_go=what.startswith("serve"))
         found = refuser.page(file)
         kept = found == after or (found == before and not ended.stdout.startswith(accepted))
         refuser.check(what, number, ended, kind is not None and kept)
         counted[str(kind)] += 1
     print(f"  {what}: {dict(counted)}")
+
+
+def check_journal(refuser: Refuser) -> None:
+    """`serve --journal` answers as `serve` does, and the journal has each batch of the file: a batch
+    for whose line there is no memory is not applied. Where the server does not come to listen it
+    has a beginning."""
+    journal = refuser.context.folder / "town.journal"
+
+    def serve(number: int, file: Path) -> Ended:
+        journal.unlink(missing_ok=True)
+        ended = serve_one(refuser, number, file, "--journal", str(journal))
+        lines = refuser.context.start("batches", file).stdout
+        kept = journal.read_bytes() if journal.exists() else b""
+        begun = not ended.stdout and lines.startswith(kept)
+        refuser.check("the journal", number, ended, begun or kept == lines)
+        return ended
+
+    check_stream(refuser, "serve --journal", serve)
 
 
 # Commands that apply a batch.
@@ -278,6 +296,7 @@ def run(context: Context) -> None:
     check_create(refuser)
     check_stream(refuser, "pipe", lambda it, file: refuser.start(it, "pipe", file, sent=STREAM))
     check_stream(refuser, "serve", lambda it, file: serve_one(refuser, it, file))
+    check_journal(refuser)
     into: list[Word] = ["--key", "second", "--collection", "lamps"]
     check_command(refuser, "import", text_path(context, "text.json", TEXT), *into)
     check_command(refuser, "load", text_path(context, "text.jsonl", LINES), *into)

@@ -28,7 +28,8 @@ pub(crate) struct JournalFile {
     /// Whether all that was written was synchronised, where that is asked for. Of this and of the
     /// next field the contract speaks, and no code reads them.
     is_kept: bool,
-    /// How many writes and synchronisings failed: as many at least, where it is the most of 64 bits.
+    /// How many writes and synchronisings failed: as many at least, where it is the most of 64
+    /// bits.
     failures: u64,
 }
 

@@ -56,8 +56,8 @@ impl Pace {
         Some(whole.saturating_add(took.subsec_millis() as u64))
     }
 
-    /// Writes a line on how many features were met, in how many bytes, how much of the text that is,
-    /// how many features a second, and how long the rest may take, as far as these are known.
+    /// Writes a line on how many features were met, in how many bytes, how much of the text that
+    /// is, how many features a second, and how long the rest may take, as far as these are known.
     pub(crate) fn tell<W: Write>(
         &self,
         rt: &HostRuntime,

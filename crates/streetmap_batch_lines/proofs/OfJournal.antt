@@ -4,6 +4,7 @@ use Rattle.std.proofs.Common.{drop}
 use Rattle.std.proofs.Common.{Option, inl, inr, refl, sym, ap, ◌∙◌, arith}
 use Rattle.std.specs.Option.{option_to_list}
 use Rattle.std.proofs.lemmas.Bool.{cases_lt}
+use Rattle.std.proofs.Math.ListN.{drop_of_length-le}
 use Rattle.streetmap_ledger.specs.State.{State}
 use Rattle.streetmap_ledger.specs.WellFormed.{IsState}
 use Rattle.streetmap_batch.specs.Text.{Text}
@@ -27,12 +28,6 @@ drop_all [] ys zero h = refl
 drop_all [] ys (suc n) h = absurd (omega (arith, h))
 drop_all (x ∷ xs) ys zero h = absurd (omega (arith, h))
 drop_all (x ∷ xs) ys (suc n) h = drop_all xs ys n (omega (arith, h))
-
-drop_past : {A : Type 0} (xs : List A) (n : ℕ) → length xs ≤ n → drop n xs ≡ []
-drop_past [] zero h = refl
-drop_past [] (suc n) h = refl
-drop_past (x ∷ xs) zero h = absurd (omega (arith, h))
-drop_past (x ∷ xs) (suc n) h = drop_past xs n (omega (arith, h))
 
 long_map : {A B : Type 0} (f : A → B) (xs : List A) → length (map f xs) ≡ length xs
 long_map f [] = refl
@@ -101,7 +96,7 @@ module _ (s : State) (sound : IsState s) where
       let many : length (map line_of all) ≡ batch_count s =
       long_map line_of all ∙ as_many s sound 0 (batch_count s) (omega arith) in
       ap (λ k. map line_of (batches_next s after k)) none
-      ∙ sym (ap (drop after) all_lines ∙ drop_past (map line_of all) after
+      ∙ sym (ap (drop after) all_lines ∙ drop_of_length-le (map line_of all)
       (omega (arith, many, over)))
 
 pub lines_are_of_the_journal : LinesAreOfTheJournal

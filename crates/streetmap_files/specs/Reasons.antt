@@ -23,7 +23,7 @@ use Rattle.streetmap_opening.specs.Telling.{TellsFault, TellsNothing, LosesKeys}
 use Rattle.streetmap_opening.specs.Making.{is_taken}
 use Rattle.streetmap_ledger.specs.State.{State}
 use Rattle.streetmap_opening.specs.Old.{RestsOld}
-use Rattle.streetmap_opening.specs.Carrying.{IsOld, LeavesUnlessOld, MayCarry}
+use Rattle.streetmap_opening.specs.Carrying.{IsOld, UntouchedUnlessFormat1, MayCarry}
 use Rattle.streetmap_opening.specs.declared.adopting.AdoptFault.TheVariants as adopting
 use Rattle.streetmap_files.specs.Holding.{IsJustOpenedOn, LeavesRoom}
 use Rattle.streetmap_files.specs.declared.fault.OpenFault.{OpenFault}
@@ -84,7 +84,7 @@ module _ {D : Type 0} {g : disk.Ghosts D} where
   -- of a state's tables in format 1 it may leave those in format 2.
   abbrev pub HoldsAsOpened : Image → Held (FileStore D g) → Type 0
   HoldsAsOpened image c = ShowedFirst image (λ first. IsAsItWas (file_state first) (file_state c)
-      × LeavesUnlessOld (file_state first) (file_state c)
+      × UntouchedUnlessFormat1 (file_state first) (file_state c)
       × ((s : State) → RestsOld (file_state first) s
       → MayCarry s (file_state first) (file_state c)))
 

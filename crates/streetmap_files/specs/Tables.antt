@@ -6,7 +6,7 @@ use Rattle.streetmap_ledger.specs.State.{State}
 use Rattle.streetmap_ledger.specs.Keep.{Acts}
 use Rattle.streetmap_rows.specs.Keeping.{MayLeave}
 use Rattle.streetmap_rows.specs.declared.failing.Shut.{Shut}
-use Rattle.streetmap_store.specs.Serving.{Serves, SparesOthers, cause_in}
+use Rattle.streetmap_store.specs.Serving.{KeepsState, SparesOthers, cause_in}
 use Rattle.streetmap_store.specs.Sparing.{Spares, HasFailed}
 use Rattle.streetmap_index.specs.Index.{IsIndexOf}
 use Rattle.streetmap_index.specs.declared.index.Index.{Index}
@@ -20,16 +20,16 @@ abbrev pub tables_sight :
     (index : K → Index) → Sight K
 tables_sight tables shut seen count index = record {
   stands = λ k s.
-      Serves (shut (tables k)) (seen (tables k)) (count (tables k)) s × IsIndexOf (index k) s;
+      KeepsState (shut (tables k)) (seen (tables k)) (count (tables k)) s × IsIndexOf (index k) s;
   cause = λ k. option_map cause_in (shut (tables k));
   may_leave = λ k. MayLeave (seen (tables k));
   is_clean = λ k. HasCleanDisk (seen (tables k));
   applies = λ k b result after.
       SparesOthers (shut (tables k)) (count (tables k)) (seen (tables k)) (seen (tables after))
       × (HasCleanDisk (seen (tables after)) → (s : State)
-      → Serves (shut (tables k)) (seen (tables k)) (count (tables k)) s
+      → KeepsState (shut (tables k)) (seen (tables k)) (count (tables k)) s
       → Acts s b result
-      (Serves (shut (tables after)) (seen (tables after)) (count (tables after))));
+      (KeepsState (shut (tables after)) (seen (tables after)) (count (tables after))));
   spares = λ k after. (IsSome (shut (tables k)) → tables after ≡ tables k)
       × Spares (shut (tables k)) (count (tables k)) (seen (tables k))
       (shut (tables after)) (count (tables after)) (seen (tables after));

@@ -6,7 +6,7 @@ ghost use Rattle.sqlite.specs.Files.{file_state, IsNothing};
 ghost use Rattle.streetmap_ledger.specs.State.{State, opening_state};
 ghost use Rattle.streetmap_ledger.specs.Keep.{LeavesOnly};
 ghost use Rattle.streetmap_rows.specs.Keeping.{MayLeave};
-ghost use Rattle.streetmap_store.specs.Serving.{Serves};
+ghost use Rattle.streetmap_store.specs.Serving.{KeepsState};
 ghost use Rattle.streetmap_files.specs.Holding.{IsJustOpenedOn, HoldsState, HoldsOldState};
 ghost use Rattle.streetmap_files.specs.Holding.{LeavesRoom};
 ghost use Rattle.streetmap_files.specs.Reasons.{IsCleanRest, FailsToConnect, RefusesToOpen};
@@ -62,7 +62,7 @@ pub fn create<S: Start>(
 ) -> Result<FileKeeper<S>, (CreateFault, FilesLeft<S>)>
     ensures made { IfOk result (λ keeper. HasCleanDisk (file_state keeper.conn)
         → LeavesRoom (image_at S.Start)
-        → Serves keeper.shut (file_state keeper.conn) keeper.count opening_state
+        → KeepsState keeper.shut (file_state keeper.conn) keeper.count opening_state
         × LeavesOnly (MayLeave (file_state keeper.conn)) (Some opening_state)) }
     ensures refused { IfErr result (λ refused. IsCleanRest refused.1
         → RefusesToCreate (image_at S.Start) refused.0) }
@@ -103,11 +103,11 @@ pub fn open<S: Start>(
 ) -> Result<FileKeeper<S>, (OpenFault, FilesLeft<S>)>
     ensures opened { IfOk result (λ keeper. HasCleanDisk (file_state keeper.conn) → (s : State)
         → HoldsState (image_at S.Start) s
-        → Serves keeper.shut (file_state keeper.conn) keeper.count s
+        → KeepsState keeper.shut (file_state keeper.conn) keeper.count s
         × LeavesOnly (MayLeave (file_state keeper.conn)) (Some s)) }
     ensures carried { IfOk result (λ keeper. HasCleanDisk (file_state keeper.conn) → (s : State)
         → HoldsOldState (image_at S.Start) s
-        → Serves keeper.shut (file_state keeper.conn) keeper.count s
+        → KeepsState keeper.shut (file_state keeper.conn) keeper.count s
         × LeavesOnly (MayLeave (file_state keeper.conn)) (Some s)) }
     ensures refused { IfErr result (λ refused. IsCleanRest refused.1
         → RefusesToOpen (image_at S.Start) refused.0 refused.1) }

@@ -11,7 +11,7 @@ ghost use Rattle.streetmap_ledger.specs.Keep.{LeavesOnly, RunShuts, RunEnds, Run
 ghost use Rattle.streetmap_ledger.specs.declared.reply.Fault.{Fault};
 ghost use Rattle.streetmap_index.specs.Index.{IsIndexOf};
 ghost use Rattle.streetmap_rows.specs.Keeping.{MayLeave};
-ghost use Rattle.streetmap_store.specs.Serving.{Serves, HasShut, cause_in};
+ghost use Rattle.streetmap_store.specs.Serving.{KeepsState, HasShut, cause_in};
 ghost use Rattle.streetmap_store.specs.Sparing.{Spares};
 ghost use Rattle.streetmap_routes.specs.BaseView.{root_of};
 ghost use Rattle.streetmap_web.specs.Coming.{around};
@@ -58,29 +58,29 @@ pub fn run_over_tables<S: Alter>(
     ensures spared { Spares keeper.old.shut keeper.old.count (state S.Store keeper.old.conn)
         keeper.new.shut keeper.new.count (state S.Store keeper.new.conn) }
     ensures replies { HasCleanDisk (state S.Store keeper.new.conn) → (s : State) →
-        Serves keeper.old.shut (state S.Store keeper.old.conn) keeper.old.count s →
+        KeepsState keeper.old.shut (state S.Store keeper.old.conn) keeper.old.count s →
         result.replies.items ≡
         replies_of s (take (length result.replies.items) (map batch_value batches.now)) }
     ensures ends { HasCleanDisk (state S.Store keeper.new.conn) → (s : State) →
-        Serves keeper.old.shut (state S.Store keeper.old.conn) keeper.old.count s →
+        KeepsState keeper.old.shut (state S.Store keeper.old.conn) keeper.old.count s →
         RunEnds s (map batch_value batches.now) (length result.replies.items) result.fault
-        (Serves keeper.new.shut (state S.Store keeper.new.conn) keeper.new.count) }
+        (KeepsState keeper.new.shut (state S.Store keeper.new.conn) keeper.new.count) }
     ensures device { HasCleanDisk (state S.Store keeper.new.conn) → (s : State) →
-        Serves keeper.old.shut (state S.Store keeper.old.conn) keeper.old.count s →
+        KeepsState keeper.old.shut (state S.Store keeper.old.conn) keeper.old.count s →
         result.fault ≡ Some Fault.Device →
         HasShut (state S.Store keeper.old.conn) (state S.Store keeper.new.conn) keeper.new.shut }
     ensures leaves { HasCleanDisk (state S.Store keeper.new.conn) → (s : State) →
-        Serves keeper.old.shut (state S.Store keeper.old.conn) keeper.old.count s →
+        KeepsState keeper.old.shut (state S.Store keeper.old.conn) keeper.old.count s →
         LeavesOnly (MayLeave (state S.Store keeper.old.conn)) (Some s) →
         RunLeaves s (map batch_value batches.now) (length result.replies.items) result.fault
         (MayLeave (state S.Store keeper.new.conn)) }
     ensures survives { HasCleanDisk (state S.Store keeper.new.conn) → (s : State) →
-        Serves keeper.old.shut (state S.Store keeper.old.conn) keeper.old.count s →
+        KeepsState keeper.old.shut (state S.Store keeper.old.conn) keeper.old.count s →
         LeavesOnly (MayLeave (state S.Store keeper.old.conn)) (Some s) →
         Survives s (take (length result.replies.items + 1) (map batch_value batches.now))
         (length result.replies.items) (state S.Store keeper.new.conn) }
     ensures holds { HasCleanDisk (state S.Store keeper.new.conn) → (s : State) →
-        Serves keeper.old.shut (state S.Store keeper.old.conn) keeper.old.count s →
+        KeepsState keeper.old.shut (state S.Store keeper.old.conn) keeper.old.count s →
         LeavesOnly (MayLeave (state S.Store keeper.old.conn)) (Some s) →
         Holds s (take (length result.replies.items + 1) (map batch_value batches.now))
         (length result.replies.items) (state S.Store keeper.new.conn) }
@@ -103,7 +103,7 @@ pub fn serve_over_tables<S: Alter, R: BufRead, W: Write>(
     writer: &mut W,
 ) -> Served
     ensures serves { HasCleanDisk (state S.Store keeper.new.keeper.conn) → (s : State) →
-        Serves keeper.old.keeper.shut (state S.Store keeper.old.keeper.conn)
+        KeepsState keeper.old.keeper.shut (state S.Store keeper.old.keeper.conn)
         keeper.old.keeper.count s → IsIndexOf keeper.old.index s →
         ServesStream (root_of base.now) result.end result.answers (of_state s)
         (around
@@ -112,7 +112,7 @@ pub fn serve_over_tables<S: Alter, R: BufRead, W: Write>(
         (root_of base.now) (of_state s) (R.remaining reader.old) (R.remaining reader.new)
         (W.contents writer.old) (W.contents writer.new) keeper.old keeper.new) }
     ensures survives { HasCleanDisk (state S.Store keeper.new.keeper.conn) → (s : State) →
-        Serves keeper.old.keeper.shut (state S.Store keeper.old.keeper.conn)
+        KeepsState keeper.old.keeper.shut (state S.Store keeper.old.keeper.conn)
         keeper.old.keeper.count s → IsIndexOf keeper.old.index s →
         LeavesOnly (MayLeave (state S.Store keeper.old.keeper.conn)) (Some s) →
         ServesTables (root_of base.now) result.end result.answers s
@@ -153,7 +153,7 @@ pub fn serve_clients_over_tables<R: Net + Clock, S: Alter, J: JournalWriter, W: 
 ) -> Result<(), ServeFault>
     ensures serves { HasCleanDisk (state S.Store service.new.keeper.keeper.keeper.conn) →
         (s : State) →
-        Serves service.old.keeper.keeper.keeper.shut
+        KeepsState service.old.keeper.keeper.keeper.shut
         (state S.Store service.old.keeper.keeper.keeper.conn)
         service.old.keeper.keeper.keeper.count s →
         IsIndexOf service.old.keeper.keeper.index s →
@@ -168,7 +168,7 @@ pub fn serve_clients_over_tables<R: Net + Clock, S: Alter, J: JournalWriter, W: 
         (slots_of clients.old) (slots_of clients.new) }
     ensures survives { HasCleanDisk (state S.Store service.new.keeper.keeper.keeper.conn) →
         (s : State) →
-        Serves service.old.keeper.keeper.keeper.shut
+        KeepsState service.old.keeper.keeper.keeper.shut
         (state S.Store service.old.keeper.keeper.keeper.conn)
         service.old.keeper.keeper.keeper.count s →
         IsIndexOf service.old.keeper.keeper.index s →

@@ -22,7 +22,8 @@ mod writing;
 
 pub use acting::{Acknowledged, follow_line};
 pub use fault::LineStop;
-pub use following::{End, Followed, MAX_LINE, follow_lines};
+pub use following::{End, Followed, follow_lines};
 pub use reading::{Line, read_line};
 pub use replies::{NotTold, Replies};
+pub use streetmap_replay::MAX_LINE;
 pub use writing::ReplyLines;

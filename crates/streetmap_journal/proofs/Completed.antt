@@ -19,7 +19,8 @@ use Rattle.streetmap_replay.specs.Lines.{Line}
 use Rattle.streetmap_replay.proofs.AllThere.{journal_is_whole}
 use Rattle.streetmap_replay.proofs.Listed.{length-numbered}
 use Rattle.streetmap_journal.specs.Completing.{StaysOpen}
-use Rattle.streetmap_journal.specs.Written.{Position, Holds, FaultKeeps, OfReply, line_at}
+use Rattle.streetmap_journal.specs.Written.{Position, Holds, OfReply, line_at}
+use Rattle.streetmap_replay.specs.Faults.{StaysBut}
 use Rattle.streetmap_journal.specs.Written.{lines_between}
 
 pub of_reply : (came : Result Reply Fault → Type 0) (r : Result Reply Fault) → came r →
@@ -29,7 +30,7 @@ of_reply came (Err fault) h = tt
 
 -- a look that was answered with a fault
 pub looks_fault : {T : Type 0} (s : State) (P : T → Type 0) (fault : Fault)
-    (stands : State → Type 0) → Looks s P (Err fault) stands → FaultKeeps s fault stands
+    (stands : State → Type 0) → Looks s P (Err fault) stands → StaysBut s fault stands
 looks_fault s P Memory stands h = h
 looks_fault s P Device stands h = tt
 looks_fault s P Damaged stands h = h

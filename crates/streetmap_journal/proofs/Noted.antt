@@ -26,7 +26,8 @@ use Rattle.streetmap_replay.proofs.Growing.{act_grows}
 use Rattle.streetmap_replay.proofs.Listed.{numbered-append, length-numbered, get_low}
 use Rattle.streetmap_replay.proofs.There.{act_stays}
 use Rattle.streetmap_journal.specs.Written.{Position, Reaches, IsWritten, Holds}
-use Rattle.streetmap_journal.specs.Written.{PutsBy, PutsLine, NotesBy, NotesLine, FaultKeeps}
+use Rattle.streetmap_journal.specs.Written.{PutsBy, PutsLine, NotesBy, NotesLine}
+use Rattle.streetmap_replay.specs.Faults.{StaysBut}
 use Rattle.streetmap_journal.specs.Completing.{IsKeptLine}
 use Rattle.streetmap_journal.proofs.Reached.{get_last, line_there, no_line_there, line_is}
 use Rattle.streetmap_journal.proofs.Reached.{no_line_at, put_whole, put_some, grown_reached}
@@ -231,14 +232,14 @@ refused_stays s b why place e = act_stays s b (ap is_accepted e)
 -- ---- a batch that was not asked for
 
 pub refused_acts : (s : State) (b : BatchValue) (fault : Fault) (stands both : State → Type 0) →
-    (stands s → both s) → FaultKeeps s fault stands → Acts s b (Err fault) both
+    (stands s → both s) → StaysBut s fault stands → Acts s b (Err fault) both
 refused_acts s b Memory stands both then h = then h
 refused_acts s b Device stands both then h = tt
 refused_acts s b Damaged stands both then h = h
 refused_acts s b Reopen stands both then h = h
 
 pub refused_leaves : (s : State) (b : BatchValue) (fault : Fault) (stands : State → Type 0)
-    (left : Option State → Type 0) → FaultKeeps s fault stands → LeavesOnly left (Some s) →
+    (left : Option State → Type 0) → StaysBut s fault stands → LeavesOnly left (Some s) →
     ApplyLeaves s b (Err fault) left
 refused_leaves s b Memory stands left h only = only
 refused_leaves s b Device stands left h only = λ o may. inl (only o may)

@@ -8,7 +8,7 @@ use Rattle.streetmap_ledger.specs.declared.reply.Fault.{Fault}
 use Rattle.streetmap_kept.specs.Kept.{batch_in}
 use Rattle.streetmap_replay.specs.Journal.{kept_text}
 use Rattle.streetmap_replay.specs.Lines.{numbered, line_bytes}
-use Rattle.streetmap_journal.specs.Written.{FaultKeeps}
+use Rattle.streetmap_replay.specs.Faults.{StaysBut}
 
 -- the line of the batch with this serial, with its line feed; or there is no such batch
 abbrev pub IsKeptLine : State → ℕ → Option (List ℕ) → Type 0
@@ -24,4 +24,4 @@ StaysOpen cause old new = (new ≡ old) ⊎ ((cause old ≡ None) × (cause new 
 -- a keeper that stood for this state does so still, unless its store failed
 abbrev pub StaysBy : State → Result (Unit {0}) Fault → (State → Type 0) → Type 0
 StaysBy s (Ok _) stands = stands s
-StaysBy s (Err fault) stands = FaultKeeps s fault stands
+StaysBy s (Err fault) stands = StaysBut s fault stands

@@ -10,7 +10,7 @@ use Rattle.streetmap_replay.specs.Journal.{kept_text}
 use Rattle.streetmap_replay.specs.JournalText.{journal_lines, text_of_lines}
 use Rattle.streetmap_replay.specs.Lines.{Line, numbered, line_bytes}
 use Rattle.streetmap_text_lines.specs.Reading.{HasNoLineFeed}
-use Rattle.streetmap_journal.specs.Written.{FaultKeeps}
+use Rattle.streetmap_replay.specs.Faults.{StaysBut}
 use Rattle.streetmap_journal.specs.declared.matching.Matched.{Matched}
 use Rattle.streetmap_journal.specs.declared.matching.MatchEnd.{MatchEnd}
 use Rattle.streetmap_journal.specs.declared.matching.MatchEnd.TheVariants.{All, Cut, Other, Ahead}
@@ -35,7 +35,7 @@ MatchesLine s serial bytes (Err Cut) stands =
 MatchesLine s serial bytes (Err Other) stands = (IsLineWith s serial bytes → ⊥) × stands s
 MatchesLine s serial bytes (Err Ahead) stands = (batch_in s serial ≡ None) × stands s
 MatchesLine s serial bytes (Err (NotRead fault)) stands = ⊥
-MatchesLine s serial bytes (Err (Stopped fault)) stands = FaultKeeps s fault stands
+MatchesLine s serial bytes (Err (Stopped fault)) stands = StaysBut s fault stands
 
 -- so many lines of a state's journal behind a serial
 abbrev pub lines_from : State → ℕ → ℕ → List Line
@@ -71,7 +71,7 @@ MatchesBy s serial front input Other stands =
     NextIs input front (λ line rest. IsLineWith s serial line → ⊥) × stands s
 MatchesBy s serial front input Ahead stands = (batch_in s serial ≡ None) × stands s
 MatchesBy s serial front input (NotRead fault) stands = stands s
-MatchesBy s serial front input (Stopped fault) stands = FaultKeeps s fault stands
+MatchesBy s serial front input (Stopped fault) stands = StaysBut s fault stands
 
 -- so many of the first lines are those of the state's journal behind a serial
 pub record Matches (s : State) (after : ℕ) (old : Option (List ℕ)) (result : Matched)

@@ -5,7 +5,8 @@ use Rattle.streetmap_ledger.specs.State.{State}
 use Rattle.streetmap_ledger.specs.declared.reply.Cause.{Cause}
 use Rattle.streetmap_ledger.specs.declared.reply.Fault.{Fault}
 use Rattle.streetmap_kept.specs.Kept.{batch_count}
-use Rattle.streetmap_journal.specs.Written.{HoldsIn, FaultKeeps}
+use Rattle.streetmap_journal.specs.Written.{HoldsIn}
+use Rattle.streetmap_replay.specs.Faults.{StaysBut}
 use Rattle.streetmap_journal.specs.declared.journal.Journal.{Journal}
 use Rattle.streetmap_journal.specs.declared.starting.StartFault.{StartFault}
 use Rattle.streetmap_journal.specs.declared.starting.StartFault.TheVariants.{Ahead, Stopped}
@@ -15,7 +16,7 @@ abbrev pub BeginsBy : {W : Type 0} → State → (W → Option (List ℕ)) → J
     Result (Journal W) Fault → (State → Type 0) → Type 0
 BeginsBy s contents old (Ok new) stands =
     (new.after ≡ old.after) × (HoldsIn contents old s → HoldsIn contents new s) × stands s
-BeginsBy s contents old (Err fault) stands = FaultKeeps s fault stands
+BeginsBy s contents old (Err fault) stands = StaysBut s fault stands
 
 -- A journal that begins with no bytes holds the lines behind the serial, all or, where it is
 -- behind, some first ones; it is not begun where fewer batches are kept. The state stays.
@@ -26,7 +27,7 @@ StartsBy s after first contents (Ok journal) stands =
     × (first ≡ Some [] → HoldsIn contents journal s)
     × stands s
 StartsBy s after first contents (Err Ahead) stands = (batch_count s < after) × stands s
-StartsBy s after first contents (Err (Stopped fault)) stands = FaultKeeps s fault stands
+StartsBy s after first contents (Err (Stopped fault)) stands = StaysBut s fault stands
 
 -- what shut the keeper, where the start of a journal came to this
 abbrev pub StartShuts :

@@ -15,8 +15,8 @@ abbrev pub IsTold :
 IsTold told kept journal =
     IsToldBy journal.is_behind journal.next (told journal.writer) (kept journal.writer)
 
--- the journal of a state: its writer knows what is missing; and where writers of its type tell their
--- bytes, these are the lines
+-- the journal of a state: its writer knows what is missing; and where writers of its type tell
+-- their bytes, these are the lines
 abbrev pub IsFor : {W : Type 0} → (contents : W → Option (List ℕ)) → (told : W → Option ℕ) →
     (kept : W → Type 0) → Journal W → State → Type 0
 IsFor contents told kept journal s =

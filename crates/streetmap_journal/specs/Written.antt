@@ -101,10 +101,3 @@ NotesLine p q old new line = NotesBy p.behind p q old new line
 abbrev pub OfReply : (Result Reply Fault → Type 0) → Result Reply Fault → Type 0
 OfReply came (Ok reply) = came (Ok reply)
 OfReply came (Err fault) = Unit {0}
-
--- a keeper that stood for this state and answered a fault to a look
-abbrev pub FaultKeeps : State → Fault → (State → Type 0) → Type 0
-FaultKeeps s Memory stands = stands s
-FaultKeeps s Device stands = Unit {0}
-FaultKeeps s Damaged stands = ⊥
-FaultKeeps s Reopen stands = ⊥

@@ -6,7 +6,8 @@ ghost use Rattle.streetmap_ledger.specs.State.{State};
 ghost use Rattle.streetmap_ledger.specs.Keep.{Looks, LeavesOnly, ShutsBy, AsBefore};
 ghost use Rattle.streetmap_journal.specs.Completing.{IsKeptLine, StaysOpen, StaysBy};
 ghost use Rattle.streetmap_journal.specs.Telling.{IsTold};
-ghost use Rattle.streetmap_journal.specs.Written.{position_of, FaultKeeps, HoldsIn};
+ghost use Rattle.streetmap_journal.specs.Written.{position_of, HoldsIn};
+ghost use Rattle.streetmap_replay.specs.Faults.{StaysBut};
 
 use crate::journal::{Journal, JournalWriter, whole_line};
 use std::alloc::Global;
@@ -50,7 +51,7 @@ pub(crate) fn refuse<K: KeepsBatches>(keeper: &mut K) -> Fault
     ensures began_clean { K.is_clean keeper.new → K.is_clean keeper.old }
     ensures faults { ShutsBy {T = Unit {0}} (Err result) (K.cause keeper.old) (K.cause keeper.new) }
     ensures keeps { K.is_clean keeper.new → (s : State) → K.stands keeper.old s →
-        FaultKeeps s result (K.stands keeper.new) }
+        StaysBut s result (K.stands keeper.new) }
     ensures device { K.is_clean keeper.new → (s : State) → K.stands keeper.old s →
         result ≡ Fault.Device → K.fails keeper.old keeper.new }
     ensures leaves { K.is_clean keeper.new → (s : State) → K.stands keeper.old s →

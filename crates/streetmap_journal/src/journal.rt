@@ -1,6 +1,6 @@
 //! A journal that is written.
-ghost use Rattle.std.specs.Prelude.{◌≡◌, ◌++◌, ◌∷◌, ℕ, List, [], drop, IfOk, OnOk, IfErr, IsErr, IsOk};
-ghost use Rattle.std.specs.Prelude.{Option, None, Some, true, false, ◌≤◌};
+ghost use Rattle.std.specs.Prelude.{◌≡◌, ◌++◌, ◌∷◌, ℕ, List, [], drop, IfOk, OnOk, IfErr, IsErr};
+ghost use Rattle.std.specs.Prelude.{IsOk, Option, None, Some, true, false, ◌≤◌};
 ghost use Rattle.std.specs.Io.KnownBytes.{Keeps, Appends};
 ghost use Rattle.streetmap_batch.specs.BatchText.{batch_text};
 ghost use Rattle.streetmap_batch.specs.BatchView.{batch_value};
@@ -18,8 +18,8 @@ use streetmap_text_lines::NotWritten;
 /// What a journal is written to.
 ///
 /// An implementer says by five meanings which bytes it has, what it was told last, whether they are
-/// kept, and when a call failed. Over any writer nothing but its own calls gives that one failed: so
-/// a journal cannot be behind where none did.
+/// kept, and when a call failed. Over any writer nothing but its own calls gives that one failed.
+/// So a journal cannot be behind where none did.
 pub trait JournalWriter {
     /// Its bytes, where they are known.
     ghost contents: { Self → Option (List ℕ) } = { λ _. None };

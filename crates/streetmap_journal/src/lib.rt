@@ -23,5 +23,6 @@ mod starting;
 
 pub use journal::{Journal, JournalWriter};
 pub use keeper::JournaledKeeper;
-pub use matching::{MAX_LINE, MatchEnd, Matched, match_lines};
+pub use matching::{MatchEnd, Matched, match_lines};
 pub use starting::{StartFault, start_journal};
+pub use streetmap_replay::MAX_LINE;

@@ -8,10 +8,8 @@ use std::alloc::Global;
 use std::io::BufRead;
 use streetmap_kept::KeepsBatches;
 use streetmap_ledger::Fault;
+use streetmap_replay::MAX_LINE;
 use streetmap_text_lines::{LineFault, WholeLine, next_whole_line};
-
-/// The most bytes that a line may have, its line feed not counted: 16 MiB.
-pub const MAX_LINE: usize = 16_777_216;
 
 /// By what the matching of lines ended.
 #[derive(Clone, Copy, Debug, Drop)]

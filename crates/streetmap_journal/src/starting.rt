@@ -76,8 +76,8 @@ fn begin<K: KeepsBatches, W: JournalWriter + Drop>(
 ///
 /// # Errors
 ///
-/// `Ahead` where fewer batches are kept: no byte is written. `Stopped` with the fault of the keeper,
-/// or with `Memory` where a line has no room.
+/// `Ahead` where fewer batches are kept: no byte is written. `Stopped` with the fault of the
+/// keeper, or with `Memory` where a line has no room.
 pub fn start_journal<K: KeepsBatches, W: JournalWriter + Drop>(
     alloc: Global,
     keeper: &mut K,

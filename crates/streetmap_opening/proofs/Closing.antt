@@ -13,7 +13,7 @@ use Rattle.streetmap_opening.specs.Telling.{TellsFormat, TellsNothing, AdoptsBy,
 use Rattle.streetmap_opening.specs.declared.adopting.AdoptFault.TheVariants as adopting
 use Rattle.streetmap_opening.proofs.Reading.{format_seen, format_unrefused}
 use Rattle.streetmap_opening.specs.Old.{KeepsOld, RestsOld}
-use Rattle.streetmap_opening.specs.Carrying.{IsToldOld, IsHeldBack, IsRefusedOld, Carries}
+use Rattle.streetmap_opening.specs.Carrying.{IsToldOld, CarryingRefusedFor, IsRefusedOld, Carries}
 use Rattle.streetmap_opening.specs.Carrying.{IsNamedFault, KeepsNoMore}
 use Rattle.streetmap_opening.specs.Part.{IsSpared}
 use Rattle.streetmap_reading.specs.declared.fault.ReadFault.{ReadFault}
@@ -48,7 +48,7 @@ refused_old s old new (Device e) told rests memory = (told, rests)
 refused_old s old new Memory told rests memory = let it = memory refl in (rests it.0, it.1)
 
 -- what part of it gave up for
-pub held_back : (schema : Schema) (fault : ReadFault) → IsSpared fault → IsHeldBack schema fault
+pub held_back : (schema : Schema) (fault : ReadFault) → IsSpared fault → CarryingRefusedFor schema fault
 held_back schema read.Memory spared = tt
 held_back schema (read.Store e) spared = inl spared
 held_back schema read.Unread spared = spared

@@ -107,7 +107,7 @@ pub carried_there : {S : Type 0} (g : Ghosts S) (start old mid new : Held S)
     → (IsTrue (state g start).is_open → IsTrue (state g old).is_open)
     → (state g new).now ≡ (state g mid).now
     → HasCarried g start mid → HasCarried g old new
-carried_there g start old mid new same limit live ends it = (it.0, sees_there (state g start) (state g old) same limit live old_rows_text rows_bare it.0 it.1, it.2, it.3, it.4, ends ∙ it.5)
+carried_there g start old mid new same limit live ends it = (it.0, sees_there (state g start) (state g old) same limit live old_rows_text rows_bare it.0 it.1, it.2, it.3 ∙ same, it.4, it.5, it.6, it.7, ends ∙ it.8)
 
 -- a connection of which a look tells is open
 pub told_open : (old : Seen) (format : Option ℤ) → TellsFormat old format → IsTrue old.is_open

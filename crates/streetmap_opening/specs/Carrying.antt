@@ -40,10 +40,10 @@ IsToldOld schema e = IsOfStore e
     (without_table (without_table schema roots.features) roots.meta) e)
 
 -- it is for that, or memory was refused, and for no row that cannot be read
-abbrev pub IsHeldBack : Schema → ReadFault → Type 0
-IsHeldBack schema read.Memory = Unit {0}
-IsHeldBack schema (read.Store e) = IsToldOld schema e
-IsHeldBack schema read.Unread = ⊥
+abbrev pub CarryingRefusedFor : Schema → ReadFault → Type 0
+CarryingRefusedFor schema read.Memory = Unit {0}
+CarryingRefusedFor schema (read.Store e) = IsToldOld schema e
+CarryingRefusedFor schema read.Unread = ⊥
 
 -- ---- inside the transaction
 
@@ -58,7 +58,7 @@ abbrev pub CarriesInside : Seen → Seen → Result ℕ ReadFault → Type 0
 CarriesInside old new result =
     old.step_limit ≡ None → IsTrue old.in_transaction → (s : State) → KeepsOld s old.now
     → MatchResult result (λ count. (count ≡ len s.keys) × Keeps s new.now
-    × KeepsOtherTables old.now new.now) (IsHeldBack old.now.schema)
+    × KeepsOtherTables old.now new.now) (CarryingRefusedFor old.now.schema)
 
 -- ---- the transaction
 
@@ -66,7 +66,7 @@ CarriesInside old new result =
 abbrev pub CarriesAlone : State → Seen → Seen → Result ℕ ReadFault → Type 0
 CarriesAlone s old new (Ok count) = (count ≡ len s.keys) × Rests new s
     × KeepsOtherTables old.now new.now
-CarriesAlone s old new (Err fault) = IsHeldBack old.now.schema fault
+CarriesAlone s old new (Err fault) = CarryingRefusedFor old.now.schema fault
     × (IsTrue new.is_open → HasSame old new)
 
 -- a stop leaves what it left before, or the same state in format 2
@@ -120,8 +120,8 @@ IsOld seen = TellsFormat seen (Some (pos 1))
 
 -- where the format is not 1 the connection holds what it held, and a stop leaves no more than
 -- before
-abbrev pub LeavesUnlessOld : Seen → Seen → Type 0
-LeavesUnlessOld old new = ¬ (IsOld old) → IsAsItWas old new × Survives old new (λ _. ⊥)
+abbrev pub UntouchedUnlessFormat1 : Seen → Seen → Type 0
+UntouchedUnlessFormat1 old new = ¬ (IsOld old) → IsAsItWas old new × Survives old new (λ _. ⊥)
 
 -- Tables of a state in format 2 are opened as that state, with the number of its keys; a stop may
 -- leave it, and no other. But the store may fail, or memory be refused, which changes nothing.

@@ -1,11 +1,12 @@
 -- A state whose features are put in one after the other.
 use Rattle.std.specs.Prelude.{◌≡◌, ◌≢◌, ◌⊎◌, ℕ, codes, List, [], ◌∷◌, map, Option, None, Some}
-use Rattle.std.specs.Prelude.{option_map, Result, Vec, String, string_bytes, MatchResult, IsTrue}
+use Rattle.std.specs.Prelude.{option_map, Result, Ok, Vec, String, string_bytes, MatchResult}
+use Rattle.std.specs.Prelude.{IsTrue}
 use Rattle.std.specs.List.{AllByRecursion}
 use Rattle.std.specs.FinMap.{get, empty, entries, from_entries}
 use Rattle.std.specs.declared.alloc.Global.{Global}
 use Rattle.sqlite.specs.Order.{Row, column, bytes}
-use Rattle.sqlite.specs.State.{State as Seen, IsUnchanged}
+use Rattle.sqlite.specs.State.{State as Seen, IsUnchanged, ExecutesInside}
 use Rattle.sqlite_trees.specs.Tree.{IsAscending}
 use Rattle.sqlite_rules.specs.Lists.{Has}
 use Rattle.streetmap_geojson.specs.FeatureValue.{FeatureValue}
@@ -23,6 +24,7 @@ use Rattle.streetmap_rows.specs.Stands.{StandsFor}
 use Rattle.streetmap_rows.specs.Elsewhere.{IsSameElsewhere}
 use Rattle.streetmap_reading.specs.declared.fault.ReadFault.{ReadFault}
 use Rattle.streetmap_reading.specs.declared.fault.ReadFault.TheVariants.{Memory, Store, Unread}
+use Rattle.streetmap_opening.specs.Making.{format_text}
 use Rattle.streetmap_opening.specs.Old.{KeepsOld, old_cells}
 use Rattle.streetmap_opening.specs.Telling.{Sees}
 
@@ -102,11 +104,29 @@ PutsRows rows old new result =
     → StandsFor t old.now → Lacks rows s t
     → MatchResult result (λ _. StandsFor s new.now × IsSameElsewhere old.now new.now) IsSpared
 
+-- the features and the format are dropped, made as format 2 has them, and its number put in
+abbrev pub remaking_texts : List (List ℕ)
+remaking_texts = codes "DROP TABLE streetmap_features" ∷ codes "DROP TABLE streetmap_meta"
+    ∷ codes
+    "CREATE TABLE streetmap_meta (name TEXT PRIMARY KEY, value INTEGER NOT NULL) STRICT"
+    ∷ codes
+    "CREATE TABLE streetmap_features (collection TEXT NOT NULL REFERENCES streetmap_collections(id), id TEXT NOT NULL, body TEXT NOT NULL, x0 INTEGER, y0 INTEGER, x1 INTEGER, y1 INTEGER, s0 INTEGER, s1 INTEGER, PRIMARY KEY (collection, id)) STRICT"
+    ∷ format_text ∷ []
+
 -- the rows of the features in format 1
 abbrev pub old_rows_text : List ℕ
 old_rows_text = codes "SELECT collection, id, body FROM streetmap_features"
 
 module _ {S : Type 0} (g : Ghosts S) where
+  -- a statement ran, inside a transaction
+  abbrev pub Ran : List ℕ → Held S → Held S → Type 0
+  Ran sql old new = (count : ℕ) × ExecutesInside 0 sql [] (state g old) (state g new) (Ok count)
+
+  -- these statements ran, one after the other
+  abbrev pub RanEach : List (List ℕ) → Held S → Held S → Type 0
+  RanEach [] old new = (state g new).now ≡ (state g old).now
+  RanEach (sql ∷ more) old new = (mid : Held S) × Ran sql old mid × RanEach more mid new
+
   -- For this row of format 1 a row was inserted into the features, under the same collection and
   -- the same id, with the text that is written of the feature that its text reads as; and nothing
   -- else was written.
@@ -121,10 +141,12 @@ module _ {S : Type 0} (g : Ghosts S) where
   PutsEach [] old new = (state g new).now ≡ (state g old).now
   PutsEach (r ∷ rows) old new = (mid : Held S) × PutsOne r old mid × PutsEach rows mid new
 
-  -- of each row that the query of the old features shows a row was inserted into the new ones,
-  -- with its text
+  -- the tables of the features and of the format were made anew, and then of each row that the
+  -- query of the old features showed a row was inserted into the new ones, with its text
   abbrev pub HasCarried : Held S → Held S → Type 0
   HasCarried old new =
       (rows : List Row) × Sees old_rows_text (state g old) rows
-      × (begun : Held S) × (last : Held S) × PutsEach rows begun last
+      × (first : Held S) × ((state g first).now ≡ (state g old).now)
+      × (begun : Held S) × RanEach remaking_texts first begun
+      × (last : Held S) × PutsEach rows begun last
       × ((state g new).now ≡ (state g last).now)

@@ -10,7 +10,7 @@ ghost use Rattle.streetmap_opening.specs.Making.{KeepsOtherTables};
 ghost use Rattle.streetmap_opening.specs.Old.{RestsOld};
 ghost use Rattle.streetmap_opening.specs.Reasons.{IsOwn, HasReasonIn, TellsFor, OpensFor};
 ghost use Rattle.streetmap_opening.specs.Part.{HasCarried};
-ghost use Rattle.streetmap_opening.specs.Carrying.{IsHeldBack, IsRefusedOld, CarriesInside};
+ghost use Rattle.streetmap_opening.specs.Carrying.{CarryingRefusedFor, IsRefusedOld, CarriesInside};
 ghost use Rattle.streetmap_opening.specs.Carrying.{CarriesAlone, MayCarry, Carries, IsNamedFault};
 
 use crate::adopting::read_serials;
@@ -100,7 +100,7 @@ fn tell<S: Alter>(conn: &mut Connection<S>, fault: ReadFault) -> TablesFault
     ensures named { IsNamedFault result }
     ensures damaged { result ≡ TablesFault.Damaged → fault ≡ ReadFault.Unread }
     ensures told { HasCleanDisk (state S.Store conn.new) → (schema : Schema)
-        → IsHeldBack schema fault → IsRefusedOld schema result }
+        → CarryingRefusedFor schema fault → IsRefusedOld schema result }
     ensures settled { IsTrue (state S.Store conn.new).is_open
         → (state S.Store conn.new).now ≡ (state S.Store conn.new).committed }
     ensures kept { HasCleanDisk (state S.Store conn.new)

@@ -47,6 +47,8 @@ pub fn take_rows<S: Alter>(tx: &mut Transaction<'_, S>) -> Result<Vec<Row>, Read
         → TakesRows (state S.Store tx.old.conn.now) (state S.Store tx.new.conn.now) result }
     ensures shown { HasCleanDisk (state S.Store tx.new.conn.now) →
         IfOk result (λ rows. Sees old_rows_text (state S.Store tx.old.conn.now) rows.items) }
+    ensures same { HasCleanDisk (state S.Store tx.new.conn.now) →
+        OnOk result ((state S.Store tx.new.conn.now).now ≡ (state S.Store tx.old.conn.now).now) }
     ensures inside { HasCleanDisk (state S.Store tx.new.conn.now)
         → IsTrue (state S.Store tx.old.conn.now).in_transaction
         → OnOk result (IsTrue (state S.Store tx.new.conn.now).in_transaction) }

@@ -16,7 +16,9 @@ ghost use Rattle.streetmap_opening.specs.Made.{IsTableText, Created};
 ghost use Rattle.streetmap_opening.specs.Refusing.{IsOurText, our_tables, IsToldFor, IsTold};
 ghost use Rattle.streetmap_opening.specs.Refusing.{IsReasoned};
 ghost use Rattle.streetmap_opening.specs.Adopting.{IsAsItWas};
+ghost use Rattle.streetmap_opening.specs.Part.{Ran};
 ghost use Rattle.streetmap_opening.specs.Making.{is_taken, HasRoom, IsReady, LacksFormat};
+ghost use Rattle.streetmap_opening.specs.Making.{format_text};
 ghost use Rattle.streetmap_opening.specs.Making.{KeepsOtherTables, MayOpen, MakesAlone, Makes};
 
 use sqlite::{Alter, Connection, Error, Transaction};
@@ -86,6 +88,9 @@ fn is_one_used(schema: &Schema) -> bool
 /// free, is refused only where the store fails or the schema has no place for the table.
 pub fn create_table<S: Alter>(tx: &mut Transaction<'_, S>, sql: &str) -> Result<(), Error>
     ensures same_reference { tx.new.conn.ghost_name ≡ tx.old.conn.ghost_name }
+    ensures ran { HasCleanDisk (state S.Store tx.new.conn.now)
+        → IsTrue (state S.Store tx.old.conn.now).in_transaction
+        → OnOk result (Ran S.Store sql.now tx.old.conn.now tx.new.conn.now) }
     ensures created { HasCleanDisk (state S.Store tx.new.conn.now)
         → IsTrue (state S.Store tx.old.conn.now).in_transaction → (table : Table)
         → IsTableText sql.now table → lacks_sequence
@@ -115,6 +120,9 @@ pub fn create_table<S: Alter>(tx: &mut Transaction<'_, S>, sql: &str) -> Result<
 /// Writes the row of format 2 into tables that have every other row of a state.
 pub fn insert_format<S: Alter>(tx: &mut Transaction<'_, S>) -> Result<(), Error>
     ensures same_reference { tx.new.conn.ghost_name ≡ tx.old.conn.ghost_name }
+    ensures ran { HasCleanDisk (state S.Store tx.new.conn.now)
+        → IsTrue (state S.Store tx.old.conn.now).in_transaction
+        → OnOk result (Ran S.Store format_text tx.old.conn.now tx.new.conn.now) }
     ensures put { HasCleanDisk (state S.Store tx.new.conn.now)
         → IsTrue (state S.Store tx.old.conn.now).in_transaction
         → (state S.Store tx.old.conn.now).step_limit ≡ None → (s : State)

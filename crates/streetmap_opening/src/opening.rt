@@ -11,7 +11,7 @@ ghost use Rattle.streetmap_opening.specs.Old.{RestsOld};
 ghost use Rattle.streetmap_opening.specs.Reasons.{OpensFor};
 ghost use Rattle.streetmap_opening.specs.Telling.{TellsKeys};
 ghost use Rattle.streetmap_opening.specs.Part.{HasCarried};
-ghost use Rattle.streetmap_opening.specs.Carrying.{LeavesUnlessOld, KeepsNoMore, MayCarry};
+ghost use Rattle.streetmap_opening.specs.Carrying.{UntouchedUnlessFormat1, KeepsNoMore, MayCarry};
 ghost use Rattle.streetmap_opening.specs.Carrying.{Carries, Opens, OpensBy};
 
 use crate::adopting::{AdoptFault, adopt_tables};
@@ -103,7 +103,7 @@ pub fn open_tables<S: Alter>(alloc: Global, conn: &mut Connection<S>) -> Result<
         IfErr result (λ fault.
         KeepsNoMore fault (state S.Store conn.old) (state S.Store conn.new)) }
     ensures unwritten { HasCleanDisk (state S.Store conn.new)
-        → LeavesUnlessOld (state S.Store conn.old) (state S.Store conn.new) }
+        → UntouchedUnlessFormat1 (state S.Store conn.old) (state S.Store conn.new) }
     ensures opens { HasCleanDisk (state S.Store conn.new) → (s : State)
         → Rests (state S.Store conn.old) s
         → Opens s (state S.Store conn.old) (state S.Store conn.new) result }

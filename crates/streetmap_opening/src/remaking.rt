@@ -10,6 +10,7 @@ ghost use Rattle.streetmap_rows.specs.Failing.{IsOfStore, HasReason};
 ghost use Rattle.streetmap_opening.specs.Old.{KeepsOld};
 ghost use Rattle.streetmap_opening.specs.Dropping.{IsDropText, IsDropAlone, CanGo, Dropped};
 ghost use Rattle.streetmap_opening.specs.Carrying.{IsToldOld, Remakes};
+ghost use Rattle.streetmap_opening.specs.Part.{Ran, RanEach, remaking_texts};
 
 use crate::making::{create_table, insert_format};
 use sqlite::{Alter, Error, Transaction};
@@ -19,6 +20,9 @@ fn drop_table<S: Alter>(tx: &mut Transaction<'_, S>, sql: &str) -> Result<(), Er
     ensures reason { HasCleanDisk (state S.Store tx.new.conn.now) →
         IfErr result (HasReason (state S.Store tx.old.conn.now) (state S.Store tx.new.conn.now)) }
     ensures same_reference { tx.new.conn.ghost_name ≡ tx.old.conn.ghost_name }
+    ensures ran { HasCleanDisk (state S.Store tx.new.conn.now)
+        → IsTrue (state S.Store tx.old.conn.now).in_transaction
+        → OnOk result (Ran S.Store sql.now tx.old.conn.now tx.new.conn.now) }
     ensures dropped { HasCleanDisk (state S.Store tx.new.conn.now)
         → IsTrue (state S.Store tx.old.conn.now).in_transaction → (name : List ℕ) → (table : Table)
         → IsDropText sql.now name → CanGo (state S.Store tx.old.conn.now).now.schema name table
@@ -48,6 +52,9 @@ pub fn remake_tables<S: Alter>(tx: &mut Transaction<'_, S>) -> Result<(), Error>
     ensures reason { HasCleanDisk (state S.Store tx.new.conn.now) →
         IfErr result (HasReason (state S.Store tx.old.conn.now) (state S.Store tx.new.conn.now)) }
     ensures same_reference { tx.new.conn.ghost_name ≡ tx.old.conn.ghost_name }
+    ensures ran { HasCleanDisk (state S.Store tx.new.conn.now)
+        → IsTrue (state S.Store tx.old.conn.now).in_transaction
+        → OnOk result (RanEach S.Store remaking_texts tx.old.conn.now tx.new.conn.now) }
     ensures made { HasCleanDisk (state S.Store tx.new.conn.now)
         → IsTrue (state S.Store tx.old.conn.now).in_transaction
         → (state S.Store tx.old.conn.now).step_limit ≡ None

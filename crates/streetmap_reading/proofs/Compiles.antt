@@ -136,3 +136,57 @@ select_extents_means schema tree found =
     means schema text.select_extents select_extents_parsed 1 _ (was_parsed (first text.select_extents) select_extents_reads) select_extents_says.2 select_extents_says.3
     (select_planned schema select_extents_select select_extents_core select_extents_sorts (from_table features_name) features_name select_extents_one (select_extents_draft tree, codes "x0" ∷ codes "y0" ∷ codes "x1" ∷ codes "y1" ∷ [], Some Binary ∷ Some Binary ∷ Some Binary ∷ Some Binary ∷ []) (select_extents_named schema found.at tree found.named found.listed) select_extents_parsed _ select_extents_says.0 select_extents_says.1
     (program_is schema (select_extents_draft tree) (select_extents_accepted schema tree found.low found.by_tree)))
+
+-- ---- select_text
+
+select_text_reads : is_ok (first text.select_text) ≡ true
+unfolding everything
+select_text_reads = refl
+
+abbrev select_text_parsed : Parsed
+select_text_parsed = parsed_of (first text.select_text) select_text_reads
+
+abbrev select_text_core : Core
+select_text_core = roll-Core (record { distinct = false; shown = shown_column (codes "body") ∷ shown_column (codes "s0") ∷ []; from = from_table features_name ∷ []; filter = Some (expr.Binary op.And (expr.Binary op.Eq (named_column (codes "collection")) (expr.Parameter 1)) (expr.Binary op.Eq (named_column (codes "id")) (expr.Parameter 2))); group = []; having = None })
+
+abbrev select_text_sorts : List Sort
+select_text_sorts = []
+
+abbrev select_text_select : Selects
+select_text_select = roll-Select (record { with = []; first = select_text_core; others = []; order = select_text_sorts; limit = None; offset = None })
+
+select_text_says : (select_text_parsed.statement ≡ written.Select select_text_select) × (select_text_parsed.formats ≡ []) × (length text.select_text ≤ select_text_parsed.tail) × (2 ≡ length select_text_parsed.names)
+unfolding everything
+select_text_says = (refl, refl, omega arith, refl)
+
+select_text_one : IsOne select_text_select select_text_core select_text_sorts (from_table features_name) features_name
+unfolding everything
+select_text_one = record { with_is = refl; first_is = refl; others_are = refl; order_is = refl; limit_is = refl; offset_is = refl; from_is = refl; origin_is = refl }
+
+abbrev select_text_draft : ℕ → Draft
+select_text_draft tree = draft tree (equal_terms (col 1 1) (col 0 0) ∷ equal_terms (col 1 2) (col 0 1) ∷ []) (col 1 3 ∷ col 1 8 ∷ []) ([])
+
+select_text_named : (schema : Schema) (at tree : ℕ) → table_named schema features_name ≡ Some at → slice_get schema.tables at ≡ Some (features tree) → named schema select_text_core select_text_sorts whole_page ≡ Ok (select_text_draft tree, codes "body" ∷ codes "s0" ∷ [], Some Binary ∷ Some Binary ∷ [])
+unfolding everything
+select_text_named schema at tree named_at listed = rw (named_at, listed, listed, listed) refl
+
+select_text_accepted : (schema : Schema) (tree : ℕ) → nat_le (2 ^ 31) tree ≡ false → find (λ t. eqb t.tree tree) schema.tables ≡ Some (features tree) → accepts_program schema [] (over_in tree (equal_terms (col 1 1) (col 0 0) ∷ equal_terms (col 1 2) (col 0 1) ∷ []) (col 1 3 ∷ col 1 8 ∷ []) ([])) [] ≡ true
+unfolding everything
+select_text_accepted schema tree low by_tree = rw (low, by_tree) refl
+
+select_text_typed : (schema : Schema) (tree : ℕ) → nat_le (2 ^ 31) tree ≡ false → find (λ t. eqb t.tree tree) schema.tables ≡ Some (features tree) → (a1 : Text) (a2 : Text) → accepts_program schema [] (over_in tree (equal_terms (col 1 1) (col 0 0) ∷ equal_terms (col 1 2) (col 0 1) ∷ []) (col 1 3 ∷ col 1 8 ∷ []) ([])) (Words a1 ∷ Words a2 ∷ []) ≡ true
+unfolding everything
+select_text_typed schema tree low by_tree a1 a2 = rw (low, by_tree) refl
+
+-- no rule refuses it
+pub select_text_never : (schema : Schema) (tree : ℕ) → IsFound schema features_name (features tree) → (trees : Trees) (a1 : Text) (a2 : Text) (e : Error) → RefusesQuery None (record { schema = schema; trees = trees }) (program (over_in tree (equal_terms (col 1 1) (col 0 0) ∷ equal_terms (col 1 2) (col 0 1) ∷ []) (col 1 3 ∷ col 1 8 ∷ []) ([]))) (Words a1 ∷ Words a2 ∷ []) e → ⊥
+unfolding everything
+select_text_never schema tree found trees a1 a2 e (inl typed) = true≢false (sym (select_text_typed schema tree found.low found.by_tree a1 a2) ∙ typed.1)
+select_text_never schema tree found trees a1 a2 e (inr (inl over)) = elim over.1 [ inl none ↦ none | inr any ↦ any.4 ]
+select_text_never schema tree found trees a1 a2 e (inr (inr limit)) = let no = limit.1 in absurd (cc)
+
+pub select_text_means : (schema : Schema) (tree : ℕ) (found : IsFound schema features_name (features tree)) → Means schema text.select_text 2 (Select (program (over_in tree (equal_terms (col 1 1) (col 0 0) ∷ equal_terms (col 1 2) (col 0 1) ∷ []) (col 1 3 ∷ col 1 8 ∷ []) ([]))) (codes "body" ∷ codes "s0" ∷ []))
+select_text_means schema tree found =
+    means schema text.select_text select_text_parsed 2 _ (was_parsed (first text.select_text) select_text_reads) select_text_says.2 select_text_says.3
+    (select_planned schema select_text_select select_text_core select_text_sorts (from_table features_name) features_name select_text_one (select_text_draft tree, codes "body" ∷ codes "s0" ∷ [], Some Binary ∷ Some Binary ∷ []) (select_text_named schema found.at tree found.named found.listed) select_text_parsed _ select_text_says.0 select_text_says.1
+    (program_is schema (select_text_draft tree) (select_text_accepted schema tree found.low found.by_tree)))

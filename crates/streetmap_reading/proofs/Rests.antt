@@ -1,8 +1,9 @@
 -- What the next feature of a query is, and its end.
-use Rattle.std.proofs.Common.{Result, MatchResult, ◌≡◌, ◌≤◌, inl, ℕ, List, [], ◌∷◌, ◌++◌, map}
+use Rattle.std.proofs.Common.{Result, MatchResult, ◌≡◌, ◌≤◌, ◌<◌, inl, ℕ, List, [], ◌∷◌, ◌++◌, map, length}
 use Rattle.std.proofs.Common.{Option, None, Some, Ok, Err, refl, sym, ap, subst, ◌∙◌, arith}
 use Rattle.sqlite.specs.declared.error.Error.{Error}
-use Rattle.sqlite.specs.Order.{Row}
+use Rattle.sqlite.specs.declared.types.Value.TheVariants.{Text as Words}
+use Rattle.sqlite.specs.Order.{Row, column}
 use Rattle.sqlite.specs.Store.{Ghosts}
 use Rattle.sqlite.specs.Given.{HasGiven, Advances, FailsToAdvance}
 use Rattle.sqlite.specs.Held.{Held, state}
@@ -13,6 +14,7 @@ use Rattle.sqlite.proofs.InsideLemmas.{keeps_then}
 use Rattle.sqlite.proofs.Callers.{unchanged_then}
 use Rattle.streetmap_geojson.specs.FeatureValue.{FeatureValue}
 use Rattle.streetmap_rows.specs.Failing.{IsOfStore, HasReason}
+use Rattle.streetmap_rows.specs.Rows.{feature_text}
 use Rattle.streetmap_reading.specs.Candidates.{candidate_row, ShowsOf}
 use Rattle.streetmap_reading.specs.Taking.{Stopped}
 use Rattle.streetmap_reading.specs.declared.fault.ReadFault.{ReadFault}
@@ -30,6 +32,13 @@ no_rest (f ∷ rest) e = absurd cc
 first_of : (r : Row) (tail : List Row) (rest : List FeatureValue) → r ∷ tail ≡ map candidate_row rest → (f : FeatureValue) × (later : List FeatureValue) × (rest ≡ f ∷ later) × (r ≡ candidate_row f)
 first_of r tail [] e = absurd cc
 first_of r tail (f ∷ later) e = (f, later, refl, let same : r ≡ candidate_row f = cc in same)
+
+-- the row of a candidate begins with its text
+pub first_cell : (f : FeatureValue) (row : Row) → row ≡ candidate_row f → 0 < length row
+first_cell f row is = subst (λ r. 0 < length r) (sym is) (omega arith)
+
+pub first_text : (f : FeatureValue) (row : Row) → row ≡ candidate_row f → column row 0 ≡ Words (feature_text f)
+first_text f row is = ap (λ r. column r 0) is
 
 module _ {S : Type 0} (g : Ghosts S) (old new : Held S) (sql : List ℕ) (params : Row) (done rest : List FeatureValue) (shows : ShowsOf sql params (state g old).now (map candidate_row (done ++ rest)))
     (given : HasGiven g sql params old (map candidate_row done)) where

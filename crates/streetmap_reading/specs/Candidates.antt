@@ -1,9 +1,10 @@
 -- The rows that a page reads.
 use Rattle.std.specs.Prelude.{◌≡◌, ◌≤◌, ℕ, List, [], ◌∷◌, ◌++◌, length, Option, None, Ok, Err}
-use Rattle.std.specs.Prelude.{Result, false}
-use Rattle.sqlite.specs.declared.types.Value.TheVariants.{Text as Words}
+use Rattle.std.specs.Prelude.{Result, false, ℤ, option_map}
+use Rattle.sqlite.specs.declared.types.Value.TheVariants.{Int, Text as Words}
 use Rattle.sqlite.specs.declared.error.Error.{Error}
 use Rattle.sqlite.specs.Order.{Row}
+use Rattle.sqlite.specs.Values.{or_null}
 use Rattle.sqlite.specs.Command.TheVariants.{Select}
 use Rattle.sqlite.specs.Effect.{Database, ReadsFirst, Reads, RefusesQuery}
 use Rattle.sqlite.specs.Given.{IsPlain}
@@ -19,11 +20,16 @@ use Rattle.streetmap_geojson.specs.FeatureMeaning.{ReadsAs}
 use Rattle.streetmap_geojson.specs.FeatureInvariant.{IsFeature}
 use Rattle.streetmap_geojson.specs.Times.{time_of}
 use Rattle.streetmap_batch.specs.Text.{Text}
-use Rattle.streetmap_rows.specs.Rows.{feature_text}
+use Rattle.streetmap_rows.specs.Rows.{feature_text, seconds_in}
 
 -- a candidate is shown by its text
 abbrev pub candidate_row : FeatureValue → Row
 candidate_row f = Words (feature_text f) ∷ []
+
+-- one feature is shown by its text, and the first second of its time or NULL
+abbrev pub dated_row : FeatureValue → Row
+dated_row f = Words (feature_text f)
+    ∷ or_null Int (option_map (λ (s : ℤ × ℤ). s.0) (seconds_in f)) ∷ []
 
 -- a feature that a collection with this time property keeps
 pub record IsStored (property : Option Text) (f : FeatureValue) : Type 0 where

@@ -1,5 +1,5 @@
 -- What looks into the tables answer.
-use Rattle.std.specs.Prelude.{◌≡◌, Option, None, Some, option_map, Result, MatchResult}
+use Rattle.std.specs.Prelude.{◌≡◌, Option, None, Some, option_map, Result, MatchResult, IsTrue}
 use Rattle.std.specs.FinMap.{get, values}
 use Rattle.sqlite.specs.Order.{Row}
 use Rattle.sqlite.specs.State.{State as Seen, HasCleanDisk, IsUnchanged}
@@ -14,7 +14,7 @@ use Rattle.streetmap_ledger.specs.declared.page.Page.{Page}
 use Rattle.streetmap_rows.specs.Keeping.{Keeps}
 use Rattle.streetmap_rows.specs.Views.{collection_view}
 use Rattle.streetmap_reading.specs.declared.fault.ReadFault.{ReadFault}
-use Rattle.streetmap_reading.specs.Candidates.{candidate_row}
+use Rattle.streetmap_reading.specs.Candidates.{dated_row}
 use Rattle.streetmap_reading.specs.Taking.{Stopped}
 
 -- a look at the database of a state: the answer is as it is in the state, and nothing changes
@@ -45,20 +45,18 @@ IsPageUnder name q property old new result =
     → MatchResult result (λ page. (page_value page ≡ page_over q (values c.features))
     × IsUnchanged old new) (Stopped old new)
 
--- the row of a feature's text, where the feature is there
+-- the row of a feature, where the feature is there
 abbrev pub IsTextRow : Text → Text → State → Option Row → Type 0
-IsTextRow name id s o = o ≡ option_map candidate_row (feature_in s name id)
+IsTextRow name id s o = o ≡ option_map dated_row (feature_in s name id)
 
 -- the feature of this collection with this id; none where the collection is not there, or the
 -- feature is not in it
 abbrev pub IsFeatureOf : Text → Text → State → Option FeatureValue → Type 0
 IsFeatureOf name id s found = found ≡ feature_in s name id
 
--- the feature of a collection that is there, whose time property is this
-abbrev pub IsFeatureUnder : Text → Text → Option Text → Seen → Seen
-    → Result (Option FeatureValue) ReadFault → Type 0
-IsFeatureUnder name id property old new result =
-    (s : State) (c : Collection) → old.step_limit ≡ None → Keeps s old.now
-    → get s.collections name ≡ Some c → c.time ≡ property
-    → MatchResult result (λ found. IsFeatureOf name id s found
-    × IsUnchanged old new) (Stopped old new)
+-- the feature of this collection whose row this is
+abbrev pub IsFeatureIn : Text → Row → Seen → Seen → Result FeatureValue ReadFault → Type 0
+IsFeatureIn name row old new result =
+    (s : State) (id : Text) (f : FeatureValue) → old.step_limit ≡ None → IsTrue old.is_open
+    → Keeps s old.now → feature_in s name id ≡ Some f → row ≡ dated_row f
+    → MatchResult result (λ found. (found ≡ f) × IsUnchanged old new) (Stopped old new)

@@ -10,3 +10,8 @@ select_outlines = codes
 abbrev pub select_extents : List ℕ
 select_extents = codes
     "SELECT x0, y0, x1, y1 FROM streetmap_features WHERE collection = ?1 ORDER BY id"
+
+-- the text of a feature, and the first second of its time or NULL
+abbrev pub select_text : List ℕ
+select_text = codes
+    "SELECT body, s0 FROM streetmap_features WHERE collection = ?1 AND id = ?2"

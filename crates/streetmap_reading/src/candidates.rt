@@ -1,6 +1,8 @@
 //! Candidates of a page, taken row by row.
-ghost use Rattle.std.specs.Prelude.{◌≡◌, Ok, Option, false, IfOk, OnOk, MatchResult};
+ghost use Rattle.std.specs.Prelude.{◌≡◌, ◌<◌, Ok, Option, false, IfOk, OnOk, MatchResult, length};
 ghost use Rattle.std.specs.Option.{option_copied};
+ghost use Rattle.sqlite.specs.Order.{column};
+ghost use Rattle.sqlite.specs.declared.types.Value.TheVariants.{Text as Words};
 ghost use Rattle.sqlite.specs.Held.{state};
 ghost use Rattle.sqlite.specs.Given.{IsPlain, HasGiven};
 ghost use Rattle.sqlite.specs.Listing.{understood};
@@ -10,7 +12,7 @@ ghost use Rattle.streetmap_geojson.specs.FeatureValue.{FeatureValue};
 ghost use Rattle.streetmap_geojson.specs.Fault.{Gives};
 ghost use Rattle.streetmap_geojson.specs.FeatureView.{feature_value};
 ghost use Rattle.streetmap_rows.specs.Rows.{feature_text};
-ghost use Rattle.streetmap_reading.specs.Candidates.{candidate_row, IsStored, TextReadsAs};
+ghost use Rattle.streetmap_reading.specs.Candidates.{IsStored, TextReadsAs};
 ghost use Rattle.streetmap_reading.specs.Taking.{TakesNext, TakesRest, TakesAll};
 
 use crate::fault::ReadFault;
@@ -37,9 +39,9 @@ pub fn read_body(alloc: Global, body: &[u8], property: Option<&str>) -> Result<F
     read_feature(alloc, &value, property)
 }
 
-/// The feature of a row that shows its text.
+/// The feature of a row that shows its text first.
 pub fn read_row(alloc: Global, row: &Row, property: Option<&str>) -> Result<Feature, ReadFault>
-    ensures { (f : FeatureValue) → row.now ≡ candidate_row f
+    ensures { (f : FeatureValue) → 0 < length row.now → column row.now 0 ≡ Words (feature_text f)
         → IsStored (option_copied property.entry) f
         → MatchResult result (λ g. g ≡ f) (λ fault. fault ≡ ReadFault.Memory) }
 {

@@ -1,19 +1,22 @@
 //! One feature, by its collection and its id.
-ghost use Rattle.std.specs.Prelude.{◌≡◌, false};
-ghost use Rattle.std.specs.Option.{option_copied};
+ghost use Rattle.std.specs.Prelude.{◌≡◌, None, IsTrue, false};
 ghost use Rattle.sqlite.specs.Held.{state};
 ghost use Rattle.sqlite.specs.State.{HasCleanDisk, Survives};
+ghost use Rattle.streetmap_geojson.specs.FeatureValue.{FeatureValue};
+ghost use Rattle.streetmap_reading.specs.Candidates.{dated_row};
 ghost use Rattle.streetmap_reading.specs.Looking.{LooksInto, Stays, IsTextRow, IsFeatureOf};
-ghost use Rattle.streetmap_reading.specs.Looking.{IsFeatureUnder};
+ghost use Rattle.streetmap_reading.specs.Looking.{IsFeatureIn};
 
 use crate::candidates::read_row;
 use crate::fault::ReadFault;
 use crate::page::{collection_row, property_in};
+use sqlite::types::ValueRef;
 use sqlite::{Alter, Connection, Row, params};
 use std::alloc::Global;
 use streetmap_geojson::Feature;
 
-/// The row that shows the text of a feature; none where it is not there.
+/// The row that shows the text of a feature and the first second of its time; none where it is not
+/// there.
 fn text_row<S: Alter>(
     conn: &mut Connection<S>,
     collection: &str,
@@ -27,7 +30,7 @@ fn text_row<S: Alter>(
     ensures stays { Stays (state S.Store conn.old) (state S.Store conn.new) }
 {
     match conn.query_all(
-        "SELECT body FROM streetmap_features WHERE collection = ?1 AND id = ?2",
+        "SELECT body, s0 FROM streetmap_features WHERE collection = ?1 AND id = ?2",
         params![collection, id],
     ) {
         Ok(mut rows) => Ok(rows.pop()),
@@ -35,26 +38,54 @@ fn text_row<S: Alter>(
     }
 }
 
-/// A feature of a collection that is there, whose time property is known.
-fn feature_under<S: Alter>(
+/// Whether the row of a feature shows that it has no time.
+fn is_timeless(row: &Row) -> bool
+    ensures { (f : FeatureValue) → row.now ≡ dated_row f → IsTrue result → f.time ≡ None }
+{
+    matches!(row.get_ref(1), Ok(ValueRef::Null))
+}
+
+/// The feature of a row, whose time its collection's time property says.
+fn timed_feature<S: Alter>(
     alloc: Global,
     conn: &mut Connection<S>,
     collection: &str,
-    id: &str,
-    property: Option<&str>,
-) -> Result<Option<Feature>, ReadFault>
+    row: &Row,
+) -> Result<Feature, ReadFault>
     ensures shows { HasCleanDisk (state S.Store conn.new)
-        → IsFeatureUnder collection.now id.now (option_copied property.entry)
-        (state S.Store conn.old) (state S.Store conn.new) result }
+        → IsFeatureIn collection.now row.now (state S.Store conn.old) (state S.Store conn.new)
+        result }
     ensures mode { conn.old.in_transaction ≡ false → conn.new.in_transaction ≡ false }
     ensures survives { Survives (state S.Store conn.old) (state S.Store conn.new) (λ _. Unit {0}) }
     ensures stays { Stays (state S.Store conn.old) (state S.Store conn.new) }
 {
-    let Some(row) = text_row(conn, collection, id)? else {
-        return Ok(None);
+    let Some(head) = collection_row(conn, collection)? else {
+        return Err(ReadFault::Unread);
     };
-    let feature = read_row(alloc, &row, property)?;
-    Ok(Some(feature))
+    let time = property_in(&head)?;
+    read_row(alloc, row, time.as_deref())
+}
+
+/// The feature of a row. A feature without a time is the same under any time property, so its
+/// collection is not asked.
+fn feature_in<S: Alter>(
+    alloc: Global,
+    conn: &mut Connection<S>,
+    collection: &str,
+    row: &Row,
+) -> Result<Feature, ReadFault>
+    ensures shows { HasCleanDisk (state S.Store conn.new)
+        → IsFeatureIn collection.now row.now (state S.Store conn.old) (state S.Store conn.new)
+        result }
+    ensures mode { conn.old.in_transaction ≡ false → conn.new.in_transaction ≡ false }
+    ensures survives { Survives (state S.Store conn.old) (state S.Store conn.new) (λ _. Unit {0}) }
+    ensures stays { Stays (state S.Store conn.old) (state S.Store conn.new) }
+{
+    if is_timeless(row) {
+        read_row(alloc, row, None)
+    } else {
+        timed_feature(alloc, conn, collection, row)
+    }
 }
 
 /// A feature of a collection; `None` where the collection or the feature is not there.
@@ -75,9 +106,9 @@ pub fn feature_of<S: Alter>(
     ensures survives { Survives (state S.Store conn.old) (state S.Store conn.new) (λ _. Unit {0}) }
     ensures stays { Stays (state S.Store conn.old) (state S.Store conn.new) }
 {
-    let Some(row) = collection_row(conn, collection)? else {
+    let Some(row) = text_row(conn, collection, id)? else {
         return Ok(None);
     };
-    let time = property_in(&row)?;
-    feature_under(alloc, conn, collection, id, time.as_deref())
+    let feature = feature_in(alloc, conn, collection, &row)?;
+    Ok(Some(feature))
 }

@@ -5,3 +5,4 @@ pub mod JournalText
 pub mod Following
 pub mod Sittings
 pub mod Replay
+pub mod Faults

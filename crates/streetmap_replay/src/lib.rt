@@ -7,10 +7,12 @@
 //! state that it was kept in (`specs/Following`, `specs/Replay`), in one sitting or in many
 //! (`specs/Sittings`).
 //!
-//! Modules, in the order of reading: `writable`, `laws`.
+//! Modules, in the order of reading: `writable`, `length`, `laws`.
 #![tactic(auto)]
 
 pub mod laws;
+mod length;
 mod writable;
 
+pub use length::MAX_LINE;
 pub use writable::is_writable;

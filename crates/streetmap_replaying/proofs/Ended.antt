@@ -16,7 +16,8 @@ use Rattle.streetmap_replay.specs.Replay.{Replays}
 use Rattle.streetmap_replaying.specs.Checked.{replayed, GivesBatches, Checks}
 use Rattle.streetmap_replaying.specs.Alike.{Differs, Compares}
 use Rattle.streetmap_replaying.specs.Given.{GivesAll, GivesPart, GivesRow, given_again}
-use Rattle.streetmap_replaying.specs.Stops.{StaysBut, StaysBy, IsForeseen, IsFreshEnd, KeptEnds}
+use Rattle.streetmap_replay.specs.Faults.{StaysBut}
+use Rattle.streetmap_replaying.specs.Stops.{StaysBy, IsForeseen, IsFreshEnd, KeptEnds}
 use Rattle.streetmap_replaying.specs.declared.fault.ReplayStop.{ReplayStop}
 use Rattle.streetmap_replaying.specs.declared.fault.ReplayStop.TheVariants.{Kept, Fresh, Memory}
 use Rattle.streetmap_replaying.specs.declared.fault.ReplayFault.{ReplayFault}

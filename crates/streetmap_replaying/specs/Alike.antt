@@ -11,7 +11,7 @@ use Rattle.streetmap_ledger.specs.State.{State, Collection}
 use Rattle.streetmap_ledger.specs.Summaries.{SummaryValue}
 use Rattle.streetmap_ledger.specs.declared.summary.Summary.{Summary}
 use Rattle.streetmap_query.specs.QueryValue.{QueryValue}
-use Rattle.streetmap_replaying.specs.Stops.{StaysBut}
+use Rattle.streetmap_replay.specs.Faults.{StaysBut}
 use Rattle.streetmap_replaying.specs.declared.fault.ReplayStop.{ReplayStop}
 use Rattle.streetmap_replaying.specs.declared.fault.ReplayStop.TheVariants.{Kept, Fresh, Memory}
 use Rattle.streetmap_replaying.specs.declared.fault.ReplayFault.{ReplayFault}

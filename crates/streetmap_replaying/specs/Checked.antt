@@ -7,7 +7,8 @@ use Rattle.streetmap_replay.specs.Lines.{bare}
 use Rattle.streetmap_replay.specs.Replay.{Replays}
 use Rattle.streetmap_replaying.specs.Alike.{Differs}
 use Rattle.streetmap_replaying.specs.Given.{GivesAll, StopsAt}
-use Rattle.streetmap_replaying.specs.Stops.{StaysBut, IsForeseen}
+use Rattle.streetmap_replay.specs.Faults.{StaysBut}
+use Rattle.streetmap_replaying.specs.Stops.{IsForeseen}
 use Rattle.streetmap_replaying.specs.declared.fault.ReplayStop.{ReplayStop}
 use Rattle.streetmap_replaying.specs.declared.fault.ReplayStop.TheVariants.{Kept, Fresh, Memory}
 use Rattle.streetmap_replaying.specs.declared.fault.ReplayFault.{ReplayFault}

@@ -5,18 +5,12 @@ use Rattle.streetmap_ledger.specs.State.{State}
 use Rattle.streetmap_ledger.specs.declared.reply.Cause.{Cause}
 use Rattle.streetmap_ledger.specs.declared.reply.Fault.{Fault}
 use Rattle.streetmap_ledger.specs.declared.reply.Fault.TheVariants as faults
+use Rattle.streetmap_replay.specs.Faults.{StaysBut}
 use Rattle.streetmap_replaying.specs.declared.fault.ReplayStop.{ReplayStop}
 use Rattle.streetmap_replaying.specs.declared.fault.ReplayStop.TheVariants.{Kept, Fresh, Memory}
 use Rattle.streetmap_replaying.specs.declared.fault.ReplayFault.{ReplayFault}
 use Rattle.streetmap_replaying.specs.declared.fault.ReplayFault.TheVariants.{Stopped, Batch}
 use Rattle.streetmap_replaying.specs.declared.fault.ReplayFault.TheVariants.{Collection}
-
--- a keeper that stood for this state does so still, unless its store failed
-abbrev pub StaysBut : State → Fault → (State → Type 0) → Type 0
-StaysBut s faults.Memory stands = stands s
-StaysBut s faults.Device stands = Unit {0}
-StaysBut s faults.Damaged stands = ⊥
-StaysBut s faults.Reopen stands = ⊥
 
 -- a keeper that stands for a state is neither damaged nor shut
 abbrev pub IsForeseen : Fault → Type 0

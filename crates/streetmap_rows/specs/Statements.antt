@@ -29,9 +29,6 @@ select_collection = codes "SELECT title, time FROM streetmap_collections WHERE i
 abbrev pub select_id : List ℕ
 select_id = codes "SELECT id FROM streetmap_features WHERE collection = ?1 AND id = ?2"
 
-abbrev pub select_body : List ℕ
-select_body = codes "SELECT body FROM streetmap_features WHERE collection = ?1 AND id = ?2"
-
 abbrev pub select_format : List ℕ
 select_format = codes "SELECT value FROM streetmap_meta WHERE name = 'format'"
 

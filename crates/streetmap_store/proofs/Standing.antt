@@ -32,17 +32,17 @@ use Rattle.streetmap_rows.specs.declared.failing.Shut.TheVariants as shut
 use Rattle.sqlite.specs.declared.error.Error.{Error}
 use Rattle.streetmap_rows.specs.Failing.{IsOfStore, tells_disk}
 use Rattle.streetmap_rows.specs.Settling.{Settles, StopsFor}
-use Rattle.streetmap_store.specs.Serving.{Serves, EndsLook, HasSettled, HasShut, GaveUp}
+use Rattle.streetmap_store.specs.Serving.{KeepsState, EndsLook, HasSettled, HasShut, GaveUp}
 use Rattle.streetmap_store.specs.Serving.{LeavesCommitted}
 use Rattle.streetmap_store.specs.Serving.{cause_in, is_named, fault_by, shut_by}
 use Rattle.streetmap_store.specs.Sparing.{Spares, LeavesLast, LeavesStates, leaves_states}
 
 -- an open connection that rests at a state is that of a keeper which stands for it
-pub serves : (shut : Option Shut) (seen : Seen) (count : ℕ) (s : State) → shut ≡ None → Rests seen s → len s.keys ≡ count → (IsTrue seen.is_open → seen.may_leave seen.committed.trees) → Serves shut seen count s
+pub serves : (shut : Option Shut) (seen : Seen) (count : ℕ) (s : State) → shut ≡ None → Rests seen s → len s.keys ≡ count → (IsTrue seen.is_open → seen.may_leave seen.committed.trees) → KeepsState shut seen count s
 serves shut seen count s unshut rests counted last = record { unshut = unshut; rests = rests; counted = counted; only = rests_only seen s rests; left = may_leave_it seen s rests (last rests.live) }
 
 -- a look that changed nothing
-pub serves_still : (shut : Option Shut) (old new : Seen) (count : ℕ) (s : State) → Serves shut old count s → IsUnchanged old new → new.step_limit ≡ old.step_limit → (IsTrue new.is_open → new.may_leave new.committed.trees) → Serves shut new count s
+pub serves_still : (shut : Option Shut) (old new : Seen) (count : ℕ) (s : State) → KeepsState shut old count s → IsUnchanged old new → new.step_limit ≡ old.step_limit → (IsTrue new.is_open → new.may_leave new.committed.trees) → KeepsState shut new count s
 serves_still shut old new count s stands same limit last = serves shut new count s stands.unshut (rests_still old new s same limit stands.rests) stands.counted last
 
 -- where a stop may leave no more trees than before, it leaves the same state
@@ -57,28 +57,28 @@ pub clean_before : (old new : Seen) (Commits : Trees → Type 0) → Survives ol
 clean_before old new Commits survives clean = omega (arith, survives.clean, clean)
 
 -- a look that was not answered
-module _ {T : Type 0} (Is : T → Type 0) (s : State) (old mid new : Seen) (was now : Option Shut) (count : ℕ) (stands : Serves was old count s) (before : mid.step_limit ≡ old.step_limit) (after : new.step_limit ≡ mid.step_limit)
+module _ {T : Type 0} (Is : T → Type 0) (s : State) (old mid new : Seen) (was now : Option Shut) (count : ℕ) (stands : KeepsState was old count s) (before : mid.step_limit ≡ old.step_limit) (after : new.step_limit ≡ mid.step_limit)
     (last : IsTrue new.is_open → new.may_leave new.committed.trees) where
-  settled : (result : Fault) → KeepsCommit old mid → HasSettled mid new result → (result ≡ fault.Memory → now ≡ was) → Looks s Is (Err result) (Serves now new count)
+  settled : (result : Fault) → KeepsCommit old mid → HasSettled mid new result → (result ≡ fault.Memory → now ≡ was) → Looks s Is (Err result) (KeepsState now new count)
   settled fault.Memory kept ends same =
       let at = rests_if_open old mid s kept (λ live. sym ends.0.0.now_is ∙ ends.1 ∙ ends.0.0.committed_is) before stands.rests ends.0.0.was_open in serves now new count s (same refl ∙ stands.unshut) (rests_still mid new s ends.0 after at) stands.counted last
   settled fault.Device kept ends same = tt
   settled fault.Damaged kept ends same = absurd ends
   settled fault.Reopen kept ends same = absurd ends
 
-  pub ended : (f : ReadFault) (result : Fault) → Stopped old mid f → EndsLook f mid new result → (result ≡ fault.Memory → now ≡ was) → Looks s Is (Err result) (Serves now new count)
+  pub ended : (f : ReadFault) (result : Fault) → Stopped old mid f → EndsLook f mid new result → (result ≡ fault.Memory → now ≡ was) → Looks s Is (Err result) (KeepsState now new count)
   ended read.Memory result stopped ends same =
-      subst (λ r. Looks s Is (Err r) (Serves now new count)) (sym ends.0)
+      subst (λ r. Looks s Is (Err r) (KeepsState now new count)) (sym ends.0)
       (serves now new count s (same ends.0 ∙ stands.unshut) (rests_still old new s (unchanged_then old mid new stopped (ends.1 stopped.0.is_open)) (after ∙ before) stands.rests) stands.counted last)
   ended (read.Store e) result stopped ends same = settled result stopped.2 (ends stopped.0) same
   ended read.Unread result stopped ends same = absurd stopped
 
 -- a batch that was not answered
-module _ (s : State) (b : BatchValue) (old new : Seen) (was : Option Shut) (count : ℕ) (stands : Serves was old count s) (last : IsTrue new.is_open → new.may_leave new.committed.trees)
+module _ (s : State) (b : BatchValue) (old new : Seen) (was : Option Shut) (count : ℕ) (stands : KeepsState was old count s) (last : IsTrue new.is_open → new.may_leave new.committed.trees)
     (only : (trees : Trees) → IsTrue new.is_open → new.may_leave trees → trees ≡ new.committed.trees) where
-  pub acts : (it : Stop) (result : Fault) (now : Option Shut) → Applied s b new (Err it) → result ≡ fault_by it → now ≡ shut_by it was → Acts s b (Err result) (Serves now new count)
-  acts stop.Memory result now applied told same = subst (λ r. Acts s b (Err r) (Serves now new count)) (sym told) (serves now new count s (same ∙ stands.unshut) applied stands.counted last)
-  acts (stop.Closed (shut.Device e)) result now applied told same = subst (λ r. Acts s b (Err r) (Serves now new count)) (sym told) tt
+  pub acts : (it : Stop) (result : Fault) (now : Option Shut) → Applied s b new (Err it) → result ≡ fault_by it → now ≡ shut_by it was → Acts s b (Err result) (KeepsState now new count)
+  acts stop.Memory result now applied told same = subst (λ r. Acts s b (Err r) (KeepsState now new count)) (sym told) (serves now new count s (same ∙ stands.unshut) applied stands.counted last)
+  acts (stop.Closed (shut.Device e)) result now applied told same = subst (λ r. Acts s b (Err r) (KeepsState now new count)) (sym told) tt
   acts (stop.Closed shut.Damaged) result now applied told same = absurd applied
 
   pub leaves : (it : Stop) (result : Fault) → Applied s b new (Err it) → result ≡ fault_by it → MayBecome s b old new → LeavesOnly (MayLeave old) (Some s) → ApplyLeaves s b (Err result) (MayLeave new)
@@ -140,7 +140,7 @@ others_given_up old mid new s read.Unread rests stopped left live = absurd stopp
 -- a keeper that a look did not shut stands for the state
 pub unless_shut : {T : Type 0} (Is : T → Type 0) (s : State) (new : Seen) (now : Option Shut) (count : ℕ)
     (result : Fault) → ShutsBy {T = Unit {0}} (Err result) None (option_map cause_in now)
-    → Looks s Is (Err result) (Serves now new count) → now ≡ None → (t : State) × Serves now new count t
+    → Looks s Is (Err result) (KeepsState now new count) → now ≡ None → (t : State) × KeepsState now new count t
 unless_shut Is s new now count fault.Memory shuts looks none = (s, looks)
 unless_shut Is s new now count fault.Device shuts looks none =
     absurd (let e = sym shuts.1 ∙ ap (option_map cause_in) none in cc)
@@ -155,15 +155,15 @@ leaves_fewer old new s rests last fewer trees may = leaves_states old s rests la
 -- of a keeper that stands for a state a stop leaves what was committed last
 last_of : (now : Option Shut) (new : Seen) (count : ℕ)
     → ((trees : Trees) → IsTrue new.is_open → new.may_leave trees → trees ≡ new.committed.trees)
-    → (t : State) × Serves now new count t → LeavesLast new
+    → (t : State) × KeepsState now new count t → LeavesLast new
 last_of now new count only at trees may = only trees at.1.rests.live may
 
 -- a look that was answered
 pub spares_answered : (was : Option Shut) (count : ℕ) (old new : Seen) (Commits : Trees → Type 0)
     → (IsSome was → ⊥) → Survives old new Commits → (IsTrue new.is_open → new.may_leave new.committed.trees)
     → ((trees : Trees) → IsTrue new.is_open → new.may_leave trees → trees ≡ new.committed.trees)
-    → (HasCleanDisk new → (s : State) → Serves was old count s → IsUnchanged old new)
-    → (HasCleanDisk new → (s : State) → Serves was old count s → (trees : Trees) → new.may_leave trees → old.may_leave trees)
+    → (HasCleanDisk new → (s : State) → KeepsState was old count s → IsUnchanged old new)
+    → (HasCleanDisk new → (s : State) → KeepsState was old count s → (trees : Trees) → new.may_leave trees → old.may_leave trees)
     → Spares was count old was count new
 spares_answered was count old new Commits unshut survives last only same fewer = record {
   clean = clean_before old new Commits survives;
@@ -177,8 +177,8 @@ spares_answered was count old new Commits unshut survives last only same fewer =
   );
 }
   where
-    others : HasCleanDisk new → (s : State) → Serves was old count s
-        → LeavesOtherTables old new × (was ≡ None → (t : State) × Serves was new count t)
+    others : HasCleanDisk new → (s : State) → KeepsState was old count s
+        → LeavesOtherTables old new × (was ≡ None → (t : State) × KeepsState was new count t)
     others clean s stands =
         let still = same clean s stands in (
           λ live. same_all old.now new.now still.0.now_is,
@@ -205,12 +205,12 @@ module _ (was now : Option Shut) (count : ℕ) (old mid new : Seen) (Commits : T
     (only : (trees : Trees) → IsTrue new.is_open → new.may_leave trees → trees ≡ new.committed.trees)
     (f : ReadFault) (result : Fault)
     (shuts : was ≡ None → ShutsBy {T = Unit {0}} (Err result) None (option_map cause_in now))
-    (stopped : HasCleanDisk mid → (s : State) → Serves was old count s → Stopped old mid f)
-    (stays : HasCleanDisk mid → (s : State) → Serves was old count s → (trees : Trees) → mid.may_leave trees → old.may_leave trees)
+    (stopped : HasCleanDisk mid → (s : State) → KeepsState was old count s → Stopped old mid f)
+    (stays : HasCleanDisk mid → (s : State) → KeepsState was old count s → (trees : Trees) → mid.may_leave trees → old.may_leave trees)
     (ends : HasCleanDisk new → EndsLook f mid new result) (left : HasCleanDisk new → LeavesCommitted f mid new)
     (same : result ≡ fault.Memory → now ≡ was) where
-  others_kept : HasCleanDisk new → (s : State) → Serves was old count s
-      → LeavesOtherTables old new × (now ≡ None → (t : State) × Serves now new count t)
+  others_kept : HasCleanDisk new → (s : State) → KeepsState was old count s
+      → LeavesOtherTables old new × (now ≡ None → (t : State) × KeepsState now new count t)
   others_kept clean s stands =
       let at = stopped (clean_before mid new _ second clean) s stands in (
         others_given_up old mid new s f stands.rests at (left clean),
@@ -243,9 +243,9 @@ leaves_become s b old new rests sole becomes trees may = elim (becomes trees may
 module _ (was now : Option Shut) (count later : ℕ) (old new : Seen) (b : BatchValue)
     (Commits : Trees → Type 0) (unshut : IsSome was → ⊥) (survives : Survives old new Commits)
     (only : (trees : Trees) → IsTrue new.is_open → new.may_leave trees → trees ≡ new.committed.trees)
-    (elsewhere : HasCleanDisk new → (s : State) → Serves was old count s → LeavesOtherTables old new)
-    (becomes : HasCleanDisk new → (s : State) → Serves was old count s → MayBecome s b old new)
-    (stands : HasCleanDisk new → (s : State) → Serves was old count s → now ≡ None → (t : State) × Serves now new later t) where
+    (elsewhere : HasCleanDisk new → (s : State) → KeepsState was old count s → LeavesOtherTables old new)
+    (becomes : HasCleanDisk new → (s : State) → KeepsState was old count s → MayBecome s b old new)
+    (stands : HasCleanDisk new → (s : State) → KeepsState was old count s → now ≡ None → (t : State) × KeepsState now new later t) where
   pub spares_acted : Spares was count old now later new
   spares_acted = record {
     clean = clean_before old new Commits survives;
@@ -261,7 +261,7 @@ module _ (was now : Option Shut) (count later : ℕ) (old new : Seen) (b : Batch
 
 -- a keeper that a batch did not shut stands for the state
 pub unless_stopped : (was now : Option Shut) (count : ℕ) (old new : Seen) (b : BatchValue) (s : State) (it : Stop)
-    → (IsTrue new.is_open → new.may_leave new.committed.trees) → Serves was old count s
-    → Applied s b new (Err it) → now ≡ shut_by it was → now ≡ None → (t : State) × Serves now new count t
+    → (IsTrue new.is_open → new.may_leave new.committed.trees) → KeepsState was old count s
+    → Applied s b new (Err it) → now ≡ shut_by it was → now ≡ None → (t : State) × KeepsState now new count t
 unless_stopped was now count old new b s stop.Memory last stands rests is none = (s, serves now new count s none rests stands.counted last)
 unless_stopped was now count old new b s (stop.Closed why) last stands rests is none = absurd (let e = sym is ∙ none in cc)

@@ -49,7 +49,7 @@ HasShut old new (Some Damaged) = Unit {0}
 -- A keeper that is not shut stands for the state of its connection, holds how many batches were
 -- accepted, and a stop may leave that state. There is no other such state; both are lemmas, and
 -- stand here since the laws of a trait are proved without lemmas.
-pub record Serves (shut : Option Shut) (seen : Seen) (count : ℕ) (s : State) : Type 0 where
+pub record KeepsState (shut : Option Shut) (seen : Seen) (count : ℕ) (s : State) : Type 0 where
   pub unshut : shut ≡ None
   pub rests : Rests seen s
   pub counted : len s.keys ≡ count
@@ -59,7 +59,7 @@ pub record Serves (shut : Option Shut) (seen : Seen) (count : ℕ) (s : State) :
 -- a batch spares the tables of others: where the keeper stands for a state, and its connection is
 -- open afterwards, each is as it was
 abbrev pub SparesOthers : Option Shut → ℕ → Seen → Seen → Type 0
-SparesOthers shut count old new = HasCleanDisk new → (s : State) → Serves shut old count s
+SparesOthers shut count old new = HasCleanDisk new → (s : State) → KeepsState shut old count s
     → LeavesOtherTables old new
 
 -- a keeper without a cause is not shut

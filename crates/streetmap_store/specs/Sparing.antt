@@ -15,7 +15,7 @@ use Rattle.streetmap_rows.proofs.Reasons.{reason_still}
 use Rattle.streetmap_rows.specs.Elsewhere.{IsSameElsewhere}
 use Rattle.streetmap_writing.specs.Acting.{LeavesOtherTables}
 use Rattle.streetmap_writing.proofs.Joining.{same_all, elsewhere_then}
-use Rattle.streetmap_store.specs.Serving.{Serves, HasShut, cause_in}
+use Rattle.streetmap_store.specs.Serving.{KeepsState, HasShut, cause_in}
 
 -- a stop leaves what was committed last
 abbrev pub LeavesLast : Seen → Type 0
@@ -44,9 +44,9 @@ pub record Spares (was : Option Shut) (count : ℕ) (old : Seen)
   pub closes : HasCleanDisk new → IsTrue old.is_open →
       IsTrue new.is_open ⊎ MoreFaults old.faults new.faults
   pub still : IsSome was → StaysShut was old now new
-  pub others : HasCleanDisk new → (s : State) → Serves was old count s →
-      LeavesOtherTables old new × (now ≡ None → (t : State) × Serves now new later t)
-  pub states : HasCleanDisk new → (s : State) → Serves was old count s → LeavesLast old →
+  pub others : HasCleanDisk new → (s : State) → KeepsState was old count s →
+      LeavesOtherTables old new × (now ≡ None → (t : State) × KeepsState now new later t)
+  pub states : HasCleanDisk new → (s : State) → KeepsState was old count s → LeavesLast old →
       LeavesStates new × (now ≡ None → LeavesLast new)
 
 -- the store failed since the first, where an error of the store shut the keeper by now
@@ -117,15 +117,16 @@ module _ (was mid now : Option Shut) (count amid later : ℕ) (old between new :
       }
 
   -- the tables of others are as they were
-  others_then : HasCleanDisk new → (s : State) → Serves was old count s →
-      LeavesOtherTables old new × (now ≡ None → (t : State) × Serves now new later t)
+  others_then : HasCleanDisk new → (s : State) → KeepsState was old count s →
+      LeavesOtherTables old new × (now ≡ None → (t : State) × KeepsState now new later t)
   others_then clean s stands = by mid refl
     where
-      here : LeavesOtherTables old between × (mid ≡ None → (t : State) × Serves mid between amid t)
+      here : LeavesOtherTables old between
+          × (mid ≡ None → (t : State) × KeepsState mid between amid t)
       here = first.others (second.clean clean) s stands
 
       by : (shut : Option Shut) → mid ≡ shut →
-          LeavesOtherTables old new × (now ≡ None → (t : State) × Serves now new later t)
+          LeavesOtherTables old new × (now ≡ None → (t : State) × KeepsState now new later t)
       by None is =
           let at = here.1 is in
           let there = second.others clean at.0 at.1 in (
@@ -142,7 +143,7 @@ module _ (was mid now : Option Shut) (count amid later : ℕ) (old between new :
           )
 
   -- what a stop may leave is a state's
-  states_then : HasCleanDisk new → (s : State) → Serves was old count s → LeavesLast old →
+  states_then : HasCleanDisk new → (s : State) → KeepsState was old count s → LeavesLast old →
       LeavesStates new × (now ≡ None → LeavesLast new)
   states_then clean s stands last = by mid refl
     where

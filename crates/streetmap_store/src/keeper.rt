@@ -17,10 +17,10 @@ ghost use Rattle.streetmap_opening.specs.Reasons.{OpensFor};
 ghost use Rattle.streetmap_opening.specs.Telling.{TellsKeys};
 ghost use Rattle.streetmap_opening.specs.Part.{HasCarried};
 ghost use Rattle.streetmap_opening.specs.Old.{RestsOld};
-ghost use Rattle.streetmap_opening.specs.Carrying.{LeavesUnlessOld, MayCarry, Carries, Opens};
-ghost use Rattle.streetmap_opening.specs.Carrying.{OpensBy, KeepsNoMore};
+ghost use Rattle.streetmap_opening.specs.Carrying.{UntouchedUnlessFormat1, MayCarry, Carries};
+ghost use Rattle.streetmap_opening.specs.Carrying.{Opens, OpensBy, KeepsNoMore};
 ghost use Rattle.streetmap_store.specs.Reopening.{IsJustOpened, OpensAs, OpensAsEither};
-ghost use Rattle.streetmap_store.specs.Serving.{Serves, EndsLook, HasShut, GaveUp, is_named};
+ghost use Rattle.streetmap_store.specs.Serving.{KeepsState, EndsLook, HasShut, GaveUp, is_named};
 ghost use Rattle.streetmap_store.specs.Serving.{cause_in, error_in, count_after, shut_by, fault_by};
 ghost use Rattle.streetmap_store.specs.Serving.{LeavesCommitted};
 ghost use Rattle.streetmap_store.specs.Sparing.{LeavesStates};
@@ -139,7 +139,7 @@ impl<S: Alter> TableKeeper<S> {
             IsReasoned (state S.Store conn) (state S.Store refused.1) refused.0) }
         ensures made { IfOk result (λ keeper. HasCleanDisk (state S.Store keeper.conn)
             → IsReady (state S.Store conn)
-            → Serves keeper.shut (state S.Store keeper.conn) keeper.count opening_state
+            → KeepsState keeper.shut (state S.Store keeper.conn) keeper.count opening_state
             × LeavesOnly (MayLeave (state S.Store keeper.conn)) (Some opening_state)) }
         ensures refused { IfErr result (λ refused. HasCleanDisk (state S.Store refused.1)
             → IsReady (state S.Store conn)
@@ -202,9 +202,9 @@ impl<S: Alter> TableKeeper<S> {
         ensures fewer { IfErr result (λ refused. HasCleanDisk (state S.Store refused.1) →
             KeepsNoMore refused.0 (state S.Store conn) (state S.Store refused.1)) }
         ensures unwritten { MatchResult result (λ keeper. HasCleanDisk (state S.Store keeper.conn)
-            → LeavesUnlessOld (state S.Store conn) (state S.Store keeper.conn)) (λ refused.
+            → UntouchedUnlessFormat1 (state S.Store conn) (state S.Store keeper.conn)) (λ refused.
             HasCleanDisk (state S.Store refused.1)
-            → LeavesUnlessOld (state S.Store conn) (state S.Store refused.1)) }
+            → UntouchedUnlessFormat1 (state S.Store conn) (state S.Store refused.1)) }
         ensures same { IfErr result (λ refused. HasCleanDisk (state S.Store refused.1)
             → IsAsItWas (state S.Store conn) (state S.Store refused.1)) }
         ensures leaves { IfErr result (λ refused. HasCleanDisk (state S.Store refused.1) →
@@ -217,14 +217,14 @@ impl<S: Alter> TableKeeper<S> {
             TellsKeys (state S.Store conn) keeper.count ⊎ HasCarried S.Store conn keeper.conn) }
         ensures adopted { IfOk result (λ keeper. HasCleanDisk (state S.Store keeper.conn)
             → (s : State) → Rests (state S.Store conn) s
-            → Serves keeper.shut (state S.Store keeper.conn) keeper.count s
+            → KeepsState keeper.shut (state S.Store keeper.conn) keeper.count s
             × LeavesOnly (MayLeave (state S.Store keeper.conn)) (Some s)) }
         ensures refused { IfErr result (λ refused. HasCleanDisk (state S.Store refused.1)
             → (s : State) → Rests (state S.Store conn) s
             → Opens s (state S.Store conn) (state S.Store refused.1) (Err refused.0)) }
         ensures carried { IfOk result (λ keeper. HasCleanDisk (state S.Store keeper.conn)
             → (s : State) → RestsOld (state S.Store conn) s
-            → Serves keeper.shut (state S.Store keeper.conn) keeper.count s
+            → KeepsState keeper.shut (state S.Store keeper.conn) keeper.count s
             × LeavesOnly (MayLeave (state S.Store keeper.conn)) (Some s)) }
         ensures refused_old { IfErr result (λ refused. HasCleanDisk (state S.Store refused.1)
             → (s : State) → RestsOld (state S.Store conn) s
@@ -284,7 +284,7 @@ impl<S: Alter> TableKeeper<S> {
 /// kept again.
 pub fn what_a_stop_leaves_opens<S: Alter, T: Alter>(keeper: &TableKeeper<S>, opened: &Connection<T>)
     ensures stands { (s : State) →
-        Serves keeper.now.shut (state S.Store keeper.now.conn) keeper.now.count s →
+        KeepsState keeper.now.shut (state S.Store keeper.now.conn) keeper.now.count s →
         (state S.Store keeper.now.conn).may_leave (state T.Store opened.now).now.trees →
         IsJustOpened (state T.Store opened.now) → Rests (state T.Store opened.now) s }
     ensures states { LeavesStates (state S.Store keeper.now.conn) →
@@ -309,12 +309,12 @@ impl<S: Alter> Keeper for TableKeeper<S> {
     ghost use Rattle.streetmap_ledger.specs.State.{State};
     ghost use Rattle.streetmap_ledger.specs.Keep.{Acts};
     ghost use Rattle.streetmap_rows.specs.Keeping.{MayLeave};
-    ghost use Rattle.streetmap_store.specs.Serving.{Serves, SparesOthers};
+    ghost use Rattle.streetmap_store.specs.Serving.{KeepsState, SparesOthers};
     ghost use Rattle.streetmap_store.specs.Serving.{never_shut, cause_in};
     ghost use Rattle.streetmap_store.specs.Sparing as sparing;
     ghost use Rattle.streetmap_store.specs.Sparing.{Spares, HasFailed, is_shut};
 
-    ghost stands = { λ k s. Serves k.shut (state S.Store k.conn) k.count s };
+    ghost stands = { λ k s. KeepsState k.shut (state S.Store k.conn) k.count s };
 
     ghost may_leave = { λ k. MayLeave (state S.Store k.conn) };
 
@@ -325,8 +325,8 @@ impl<S: Alter> Keeper for TableKeeper<S> {
     ghost applies = { λ k b result after.
         SparesOthers k.shut k.count (state S.Store k.conn) (state S.Store after.conn) ×
         (HasCleanDisk (state S.Store after.conn) → (s : State) →
-        Serves k.shut (state S.Store k.conn) k.count s →
-        Acts s b result (Serves after.shut (state S.Store after.conn) after.count)) };
+        KeepsState k.shut (state S.Store k.conn) k.count s →
+        Acts s b result (KeepsState after.shut (state S.Store after.conn) after.count)) };
 
     ghost spares = { λ k after. (IsSome k.shut → after ≡ k) ×
         Spares k.shut k.count (state S.Store k.conn)

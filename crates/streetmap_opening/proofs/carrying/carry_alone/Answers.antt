@@ -3,7 +3,7 @@ use Rattle.sqlite.specs.Held.{state}
 use Rattle.sqlite.specs.State.{HasCleanDisk}
 use Rattle.streetmap_opening.proofs.Stopping.{clean_back}
 use Rattle.streetmap_opening.specs.Old.{KeepsOld}
-use Rattle.streetmap_opening.specs.Carrying.{IsHeldBack}
+use Rattle.streetmap_opening.specs.Carrying.{CarryingRefusedFor}
 use Rattle.streetmap_opening.proofs.Closing.{same_after_rollback}
 use Rattle.streetmap_opening.proofs.Telling.{carried_there}
 use Rattle.streetmap_opening.proofs.carrying.carry_alone.Goals as goal
@@ -15,7 +15,7 @@ returns-in-Err-clause-carries g c clean s rests =
     let mid = state g.S.Store c.carry_inside.new.tx.conn.now in
     let early : HasCleanDisk mid = clean_back mid _ _ c.rollback.ensures.survives (search rules) in
     let keeps : KeepsOld s start.now = rw begun rests.kept in
-    let held : IsHeldBack (state g.S.Store c.args.conn.now).now.schema c.in-Err.fault = rw begun at (c.in-Err.ensures.carries early (rw begun rests.unlimited) (rw begun refl) s keeps) in
+    let held : CarryingRefusedFor (state g.S.Store c.args.conn.now).now.schema c.in-Err.fault = rw begun at (c.in-Err.ensures.carries early (rw begun rests.unlimited) (rw begun refl) s keeps) in
     let it = same_after_rollback (state g.S.Store c.args.conn.now) start mid _ (rw begun refl) (c.in-Err.ensures.kept early (rw begun refl)) (c.rollback.ensures.undone (search rules)) rests.settled in
     (held, search (rules, it))
 
@@ -28,4 +28,4 @@ returns-in-Ok-commit-clause-carried g c clean =
     let early : HasCleanDisk mid = clean_back mid _ _ c.in-Ok-commit.ensures.survives (search rules) in
     let it = carried_there g.S.Store start c.args.conn.now last last (rw begun refl) (rw begun refl) (λ live. rw begun at live) refl (c.in-Ok.ensures.carried early (rw begun refl)) in
     let ends = (c.in-Ok-commit.ensures.ok (search rules)).1.now_is in
-    (it.0, it.1, it.2, it.3, it.4, search (rules, ends, it.5))
+    (it.0, it.1, it.2, it.3, it.4, it.5, it.6, it.7, search (rules, ends, it.8))

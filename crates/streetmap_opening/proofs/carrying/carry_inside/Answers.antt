@@ -101,4 +101,4 @@ returns-in-Ok-read_serials-clause-carried g c clean inside =
     let i2 = c.in-Ok.ensures.inside k2 i1 in
     let is : c.deref.result.now ≡ c.in_ok-rows.rows.items = search rules in
     let each = subst (λ rows. PutsEach g.S.Store rows c.remake_tables.new.tx.conn.now c.put_rows.new.tx.conn.now) is (c.in_ok-put_rows.ensures.ran k3 i2) in
-    (c.in_ok-rows.rows.items, c.in_ok-rows.ensures.shown k1, c.remake_tables.new.tx.conn.now, c.put_rows.new.tx.conn.now, each, (c.in-Ok-read_serials.ensures.tells clean).1.0.now_is)
+    (c.in_ok-rows.rows.items, c.in_ok-rows.ensures.shown k1, c.take_rows.new.tx.conn.now, c.in_ok-rows.ensures.same k1, c.remake_tables.new.tx.conn.now, c.in-Ok.ensures.ran k2 i1, c.put_rows.new.tx.conn.now, each, (c.in-Ok-read_serials.ensures.tells clean).1.0.now_is)

@@ -20,3 +20,6 @@ pub returns-in_err-execute-clause-reason : goal.returns-in_err-execute-clause-re
 returns-in_err-execute-clause-reason g c clean =
     err_handed_on c.from_residual.result c.in_err-execute.field-0.0 _ c.from_residual.ensures.1
     (run_inside (state g.S.Store c.args.tx.now.conn.now) (state g.S.Store c.execute.new.self.conn.now) _ _ _ c.in_err-execute.ensures.ended (c.in_err-execute.ensures.runs clean))
+
+pub returns-clause-ran : goal.returns-clause-ran
+returns-clause-ran g c clean inside = (_, c.in_ok-execute.ensures.runs clean inside)

@@ -6,7 +6,8 @@ use Rattle.streetmap_opening.proofs.Grown.{meta_counts, features_counts}
 use Rattle.streetmap_opening.proofs.Others.{others_then, others_elsewhere}
 use Rattle.streetmap_opening.proofs.Stopping.{clean_back, ok_then, err_then, is_handed}
 use Rattle.streetmap_opening.specs.Old.{KeepsOld, old_features}
-use Rattle.streetmap_opening.specs.Part.{emptied}
+use Rattle.streetmap_opening.specs.Making.{format_text}
+use Rattle.streetmap_opening.specs.Part.{emptied, Ran}
 use Rattle.streetmap_opening.proofs.DropTexts.{drops_features, drops_meta, features_alone, meta_alone}
 use Rattle.streetmap_opening.proofs.Anew.{meta_free, features_free, told_meta, told_features}
 use Rattle.streetmap_opening.proofs.Remade.{features_go, meta_goes, rest1, rest2, rest3, lacks_format, others_remade}
@@ -132,3 +133,40 @@ returns-clause-told g c clean inside limit s keeps =
     let three = c.in_ok-create_table.ensures.created k3 i2 (meta 0) meta_is (meta_counts s2.now.schema (rest2 s s0.now keeps s1.now one s2.now two).room) in
     let four = c.in_ok-create_table-2.ensures.created k4 i3 (features 0) features_is (features_counts s3.now.schema (rest3 s s0.now keeps s1.now one s2.now two s3.now three).room) in
     err_then _ _ c.insert_format.result (c.insert_format.ensures.told clean i4 unlimited (emptied s) (lacks_format s s0.now keeps s1.now one s2.now two s3.now three s4.now four) four.sound) (λ e store. inl store)
+
+pub returns-clause-ran : goal.returns-clause-ran
+returns-clause-ran g c clean inside =
+    let s1 = state g.S.Store c.drop_table.new.tx.conn.now in
+    let s2 = state g.S.Store c.drop_table-2.new.tx.conn.now in
+    let s3 = state g.S.Store c.create_table.new.tx.conn.now in
+    let s4 = state g.S.Store c.create_table-2.new.tx.conn.now in
+    let s5 = state g.S.Store c.insert_format.new.tx.conn.now in
+    let k4 = clean_back s4 s5 _ c.insert_format.ensures.survives clean in
+    let k3 = clean_back s3 s4 _ c.create_table-2.ensures.survives k4 in
+    let k2 = clean_back s2 s3 _ c.create_table.ensures.survives k3 in
+    let k1 = clean_back s1 s2 _ c.drop_table-2.ensures.survives k2 in
+    let i1 = c.in_ok-drop_table.ensures.inside k1 inside in
+    let i2 = c.in_ok-drop_table-2.ensures.inside k2 i1 in
+    let i3 = c.in_ok-create_table.ensures.inside k3 i2 in
+    let i4 = c.in_ok-create_table-2.ensures.inside k4 i3 in
+    ok_then (Ran g.S.Store format_text c.create_table-2.new.tx.conn.now c.insert_format.new.tx.conn.now) _ c.insert_format.result (c.insert_format.ensures.ran clean i4) (λ last. (
+      c.drop_table.new.tx.conn.now,
+      c.in_ok-drop_table.ensures.ran k1 inside,
+      (
+        c.drop_table-2.new.tx.conn.now,
+        c.in_ok-drop_table-2.ensures.ran k2 i1,
+        (
+          c.create_table.new.tx.conn.now,
+          c.in_ok-create_table.ensures.ran k3 i2,
+          (
+            c.create_table-2.new.tx.conn.now,
+            c.in_ok-create_table-2.ensures.ran k4 i3,
+            (
+              c.insert_format.new.tx.conn.now,
+              last,
+              refl,
+            ),
+          ),
+        ),
+      ),
+    ))

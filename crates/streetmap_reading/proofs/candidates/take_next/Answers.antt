@@ -7,7 +7,7 @@ use Rattle.streetmap_ledger.specs.Folds.{Holds}
 use Rattle.streetmap_reading.specs.Candidates.{IsStored}
 use Rattle.streetmap_reading.specs.Taking.{Stopped}
 use Rattle.streetmap_rows.proofs.Answering.{handed_on}
-use Rattle.streetmap_reading.proofs.Rests.{at_end, at_row, at_fault}
+use Rattle.streetmap_reading.proofs.Rests.{at_end, at_row, at_fault, first_cell, first_text}
 use Rattle.streetmap_reading.proofs.candidates.take_next.Goals as goal
 
 pub returns-in-Err-clause-takes : goal.returns-in-Err-clause-takes
@@ -23,7 +23,7 @@ returns-in-Ok-take-clause-takes g c clean = λ sql params q done rest limit show
     let same = c.in-Ok.ensures.same clean in
     let met = at_row g.S.Store c.args.rows.now.conn.now c.advance.new.self.conn.now sql params done rest shows given _ c.in-Some.row.now (sym c.get.ensures ∙ ap option_copied c.in-Some.is) same (c.in-Ok.ensures.ok clean) in
     let kept = (subst (AllByRecursion (IsStored (option_copied c.args.property))) met.2 stored).0 in
-    let is = c.in_ok-feature.ensures met.0 met.3 kept in
+    let is = c.in_ok-feature.ensures met.0 (first_cell met.0 _ met.3) (first_text met.0 _ met.3) kept in
     ((met.0, met.1, met.2, met.4, subst (λ (f : FeatureValue). Holds q c.take.new.self (done ++ f ∷ [])) is (c.in-Ok-take.ensures.ok q done held)), same)
 
 pub returns-in_err-feature-clause-takes : goal.returns-in_err-feature-clause-takes
@@ -31,5 +31,5 @@ returns-in_err-feature-clause-takes g c clean = λ sql params q done rest limit 
     let same = c.in-Ok.ensures.same clean in
     let met = at_row g.S.Store c.args.rows.now.conn.now c.advance.new.self.conn.now sql params done rest shows given _ c.in-Some.row.now (sym c.get.ensures ∙ ap option_copied c.in-Some.is) same (c.in-Ok.ensures.ok clean) in
     let kept = (subst (AllByRecursion (IsStored (option_copied c.args.property))) met.2 stored).0 in
-    let stopped = subst (Stopped (state g.S.Store c.args.rows.now.conn.now) (state g.S.Store c.advance.new.self.conn.now)) (sym (c.in_err-feature.ensures met.0 met.3 kept)) same in
+    let stopped = subst (Stopped (state g.S.Store c.args.rows.now.conn.now) (state g.S.Store c.advance.new.self.conn.now)) (sym (c.in_err-feature.ensures met.0 (first_cell met.0 _ met.3) (first_text met.0 _ met.3) kept)) same in
     handed_on _ _ _ _ c.from_residual.ensures.1 stopped
