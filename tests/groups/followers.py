@@ -68,7 +68,8 @@ def check_killed(site: Site, rounds: int) -> dict[str, int]:
                 time.sleep(chance.uniform(0, BETWEEN_SECONDS))
     for reader in load.pages():
         # A follower that has not come so far lacks the collection. Where both are away: no answer.
-        others = reader.others <= {404, 502, 504}
+        # One that is killed within its answer cuts it, which is status 0.
+        others = reader.others <= {0, 404, 502, 504}
         site.context.check(f"other answers under kills: {reader.others}", others, True)
     return load.serials()
 

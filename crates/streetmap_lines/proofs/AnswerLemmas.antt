@@ -18,7 +18,7 @@ use Rattle.streetmap_lines.specs.Answers.{answer_to}
 use Rattle.streetmap_lines.specs.Request.{request_in}
 use Rattle.streetmap_lines.specs.Lines.{line_answer, state_after, answer_text, answers_of, first_too_long}
 use Rattle.streetmap_lines.specs.Lines.{AppendsFirst, AppendsLess, AnswersFirst}
-use Rattle.streetmap_lines.specs.Reading.{IsFirstLine, WhereKnown}
+use Rattle.streetmap_text_lines.specs.Reading.{IsFirstLine, WhereKnown}
 
 -- ---- beginnings
 
@@ -169,7 +169,7 @@ more-done : (m : ℕ) (o : Option ℕ) → option_map (λ n. m + n) (option_map 
 more-done m None = refl
 more-done m (Some n) = let e : m + (1 + n) ≡ (m + 1) + n = omega arith in ap Some e
 
-line-done : (input rest later line : List ℕ) (old w1 w2 : Option (List ℕ)) (s t : State) → IsAnswered input rest old w1 s → IsFirstLine rest line later
+line-done : (input rest later line : List ℕ) (old w1 w2 : Option (List ℕ)) (s t : State) → IsAnswered input rest old w1 s → IsFirstLine 8388608 rest line later
     → Appends w1 w2 (answer_text (line_answer s line)) → t ≡ state_after s line → IsAnswered input later old w2 t
 line-done input rest later line old w1 w2 s t h f w e =
     let done = h.done ++ line ∷ [] in
@@ -191,7 +191,7 @@ line-done input rest later line old w1 w2 s t h f w e =
 
 -- one more line is answered
 pub answered_more : (a b c old w1 w2 : Option (List ℕ)) (line : List ℕ) (s t : State) → WhereKnown a b (λ input rest. IsAnswered input rest old w1 s)
-    → WhereKnown b c (λ input rest. IsFirstLine input line rest) → Appends w1 w2 (answer_text (line_answer s line)) → t ≡ state_after s line
+    → WhereKnown b c (λ input rest. IsFirstLine 8388608 input line rest) → Appends w1 w2 (answer_text (line_answer s line)) → t ≡ state_after s line
     → WhereKnown a c (λ input rest. IsAnswered input rest old w2 t)
 answered_more None b c old w1 w2 line s t h f w e = tt
 answered_more (Some input) None c old w1 w2 line s t h f w e = absurd h
@@ -254,7 +254,7 @@ answered_begun (Some input) (Some rest) old w s h = rest-written input rest old 
 
 -- so is what was written where the answer to a line was written in part
 pub answered_partly : (a b c old w v : Option (List ℕ)) (line : List ℕ) (s : State) → WhereKnown a b (λ input rest. IsAnswered input rest old w s)
-    → WhereKnown b c (λ input rest. IsFirstLine input line rest) → AppendsFirst w v (answer_text (line_answer s line))
+    → WhereKnown b c (λ input rest. IsFirstLine 8388608 input line rest) → AppendsFirst w v (answer_text (line_answer s line))
     → IfSome a (λ input. AppendsFirst old v (answers_of opening_state (lines input)))
 answered_partly None b c old w v line s h f p = tt
 answered_partly (Some input) None c old w v line s h f p = absurd h
@@ -272,7 +272,7 @@ less-written input rest old w v s h f =
     (less_behind old w v (answers_of opening_state h.done) (answers_of s (lines rest)) h.written f)
 
 pub answered_less : (a b c old w v : Option (List ℕ)) (line : List ℕ) (s : State) → WhereKnown a b (λ input rest. IsAnswered input rest old w s)
-    → WhereKnown b c (λ input rest. IsFirstLine input line rest) → AppendsLess w v (answer_text (line_answer s line))
+    → WhereKnown b c (λ input rest. IsFirstLine 8388608 input line rest) → AppendsLess w v (answer_text (line_answer s line))
     → IfSome a (λ input. AppendsLess old v (answers_of opening_state (lines input)))
 answered_less None b c old w v line s h f p = tt
 answered_less (Some input) None c old w v line s h f p = absurd h

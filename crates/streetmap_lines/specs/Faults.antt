@@ -39,14 +39,6 @@ IsFlushFault Memory = ⊤
 abbrev pub IsAnswerFault : LinesFault → Type 0
 IsAnswerFault fault = IsWriteFault fault ⊎ IsFlushFault fault
 
--- what may come of a read: memory is refused, or the read fails
-abbrev pub IsReadFault : LinesFault → Type 0
-IsReadFault LineTooLong = ⊥
-IsReadFault ReadFailed = ⊤
-IsReadFault WriteFailed = ⊥
-IsReadFault FlushFailed = ⊥
-IsReadFault Memory = ⊤
-
 -- what may come of reading a line: it is too long, memory is refused, or the read fails
 abbrev pub IsLineFault : LinesFault → Type 0
 IsLineFault LineTooLong = ⊤

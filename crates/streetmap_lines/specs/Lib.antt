@@ -1,7 +1,6 @@
 pub mod AnswerView
 pub mod Answers
 pub mod Lines
-pub mod Reading
 pub mod Request
 pub mod RequestView
 pub mod Faults

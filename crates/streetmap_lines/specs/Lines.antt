@@ -1,11 +1,10 @@
 -- The lines of the input, and what is written for them.
-use Rattle.std.specs.Prelude.{ℕ, ◌<◌, Bool, List, [], ◌∷◌, ◌++◌, Option, None, Some, length}
-use Rattle.std.specs.Prelude.{nat_lt, take, ◌==◌}
-use Rattle.std.specs.List.{slice_split, position}
+use Rattle.std.specs.Prelude.{ℕ, ◌<◌, List, [], ◌∷◌, ◌++◌, Option, None, Some, length, take}
 use Rattle.std.specs.Io.{StartsWith}
 use Rattle.std.specs.Io.KnownBytes.{Appends}
 use Rattle.serde_json.specs.Data.{Data}
 use Rattle.serde_json.specs.Written.{compact_text}
+use Rattle.streetmap_text_lines.specs.Lines as bounded
 use Rattle.streetmap_ledger.specs.State.{State}
 use Rattle.streetmap_lines.specs.Answers.{answer_to}
 use Rattle.streetmap_lines.specs.Request.{request_in}
@@ -35,17 +34,10 @@ answers_of s (line ∷ lines) = answer_text (line_answer s line)
 
 -- ---- too long lines
 
--- what stands between the line feeds: the lines, with their carriage returns
-abbrev pub raw_lines : List ℕ → List (List ℕ)
-raw_lines input = slice_split (λ b. b == 10) input
-
--- a line of more than 8,388,608 bytes, its line feed not counted
-abbrev pub is_too_long : List ℕ → Bool
-is_too_long line = nat_lt 8388608 (length line)
-
--- how many lines stand before the first that is too long, where there is one
+-- how many lines stand before the first of more than 8,388,608 bytes, its line feed not counted,
+-- where there is one
 abbrev pub first_too_long : List ℕ → Option ℕ
-first_too_long input = position is_too_long (raw_lines input)
+first_too_long input = bounded.first_too_long 8388608 input
 
 -- ---- writing that ends early
 

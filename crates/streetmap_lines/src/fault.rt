@@ -2,10 +2,11 @@
 ghost use Rattle.std.specs.Prelude.{◌≡◌, ◌≢◌};
 ghost use Rattle.std.specs.IoError.{error_kind};
 ghost use Rattle.streetmap_lines.specs.Faults.{code_of, description_of};
-ghost use Rattle.streetmap_lines.specs.Faults.{IsReadFault, IsWriteFault, IsFlushFault};
+ghost use Rattle.streetmap_lines.specs.Faults.{IsLineFault, IsWriteFault, IsFlushFault};
 
 use std::alloc::AllocError;
 use std::io::{Error, ErrorKind};
+use streetmap_text_lines::LineFault;
 
 /// Why the answering of lines ends before the input does.
 #[derive(Clone, Copy, Debug, PartialEq, Eq)]
@@ -49,17 +50,15 @@ impl LinesFault {
         }
     }
 
-    /// The fault of a read that failed. A buffer that finds no memory fails so too.
-    pub fn of_read(error: &Error) -> LinesFault
-        ensures memory { error_kind error.now ≡ ErrorKind.OutOfMemory → result ≡ LinesFault.Memory }
-        ensures other { error_kind error.now ≢ ErrorKind.OutOfMemory
-            → result ≡ LinesFault.ReadFailed }
-        ensures fault { IsReadFault result }
+    /// The fault of a line that was not read.
+    pub(crate) fn of_line(fault: LineFault) -> LinesFault
+        ensures fault { IsLineFault result }
+        ensures too_long { result ≡ LinesFault.LineTooLong → fault ≡ LineFault.LineTooLong }
     {
-        if error.kind() == ErrorKind::OutOfMemory {
-            LinesFault::Memory
-        } else {
-            LinesFault::ReadFailed
+        match fault {
+            LineFault::LineTooLong => LinesFault::LineTooLong,
+            LineFault::ReadFailed => LinesFault::ReadFailed,
+            LineFault::Memory => LinesFault::Memory,
         }
     }
 

@@ -1,8 +1,7 @@
 //! Lines of input, answered one by one.
-ghost use Rattle.std.specs.Prelude.{◌≡◌, ◌≤◌, ◌++◌, ◌∷◌, [], Some, None, Err, IfOk, OnOk, IfErr};
-ghost use Rattle.std.specs.Prelude.{OnErr, IfSome, OnSome, IsSomeAnd, vec_len, take, ◌==◌};
-ghost use Rattle.std.specs.List.{position_from, position_or_len};
-ghost use Rattle.std.specs.Str.Lines.{lines, strip_carriage_return};
+ghost use Rattle.std.specs.Prelude.{◌≡◌, ◌++◌, ◌∷◌, [], Some, None, Err, IfOk, OnOk, IfErr};
+ghost use Rattle.std.specs.Prelude.{OnErr, IfSome, OnSome, IsSomeAnd, take};
+ghost use Rattle.std.specs.Str.Lines.{lines};
 ghost use Rattle.std.specs.Io.KnownBytes.{Appends, IsAtEnd};
 ghost use Rattle.streetmap_memory.specs.Plain.{IsPlain, plain_state};
 ghost use Rattle.streetmap_ledger.specs.State.{opening_state};
@@ -10,125 +9,30 @@ ghost use Rattle.streetmap_lines.specs.Faults.{IsLineFault, IsWriteFault, IsAnsw
 ghost use Rattle.streetmap_lines.specs.Lines.{line_answer, state_after, answer_text, answers_of};
 ghost use Rattle.streetmap_lines.specs.Lines.{first_too_long, AppendsFirst, AppendsLess};
 ghost use Rattle.streetmap_lines.specs.Lines.{AnswersFirst};
-ghost use Rattle.streetmap_lines.specs.Reading.{HasNoLineFeed, TakesShown, TakesLine};
+ghost use Rattle.streetmap_text_lines.specs.Reading.{TakesLine};
 
 use crate::answer::answer_line;
 use crate::fault::LinesFault;
 use std::alloc::Global;
 use std::io::{BufRead, ErrorKind, Write};
 use streetmap_memory::PlainKeeper;
+use streetmap_text_lines::Line;
 
 /// The most bytes that a line may have, its line feed not counted.
 pub const MAX_LINE: usize = 8_388_608;
 
-/// What stood at the front of the input.
-#[derive(Drop)]
-enum Line {
-    /// A line, without its line feed and a carriage return before it.
-    Text(Vec<u8>),
-    /// The end of the input.
-    End,
-}
-
-/// How a line goes on in the bytes that a reader shows.
-#[derive(Clone, Copy)]
-enum Shown {
-    /// They are all of the line, and more may follow.
-    More,
-    /// The line ends in them, by a line feed.
-    LineFeed,
-    /// There are none: the input ends.
-    End,
-}
-
-/// Where the first line feed stands.
-fn find_line_feed(shown: &[u8]) -> Option<usize>
-    ensures { result ≡ position_from (λ b. b == 10) 0 shown.now }
-{
-    shown.iter().position(|byte| *byte == b'\n')
-}
-
-/// How many bytes stand before the first line feed.
-fn line_length(shown: &[u8]) -> usize
-    ensures { result ≡ position_or_len (λ b. b == 10) shown.now }
-{
-    match find_line_feed(shown) {
-        Some(at) => at,
-        None => shown.len(),
-    }
-}
-
-/// Takes what the reader shows of a line over to it, and its line feed off the reader.
-fn take_shown<R: BufRead>(reader: &mut R, line: &mut Vec<u8>) -> Result<Shown, LinesFault>
-    requires short { vec_len line.old ≤ 8388608 }
-    requires one_line { HasNoLineFeed line.old.items }
-    ensures short { OnOk result (vec_len line.new ≤ 8388608) }
-    ensures one_line { OnOk result (HasNoLineFeed line.new.items) }
-    ensures taken { IfOk result (TakesShown (R.remaining reader.old) (R.remaining reader.new)
-        line.old.items line.new.items) }
-    ensures too_long { result ≡ Err LinesFault.LineTooLong
-        → IfSome (R.remaining reader.old) (λ rest. first_too_long (line.old.items ++ rest)
-        ≡ Some 0) }
-    ensures fault { IfErr result IsLineFault }
-{
-    let shown = match reader.fill_buf() {
-        Ok(shown) => shown,
-        Err(error) if error.kind() == ErrorKind::Interrupted => return Ok(Shown::More),
-        Err(error) => return Err(LinesFault::of_read(&error)),
-    };
-    if shown.is_empty() {
-        return Ok(Shown::End);
-    }
-    let count = line_length(shown);
-    let ended = count < shown.len();
-    if count > MAX_LINE - line.len() {
-        return Err(LinesFault::LineTooLong);
-    }
-    line.extend_from_slice(&shown[..count])?;
-    if ended {
-        reader.consume(count + 1);
-        Ok(Shown::LineFeed)
-    } else {
-        reader.consume(count);
-        Ok(Shown::More)
-    }
-}
-
-/// Drops the carriage return at the end of a line, where there is one.
-fn drop_carriage_return(line: &mut Vec<u8>)
-    ensures { line.new.items ≡ strip_carriage_return line.old.items }
-{
-    if line.last() == Some(&b'\r') {
-        let _ = line.pop();
-    }
-}
-
 /// The next line of the input. The last one may lack its line feed.
 fn next_line<R: BufRead>(alloc: Global, reader: &mut R) -> Result<Line, LinesFault>
-    ensures taken { IfOk result (TakesLine (R.remaining reader.old) (R.remaining reader.new)) }
+    ensures taken { IfOk result
+        (TakesLine 8388608 (R.remaining reader.old) (R.remaining reader.new)) }
     ensures too_long { result ≡ Err LinesFault.LineTooLong
         → IfSome (R.remaining reader.old) (λ input. first_too_long input ≡ Some 0) }
     ensures fault { IfErr result IsLineFault }
 {
-    let mut line = Vec::new(alloc);
-    for _turn in 0..u64::MAX {
-        match take_shown(reader, &mut line)? {
-            Shown::More => {}
-            Shown::LineFeed => {
-                drop_carriage_return(&mut line);
-                line.shrink_to_fit();
-                return Ok(Line::Text(line));
-            }
-            Shown::End => {
-                return Ok(if line.is_empty() {
-                    Line::End
-                } else {
-                    Line::Text(line)
-                });
-            }
-        }
+    match streetmap_text_lines::next_line(alloc, reader, MAX_LINE) {
+        Ok(line) => Ok(line),
+        Err(fault) => Err(LinesFault::of_line(fault)),
     }
-    Err(LinesFault::ReadFailed)
 }
 
 /// Writes bytes, as often as the writer takes some of them.

@@ -1,8 +1,8 @@
-use Rattle.std.proofs.Common.{◌≡◌, ◌∙◌, ap, sym, refl, subst, Result, Err}
+use Rattle.std.proofs.Common.{◌∙◌, ap, sym, refl, subst, Err}
 use Rattle.std.proofs.lemmas.Result.{err_from_is_err_and}
 use Rattle.streetmap_memory.specs.Plain.{IsPlain, plain_state}
 use Rattle.streetmap_lines.specs.Lines.{line_answer, state_after, answer_text, AppendsFirst, AppendsLess}
-use Rattle.streetmap_lines.specs.Reading.{TakesLine}
+use Rattle.streetmap_text_lines.specs.Reading.{TakesLine}
 use Rattle.std.specs.Io.KnownBytes.{Appends}
 use Rattle.streetmap_lines.proofs.AnswerLemmas.{answered_none, answered_more, answered_first, answered_begun, answered_partly, answered_less}
 use Rattle.streetmap_lines.proofs.AnswerLemmas.{on_err, stands_for_own}
@@ -26,7 +26,7 @@ returns-in_err-write_answer-in-Text-clause-err g c =
     let later = g.R.Read.remaining c.next_line.new.reader in
     let before = plain_state c.loop-turn.keeper in
     let line = c.in-Text.line.items in
-    let taken = subst (TakesLine rest later) c.in-Text.is c.in_ok-next_line.ensures.taken in
+    let taken = subst (TakesLine 8388608 rest later) c.in-Text.is c.in_ok-next_line.ensures.taken in
     let partly = subst (λ l. AppendsFirst (g.W.Write.contents c.loop-turn.writer) (g.W.Write.contents c.write_answer.new.writer) (answer_text (line_answer before l)))
     c.as_slice.ensures.value (c.in_err-write_answer-in-Text.ensures.err c.loop-turn.invariant.stands) in
     on_err c.from_residual-in_err-write_answer-in-Text.result _
@@ -39,7 +39,7 @@ returns-in_err-write_answer-in-Text-clause-write_failed g c = λ is.
     let later = g.R.Read.remaining c.next_line.new.reader in
     let before = plain_state c.loop-turn.keeper in
     let line = c.in-Text.line.items in
-    let taken = subst (TakesLine rest later) c.in-Text.is c.in_ok-next_line.ensures.taken in
+    let taken = subst (TakesLine 8388608 rest later) c.in-Text.is c.in_ok-next_line.ensures.taken in
     let r = c.from_residual-in_err-write_answer-in-Text in
     let p = err_from_is_err_and r.result r.ensures.1 in
     let failed = sym (p.1 ∙ ap (λ x. Err x) p.2) ∙ is in
@@ -54,7 +54,7 @@ returns-in_err-write_answer-in-Text-clause-flush_failed g c = λ is.
     let later = g.R.Read.remaining c.next_line.new.reader in
     let before = plain_state c.loop-turn.keeper in
     let line = c.in-Text.line.items in
-    let taken = subst (TakesLine rest later) c.in-Text.is c.in_ok-next_line.ensures.taken in
+    let taken = subst (TakesLine 8388608 rest later) c.in-Text.is c.in_ok-next_line.ensures.taken in
     let r = c.from_residual-in_err-write_answer-in-Text in
     let p = err_from_is_err_and r.result r.ensures.1 in
     let failed = sym (p.1 ∙ ap (λ x. Err x) p.2) ∙ is in
@@ -70,7 +70,7 @@ loop-turn-preserved g c =
     let later = g.R.Read.remaining c.next_line.new.reader in
     let before = plain_state c.loop-turn.keeper in
     let line = c.in-Text.line.items in
-    let taken = subst (TakesLine rest later) c.in-Text.is c.in_ok-next_line.ensures.taken in
+    let taken = subst (TakesLine 8388608 rest later) c.in-Text.is c.in_ok-next_line.ensures.taken in
     let written = subst (λ l. Appends (g.W.Write.contents c.loop-turn.writer) (g.W.Write.contents c.write_answer.new.writer) (answer_text (line_answer before l)))
     c.as_slice.ensures.value (c.in_ok-write_answer-in-Text.ensures.ok c.loop-turn.invariant.stands) in
     let state = subst (λ l. IsPlain c.write_answer.new.keeper (state_after before l)) c.as_slice.ensures.value (c.in_ok-write_answer-in-Text.ensures.state c.loop-turn.invariant.stands) in

@@ -1,5 +1,5 @@
 use Rattle.streetmap_memory.specs.Plain.{IsPlain, plain_state}
-use Rattle.streetmap_lines.specs.Reading.{WhereKnown}
+use Rattle.streetmap_text_lines.specs.Reading.{WhereKnown}
 use Rattle.streetmap_lines.proofs.AnswerLemmas.{IsAnswered}
 use Rattle.streetmap_lines.proofs.input.lines.Given as goal
 
