@@ -17,9 +17,9 @@ FEATURES, GEOMETRY, ID, LINKS = '{"features":[', '{"geometry":', ',"id":', '],"l
 # Stands between texts of geometries, none of which has it.
 BETWEEN = "|"
 DECODER = json.JSONDecoder()
-# So many pages are kept as they were placed. Where the server answers the same bytes again, as to
-# many clients that begin with the same page, they are not placed again.
-KEPT = 64
+# So many pages of at most so many bytes are kept as they were placed. Where the server answers the
+# same bytes again, as to many clients that begin with the same page, they are not placed again.
+KEPT, KEPT_BYTES = 64, 1 << 18
 
 Geometry = dict[str, Any] | None
 
@@ -47,7 +47,7 @@ class Page:
 
 @dataclass(frozen=True)
 class PlacedPage:
-    """A page of the server in a reference system: the texts of its features, with commas between."""
+    """A page of the server in a reference system: the texts of its features, commas between."""
 
     text: str
     count: int
@@ -56,9 +56,19 @@ class PlacedPage:
     goes_on: bool
 
 
-@lru_cache(maxsize=KEPT)
 def placed_page(body: bytes, system: System) -> PlacedPage:
     """The page that an answer holds, carried over; a ValueError where it holds none."""
+    return kept_page(body, system) if len(body) <= KEPT_BYTES else carried_page(body, system)
+
+
+@lru_cache(maxsize=KEPT)
+def kept_page(body: bytes, system: System) -> PlacedPage:
+    """The same of a page that is kept."""
+    return carried_page(body, system)
+
+
+def carried_page(body: bytes, system: System) -> PlacedPage:
+    """The same of a page that is carried over anew."""
     page = read_page(body)
     last = page.features[-1].id if page.features else None
     text = ",".join(placed_texts(page.features, system))

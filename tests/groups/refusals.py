@@ -1,11 +1,11 @@
 """Refused allocations: the same answers, or want of memory and the state as it was.
 
 Refused are those of `lines`; of `pipe` over a file, and of `serve` for one of many clients, with a
-journal and without; and of `create`, `import`, `load`, `apply`, `batches`, `export` and `check`. A stream is answered as with
-memory, or by a beginning of that and then the 503 or 500 that closes the connection, or it ends for
-want of memory before the first answer; one of many clients may be let go behind any answer. Opened
-again with memory, the file holds the state before the batch or the one behind it, and the latter
-where its 200 was begun.
+journal and without; and of `create`, `import`, `load`, `apply`, `batches`, `export` and `check`.
+A stream is answered as with memory, or by a beginning of that and then the 503 or 500 that closes
+the connection, or it ends for want of memory before the first answer; one of many clients may be
+let go behind any answer. Opened again with memory, the file holds the state before the batch or the
+one behind it, and the latter where its 200 was begun.
 The short form refuses some of the allocations, the long one each; it also builds two tests, whose
 allocations it refuses.
 """
@@ -210,9 +210,9 @@ def check_stream(refuser: Refuser, what: str, run: Callable[[int, Path], Ended])
 
 
 def check_journal(refuser: Refuser) -> None:
-    """`serve --journal` answers as `serve` does, and the journal has each batch of the file: a batch
-    for whose line there is no memory is not applied. Where the server does not come to listen it
-    has a beginning."""
+    """`serve --journal` answers as `serve` does, and the journal has each batch of the file: one for
+    whose line there is no memory is not applied. Where the server does not come to listen it has a
+    beginning."""
     journal = refuser.context.folder / "town.journal"
 
     def serve(number: int, file: Path) -> Ended:
