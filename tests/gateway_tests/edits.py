@@ -81,8 +81,8 @@ def check_life(context: Context, asked: Gateway) -> None:
 
 
 def check_kept_pages(context: Context, asked: Gateway) -> None:
-    """A page that the gateway has carried over before is not shown once the server's is another, nor
-    in another system."""
+    """A page that the gateway has carried over before is not shown once the server's is another,
+    nor in another system."""
 
     def shown(**query: Any) -> list[dict[str, Any]]:
         found = asked.all_items("lamps", limit=1000, **query)
