@@ -211,8 +211,8 @@ def check_stream(refuser: Refuser, what: str, run: Callable[[int, Path], Ended])
 
 def check_journal(refuser: Refuser) -> None:
     """`serve --journal` answers as `serve` does, and the journal has each batch of the file: one
-    for whose line there is no memory is not applied. Where the server does not come to listen it has a
-    beginning."""
+    for whose line there is no memory is not applied. Where the server does not come to listen it
+    has a beginning."""
     journal = refuser.context.folder / "town.journal"
 
     def serve(number: int, file: Path) -> Ended:
