@@ -398,8 +398,9 @@ def long_chain(tasks: dict[Any, Any]) -> set[Any]:
 
 def in_lanes_by(rt: ModuleType) -> Callable[..., Any]:
     """What stands for `in_lanes` of `rt ci`: what wrong bodies begin with waits for the proof, and
-    those of a crate are tried one after the other, since one check tries many. Where there are
-    lanes enough, a proof that many others wait for takes two processes or more."""
+    those of a crate are tried one after the other, since one check tries many. A proof takes one
+    process, since two share little and take a third more time together; but the last of a long
+    chain, where few others are left, takes three."""
     alone = rt.in_lanes
 
     def with_jobs(call: Callable[..., Any], least: int) -> Callable[..., Any]:
@@ -413,8 +414,8 @@ def in_lanes_by(rt: ModuleType) -> Callable[..., Any]:
                 tasks[key] = ([*waits, (key[0], "proof")], lines, memory, call)
             elif key[1] == "edits" and key[2] > 0:
                 tasks[key] = ([*waits, (*key[:2], key[2] - 1)], lines, memory, call)
-            elif key in chain:
-                tasks[key] = (waits, lines, memory, with_jobs(call, 3 if key == last else 2))
+            elif key == last:
+                tasks[key] = (waits, lines, memory, with_jobs(call, 3))
         return alone(tasks)
 
     return in_lanes

@@ -1,4 +1,4 @@
-use Rattle.std.proofs.Common.{◌∙◌, sym}
+use Rattle.std.proofs.Common.{rules, ◌∙◌, sym}
 use Rattle.std.specs.FinMap.{len}
 use Rattle.sqlite.specs.Held.{state}
 use Rattle.streetmap_rows.proofs.Leaving.{leaves_only}
@@ -37,3 +37,9 @@ returns-in-Memory-clause-adopts g c clean s rests =
         leaves_same new old (sym same.1) (λ trees may. g.met.S.Store.settled before trees rests.live may) (g.met.S.Store.stays after live),
       ),
     )
+
+pub returns-in-Closed-Device-clause-tells : goal.returns-in-Closed-Device-clause-tells
+returns-in-Closed-Device-clause-tells c = search rules
+
+pub returns-in-Closed-Device-clause-adopts : goal.returns-in-Closed-Device-clause-adopts
+returns-in-Closed-Device-clause-adopts c = search rules

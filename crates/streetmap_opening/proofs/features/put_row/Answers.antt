@@ -1,4 +1,4 @@
-use Rattle.std.proofs.Common.{◌≡◌, ap, sym, subst, ◌∙◌, arith}
+use Rattle.std.proofs.Common.{rules, ◌≡◌, ap, sym, subst, ◌∙◌, arith}
 use Rattle.std.specs.FinMap.{get, insert}
 use Rattle.sqlite.specs.Held.{state}
 use Rattle.sqlite.specs.State.{HasCleanDisk}
@@ -113,3 +113,6 @@ returns-in-Ok-None-clause-ran g c clean inside =
         subst (λ p. RanInsert p (feature_text c.in_ok-feature.feature) b new) (λ i. (name i, c.in_ok-feature.ensures.named i)) ran,
       ),
     )
+
+pub returns-in-Ok-Some-clause-ran : goal.returns-in-Ok-Some-clause-ran
+returns-in-Ok-Some-clause-ran c = search rules

@@ -1,3 +1,4 @@
+use Rattle.std.proofs.Common.{rules}
 use Rattle.sqlite.specs.Held.{state}
 use Rattle.streetmap_ledger.specs.State.{opening_state}
 use Rattle.streetmap_rows.proofs.Leaving.{leaves_only}
@@ -18,3 +19,6 @@ returns-in-Err-probe-clause-made g c clean ready =
     let new = state g.S.Store c.probe.new.conn in
     let early = clean_back mid new _ c.in-Err-probe.ensures.survives clean in
     same_if_settled old mid new (c.in-Err.ensures.made early ready) (c.in-Err-probe.ensures.kept clean) c.probe.ensures.settled ready.settled
+
+pub returns-then-not-is_memory-clause-told : goal.returns-then-not-is_memory-clause-told
+returns-then-not-is_memory-clause-told c = search rules
