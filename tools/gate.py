@@ -174,10 +174,17 @@ def errors_of(path: str, lines: list[str]) -> list[str]:
     return [it for it in told if not LOST_NAME.search(it)]
 
 
+def fails_itself(path: str, behind: str, lines: list[str]) -> bool:
+    """Whether a function that is not proved fails at a goal of its own, whatever it calls: an
+    answer is refused, or a goal that was tried is open. One that waits for the proof of what the
+    function calls is not tried."""
+    return bool(errors_of(path, lines)) or "`search` did not prove" in behind
+
+
 def refusal(crate: str, edit: Edit, output: str, is_apart: bool) -> str | None:
     """The first line that refuses a function of the edit at a goal of its own, if one does. A
-    function that calls one which is not proved counts where an answer of its own is refused, and
-    no function that no edit touches has such an answer (`is_apart`)."""
+    function that calls one which is not proved counts where it fails itself, and no function that
+    no edit touches does (`is_apart`)."""
     lines = output.splitlines()
     for path, status, behind in STATUS.findall(output):
         inside = path.removeprefix(f"{crate}::")
@@ -186,7 +193,7 @@ def refusal(crate: str, edit: Edit, output: str, is_apart: bool) -> str | None:
         function = next((it for it in edit.functions or () if it.is_called(inside)), None)
         if function is None or not is_own:
             continue
-        if "it calls" in behind and not (is_apart and errors_of(inside, lines)):
+        if "it calls" in behind and not (is_apart and fails_itself(inside, behind, lines)):
             continue
         told = [it for it in lines if is_of(it, inside, function)]
         told.sort(key=lambda it: bool(LOST_NAME.search(it)))
@@ -195,12 +202,12 @@ def refusal(crate: str, edit: Edit, output: str, is_apart: bool) -> str | None:
 
 
 def only_edited(crate: str, edits: list[Edit], output: str) -> bool:
-    """Whether each function with a refused answer is one that an edit changes."""
+    """Whether each function that fails itself is one that an edit changes."""
     edited = [function for edit in edits for function in edit.functions or ()]
     lines = output.splitlines()
-    for path, status, _ in STATUS.findall(output):
+    for path, status, behind in STATUS.findall(output):
         inside = path.removeprefix(f"{crate}::")
-        if status == "not proved" and errors_of(inside, lines):
+        if status != "proved" and fails_itself(inside, behind, lines):
             if not any(it.is_called(inside) for it in edited):
                 return False
     return True
