@@ -1,4 +1,4 @@
-use Rattle.std.proofs.Common.{◌≡◌, List, Option, Some, IfOk, IfErr, IsSome, Result, sym, subst}
+use Rattle.std.proofs.Common.{rules, ◌≡◌, List, Option, Some, IfOk, IfErr, IsSome, Result, sym, subst}
 use Rattle.std.specs.Box.{box_value}
 use Rattle.clap.specs.Words.{Row, Text, rows_of, found_of}
 use Rattle.clap.specs.declared.parser.matches.ArgMatches.TheViews.{out-ArgMatches, out-SubCommand}
@@ -57,3 +57,6 @@ returns-in-load-clause-refused c =
     (named (λ b. (out-SubCommand (box_value b)).name.now) (λ b. rows_of (found_of (out-SubCommand (box_value b)).matches))
     (out-ArgMatches c.args.matches.now).subcommand c.in-Some.name.now rows c.in-Some.ensures.name c.in-Some.ensures.rows)
     c.in-load.is c.read_load.ensures.refused
+
+pub returns-in_default-name-clause-refused : goal.returns-in_default-name-clause-refused
+returns-in_default-name-clause-refused c = search rules

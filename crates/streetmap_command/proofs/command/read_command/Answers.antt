@@ -1,4 +1,4 @@
-use Rattle.std.proofs.Common.{◌≡◌, true, map, string_bytes, subst, sym}
+use Rattle.std.proofs.Common.{rules, ◌≡◌, true, map, string_bytes, subst, sym}
 use Rattle.std.proofs.Common.{Global}
 use Rattle.clap.specs.Words.{App, app_of, takes}
 use Rattle.streetmap_command.proofs.Asked.{asked_parts, found_asked, if_refused, not_version, parsed_faultless, read_asked}
@@ -36,3 +36,9 @@ pub returns-in-Err-try_get_matches_from-clause-version : goal.returns-in-Err-try
 returns-in-Err-try_get_matches_from-clause-version c =
     let words = map (string_bytes {Z = Global}) c.args.words.now in
     version_refused c.without_matches.result words c.in-Err-try_get_matches_from.error (app_of c.in-Ok.parser) c.in-Ok.ensures c.in-Err-try_get_matches_from.ensures.kinds c.without_matches.ensures.memory c.without_matches.ensures.version
+
+pub returns-in-Err-clause-asked : goal.returns-in-Err-clause-asked
+returns-in-Err-clause-asked c = search rules
+
+pub returns-in-Err-clause-version : goal.returns-in-Err-clause-version
+returns-in-Err-clause-version c = search rules

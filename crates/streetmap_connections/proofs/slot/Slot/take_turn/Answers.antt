@@ -1,4 +1,4 @@
-use Rattle.std.proofs.Common.{refl, ap, inl, ◌++◌, Option}
+use Rattle.std.proofs.Common.{rules, refl, ap, inl, ◌++◌, Option}
 use Rattle.streetmap_connections.specs.declared.client.Client.{Client}
 use Rattle.streetmap_connections.specs.declared.limits.TheConstants.{MOST_INPUT}
 use Rattle.streetmap_connections.specs.Slots.{past_of, present}
@@ -15,3 +15,6 @@ returns-else-is_late-clause-turn g c = inl (record {
   moves = moves_within c.args.most_input MOST_INPUT _ _ c.requires c.work.ensures.moves;
   calls = c.work.ensures.calls;
 })
+
+pub returns-else-is_late-clause-late : goal.returns-else-is_late-clause-late
+returns-else-is_late-clause-late c = search rules
