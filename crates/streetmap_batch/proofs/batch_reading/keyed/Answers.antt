@@ -1,4 +1,4 @@
-use Rattle.std.proofs.Common.{◌≡◌, true, Some, refl, sym, subst, arith}
+use Rattle.std.proofs.Common.{rules, ◌≡◌, true, Some, refl, sym, subst, arith}
 use Rattle.std.specs.Prelude.{option_map, string_bytes}
 use Rattle.streetmap_batch.specs.BatchFaults.{Gives}
 use Rattle.streetmap_batch.specs.BatchReading.{batch_from}
@@ -6,6 +6,7 @@ use Rattle.streetmap_batch.specs.BatchTokens.{edits_view, few_edits}
 use Rattle.streetmap_batch.specs.BatchView.{batch_value, edit_values}
 use Rattle.streetmap_batch.specs.Names.{is_key}
 use Rattle.streetmap_batch.proofs.EditLists.{keyed_read}
+use Rattle.streetmap_batch.specs.BatchReading.{keyed}
 use Rattle.streetmap_batch.proofs.batch_reading.keyed.Goals as goal
 
 pub returns : goal.returns
@@ -17,3 +18,7 @@ returns c ds given =
     let told : option_map (λ t. t.now) c.args.told ≡ Some key = rw c.in-Some.is refl in
     let made : Gives batch_value c.new.result (batch_from key es) = subst (λ k. Gives batch_value c.new.result (batch_from k es)) c.in_ok-key.ensures.ok (subst (λ items. Gives batch_value c.new.result (batch_from (string_bytes c.in_ok-key.key) (edit_values items))) c.shrink_to_fit.ensures.items c.new.ensures) in
     subst (λ r. Gives batch_value c.new.result r) (sym (keyed_read (option_map (λ t. t.now) c.args.told) key ds es told named read)) made
+
+pub returns-in_err-edits : goal.returns-in_err-edits
+unfolding keyed
+returns-in_err-edits c = search rules
