@@ -35,7 +35,7 @@ NEEDED = (
     *("seeded", "in_lanes", "Crate"),
 )
 # How many wrong bodies one check tries, and in how many such checks one is tried.
-MOST_TOGETHER, MOST_ROUNDS = 12, 2
+MOST_TOGETHER, MOST_ROUNDS = 24, 2
 # A chain of crates is long where it has this part of the longest one's lines.
 NEARLY = 0.95
 LANES = int(os.environ.get("RT_JOBS") or len(os.sched_getaffinity(0)))
