@@ -39,6 +39,7 @@ MOST_TOGETHER, MOST_ROUNDS = 24, 2
 # A chain of crates is long where it has this part of the longest one's lines.
 NEARLY = 0.95
 LANES = int(os.environ.get("RT_JOBS") or len(os.sched_getaffinity(0)))
+CONSTANT = re.compile(r"^ *(?:pub(?:\([\w ]+\))? )?const ([A-Z]\w*)\b.*$", re.MULTILINE)
 FUNCTION = re.compile(r"^( *)(?:pub(?:\([\w ]+\))? )?(?:const |unsafe )*fn (\w+)", re.MULTILINE)
 IMPL = re.compile(
     r"^impl\b(?:<[^{]*?>)? *(?:(?P<trait>\w+)[^{]*? for )?(?P<type>\w+)", re.MULTILINE
@@ -119,6 +120,28 @@ def function_at(file: str, text: str, start: int, end: int) -> Function | None:
     return Function(file, lines, module, kind, name)
 
 
+def functions_that_name(folder: str, constant: str) -> set[Function]:
+    """The functions of a crate whose bodies name a constant."""
+    found = set()
+    for source in sorted(Path(folder, "src").rglob("*.rt")):
+        text, file = source.read_text(encoding="utf-8"), source.relative_to(folder).as_posix()
+        for at in re.finditer(rf"\b{constant}\b", text):
+            function = function_at(file, text, at.start(), at.end())
+            if function is not None:
+                found.add(function)
+    return found
+
+
+def functions_at(folder: str, file: str, text: str, start: int, end: int) -> set[Function]:
+    """The function within whose body a part of a file's text stands; of a constant, the functions
+    that name it."""
+    function = function_at(file, text, start, end)
+    if function is not None:
+        return {function}
+    line = CONSTANT.match(text, text.rfind("\n", 0, start) + 1)
+    return functions_that_name(folder, line[1]) if line and end <= line.end() else set()
+
+
 def read_edit(folder: str, path: str) -> Edit:
     found: set[Function] = set()
     pairs = pairs_of(path)
@@ -126,10 +149,10 @@ def read_edit(folder: str, path: str) -> Edit:
         source = Path(folder, file)
         text = source.read_text(encoding="utf-8") if source.is_file() else ""
         at = text.find(old) if file.startswith("src/") and text.count(old) == 1 else -1
-        function = function_at(file, text, at, at + len(old)) if at >= 0 else None
-        if function is None:
+        functions = functions_at(folder, file, text, at, at + len(old)) if at >= 0 else set()
+        if not functions:
             return Edit(path, pairs, None)
-        found.add(function)
+        found |= functions
     return Edit(path, pairs, frozenset(found) or None)
 
 
