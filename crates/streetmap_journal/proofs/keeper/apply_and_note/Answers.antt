@@ -1,8 +1,9 @@
-use Rattle.std.proofs.Common.{◌≡◌, true, sym, ◌∙◌, ap}
+use Rattle.std.proofs.Common.{arith, rules, ◌≡◌, true, sym, ◌∙◌, ap}
 use Rattle.streetmap_batch.specs.BatchView.{batch_value}
 use Rattle.streetmap_ledger.specs.Laws.{is_accepted}
 use Rattle.streetmap_ledger.specs.Batches.{act}
 use Rattle.streetmap_journal.proofs.Noted.{accepted_holds, refused_leaves}
+use Rattle.std.proofs.lemmas.Grind.{common_steps}
 use Rattle.streetmap_journal.proofs.keeper.apply_and_note.Goals as goal
 
 pub returns-in-Ok-Accepted-clause-acts : goal.returns-in-Ok-Accepted-clause-acts
@@ -29,3 +30,12 @@ returns-in_default-clause-leaves g c = λ h s e only.
     refused_leaves s (batch_value c.args.batch.now) c.refuse.result
     (g.K.Keeper.stands c.refuse.new.keeper) (g.K.Keeper.may_leave c.refuse.new.keeper)
     (c.refuse.ensures.keeps h s e) (c.refuse.ensures.leaves h s e only)
+
+pub returns-in-Ok-Repeated-clause-acts : goal.returns-in-Ok-Repeated-clause-acts
+returns-in-Ok-Repeated-clause-acts c = search rules
+
+pub returns-in-Ok-Refused-clause-acts : goal.returns-in-Ok-Refused-clause-acts
+returns-in-Ok-Refused-clause-acts c = search rules
+
+pub returns-clause-acts : goal.returns-clause-acts
+returns-clause-acts c = search rules

@@ -1,4 +1,4 @@
-use Rattle.std.proofs.Common.{refl, arith}
+use Rattle.std.proofs.Common.{rules, refl, arith}
 use Rattle.streetmap_journal.proofs.Told.{lacking_put}
 use Rattle.streetmap_journal.proofs.journal.Journal.put.Goals as goal
 
@@ -19,3 +19,6 @@ returns-in-Err g c = record {
       wrote.1 in
       ((refl, refl, it.0, it.1, it.2), refl);
 }
+
+pub returns-in-Ok-clause-line : goal.returns-in-Ok-clause-line
+returns-in-Ok-clause-line c = search rules

@@ -1,0 +1,12 @@
+use Rattle.std.proofs.Common.{arith, rules}
+use Rattle.std.proofs.lemmas.Grind.{common_steps}
+use Rattle.streetmap_journal.proofs.journal.Journal.note.Goals as goal
+
+pub returns-clause-told : goal.returns-clause-told
+returns-clause-told c = search rules
+
+pub returns-then-put_and_keep-clause-line : goal.returns-then-put_and_keep-clause-line
+returns-then-put_and_keep-clause-line c = search rules
+
+pub returns-clause-line : goal.returns-clause-line
+returns-clause-line c = search rules

@@ -1,0 +1,9 @@
+use Rattle.std.proofs.Common.{arith, rules}
+use Rattle.std.proofs.lemmas.Grind.{common_steps}
+use Rattle.streetmap_replaying.proofs.features.compare_pages.Goals as goal
+
+pub returns-in-None-None : goal.returns-in-None-None
+returns-in-None-None c = search rules
+
+pub returns-then-eq : goal.returns-then-eq
+returns-then-eq c = search rules

@@ -1,0 +1,12 @@
+use Rattle.std.proofs.Common.{arith, rules}
+use Rattle.std.proofs.lemmas.Grind.{common_steps}
+use Rattle.streetmap_web.proofs.respond.respond_batch.Goals as goal
+
+pub returns-in-Ok-apply-clause-told : goal.returns-in-Ok-apply-clause-told
+returns-in-Ok-apply-clause-told c = search rules
+
+pub returns-in-Ok-apply-clause-responds : goal.returns-in-Ok-apply-clause-responds
+returns-in-Ok-apply-clause-responds c = search rules
+
+pub returns-in-Ok-apply-clause-leaves : goal.returns-in-Ok-apply-clause-leaves
+returns-in-Ok-apply-clause-leaves c = search rules
