@@ -1,4 +1,4 @@
-use Rattle.std.proofs.Common.{subst, sym}
+use Rattle.std.proofs.Common.{rules, subst, sym}
 use Rattle.streetmap_exchange.proofs.WriteLemmas.{part_sliced, part_kept, IsPartWritten}
 use Rattle.streetmap_exchange.proofs.part.write_bytes.Goals.{in-Ok, in-Err}
 use Rattle.streetmap_exchange.proofs.part.write_bytes.Goals as goal
@@ -14,3 +14,6 @@ loop-turn-preserved g c =
       | in-Ok w ↦ subst (λ r. IsPartWritten old after bytes r.now) (sym w.rest-is) (part_sliced old before after bytes rest w.in-Ok.count c.loop-turn.invariant w.in-Ok.ensures.bytes)
       | in-Err w ↦ subst (λ r. IsPartWritten old after bytes r.now) (sym w.rest-is) (part_kept old before after bytes rest c.loop-turn.invariant w.in-Err.ensures.bytes)
     ]
+
+pub returns-in-Ok-eq0-clause-ok : goal.returns-in-Ok-eq0-clause-ok
+returns-in-Ok-eq0-clause-ok c = search rules
