@@ -1,4 +1,4 @@
-use Rattle.std.proofs.Common.{sym, ◌∙◌}
+use Rattle.std.proofs.Common.{rules, sym, ◌∙◌}
 use Rattle.streetmap_following.proofs.Told.{accepted_tells, repeated_tells}
 use Rattle.streetmap_following.proofs.acting.apply.Goals as goal
 
@@ -13,3 +13,6 @@ returns-in-Ok-Repeated-clause-follows g c = λ h s e.
     let says = c.in-Ok-Repeated.ensures.acts h s e in
     repeated_tells _ _ c.in-Ok-Repeated.counts c.in-Ok-Repeated.serial
     (g.K.Keeper.stands c.apply.new.self) (sym c.in-Ok-Repeated.field-0-is ∙ says.0) says.1
+
+pub returns-in-Ok-Refused-clause-follows : goal.returns-in-Ok-Refused-clause-follows
+returns-in-Ok-Refused-clause-follows c = search rules

@@ -1,8 +1,9 @@
-use Rattle.std.proofs.Common.{◌≡◌, Bool, cond, Ok, Err, subst, sym, ◌∙◌}
+use Rattle.std.proofs.Common.{arith, rules, ◌≡◌, Bool, cond, Ok, Err, subst, sym, ◌∙◌}
 use Rattle.streetmap_batch.specs.BatchView.{batch_value}
 use Rattle.streetmap_replay.specs.Following.{acted, not_next, acted_next, is_next}
 use Rattle.streetmap_following.specs.Acting.{OutcomeLeaves}
 use Rattle.streetmap_following.proofs.Told.{look_leaves}
+use Rattle.std.proofs.lemmas.Grind.{common_steps}
 use Rattle.streetmap_following.proofs.acting.apply_next.Goals as goal
 
 pub returns-in-Ok-true-clause-leaves : goal.returns-in-Ok-true-clause-leaves
@@ -21,3 +22,6 @@ returns-in-Err-clause-leaves g c = λ h s e only.
     (g.K.Keeper.stands c.is_next.new.keeper)
     (g.K.Keeper.may_leave c.is_next.new.keeper) (c.in-Err.ensures.tells h s e)
     (c.in-Err.ensures.leaves h s e only)
+
+pub returns-in-Ok-false-clause-follows : goal.returns-in-Ok-false-clause-follows
+returns-in-Ok-false-clause-follows c = search rules
