@@ -1,4 +1,4 @@
-use Rattle.std.proofs.Common.{subst, [], ◌∷◌, ◌++◌}
+use Rattle.std.proofs.Common.{rules, subst, [], ◌∷◌, ◌++◌}
 use Rattle.std.proofs.KnownBytes.{Appends-trans, Appends-kept}
 use Rattle.std.specs.Io.KnownBytes.{Appends}
 use Rattle.streetmap_lines.proofs.AnswerLemmas.{first_behind, first_all, on_err}
@@ -17,3 +17,6 @@ returns-in-Err-clause-err g c =
     let text = subst (Appends old (g.W.Write.contents c.write_bytes.new.writer)) c.as_bytes.ensures.value c.in_ok-write_bytes.ensures.ok in
     let both = Appends-trans old _ (g.W.Write.contents c.write_bytes-2.new.writer) c.args.answer.now (10 ∷ []) text c.in_ok-write_bytes-2.ensures.ok in
     first_all old _ (c.args.answer.now ++ 10 ∷ []) (Appends-kept old _ (g.W.Write.contents c.flush.new.self) (c.args.answer.now ++ 10 ∷ []) both c.in-Err.ensures.bytes)
+
+pub returns-in-Err-clause-less : goal.returns-in-Err-clause-less
+returns-in-Err-clause-less c = search rules
