@@ -1,7 +1,6 @@
-use Rattle.std.proofs.Common.{arith, rules}
+use Rattle.std.proofs.Common.{rules}
 use Rattle.streetmap_rows.specs.Rows.{extent_in}
 use Rattle.streetmap_rows.specs.Rows.{seconds_in}
-use Rattle.std.proofs.lemmas.Grind.{common_steps}
 use Rattle.streetmap_checking.proofs.features.has_cells.Goals as goal
 
 pub returns-then-has_extent : goal.returns-then-has_extent

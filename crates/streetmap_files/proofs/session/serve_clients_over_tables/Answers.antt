@@ -1,3 +1,4 @@
+use Rattle.std.proofs.Common.{rules}
 use Rattle.streetmap_web.specs.Standing.{of_state}
 use Rattle.streetmap_files.proofs.Surviving.{clients_survive}
 use Rattle.streetmap_files.proofs.session.serve_clients_over_tables.Goals as goal
@@ -13,3 +14,6 @@ returns-clause-serves g c clean s serves index holds =
 
 pub returns-clause-spared : goal.returns-clause-spared
 returns-clause-spared g c = c.serve_clients.ensures.spared.1
+
+pub returns-clause-counted : goal.returns-clause-counted
+returns-clause-counted c = search rules

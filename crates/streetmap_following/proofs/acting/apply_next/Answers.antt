@@ -1,9 +1,8 @@
-use Rattle.std.proofs.Common.{arith, rules, ◌≡◌, Bool, cond, Ok, Err, subst, sym, ◌∙◌}
+use Rattle.std.proofs.Common.{rules, ◌≡◌, Bool, cond, Ok, Err, subst, sym, ◌∙◌}
 use Rattle.streetmap_batch.specs.BatchView.{batch_value}
 use Rattle.streetmap_replay.specs.Following.{acted, not_next, acted_next, is_next}
 use Rattle.streetmap_following.specs.Acting.{OutcomeLeaves}
 use Rattle.streetmap_following.proofs.Told.{look_leaves}
-use Rattle.std.proofs.lemmas.Grind.{common_steps}
 use Rattle.streetmap_following.proofs.acting.apply_next.Goals as goal
 
 pub returns-in-Ok-true-clause-leaves : goal.returns-in-Ok-true-clause-leaves

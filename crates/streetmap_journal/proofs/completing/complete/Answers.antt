@@ -1,4 +1,4 @@
-use Rattle.std.proofs.Common.{arith, ◌≡◌, ◌∙◌, List, ℕ, Some, Err, sym, ap, subst, option_map}
+use Rattle.std.proofs.Common.{◌≡◌, ◌∙◌, List, ℕ, Some, Err, sym, ap, subst, option_map}
 use Rattle.std.proofs.Common.{true, false}
 use Rattle.std.proofs.Common.{Option}
 use Rattle.std.specs.Prelude.{Vec}
@@ -11,7 +11,6 @@ use Rattle.streetmap_journal.proofs.Completed.{looks_fault, shut_further, reopen
 use Rattle.streetmap_journal.proofs.Noted.{completed_holds, settled_holds}
 use Rattle.streetmap_journal.proofs.Telling.{still_told}
 use Rattle.streetmap_journal.proofs.Told.{opened_further}
-use Rattle.std.proofs.lemmas.Grind.{common_steps}
 use Rattle.streetmap_journal.proofs.completing.complete.Goals as goal
 
 pub loop-turn-preserved : goal.loop-turn-preserved

@@ -1,5 +1,4 @@
-use Rattle.std.proofs.Common.{arith, rules}
-use Rattle.std.proofs.lemmas.Grind.{common_steps}
+use Rattle.std.proofs.Common.{rules}
 use Rattle.streetmap_replaying.proofs.features.compare_pages.Goals as goal
 
 pub returns-in-None-None : goal.returns-in-None-None

@@ -1,3 +1,4 @@
+use Rattle.std.proofs.Common.{rules}
 use Rattle.streetmap_connections.specs.Served.{slots_of}
 use Rattle.streetmap_web.specs.Sight.{Sight, sight_of}
 use Rattle.streetmap_serving.proofs.Turns.{base_kept, clean_back, rest_spared, serves_clients, survives_clients}
@@ -33,3 +34,6 @@ pub returns-clause-spared : goal.returns-clause-spared
 returns-clause-spared g c =
     let said = c.serve_connections in
     rest_spared (seen g) g.met.K.Keeper.spares_itself g.met.K.Keeper.spares_then c.args.service.now said.new.service said.ensures.serves.exchanges said.ensures.serves.leads
+
+pub returns-clause-counted : goal.returns-clause-counted
+returns-clause-counted c = search rules

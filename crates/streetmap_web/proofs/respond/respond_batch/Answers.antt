@@ -1,5 +1,4 @@
-use Rattle.std.proofs.Common.{arith, rules}
-use Rattle.std.proofs.lemmas.Grind.{common_steps}
+use Rattle.std.proofs.Common.{rules}
 use Rattle.streetmap_web.proofs.respond.respond_batch.Goals as goal
 
 pub returns-in-Ok-apply-clause-told : goal.returns-in-Ok-apply-clause-told

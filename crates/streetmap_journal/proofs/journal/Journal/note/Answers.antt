@@ -1,5 +1,4 @@
-use Rattle.std.proofs.Common.{arith, rules}
-use Rattle.std.proofs.lemmas.Grind.{common_steps}
+use Rattle.std.proofs.Common.{rules}
 use Rattle.streetmap_journal.proofs.journal.Journal.note.Goals as goal
 
 pub returns-clause-told : goal.returns-clause-told

@@ -1,4 +1,4 @@
-use Rattle.std.proofs.Common.{arith}
+use Rattle.std.proofs.Common.{rules, arith}
 use Rattle.streetmap_serving.proofs.Waiting.{none_in_head, none_in_body, none_before_head, none_before_body}
 use Rattle.streetmap_serving.proofs.keeper_service.KeeperServiceService.cut.Goals as goal
 
@@ -14,3 +14,6 @@ returns-in-Body-clause-none g c = none_in_body c.args.input.now c.in-Body.missin
 pub returns-in-Body-clause-not_before : goal.returns-in-Body-clause-not_before
 returns-in-Body-clause-not_before g c =
     none_before_body c.args.input.now c.saturating_add-in-Body.result c.in-Body.missing (omega (arith, c.saturating_add-in-Body.ensures)) c.in-Body.ensures.holds
+
+pub returns-in-Request-clause-none : goal.returns-in-Request-clause-none
+returns-in-Request-clause-none c = search rules
