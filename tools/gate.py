@@ -36,10 +36,7 @@ NEEDED = (
 )
 # How many wrong bodies one check tries, and in how many such checks one is tried.
 MOST_TOGETHER, MOST_ROUNDS = 24, 2
-# A chain of crates is long where it has this part of the longest one's lines.
-NEARLY = 0.95
 LANES = int(os.environ.get("RT_JOBS") or len(os.sched_getaffinity(0)))
-CONSTANT = re.compile(r"^ *(?:pub(?:\([\w ]+\))? )?const ([A-Z]\w*)\b.*$", re.MULTILINE)
 FUNCTION = re.compile(r"^( *)(?:pub(?:\([\w ]+\))? )?(?:const |unsafe )*fn (\w+)", re.MULTILINE)
 IMPL = re.compile(
     r"^impl\b(?:<[^{]*?>)? *(?:(?P<trait>\w+)[^{]*? for )?(?P<type>\w+)", re.MULTILINE
@@ -120,28 +117,6 @@ def function_at(file: str, text: str, start: int, end: int) -> Function | None:
     return Function(file, lines, module, kind, name)
 
 
-def functions_that_name(folder: str, constant: str) -> set[Function]:
-    """The functions of a crate whose bodies name a constant."""
-    found = set()
-    for source in sorted(Path(folder, "src").rglob("*.rt")):
-        text, file = source.read_text(encoding="utf-8"), source.relative_to(folder).as_posix()
-        for at in re.finditer(rf"\b{constant}\b", text):
-            function = function_at(file, text, at.start(), at.end())
-            if function is not None:
-                found.add(function)
-    return found
-
-
-def functions_at(folder: str, file: str, text: str, start: int, end: int) -> set[Function]:
-    """The function within whose body a part of a file's text stands; of a constant, the functions
-    that name it."""
-    function = function_at(file, text, start, end)
-    if function is not None:
-        return {function}
-    line = CONSTANT.match(text, text.rfind("\n", 0, start) + 1)
-    return functions_that_name(folder, line[1]) if line and end <= line.end() else set()
-
-
 def read_edit(folder: str, path: str) -> Edit:
     found: set[Function] = set()
     pairs = pairs_of(path)
@@ -149,10 +124,10 @@ def read_edit(folder: str, path: str) -> Edit:
         source = Path(folder, file)
         text = source.read_text(encoding="utf-8") if source.is_file() else ""
         at = text.find(old) if file.startswith("src/") and text.count(old) == 1 else -1
-        functions = functions_at(folder, file, text, at, at + len(old)) if at >= 0 else set()
-        if not functions:
+        function = function_at(file, text, at, at + len(old)) if at >= 0 else None
+        if function is None:
             return Edit(path, pairs, None)
-        found |= functions
+        found.add(function)
     return Edit(path, pairs, frozenset(found) or None)
 
 
@@ -409,43 +384,35 @@ def give_way(rt: ModuleType) -> None:
     setattr(rt, "checked", checked_so)
 
 
-def long_chain(tasks: dict[Any, Any]) -> set[Any]:
-    """The proofs on the longest chain of crates, each of which waits for the one before, by lines
-    of code; and those on chains nearly as long."""
-    proofs = {key: task for key, task in tasks.items() if key[1] == "proof"}
-    before = dict.fromkeys(proofs, 0)
-    for key, (waits, *_) in proofs.items():
-        lengths = [before[it] + proofs[it][1] for it in waits if it in proofs]
-        before[key] = max(lengths, default=0)
-    behind = {key: task[1] for key, task in proofs.items()}
-    for key in reversed([*proofs]):
-        for it in proofs[key][0]:
-            if it in proofs:
-                behind[it] = max(behind[it], behind[key] + proofs[it][1])
-    longest = max((before[key] + behind[key] for key in proofs), default=0)
-    return {key for key in proofs if before[key] + behind[key] >= NEARLY * longest}
+def last_of_chain(tasks: dict[Any, Any]) -> Any:
+    """The proof that ends the longest chain of crates, each of which waits for the one before, by
+    lines of code."""
+    lengths: dict[Any, int] = {}
+    for key, (waits, lines, *_) in tasks.items():
+        if key[1] == "proof":
+            lengths[key] = lines + max((lengths.get(it, 0) for it in waits), default=0)
+    return max(lengths, key=lambda it: lengths[it], default=None)
 
 
 def in_lanes_by(rt: ModuleType) -> Callable[..., Any]:
     """What stands for `in_lanes` of `rt ci`: what wrong bodies begin with waits for the proof, and
     those of a crate are tried one after the other, since one check tries many. A proof takes one
-    process, since two share little and take a third more time together; but the last of a long
-    chain, where few others are left, takes three."""
+    process, since two share little and take a third more time together; but the last of the
+    longest chain, where few others are left, takes three."""
     alone = rt.in_lanes
 
-    def with_jobs(call: Callable[..., Any], least: int) -> Callable[..., Any]:
-        return lambda given, jobs: call(given, max(jobs, least))
+    def in_processes(call: Callable[..., Any], number: int) -> Callable[..., Any]:
+        return lambda given, jobs: call(given, max(jobs, number))
 
     def in_lanes(tasks: dict[Any, Any]) -> Any:
-        chain = long_chain(tasks) if LANES >= 4 else set()
-        last = next(reversed([it for it in tasks if it in chain]), None)
+        last = last_of_chain(tasks) if LANES >= 4 else None
         for key, (waits, lines, memory, call) in tasks.items():
             if key[1] == "seed" and (key[0], "proof") in tasks:
                 tasks[key] = ([*waits, (key[0], "proof")], lines, memory, call)
             elif key[1] == "edits" and key[2] > 0:
                 tasks[key] = ([*waits, (*key[:2], key[2] - 1)], lines, memory, call)
             elif key == last:
-                tasks[key] = (waits, lines, memory, with_jobs(call, 3))
+                tasks[key] = (waits, lines, memory, in_processes(call, 3))
         return alone(tasks)
 
     return in_lanes

@@ -1,6 +1,5 @@
 use Rattle.std.proofs.Common.{rules}
-use Rattle.streetmap_rows.specs.Rows.{extent_in}
-use Rattle.streetmap_rows.specs.Rows.{seconds_in}
+use Rattle.streetmap_rows.specs.Rows.{extent_in, seconds_in}
 use Rattle.streetmap_checking.proofs.features.has_cells.Goals as goal
 
 pub returns-then-has_extent : goal.returns-then-has_extent
