@@ -262,10 +262,11 @@ def check_command(refuser: Refuser, name: str, *more: Word) -> None:
 
 
 # Tests that make each refused call again over the keeper in memory, and one that serves a stream.
-TESTED = {
-    "streetmap_ledger_tests": "answers::a_line_refused_for_memory_is_answered_again",
-    "streetmap_web_tests": "refused_memory::refused_memory_is_answered_or_not_seen",
-}
+TESTS_CRATE = "streetmap_memory_tests"
+TESTED = (
+    "answers::a_line_refused_for_memory_is_answered_again",
+    "refused_memory::refused_memory_is_answered_or_not_seen",
+)
 
 
 def check_test(refuser: Refuser, crate: str, test: str) -> None:
@@ -306,5 +307,5 @@ def run(context: Context) -> None:
     check_command(refuser, "check")
     check_command(refuser, "check", "--replay")
     if context.slow:
-        for crate, test in TESTED.items():
-            check_test(refuser, crate, test)
+        for test in TESTED:
+            check_test(refuser, TESTS_CRATE, test)

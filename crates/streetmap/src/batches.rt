@@ -2,10 +2,10 @@
 use crate::fault;
 use std::fs::File;
 use std::io::{BufReader, BufWriter, Read, Write, writer};
-use streetmap_batch_lines::write_batches;
+use streetmap_exchange::write_batches;
 use streetmap_faults::ProgramFault;
-use streetmap_following::{ReplyLines, follow_lines};
-use streetmap_kept::KeepsBatches;
+use streetmap_ledger::KeepsBatches;
+use streetmap_replay::{ReplyLines, follow_lines};
 
 /// Prints the kept batches whose serial is above one, a line each.
 pub(crate) fn print<K: KeepsBatches>(

@@ -4,9 +4,9 @@ use sqlite::Alter;
 use streetmap_checking::check_tables;
 use streetmap_faults::ProgramFault;
 use streetmap_index::IndexedKeeper;
-use streetmap_kept::KeepsBatches;
+use streetmap_ledger::KeepsBatches;
 use streetmap_memory::PlainKeeper;
-use streetmap_replaying::{ReplayFault, check_replay};
+use streetmap_replay::{ReplayFault, check_replay};
 use streetmap_store::TableKeeper;
 
 /// Tells how many collections, features and batches there are, where the rows are those of a state.

@@ -8,10 +8,9 @@ ghost use Rattle.streetmap.specs.Faults.{fault_of_keeper, fault_of_replay};
 use std::io::{Error, ErrorKind};
 use streetmap_checking::CheckFault;
 use streetmap_faults::ProgramFault;
-use streetmap_files::{CreateFault, OpenFault};
-use streetmap_following::{End as FollowEnd, Followed};
 use streetmap_ledger::Fault;
-use streetmap_replaying::ReplayStop;
+use streetmap_replay::{End as FollowEnd, Followed, ReplayStop};
+use streetmap_store::{CreateFault, OpenFault};
 use streetmap_web::End;
 
 /// The fault of words that cannot be had: one of them is no UTF-8, or memory is refused.

@@ -17,7 +17,7 @@ fn is_there(rt: &HostRuntime, path: &str) -> Result<bool, ProgramFault> {
 
 /// Makes an empty file where there is none.
 fn make(rt: &HostRuntime, path: &str) -> Result<(), ProgramFault> {
-    match streetmap_files::create(rt, path, Unknown) {
+    match streetmap_store::create(rt, path, Unknown) {
         Ok(_keeper) => Ok(()),
         Err((refused, _)) => Err(fault::of_create(&refused)),
     }
@@ -34,7 +34,7 @@ pub(crate) fn create(rt: &HostRuntime, path: &str) -> Result<(), ProgramFault> {
 
 /// Does something over the keeper of a file that is there.
 fn run_over(rt: &HostRuntime, path: &str, task: Task<'_>) -> Result<(), ProgramFault> {
-    match streetmap_files::open(rt, path, Unknown) {
+    match streetmap_store::open(rt, path, Unknown) {
         Ok(keeper) => task.run(rt, keeper),
         Err((refused, _)) => Err(fault::of_open(&refused)),
     }

@@ -11,7 +11,7 @@ use streetmap_faults::ProgramFault;
 use streetmap_journal::{
     Journal, JournalWriter, MAX_LINE, MatchEnd, Matched, StartFault, match_lines, start_journal,
 };
-use streetmap_kept::KeepsBatches;
+use streetmap_ledger::KeepsBatches;
 use streetmap_text_lines::{LineFault, NotWritten, WholeLine, next_whole_line, write_bytes};
 
 /// The file of a journal, to whose end its lines are written.

@@ -7,14 +7,12 @@ use std::net::{Ipv4Addr, TcpListener};
 use streetmap_command::{Connections, JournalAsked};
 use streetmap_connections::{Clients, Limits};
 use streetmap_faults::ProgramFault;
-use streetmap_files::{serve_clients_over_tables, serve_over_tables};
 use streetmap_index::IndexedKeeper;
 use streetmap_journal::{Journal, JournaledKeeper};
-use streetmap_kept::KeepsBatches;
-use streetmap_ledger::Keeper;
+use streetmap_ledger::{Keeper, KeepsBatches};
 use streetmap_routes::Base;
-use streetmap_serving::KeeperService;
-use streetmap_store::TableKeeper;
+use streetmap_store::{TableKeeper, serve_clients_over_tables, serve_over_tables};
+use streetmap_web::KeeperService;
 
 /// Serves the requests of standard input on standard output.
 pub(crate) fn pipe<S: Alter + Drop>(

@@ -1,6 +1,6 @@
 //! The objects of the formats.
 /// The objects that a batch is made of, by the members that they may have.
-#[derive(Clone, Copy, Debug, PartialEq, Eq, Drop)]
+#[derive(Clone, Copy, PartialEq, Eq, Drop)]
 pub(crate) enum Format {
     Batch,
     Open,
@@ -9,7 +9,7 @@ pub(crate) enum Format {
 }
 
 /// What an edit does, by its member `op`.
-#[derive(Clone, Copy, Debug, PartialEq, Eq, Drop)]
+#[derive(Clone, Copy, PartialEq, Eq, Drop)]
 pub(crate) enum Operation {
     Open,
     Insert,

@@ -14,7 +14,7 @@ use streetmap_ledger::{Fault, Refusal};
 use streetmap_query::QueryFault;
 
 /// Why a request is answered by an error.
-#[derive(Clone, Copy, Debug, PartialEq)]
+#[derive(Clone, Copy, PartialEq)]
 pub enum RequestFault {
     /// It breaks a rule of framing.
     Framing(FramingFault),

@@ -17,7 +17,7 @@ const SMALLEST_CELL: i64 = 32_768;
 const LEVELS: u32 = 7;
 
 /// An extent, and the number of a chunk that has an outline with it.
-#[derive(Clone, Copy, Debug, PartialEq, Eq, Drop)]
+#[derive(Clone, Copy, PartialEq, Eq, Drop)]
 pub struct Entry {
     pub extent: Envelope,
     pub chunk: u32,

@@ -21,7 +21,7 @@ fn from_corner(bound: i64) -> u32
 
 /// A box in millimetres from the south-western corner of the grid: its edges belong to it. It takes
 /// half the memory of a `GridBox`.
-#[derive(Clone, Copy, Debug, PartialEq, Eq, Drop)]
+#[derive(Clone, Copy, PartialEq, Eq, Drop)]
 pub struct Envelope {
     /// The western bound.
     pub x0: u32,

@@ -4,8 +4,8 @@ use Rattle.std.proofs.Common.{MatchResult, sym, subst}
 use Rattle.sqlite.specs.Order.{Row}
 use Rattle.sqlite.specs.State.{State as Seen, IsUnchanged}
 use Rattle.sqlite.proofs.Callers.{unchanged_then}
-use Rattle.streetmap_reading.specs.declared.fault.ReadFault.{ReadFault}
-use Rattle.streetmap_reading.specs.declared.fault.ReadFault.TheVariants.{Memory, Store, Unread}
+use Rattle.streetmap_rows.specs.declared.fault.ReadFault.{ReadFault}
+use Rattle.streetmap_rows.specs.declared.fault.ReadFault.TheVariants.{Memory, Store, Unread}
 use Rattle.streetmap_checking.specs.Seeing.{IsSimple, Sees}
 use Rattle.streetmap_checking.specs.Folding.{Refuses, Stops}
 use Rattle.streetmap_checking.specs.Telling.{ShowsNone, TellsWhy, Looks, Known, SeesFeatures, SeesAllFeatures, SeesHeads, SeesOwners, SeesBatches, NoFeatures, NoFeaturesOfAll}

@@ -20,8 +20,8 @@ use Rattle.streetmap_ledger.specs.WellFormed.{IsState}
 use Rattle.streetmap_reading.proofs.ShownOutlines.{collections_at, found_each}
 use Rattle.sqlite.specs.declared.error.Error.{Error}
 use Rattle.streetmap_rows.specs.Failing.{IsOfStore, HasReason}
-use Rattle.streetmap_reading.specs.declared.fault.ReadFault.{ReadFault}
-use Rattle.streetmap_reading.specs.declared.fault.ReadFault.TheVariants.{Store, Unread}
+use Rattle.streetmap_rows.specs.declared.fault.ReadFault.{ReadFault}
+use Rattle.streetmap_rows.specs.declared.fault.ReadFault.TheVariants.{Store, Unread}
 use Rattle.streetmap_rows.specs.Keeping.{Rests}
 use Rattle.streetmap_rows.specs.Rows.{collection_cells, batch_cells}
 use Rattle.streetmap_rows.specs.Statements.{select_collections}

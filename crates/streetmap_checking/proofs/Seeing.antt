@@ -14,7 +14,7 @@ use Rattle.sqlite_resolve.specs.declared.compiled.Compiled.{Compiled}
 use Rattle.sqlite_resolve.specs.declared.error.CompileError.{CompileError}
 use Rattle.streetmap_rows.specs.Failing.{IsOfStore}
 use Rattle.streetmap_rows.proofs.OfStore.{failure_is}
-use Rattle.streetmap_opening.specs.Adopting.{IsAsItWas}
+use Rattle.streetmap_tables.specs.Adopting.{IsAsItWas}
 use Rattle.streetmap_checking.specs.Seeing.{IsSimple, Sees, SeesFirst, IsUnseen}
 
 -- unchanged is as it was

@@ -13,7 +13,7 @@ use Rattle.sqlite_resolve.specs.declared.error.CompileError.TheVariants.{NoSuchT
 use Rattle.sqlite_tied.specs.Compute.{everything}
 use Rattle.streetmap_rows.proofs.Drafts.{parsed_of, was_parsed}
 use Rattle.streetmap_rows.specs.Statements.{select_collections}
-use Rattle.streetmap_opening.proofs.Seeing.{IsBare}
+use Rattle.streetmap_tables.proofs.Seeing.{IsBare}
 use Rattle.streetmap_checking.specs.Seeing.{IsSimple}
 use Rattle.streetmap_checking.specs.Statements as text
 

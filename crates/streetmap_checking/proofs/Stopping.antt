@@ -10,9 +10,9 @@ use Rattle.sqlite.specs.State.{State as Seen, IsUnchanged, FailsToQuery}
 use Rattle.sqlite.proofs.Callers.{given_begin, unchanged_then}
 use Rattle.streetmap_rows.specs.Failing.{IsOfStore, HasReason}
 use Rattle.streetmap_rows.proofs.Reasons.{other, queried, reason_on}
-use Rattle.streetmap_reading.specs.declared.fault.ReadFault.{ReadFault}
-use Rattle.streetmap_reading.specs.declared.fault.ReadFault.TheVariants.{Memory, Store, Unread}
-use Rattle.streetmap_opening.specs.Adopting.{IsAsItWas}
+use Rattle.streetmap_rows.specs.declared.fault.ReadFault.{ReadFault}
+use Rattle.streetmap_rows.specs.declared.fault.ReadFault.TheVariants.{Memory, Store, Unread}
+use Rattle.streetmap_tables.specs.Adopting.{IsAsItWas}
 use Rattle.streetmap_checking.specs.Seeing.{IsSimple, Sees, IsUnseen}
 use Rattle.streetmap_checking.specs.Folding.{Refuses, AreWrong, Stops}
 use Rattle.streetmap_checking.proofs.Seeing.{unchanged_was, was_then, shown_there, begins_there, fails_there, failed_was, seen, unseen}

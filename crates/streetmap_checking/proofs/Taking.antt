@@ -9,9 +9,9 @@ use Rattle.streetmap_batch.specs.Text.{Text}
 use Rattle.streetmap_ledger.specs.State.{AcceptedBatch}
 use Rattle.streetmap_ledger.specs.WellFormed.{IsPlaced}
 use Rattle.streetmap_reading.proofs.Readings.{within}
-use Rattle.streetmap_reading.specs.Candidates.{IsStored}
+use Rattle.streetmap_rows.specs.Stored.{IsStored}
 use Rattle.streetmap_reading.proofs.Rests.{map_append}
-use Rattle.streetmap_reading.specs.declared.fault.ReadFault.{ReadFault}
+use Rattle.streetmap_rows.specs.declared.fault.ReadFault.{ReadFault}
 use Rattle.streetmap_rows.specs.Rows.{feature_text, batch_cells}
 use Rattle.streetmap_checking.specs.Folding.{Refuses}
 use Rattle.streetmap_batch.specs.Names.{is_key}

@@ -6,9 +6,9 @@ use Rattle.sqlite.specs.Given.{HasGiven}
 use Rattle.sqlite.specs.Held.{Held, state}
 use Rattle.sqlite.specs.State.{State as Seen, IsUnchanged}
 use Rattle.streetmap_rows.specs.Failing.{IsOfStore, SparesDisk, HasReason}
-use Rattle.streetmap_reading.specs.declared.fault.ReadFault.{ReadFault}
-use Rattle.streetmap_reading.specs.declared.fault.ReadFault.TheVariants.{Memory, Store, Unread}
-use Rattle.streetmap_opening.specs.Adopting.{IsAsItWas}
+use Rattle.streetmap_rows.specs.declared.fault.ReadFault.{ReadFault}
+use Rattle.streetmap_rows.specs.declared.fault.ReadFault.TheVariants.{Memory, Store, Unread}
+use Rattle.streetmap_tables.specs.Adopting.{IsAsItWas}
 use Rattle.streetmap_checking.specs.Seeing.{IsSimple, Sees, SeesFirst, IsUnseen}
 
 -- it gave up for memory, or for the store with no word of the disk, or for this reason

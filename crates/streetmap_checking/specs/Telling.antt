@@ -8,9 +8,9 @@ use Rattle.sqlite_rules.specs.Lists.{Has}
 use Rattle.streetmap_batch.specs.Text.{Text}
 use Rattle.streetmap_rows.specs.Failing.{IsOfStore, HasReason}
 use Rattle.streetmap_rows.specs.Statements.{select_collections}
-use Rattle.streetmap_reading.specs.declared.fault.ReadFault.{ReadFault}
-use Rattle.streetmap_reading.specs.declared.fault.ReadFault.TheVariants.{Memory, Store, Unread}
-use Rattle.streetmap_opening.specs.Adopting.{IsAsItWas}
+use Rattle.streetmap_rows.specs.declared.fault.ReadFault.{ReadFault}
+use Rattle.streetmap_rows.specs.declared.fault.ReadFault.TheVariants.{Memory, Store, Unread}
+use Rattle.streetmap_tables.specs.Adopting.{IsAsItWas}
 use Rattle.streetmap_checking.specs.Statements.{select_formats, select_features, select_owners}
 use Rattle.streetmap_checking.specs.Statements.{select_batches}
 use Rattle.streetmap_checking.specs.Seeing.{Sees, SeesFirst, IsUnseen}

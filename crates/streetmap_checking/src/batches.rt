@@ -16,7 +16,7 @@ use sqlite::Row;
 use sqlite::types::ValueRef;
 use std::alloc::{AllocError, Global};
 use streetmap_batch::is_key;
-use streetmap_reading::ReadFault;
+use streetmap_rows::ReadFault;
 
 /// How many batches a ledger accepts at most.
 const MOST_BATCHES: u64 = 9_223_372_036_854_775_807;

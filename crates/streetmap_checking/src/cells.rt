@@ -13,7 +13,7 @@ ghost use Rattle.streetmap_checking.specs.Held.{Follows};
 
 use sqlite::types::ValueRef;
 use sqlite::{Error, ErrorCode, Row};
-use streetmap_reading::{ReadFault, unread};
+use streetmap_rows::{ReadFault, unread};
 
 /// Whether a cell has this text.
 pub fn is_text(row: &Row, at: usize, text: &[u8]) -> bool

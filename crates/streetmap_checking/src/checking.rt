@@ -5,7 +5,7 @@ ghost use Rattle.sqlite.specs.State.{HasCleanDisk, Survives};
 ghost use Rattle.streetmap_ledger.specs.State.{State};
 ghost use Rattle.streetmap_ledger.specs.WellFormed.{IsState};
 ghost use Rattle.streetmap_rows.specs.Keeping.{Rests};
-ghost use Rattle.streetmap_opening.specs.Adopting.{IsAsItWas};
+ghost use Rattle.streetmap_tables.specs.Adopting.{IsAsItWas};
 ghost use Rattle.streetmap_checking.specs.Telling.{Looks};
 ghost use Rattle.streetmap_checking.specs.Checking.{ShowsState, ShowsTotals, IsDamaged, ChecksBy};
 ghost use Rattle.streetmap_checking.specs.Checking.{ChecksFor};
@@ -16,11 +16,10 @@ use crate::looks::{
 };
 use sqlite::{Alter, Connection, Error};
 use std::alloc::Global;
-use streetmap_reading::ReadFault;
-use streetmap_rows::{Shut, Stop, settle};
+use streetmap_rows::{ReadFault, Shut, Stop, settle};
 
 /// What a check counted.
-#[derive(Clone, Copy, Debug, PartialEq, Eq)]
+#[derive(Clone, Copy, PartialEq, Eq)]
 pub struct Totals {
     pub collections: u64,
     /// The features of all collections.
@@ -29,7 +28,7 @@ pub struct Totals {
 }
 
 /// Why a check told no totals.
-#[derive(Debug, Drop)]
+#[derive(Drop)]
 pub enum CheckFault {
     /// `damaged`: the rows are those of no ledger.
     Damaged,

@@ -13,7 +13,7 @@ use crate::fold::RowCheck;
 use sqlite::Row;
 use std::alloc::AllocError;
 use streetmap_batch::{is_collection_id, is_time_property, is_title};
-use streetmap_reading::ReadFault;
+use streetmap_rows::ReadFault;
 
 /// What is kept of a collection while its features are checked.
 #[derive(Drop)]

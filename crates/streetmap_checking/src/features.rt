@@ -8,7 +8,7 @@ ghost use Rattle.streetmap_grid.specs.Views.{box_value};
 ghost use Rattle.streetmap_moment.specs.Views.{interval_value};
 ghost use Rattle.streetmap_moment.specs.Meeting.{seconds_of};
 ghost use Rattle.streetmap_ledger.specs.WellFormed.{IsPlaced};
-ghost use Rattle.streetmap_reading.specs.Candidates.{IsStored};
+ghost use Rattle.streetmap_rows.specs.Stored.{IsStored};
 ghost use Rattle.streetmap_rows.specs.Rows.{feature_text, extent_in, seconds_in};
 ghost use Rattle.streetmap_checking.specs.Folding.{Refuses};
 ghost use Rattle.streetmap_checking.specs.Good.{HasTexts, HasExtent, HasSeconds, feature_view};
@@ -23,7 +23,7 @@ use streetmap_feature_text::push_feature;
 use streetmap_geojson::{Feature, JsonFault, read_feature, read_json};
 use streetmap_grid::GridBox;
 use streetmap_moment::Interval;
-use streetmap_reading::ReadFault;
+use streetmap_rows::ReadFault;
 
 /// What is known of a collection's features whose rows were read.
 #[derive(Drop)]

@@ -9,7 +9,7 @@ ghost use Rattle.streetmap_checking.specs.Seeing.{IsSimple};
 
 use sqlite::types::ValueRef;
 use sqlite::{Alter, Connection, Error, ErrorCode, Row, Rows};
-use streetmap_reading::ReadFault;
+use streetmap_rows::ReadFault;
 
 /// What takes rows one after the other, up to the first with which no good rows begin.
 pub trait RowCheck {

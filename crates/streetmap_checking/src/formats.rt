@@ -5,7 +5,7 @@ ghost use Rattle.sqlite.specs.declared.types.Value.TheVariants.{Int, Text as Wor
 use crate::cells::{is_number, is_text};
 use crate::fold::RowCheck;
 use sqlite::Row;
-use streetmap_reading::ReadFault;
+use streetmap_rows::ReadFault;
 
 /// How many rows of the format were found.
 #[derive(Drop)]

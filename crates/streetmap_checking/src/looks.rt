@@ -18,7 +18,7 @@ use crate::formats::FormatRows;
 use crate::owners::OwnerRows;
 use sqlite::{Alter, Connection, params};
 use std::alloc::Global;
-use streetmap_reading::ReadFault;
+use streetmap_rows::ReadFault;
 
 /// Whether the row of the format is there, and no other.
 pub fn check_format<S: Alter>(conn: &mut Connection<S>) -> Result<(), ReadFault>

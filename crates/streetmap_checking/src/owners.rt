@@ -8,7 +8,7 @@ use crate::cells::is_text;
 use crate::collections::Head;
 use crate::fold::RowCheck;
 use sqlite::Row;
-use streetmap_reading::ReadFault;
+use streetmap_rows::ReadFault;
 
 /// The collections that are there.
 #[derive(Drop)]

@@ -22,7 +22,7 @@ use std::alloc::{AllocError, Global};
 const AT_ONCE: u32 = 64;
 
 /// The connections that are served.
-#[derive(Clone, Copy, Debug, Drop)]
+#[derive(Clone, Copy, Drop)]
 pub struct Connections {
     /// The port of this host that they come to.
     pub port: u16,
@@ -38,7 +38,7 @@ pub struct Connections {
 }
 
 /// The import of a text of features.
-#[derive(Clone, Copy, Debug, Drop)]
+#[derive(Clone, Copy, Drop)]
 pub struct Import<'a> {
     /// The path of the text.
     pub text: &'a str,
@@ -53,7 +53,7 @@ pub struct Import<'a> {
 }
 
 /// What the program is to do.
-#[derive(Debug, Drop)]
+#[derive(Drop)]
 pub enum Command<'a> {
     /// `streetmap --version`: print the name of the program and its version.
     Version,
@@ -114,7 +114,7 @@ pub enum Command<'a> {
 }
 
 /// Why words are no command.
-#[derive(Clone, Copy, Debug, PartialEq, Eq)]
+#[derive(Clone, Copy, PartialEq, Eq)]
 pub enum CommandFault {
     /// `usage`: the words are none that the program takes.
     Usage,

@@ -13,7 +13,7 @@ use clap::ArgMatches;
 const EACH: u32 = 1000;
 
 /// The load of a text of features, a feature a line.
-#[derive(Clone, Copy, Debug, Drop)]
+#[derive(Clone, Copy, Drop)]
 pub struct LoadAsked<'a> {
     /// The path of the text: standard input where there is none.
     pub text: Option<&'a str>,
@@ -50,7 +50,7 @@ pub struct LoadAsked<'a> {
 }
 
 /// The journal of what is served.
-#[derive(Clone, Copy, Debug, Drop)]
+#[derive(Clone, Copy, Drop)]
 pub struct JournalAsked<'a> {
     /// The path of its file.
     pub path: &'a str,

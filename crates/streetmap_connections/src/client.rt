@@ -18,7 +18,7 @@ const STEPS: usize = 16;
 const LAST_PATIENCE: u64 = 1_000;
 
 /// What a client can do next.
-#[derive(Debug, Drop, Clone, Copy, PartialEq, Eq)]
+#[derive(Drop, Clone, Copy, PartialEq, Eq)]
 pub enum Work {
     /// Nothing, before its stream is ready.
     Rests,

@@ -23,7 +23,7 @@ const MOST_EVENTS: usize = 256;
 const LONGEST_WAIT: u64 = 1_000;
 
 /// Why the serving ended early.
-#[derive(Debug, Drop, Clone, Copy, PartialEq, Eq)]
+#[derive(Drop, Clone, Copy, PartialEq, Eq)]
 pub enum ServeFault {
     /// `net`: no client could be accepted, or the sockets could not be waited for.
     Net,

@@ -36,7 +36,7 @@ impl Answer {
 }
 
 /// Where the first request of some bytes ends.
-#[derive(Debug, Drop, Clone, Copy, PartialEq, Eq)]
+#[derive(Drop, Clone, Copy, PartialEq, Eq)]
 pub enum Cut {
     /// So many bytes are a request.
     Whole(usize),

@@ -12,7 +12,7 @@ const MAX_LEN: usize = 38;
 pub(crate) const COORDINATE_PLACES: u8 = 18;
 
 /// The number m * 10^e, for a whole mantissa m and a whole exponent e.
-#[derive(Clone, Copy, Debug, PartialEq, Eq)]
+#[derive(Clone, Copy, PartialEq, Eq)]
 pub(crate) struct Decimal {
     pub mantissa: i128,
     pub exponent: i128,

@@ -1,7 +1,7 @@
 //! Why a text is refused.
 
 /// Why the text of a coordinate comes to no number of the grid.
-#[derive(Clone, Copy, Debug, PartialEq, Eq, Drop)]
+#[derive(Clone, Copy, PartialEq, Eq, Drop)]
 pub enum DecimalFault {
     /// The text is no number of RFC 8259, section 6.
     NotANumber,
@@ -44,7 +44,7 @@ impl DecimalFault {
 }
 
 /// Why the text of an option is refused.
-#[derive(Clone, Copy, Debug, PartialEq, Eq, Drop)]
+#[derive(Clone, Copy, PartialEq, Eq, Drop)]
 pub enum OptionFault {
     /// The text of a scale is no number above 0 that is a whole multiple of 10^-9 below 10^27, or
     /// has more than 38 characters.

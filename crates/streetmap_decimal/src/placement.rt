@@ -18,7 +18,7 @@ const ONE: u128 = 1_000_000_000_000_000_000_000_000_000;
 const GREATEST_COORDINATE: u128 = 1_000_000_000;
 
 /// Where a map lies in the grid: a coordinate n of the map is (n - shift) * scale there.
-#[derive(Clone, Copy, Debug, PartialEq, Eq)]
+#[derive(Clone, Copy, PartialEq, Eq)]
 pub struct Placement {
     /// Which position of the map is the grid's 0,0.
     pub shift: Shift,
@@ -73,7 +73,7 @@ impl Placement {
 }
 
 /// The shift and the scale of one coordinate.
-#[derive(Clone, Copy, Debug, PartialEq, Eq)]
+#[derive(Clone, Copy, PartialEq, Eq)]
 pub(crate) struct AxisPlacement {
     /// The shift, counted in 10^-18.
     pub shift: i128,

@@ -14,7 +14,7 @@ const ONE: i128 = 1_000_000_000;
 const LEAST: i128 = 1;
 
 /// How many millimetres of the grid one unit of a map is: a number above 0, counted in 10^-9.
-#[derive(Clone, Copy, Debug, PartialEq, Eq)]
+#[derive(Clone, Copy, PartialEq, Eq)]
 pub struct Scale {
     /// The scale, counted in 10^-9.
     pub count: i128,

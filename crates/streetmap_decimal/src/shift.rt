@@ -7,7 +7,7 @@ use crate::decimal::{COORDINATE_PLACES, Decimal};
 use crate::fault::OptionFault;
 
 /// Which position of a map is the grid's 0,0, counted in 10^-18 of the map's unit.
-#[derive(Clone, Copy, Debug, PartialEq, Eq)]
+#[derive(Clone, Copy, PartialEq, Eq)]
 pub struct Shift {
     /// The easting, counted in 10^-18.
     pub easting: i128,

@@ -4,3 +4,6 @@ pub mod WriteLemmas
 pub mod ExportLemmas
 pub mod LawLemmas
 pub mod LineFeeds
+pub mod LineLemmas
+pub mod Printing
+pub mod OfJournal

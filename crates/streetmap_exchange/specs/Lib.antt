@@ -6,3 +6,6 @@ pub mod KeeperImports
 pub mod ExportFaults
 pub mod Exports
 pub mod Laws
+pub mod Stops
+pub mod Printed
+pub mod LineLaws

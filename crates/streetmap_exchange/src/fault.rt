@@ -8,7 +8,7 @@ use streetmap_geojson::Fault;
 use streetmap_ledger::{Fault as KeeperFault, Refusal};
 
 /// Why a text is not read into a batch.
-#[derive(Clone, Copy, Debug, PartialEq, Drop)]
+#[derive(Clone, Copy, PartialEq, Drop)]
 pub enum ImportFault {
     /// The key is none.
     BadKey,
@@ -122,7 +122,7 @@ impl<T: Drop> From<AllocFailed<T>> for ImportFault {
 }
 
 /// Why a text is not imported into a keeper.
-#[derive(Clone, Copy, Debug, PartialEq, Drop)]
+#[derive(Clone, Copy, PartialEq, Drop)]
 pub enum ImportStop {
     /// The text is not read into a batch, or memory was refused: the keeper was not asked.
     NotRead(ImportFault),
@@ -194,7 +194,7 @@ impl From<ImportFault> for ImportStop {
 }
 
 /// Why a collection is not exported to its end.
-#[derive(Clone, Copy, Debug, PartialEq, Drop)]
+#[derive(Clone, Copy, PartialEq, Drop)]
 pub enum ExportFault {
     /// The collection is not there.
     NoCollection,

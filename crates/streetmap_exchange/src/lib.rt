@@ -1,4 +1,5 @@
-//! Collections of features as GeoJSON texts: read into batches, and written out of a keeper.
+//! Collections of features as GeoJSON texts, read into batches and written out of a keeper; and the
+//! lines of kept batches.
 //!
 //! `import_batch` makes of the text of a FeatureCollection the batch that puts its features into a
 //! collection; which batch, and which refusal comes first, is `specs/Imports`. `apply_import`
@@ -10,20 +11,31 @@
 //!
 //! Each tells how far it is to a `Progress`, which can do nothing to the result.
 //!
+//! `write_batches` writes a line for each batch that a keeper keeps behind a serial, in order of
+//! their serials; which bytes, and what was written where it ends early, is `specs/Printed`. It
+//! asks the keeper for a few batches at a time, so that the memory it takes does not grow with how
+//! many there are. These lines are those of the state's journal (`line_laws`).
+//!
 //! Modules, in the order of reading: `fault`, `progress`, `importing`, `keeping`, `part`,
-//! `exporting`, `laws`.
+//! `exporting`, `laws`; `lines_stop`, `batch_lines` (bytes and lines), `batches`, `line_laws`.
 #![tactic(auto)]
 
+mod batch_lines;
+mod batches;
 mod exporting;
 mod fault;
 mod importing;
 mod keeping;
 pub mod laws;
+pub mod line_laws;
+mod lines_stop;
 mod part;
 mod progress;
 
+pub use batches::write_batches;
 pub use exporting::export;
 pub use fault::{ExportFault, ImportFault, ImportStop};
 pub use importing::{MAX_TEXT, import_batch};
 pub use keeping::{apply_import, import};
+pub use lines_stop::LinesStop;
 pub use progress::Progress;

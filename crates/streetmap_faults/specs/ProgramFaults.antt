@@ -42,15 +42,15 @@ use Rattle.streetmap_loading.specs.declared.load_fault.LoadFault.{LoadFault}
 use Rattle.streetmap_loading.specs.declared.load_fault.LoadFault.TheVariants as beginning
 use Rattle.streetmap_loading.specs.EndCodes.{end_code, end_place, end_cause, load_fault_code}
 use Rattle.streetmap_loading.specs.EndCodes.{end_description, cause_code}
-use Rattle.streetmap_following.specs.declared.fault.LineStop.TheVariants as stops
-use Rattle.streetmap_following.specs.declared.following.Followed.{Followed}
-use Rattle.streetmap_following.specs.declared.following.End.{End as FollowEnd}
-use Rattle.streetmap_following.specs.declared.following.End.TheVariants as following
-use Rattle.streetmap_following.specs.Names.{end_code as follow_code, end_place as follow_place}
-use Rattle.streetmap_following.specs.Names.{end_cause as follow_cause}
-use Rattle.streetmap_batch_lines.specs.declared.fault.LinesStop.{LinesStop}
-use Rattle.streetmap_batch_lines.specs.declared.fault.LinesStop.TheVariants as batches
-use Rattle.streetmap_batch_lines.specs.Stops.{stop_code_of as batches_code}
+use Rattle.streetmap_replay.specs.declared.line_stop.LineStop.TheVariants as stops
+use Rattle.streetmap_replay.specs.declared.following.Followed.{Followed}
+use Rattle.streetmap_replay.specs.declared.following.End.{End as FollowEnd}
+use Rattle.streetmap_replay.specs.declared.following.End.TheVariants as following
+use Rattle.streetmap_replay.specs.FollowNames.{end_code as follow_code, end_place as follow_place}
+use Rattle.streetmap_replay.specs.FollowNames.{end_cause as follow_cause}
+use Rattle.streetmap_exchange.specs.declared.lines_stop.LinesStop.{LinesStop}
+use Rattle.streetmap_exchange.specs.declared.lines_stop.LinesStop.TheVariants as batches
+use Rattle.streetmap_exchange.specs.Stops.{stop_code_of as batches_code}
 
 -- the name that is printed
 unfoldable pub code_of : ProgramFault → List ℕ

@@ -14,20 +14,19 @@ use std::alloc::AllocError;
 use std::fmt;
 use std::fmt::{Display, Formatter, Write};
 use streetmap_batch::BatchFault;
-use streetmap_batch_lines::LinesStop;
 use streetmap_command::CommandFault;
 use streetmap_connections::ServeFault;
-use streetmap_exchange::{ExportFault, ImportFault, ImportStop};
-use streetmap_following::{End as FollowEnd, Followed, LineStop};
+use streetmap_exchange::{ExportFault, ImportFault, ImportStop, LinesStop};
 use streetmap_geojson::Fault as FeatureFault;
 use streetmap_ledger::Fault as KeeperFault;
 use streetmap_lines::LinesFault;
 use streetmap_loading::{End as LoadEnd, FeatureFault as TextFeatureFault, LoadFault};
+use streetmap_replay::{End as FollowEnd, Followed, LineStop};
 use streetmap_routes::BaseFault;
 use streetmap_text_lines::LineFault;
 
 /// Why the program ends before it is done.
-#[derive(Clone, Copy, Debug)]
+#[derive(Clone, Copy)]
 pub enum ProgramFault {
     /// `usage`: the words of the command line are none that the program takes.
     Usage,

@@ -148,7 +148,7 @@ impl<T: Drop> From<AllocFailed<T>> for JsonFault {
 }
 
 /// Why a value was not read as a collection of features.
-#[derive(Clone, Copy, Debug, PartialEq, Eq, Drop)]
+#[derive(Clone, Copy, PartialEq, Eq, Drop)]
 pub enum CollectionFault {
     /// Memory was refused; the call may be made again.
     Memory,

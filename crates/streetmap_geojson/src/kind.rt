@@ -2,7 +2,7 @@
 ghost use Rattle.std.specs.Prelude.{◌≡◌};
 
 /// The geometry types that have coordinates (RFC 7946, sections 3.1.2 to 3.1.7).
-#[derive(Clone, Copy, Debug, PartialEq, Eq, Drop)]
+#[derive(Clone, Copy, PartialEq, Eq, Drop)]
 pub enum SimpleKind {
     Point,
     MultiPoint,
@@ -13,7 +13,7 @@ pub enum SimpleKind {
 }
 
 /// The geometry types (RFC 7946, section 1.4).
-#[derive(Clone, Copy, Debug, PartialEq, Eq, Drop)]
+#[derive(Clone, Copy, PartialEq, Eq, Drop)]
 pub enum Kind {
     /// A type that has coordinates.
     Simple(SimpleKind),

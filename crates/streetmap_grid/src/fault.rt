@@ -1,7 +1,7 @@
 ghost use Rattle.std.specs.Prelude.{◌≡◌, []};
 
 /// What a constructor of this crate refuses.
-#[derive(Clone, Copy, Debug, PartialEq, Eq, Drop)]
+#[derive(Clone, Copy, PartialEq, Eq, Drop)]
 pub enum GridFault {
     /// A coordinate or height is below -1,000,000,000 or above 1,000,000,000 millimetres.
     OutOfGrid,

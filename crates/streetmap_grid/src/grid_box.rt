@@ -6,7 +6,7 @@ use crate::fault::GridFault;
 use crate::range::is_bound;
 
 /// A box of the grid, in millimetres (RFC 7946, section 5): its edges belong to it.
-#[derive(Clone, Copy, Debug, PartialEq, Eq, Drop)]
+#[derive(Clone, Copy, PartialEq, Eq, Drop)]
 pub struct GridBox {
     /// The western bound, from -2,000,000,000 to `x1`.
     pub x0: i64,

@@ -7,7 +7,7 @@ use crate::range::{is_coordinate, is_height};
 
 /// A position on the grid, in millimetres (RFC 7946, section 3.1.1): easting, northing and, where
 /// there is one, height, each from -1,000,000,000 to 1,000,000,000.
-#[derive(Clone, Copy, Debug, PartialEq, Eq, Drop)]
+#[derive(Clone, Copy, PartialEq, Eq, Drop)]
 pub struct Position {
     /// The easting, in millimetres.
     pub x: i64,

@@ -12,7 +12,7 @@ use crate::limits::{FIELD_LIMIT, HEAD_LIMIT};
 use httparse::spans::{EMPTY_HEADER_SPAN, HeaderSpan};
 
 /// What bytes that came hold of a request.
-#[derive(Clone, Copy, Debug, PartialEq, Eq)]
+#[derive(Clone, Copy, PartialEq, Eq)]
 pub enum Arrival {
     /// So many bytes of the front are answered as one: they are a whole request, or break a rule of
     /// framing (the head alone, or `HEAD_LIMIT` bytes in which no head ends).
@@ -25,7 +25,7 @@ pub enum Arrival {
 
 /// How far bytes were looked through for the end of a head, so that none is looked at again when
 /// more come behind them. Once a request was taken off their front, a new one begins.
-#[derive(Clone, Copy, Debug, PartialEq, Eq)]
+#[derive(Clone, Copy, PartialEq, Eq)]
 pub struct HeadScan {
     scanned: usize,
     progress: HeadProgress,

@@ -6,7 +6,7 @@ ghost use Rattle.std.specs.Io.KnownBytes.{Keeps, Consumes, IsAtEnd};
 use std::io::{ErrorKind, Read};
 
 /// A read failed, or none came after 2^64 - 1 tries.
-#[derive(Debug, Drop, Clone, Copy, PartialEq, Eq)]
+#[derive(Drop, Clone, Copy, PartialEq, Eq)]
 pub(crate) struct ReadFailed;
 
 /// The next byte, or `None` at the end. A read that a signal interrupts is made again.

@@ -11,8 +11,9 @@ use crate::page::page_with;
 use crate::telling::{collection_with, collections_with};
 use std::alloc::Global;
 use streetmap_geojson::Feature;
-use streetmap_kept::{KeepsBatches, KeptBatch};
-use streetmap_ledger::{Batch, Fault, FeatureOutline, Keeper, Page, Reply, Summary};
+use streetmap_ledger::{
+    Batch, Fault, FeatureOutline, Keeper, KeepsBatches, KeptBatch, Page, Reply, Summary,
+};
 use streetmap_query::Query;
 
 /// A keeper that answers pages and tells of collections of another one by what it knows of the

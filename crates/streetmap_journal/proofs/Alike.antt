@@ -14,8 +14,8 @@ use Rattle.std.proofs.lemmas.Slice.Eq.{bytes_eq-Decides}
 use Rattle.streetmap_batch.specs.Text.{Text}
 use Rattle.streetmap_ledger.specs.State.{State}
 use Rattle.streetmap_ledger.specs.WellFormed.{IsState}
-use Rattle.streetmap_kept.specs.Kept.{KeyedBatch, batch_in}
-use Rattle.streetmap_kept.proofs.Serials.{found_under}
+use Rattle.streetmap_ledger.specs.Kept.{KeyedBatch, batch_in}
+use Rattle.streetmap_ledger.proofs.Serials.{found_under}
 use Rattle.streetmap_replay.specs.Journal.{journal, kept_text}
 use Rattle.streetmap_replay.specs.JournalText.{journal_lines, text_of_lines}
 use Rattle.streetmap_replay.specs.Lines.{numbered, line_bytes}

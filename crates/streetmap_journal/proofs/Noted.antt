@@ -17,7 +17,7 @@ use Rattle.streetmap_ledger.specs.declared.reply.Fault.{Fault}
 use Rattle.streetmap_ledger.specs.declared.reply.Fault.TheVariants.{Memory, Device, Damaged, Reopen}
 use Rattle.streetmap_ledger.specs.declared.reply.Refusal.{Refusal}
 use Rattle.streetmap_ledger.specs.declared.reply.Reply.TheVariants.{Repeated, Refused}
-use Rattle.streetmap_kept.specs.Kept.{batch_in}
+use Rattle.streetmap_ledger.specs.Kept.{batch_in}
 use Rattle.streetmap_replay.specs.Journal.{journal, kept_text, text_if}
 use Rattle.streetmap_replay.specs.JournalText.{numbered_after, journal_lines}
 use Rattle.streetmap_replay.specs.Lines.{Line, numbered, line_bytes}

@@ -5,7 +5,7 @@ use Rattle.streetmap_batch.specs.Text.{Text}
 use Rattle.streetmap_ledger.specs.State.{State}
 use Rattle.streetmap_ledger.specs.declared.reply.Cause.{Cause}
 use Rattle.streetmap_ledger.specs.declared.reply.Fault.{Fault}
-use Rattle.streetmap_kept.specs.Kept.{batch_in}
+use Rattle.streetmap_ledger.specs.Kept.{batch_in}
 use Rattle.streetmap_replay.specs.Journal.{kept_text}
 use Rattle.streetmap_replay.specs.Lines.{numbered, line_bytes}
 use Rattle.streetmap_replay.specs.Faults.{StaysBut}

@@ -4,7 +4,7 @@ use Rattle.streetmap_ledger.specs.Keep.{ShutsBy}
 use Rattle.streetmap_ledger.specs.State.{State}
 use Rattle.streetmap_ledger.specs.declared.reply.Cause.{Cause}
 use Rattle.streetmap_ledger.specs.declared.reply.Fault.{Fault}
-use Rattle.streetmap_kept.specs.Kept.{batch_count}
+use Rattle.streetmap_ledger.specs.Kept.{batch_count}
 use Rattle.streetmap_journal.specs.Written.{HoldsIn}
 use Rattle.streetmap_replay.specs.Faults.{StaysBut}
 use Rattle.streetmap_journal.specs.declared.journal.Journal.{Journal}

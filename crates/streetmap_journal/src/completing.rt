@@ -11,8 +11,7 @@ ghost use Rattle.streetmap_replay.specs.Faults.{StaysBut};
 
 use crate::journal::{Journal, JournalWriter, whole_line};
 use std::alloc::Global;
-use streetmap_kept::KeepsBatches;
-use streetmap_ledger::Fault;
+use streetmap_ledger::{Fault, KeepsBatches};
 
 /// The line of the batch with a serial, with its line feed; none where there is no such batch.
 fn kept_line<K: KeepsBatches>(

@@ -11,8 +11,7 @@ use crate::completing::{complete, refuse};
 use crate::journal::{Journal, JournalWriter, line_of};
 use std::alloc::Global;
 use streetmap_geojson::Feature;
-use streetmap_kept::KeepsBatches;
-use streetmap_ledger::{Batch, Fault, FeatureOutline, Keeper, Page, Reply, Summary};
+use streetmap_ledger::{Batch, Fault, FeatureOutline, Keeper, KeepsBatches, Page, Reply, Summary};
 use streetmap_query::Query;
 
 /// A keeper that writes each batch that it accepts as a line of a journal, where there is one,

@@ -6,13 +6,12 @@ ghost use Rattle.streetmap_journal.specs.Matching.{HasZero, MatchesLine, Matches
 use crate::journal::line_with;
 use std::alloc::Global;
 use std::io::BufRead;
-use streetmap_kept::KeepsBatches;
-use streetmap_ledger::Fault;
+use streetmap_ledger::{Fault, KeepsBatches};
 use streetmap_replay::MAX_LINE;
 use streetmap_text_lines::{LineFault, WholeLine, next_whole_line};
 
 /// By what the matching of lines ended.
-#[derive(Clone, Copy, Debug, Drop)]
+#[derive(Clone, Copy, Drop)]
 pub enum MatchEnd {
     /// All lines are those of the batches with their serials.
     All,
@@ -31,7 +30,7 @@ pub enum MatchEnd {
 
 /// How many of the first lines are those of the batches, how many bytes they have, their line feeds
 /// counted, and by what it ended.
-#[derive(Clone, Copy, Debug, Drop)]
+#[derive(Clone, Copy, Drop)]
 pub struct Matched {
     pub count: u64,
     pub bytes: u64,

@@ -10,11 +10,10 @@ ghost use Rattle.streetmap_journal.specs.Telling.{IsTold, IsWholeUnless};
 use crate::completing::complete;
 use crate::journal::{Journal, JournalWriter};
 use std::alloc::Global;
-use streetmap_kept::KeepsBatches;
-use streetmap_ledger::Fault;
+use streetmap_ledger::{Fault, KeepsBatches};
 
 /// Why a journal is not begun.
-#[derive(Clone, Copy, Debug, Drop)]
+#[derive(Clone, Copy, Drop)]
 pub enum StartFault {
     /// The keeper keeps fewer batches.
     Ahead,

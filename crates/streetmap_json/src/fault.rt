@@ -5,7 +5,7 @@ use json::Invalid;
 use std::alloc::{AllocError, AllocFailed};
 
 /// Why no value was answered for the bytes of a JSON text.
-#[derive(Clone, Copy, Debug, PartialEq, Eq, Drop)]
+#[derive(Clone, Copy, PartialEq, Eq, Drop)]
 pub enum ParseFault {
     /// Memory was refused; the call may be made again.
     Memory,

@@ -6,3 +6,6 @@ pub mod Acceptance
 pub mod Walking
 pub mod Runs
 pub mod Hiding
+pub mod Serials
+pub mod AllThere
+pub mod Nexts

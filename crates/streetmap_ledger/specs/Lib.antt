@@ -12,3 +12,6 @@ pub mod Laws
 pub mod Walks
 pub mod Outlines
 pub mod OutlineView
+pub mod Kept
+pub mod KeptView
+pub mod SerialLaws

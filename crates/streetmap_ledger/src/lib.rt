@@ -6,21 +6,33 @@
 //! these definitions do, and each says what a stop may leave. `run` is proved once over any keeper;
 //! `streetmap_memory` has the one that keeps the state in memory.
 //!
+//! A keeper that stands for a state keeps a batch for each accepted key: its text, how many edits
+//! of each kind it had, and its serial. `KeepsBatches`, beside the trait `Keeper`, tells how many
+//! there are, the one of a serial, and those behind one, as the state has them (`specs/Kept`);
+//! nothing changes by that. From these batches, in order of their serials, the state can be made
+//! again.
+//!
 //! In the order of reading: `reply`, `page`, `summary`, `outline`, `keeper` (the trait and `run`),
-//! `laws`; for pages `selection` and `fold`. Batches are those of `streetmap_batch`.
+//! `laws`; for pages `selection` and `fold`; `kept_batch`, `keeping` (the trait), `serial_laws`.
+//! Batches are those of `streetmap_batch`.
 #![tactic(auto)]
 
 mod fold;
 mod keeper;
+mod keeping;
+mod kept_batch;
 pub mod laws;
 mod outline;
 mod page;
 mod reply;
 mod selection;
+pub mod serial_laws;
 mod summary;
 
 pub use fold::PageFold;
 pub use keeper::{Keeper, run};
+pub use keeping::KeepsBatches;
+pub use kept_batch::KeptBatch;
 pub use outline::FeatureOutline;
 pub use page::Page;
 pub use reply::{Cause, Counts, Fault, Refusal, Reply, Run};

@@ -2,7 +2,7 @@
 use streetmap_batch::Edit;
 
 /// How many edits of each kind a batch has.
-#[derive(Clone, Copy, Debug, PartialEq, Eq)]
+#[derive(Clone, Copy, PartialEq, Eq)]
 pub struct Counts {
     pub opened: u64,
     pub inserted: u64,
@@ -11,7 +11,7 @@ pub struct Counts {
 }
 
 /// Why a batch is refused.
-#[derive(Clone, Copy, Debug, PartialEq, Eq)]
+#[derive(Clone, Copy, PartialEq, Eq)]
 pub enum Refusal {
     /// The collection of an edit is not there.
     NoCollection,
@@ -30,7 +30,7 @@ pub enum Refusal {
 }
 
 /// What a batch came to.
-#[derive(Clone, Copy, Debug, PartialEq, Eq)]
+#[derive(Clone, Copy, PartialEq, Eq)]
 pub enum Reply {
     /// It was accepted: how many edits of each kind it had, and its serial, from 1.
     Accepted(Counts, u64),
@@ -42,7 +42,7 @@ pub enum Reply {
 }
 
 /// What shut a keeper.
-#[derive(Clone, Copy, Debug, PartialEq, Eq)]
+#[derive(Clone, Copy, PartialEq, Eq)]
 pub enum Cause {
     /// The device failed, or its size was reached.
     Device,

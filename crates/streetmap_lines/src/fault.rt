@@ -9,7 +9,7 @@ use std::io::{Error, ErrorKind};
 use streetmap_text_lines::LineFault;
 
 /// Why the answering of lines ends before the input does.
-#[derive(Clone, Copy, Debug, PartialEq, Eq)]
+#[derive(Clone, Copy, PartialEq, Eq)]
 pub enum LinesFault {
     /// `line_too_long`: a line of input has more than 8,388,608 bytes, its line feed not counted.
     LineTooLong,

@@ -5,7 +5,7 @@ ghost use Rattle.streetmap_lines.specs.Request.{request_by, request_of, request_
 ghost use Rattle.streetmap_lines.specs.RequestView.{request_value};
 
 /// What a line of input asks for, by texts of the line.
-#[derive(Clone, Copy, Debug)]
+#[derive(Clone, Copy)]
 pub enum Request<'a> {
     /// A batch of edits to be applied.
     Batch {

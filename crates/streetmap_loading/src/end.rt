@@ -10,7 +10,7 @@ use std::alloc::{AllocError, AllocFailed};
 use streetmap_ledger::{Fault, Refusal};
 
 /// By what a load ended.
-#[derive(Clone, Copy, Debug, PartialEq, Eq, Drop)]
+#[derive(Clone, Copy, PartialEq, Eq, Drop)]
 pub enum End {
     /// All edits were read, and all their batches taken.
     All,
@@ -30,7 +30,7 @@ pub enum End {
 }
 
 /// What a load came to.
-#[derive(Clone, Copy, Debug, Drop)]
+#[derive(Clone, Copy, Drop)]
 pub struct Loaded {
     /// How many edits were read.
     pub edits: u64,

@@ -3,7 +3,7 @@ use streetmap_geojson::Fault;
 use streetmap_placing::PlacingFault;
 
 /// What is wrong with a feature of a text.
-#[derive(Clone, Copy, Debug, PartialEq, Eq, Drop)]
+#[derive(Clone, Copy, PartialEq, Eq, Drop)]
 pub enum FeatureFault {
     /// A coordinate has more digits than are kept: more than 38 characters, or places behind its
     /// 18th that are not rounded off.

@@ -8,9 +8,9 @@
 //! and that one that was stopped goes on. `check_text` reads a text and loads nothing, `print_text`
 //! writes the batches in place of applying them.
 //!
-//! Modules, in the order of reading: `feature_fault`, `text_fault`, `source`, `sink`, `end`, `sending`, `whole`;
-//! `rules`, `listener`, `feature_line`, `text_edits`; `load_fault`, `load`, `opening`;
-//! `keeper_sink`, `loading`, `asking`, `checking`, `line_sink`, `printing`, `laws`.
+//! Modules, in the order of reading: `feature_fault`, `text_fault`, `source`, `sink`, `end`,
+//! `sending`, `whole`; `rules`, `listener`, `feature_line`, `text_edits`; `load_fault`, `load`,
+//! `opening`; `keeper_sink`, `loading`, `asking`, `checking`, `line_sink`, `printing`, `laws`.
 #![tactic(auto)]
 
 mod asking;

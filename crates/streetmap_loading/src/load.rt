@@ -15,14 +15,14 @@ pub const MAX_KEY: usize = 44;
 
 /// The opening of a collection: its title, which is its id where there is none, and the property
 /// that the times of its features are read from.
-#[derive(Clone, Copy, Debug)]
+#[derive(Clone, Copy)]
 pub struct Opening<'a> {
     pub title: Option<&'a str>,
     pub time: Option<&'a str>,
 }
 
 /// What is asked of a load.
-#[derive(Clone, Copy, Debug)]
+#[derive(Clone, Copy)]
 pub struct LoadOptions<'a> {
     /// The key of its batches, with no number behind it.
     pub key: &'a str,

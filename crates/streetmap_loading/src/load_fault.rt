@@ -2,7 +2,7 @@
 use std::alloc::AllocError;
 
 /// Why a load does not begin.
-#[derive(Clone, Copy, Debug, PartialEq, Eq, Drop)]
+#[derive(Clone, Copy, PartialEq, Eq, Drop)]
 pub enum LoadFault {
     /// The key is none, or has more than 44 bytes.
     BadKey,

@@ -9,7 +9,7 @@ use streetmap_batch::Batch;
 use streetmap_ledger::{Fault, Refusal};
 
 /// Why a batch was not taken.
-#[derive(Clone, Copy, Debug, PartialEq, Eq, Drop)]
+#[derive(Clone, Copy, PartialEq, Eq, Drop)]
 pub enum Stop {
     /// It was refused, with the place in it of the edit at fault, counted from 1, where there is
     /// one.

@@ -9,7 +9,7 @@ use std::alloc::AllocError;
 use streetmap_batch::Edit;
 
 /// Why there is no edit.
-#[derive(Clone, Copy, Debug, PartialEq, Eq, Drop)]
+#[derive(Clone, Copy, PartialEq, Eq, Drop)]
 pub enum Unread {
     /// What stands for the edit is at fault.
     AtFault(TextFault),

@@ -3,7 +3,7 @@ use crate::feature_fault::FeatureFault;
 
 /// What is wrong with a text of features, where a load ends at it. Places are those of features in
 /// the text, counted from 1.
-#[derive(Clone, Copy, Debug, PartialEq, Eq, Drop)]
+#[derive(Clone, Copy, PartialEq, Eq, Drop)]
 pub enum TextFault {
     /// The first line is no whole JSON text, or a FeatureCollection (RFC 7946, section 3.3).
     NotASequence,

@@ -3,14 +3,14 @@ ghost use Rattle.std.specs.Prelude.{◌≡◌, IfOk, find};
 ghost use Rattle.std.specs.BTreeMap.{IsOrdered};
 ghost use Rattle.std.specs.Option.{option_map};
 ghost use Rattle.std.specs.String.{string_cmp};
-ghost use Rattle.streetmap_kept.specs.Kept.{has_serial};
-ghost use Rattle.streetmap_kept.specs.View.{keyed_batch};
+ghost use Rattle.streetmap_ledger.specs.Kept.{has_serial};
+ghost use Rattle.streetmap_ledger.specs.KeptView.{keyed_batch};
 ghost use Rattle.streetmap_memory.specs.Slots.{by_text};
 
 use crate::kept;
 use std::alloc::{AllocError, Global};
 use std::collections::BTreeMap;
-use streetmap_kept::KeptBatch;
+use streetmap_ledger::KeptBatch;
 
 /// What is kept under a key, in memory of its own.
 fn copy_of(alloc: Global, key: &str, kept: &kept::KeptBatch) -> Result<KeptBatch, AllocError>

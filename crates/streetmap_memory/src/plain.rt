@@ -10,8 +10,8 @@ ghost use Rattle.streetmap_ledger.specs.WellFormed.{IsState};
 ghost use Rattle.streetmap_ledger.specs.Batches.{act};
 ghost use Rattle.streetmap_batch.specs.BatchText.{batch_text};
 ghost use Rattle.streetmap_batch.specs.BatchView.{batch_value};
-ghost use Rattle.streetmap_kept.specs.Kept.{batch_count, batch_in, AreNext};
-ghost use Rattle.streetmap_kept.specs.View.{keyed_batch, keyed_batches};
+ghost use Rattle.streetmap_ledger.specs.Kept.{batch_count, batch_in, AreNext};
+ghost use Rattle.streetmap_ledger.specs.KeptView.{keyed_batch, keyed_batches};
 ghost use Rattle.streetmap_memory.specs.Slots.{map_of};
 ghost use Rattle.streetmap_ledger.specs.Pages.{page_in, feature_in};
 ghost use Rattle.streetmap_ledger.specs.PageView.{page_value};
@@ -33,8 +33,9 @@ use std::alloc::{AllocError, Global};
 use std::collections::BTreeMap;
 use streetmap_batch::Batch;
 use streetmap_geojson::Feature;
-use streetmap_kept::KeepsBatches;
-use streetmap_ledger::{Counts, Fault, FeatureOutline, Keeper, Page, Refusal, Reply, Summary};
+use streetmap_ledger::{
+    Counts, Fault, FeatureOutline, Keeper, KeepsBatches, Page, Refusal, Reply, Summary,
+};
 use streetmap_query::Query;
 
 /// How many batches may be accepted.
@@ -180,7 +181,7 @@ impl PlainKeeper {
         self.keys.len() as u64
     }
 
-    fn batch_of(&self, serial: u64) -> Result<Option<streetmap_kept::KeptBatch>, AllocError>
+    fn batch_of(&self, serial: u64) -> Result<Option<streetmap_ledger::KeptBatch>, AllocError>
         ensures { IfOk result (λ batch.
             option_map keyed_batch batch ≡ batch_in (plain_state self.now) serial) }
     {
@@ -191,7 +192,7 @@ impl PlainKeeper {
         &self,
         alloc: Global,
         after: u64,
-    ) -> Result<Vec<streetmap_kept::KeptBatch>, AllocError>
+    ) -> Result<Vec<streetmap_ledger::KeptBatch>, AllocError>
         ensures { IsState (plain_state self.now) → IfOk result (λ found. (room : ℕ) →
             AreNext (plain_state self.now) after room (keyed_batches found.items)) }
     {
@@ -308,7 +309,7 @@ impl KeepsBatches for PlainKeeper {
         Ok(self.count_of())
     }
 
-    fn batch(&mut self, serial: u64) -> Result<Option<streetmap_kept::KeptBatch>, Fault> {
+    fn batch(&mut self, serial: u64) -> Result<Option<streetmap_ledger::KeptBatch>, Fault> {
         match self.batch_of(serial) {
             Ok(batch) => Ok(batch),
             Err(_) => Err(Fault::Memory),
@@ -320,7 +321,7 @@ impl KeepsBatches for PlainKeeper {
         alloc: Global,
         after: u64,
         _room: usize,
-    ) -> Result<Vec<streetmap_kept::KeptBatch>, Fault> {
+    ) -> Result<Vec<streetmap_ledger::KeptBatch>, Fault> {
         match self.batches_of(alloc, after) {
             Ok(batches) => Ok(batches),
             Err(_) => Err(Fault::Memory),

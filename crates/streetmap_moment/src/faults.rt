@@ -1,6 +1,6 @@
 //! Why a text of time is refused.
 /// Why a text gives no moment or no interval.
-#[derive(Clone, Copy, Debug, PartialEq, Eq)]
+#[derive(Clone, Copy, PartialEq, Eq)]
 pub enum TimeFault {
     /// `bad_time`: the text is none of the forms, or the calendar has no such day.
     BadTime,

@@ -10,7 +10,7 @@ use crate::moments::Moment;
 /// 7.15.4 asks for. One of its two ends may be open.
 ///
 /// The start is not after the end, and the two are not both open.
-#[derive(Clone, Copy, Debug, PartialEq, Eq)]
+#[derive(Clone, Copy, PartialEq, Eq)]
 pub struct Interval {
     /// The first moment, or nothing where the start is open.
     pub start: Option<Moment>,

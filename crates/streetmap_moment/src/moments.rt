@@ -10,7 +10,7 @@ ghost use Rattle.streetmap_moment.specs.Range.{IsMoment, IsDayNumber, IsOffsetSe
 /// It lies within what the date-times of RFC 3339 section 5.6 can mean: from
 /// 0000-01-01T00:00:00+23:59 to 9999-12-31T23:59:59.999999999-23:59, which is from
 /// -62,167,305,540,000,000,000 to 253,402,387,139,999,999,999. Later moments are greater.
-#[derive(Clone, Copy, Debug, PartialEq, Eq, PartialOrd, Ord)]
+#[derive(Clone, Copy, PartialEq, Eq, PartialOrd, Ord)]
 pub struct Moment {
     /// The nanoseconds since 1970-01-01T00:00:00Z.
     pub nanoseconds: i128,

@@ -6,7 +6,7 @@ use streetmap_decimal::DecimalFault;
 use streetmap_json::ParseFault;
 
 /// Why the text of a feature was not read.
-#[derive(Clone, Copy, Debug, PartialEq, Eq, Drop)]
+#[derive(Clone, Copy, PartialEq, Eq, Drop)]
 pub enum PlacingFault {
     /// Memory was refused; the call may be made again.
     Memory,

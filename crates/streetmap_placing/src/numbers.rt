@@ -3,7 +3,7 @@
 use streetmap_decimal::{Placement, Rounding, Scale, Shift};
 
 /// What becomes of a number within the properties that is not whole.
-#[derive(Clone, Copy, Debug, PartialEq, Eq, Drop)]
+#[derive(Clone, Copy, PartialEq, Eq, Drop)]
 pub enum Fractions {
     /// It stays a number, which the reader of features refuses.
     Number,
@@ -12,7 +12,7 @@ pub enum Fractions {
 }
 
 /// How the numbers of a feature are read.
-#[derive(Clone, Copy, Debug, PartialEq, Eq)]
+#[derive(Clone, Copy, PartialEq, Eq)]
 pub struct Numbers {
     /// Where the map lies in the grid, or none where its coordinates are the grid's.
     pub placement: Option<Placement>,

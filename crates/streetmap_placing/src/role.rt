@@ -6,7 +6,7 @@ ghost use Rattle.streetmap_placing.specs.declared.role.Role.TheVariants.{Feature
 use streetmap_decimal::Axis;
 
 /// What a value is within a feature (RFC 7946, sections 3.1 and 3.2).
-#[derive(Clone, Copy, Debug, PartialEq, Eq, Drop)]
+#[derive(Clone, Copy, PartialEq, Eq, Drop)]
 pub enum Role {
     /// The feature.
     Feature,

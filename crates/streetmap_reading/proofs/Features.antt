@@ -30,9 +30,10 @@ use Rattle.streetmap_rows.proofs.Compiles.{both}
 use Rattle.streetmap_reading.proofs.Compiles.{select_text_means, select_text_never}
 use Rattle.streetmap_rows.proofs.Deleting.{both_is, keys_of}
 use Rattle.streetmap_rows.proofs.Placing as placing
-use Rattle.streetmap_reading.specs.declared.fault.ReadFault.{ReadFault}
-use Rattle.streetmap_reading.specs.declared.fault.ReadFault.TheVariants.{Memory}
-use Rattle.streetmap_reading.specs.Candidates.{dated_row, IsStored, ShowsOf}
+use Rattle.streetmap_rows.specs.declared.fault.ReadFault.{ReadFault}
+use Rattle.streetmap_rows.specs.declared.fault.ReadFault.TheVariants.{Memory}
+use Rattle.streetmap_reading.specs.Candidates.{dated_row, ShowsOf}
+use Rattle.streetmap_rows.specs.Stored.{IsStored}
 use Rattle.streetmap_reading.specs.Taking.{Stopped}
 use Rattle.streetmap_reading.proofs.Shown.{shows_by}
 

@@ -1,14 +1,12 @@
 pub mod Boxes
 pub mod Choosing
 pub mod Compiles
-pub mod Failing
 pub mod Features
 pub mod Given
 pub mod Listing
 pub mod Lists
 pub mod Looks
 pub mod Pages
-pub mod Reading
 pub mod Readings
 pub mod Rests
 pub mod Shown
@@ -16,3 +14,10 @@ pub mod ShownOutlines
 pub mod Taken
 pub mod Told
 pub mod ToldOutlines
+pub mod BatchCompiles
+pub mod Picking
+pub mod Showing
+pub mod Rising
+pub mod Behind
+pub mod Scanned
+pub mod Nexts

@@ -21,8 +21,9 @@ use Rattle.streetmap_ledger.specs.Pages.{selects, selected, is_candidate, candid
 use Rattle.streetmap_ledger.specs.declared.fold.PageFold.{PageFold}
 use Rattle.streetmap_ledger.proofs.Examining.{selected_are_candidates, same_page}
 use Rattle.streetmap_rows.specs.Keeping.{Keeps}
-use Rattle.streetmap_reading.specs.declared.fault.ReadFault.{ReadFault}
-use Rattle.streetmap_reading.specs.Candidates.{candidate_row, IsStored, ShowsOf}
+use Rattle.streetmap_rows.specs.declared.fault.ReadFault.{ReadFault}
+use Rattle.streetmap_reading.specs.Candidates.{candidate_row, ShowsOf}
+use Rattle.streetmap_rows.specs.Stored.{IsStored}
 use Rattle.streetmap_reading.specs.Taking.{TakesAll}
 use Rattle.streetmap_reading.specs.Choosing.{chosen_of, TakesChosen}
 use Rattle.streetmap_reading.specs.Looking.{Stays}

@@ -17,8 +17,8 @@ use Rattle.streetmap_rows.specs.Failing.{IsOfStore, HasReason}
 use Rattle.streetmap_rows.specs.Rows.{feature_text}
 use Rattle.streetmap_reading.specs.Candidates.{candidate_row, ShowsOf}
 use Rattle.streetmap_reading.specs.Taking.{Stopped}
-use Rattle.streetmap_reading.specs.declared.fault.ReadFault.{ReadFault}
-use Rattle.streetmap_reading.specs.declared.fault.ReadFault.TheVariants.{Memory, Store, Unread}
+use Rattle.streetmap_rows.specs.declared.fault.ReadFault.{ReadFault}
+use Rattle.streetmap_rows.specs.declared.fault.ReadFault.TheVariants.{Memory, Store, Unread}
 use Rattle.streetmap_reading.proofs.Given as next
 
 pub map_append : {A B : Type 0} (f : A → B) (xs ys : List A) → map f (xs ++ ys) ≡ map f xs ++ map f ys

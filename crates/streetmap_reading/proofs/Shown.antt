@@ -35,7 +35,8 @@ use Rattle.streetmap_rows.proofs.Compiles.{one, select_all_means, select_all_nev
 use Rattle.streetmap_rows.proofs.PutCollection.{name_cell}
 use Rattle.streetmap_rows.proofs.Looking.{named_is}
 use Rattle.streetmap_rows.proofs.Placing as placing
-use Rattle.streetmap_reading.specs.Candidates.{candidate_row, IsStored, ShowsOf}
+use Rattle.streetmap_reading.specs.Candidates.{candidate_row, ShowsOf}
+use Rattle.streetmap_rows.specs.Stored.{IsStored}
 use Rattle.streetmap_reading.specs.Choosing.{is_chosen, chosen_of}
 use Rattle.streetmap_rows.specs.Views.{collection_view}
 use Rattle.streetmap_moment.specs.Meeting.{first_second, last_second}

@@ -13,7 +13,7 @@ use Rattle.streetmap_ledger.specs.Summaries.{summary_of, summaries_in}
 use Rattle.streetmap_ledger.specs.SummaryView.{summary_value, summary_values}
 use Rattle.streetmap_ledger.specs.declared.summary.Summary.{Summary}
 use Rattle.streetmap_rows.specs.Keeping.{Keeps}
-use Rattle.streetmap_reading.specs.declared.fault.ReadFault.{ReadFault}
+use Rattle.streetmap_rows.specs.declared.fault.ReadFault.{ReadFault}
 use Rattle.streetmap_reading.specs.Looking.{Stays}
 use Rattle.streetmap_reading.specs.Taking.{Stopped}
 use Rattle.streetmap_reading.proofs.Rests.{map_append, survives_still, clean_before, stopped_on}

@@ -31,15 +31,6 @@ abbrev pub dated_row : FeatureValue → Row
 dated_row f = Words (feature_text f)
     ∷ or_null Int (option_map (λ (s : ℤ × ℤ). s.0) (seconds_in f)) ∷ []
 
--- a feature that a collection with this time property keeps
-pub record IsStored (property : Option Text) (f : FeatureValue) : Type 0 where
-  pub kept : IsFeature f
-  pub timed : time_of property f.properties ≡ Ok f.time
-
--- the text is JSON of a value that reads as this feature, under a collection's time property
-abbrev pub TextReadsAs : Option Text → Text → FeatureValue → Type 0
-TextReadsAs property text f = (d : Data) × (json_of text ≡ Ok d) × ReadsAs property d f
-
 -- the text is one statement, and has so many parameters
 abbrev pub IsWhole : List ℕ → Row → Result Compiled CompileError → Type 0
 IsWhole sql params (Ok c) = (length sql ≤ c.tail) × (length params ≡ length c.names)

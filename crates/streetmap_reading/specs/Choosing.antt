@@ -14,7 +14,7 @@ use Rattle.streetmap_ledger.specs.Pages.{passes, extent_overlaps}
 use Rattle.streetmap_ledger.specs.Folds.{Holds}
 use Rattle.streetmap_ledger.specs.declared.fold.PageFold.{PageFold}
 use Rattle.streetmap_rows.specs.Keeping.{Keeps}
-use Rattle.streetmap_reading.specs.declared.fault.ReadFault.{ReadFault}
+use Rattle.streetmap_rows.specs.declared.fault.ReadFault.{ReadFault}
 use Rattle.streetmap_reading.specs.Taking.{Stopped}
 
 -- the extent overlaps the box, and the seconds those of the interval, as far as they are asked

@@ -7,8 +7,8 @@ use Rattle.sqlite.specs.Store.{Ghosts}
 use Rattle.sqlite.specs.Given.{HasGiven}
 use Rattle.sqlite.specs.Held.{Held, state}
 use Rattle.sqlite.specs.State.{State as Seen, IsUnchanged}
-use Rattle.streetmap_reading.specs.declared.fault.ReadFault.{ReadFault}
-use Rattle.streetmap_reading.specs.declared.fault.ReadFault.TheVariants.{Memory}
+use Rattle.streetmap_rows.specs.declared.fault.ReadFault.{ReadFault}
+use Rattle.streetmap_rows.specs.declared.fault.ReadFault.TheVariants.{Memory}
 use Rattle.streetmap_reading.specs.Candidates.{ShowsOf}
 use Rattle.streetmap_reading.specs.Taking.{Stopped}
 

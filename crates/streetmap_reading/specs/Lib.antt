@@ -7,3 +7,6 @@ pub mod Statements
 pub mod Taking
 pub mod Telling
 pub mod Views
+pub mod BatchStatements
+pub mod Serials
+pub mod Scanning

@@ -12,10 +12,11 @@ use Rattle.streetmap_query.specs.QueryValue.{QueryValue}
 use Rattle.streetmap_batch.specs.Text.{Text}
 use Rattle.streetmap_ledger.specs.Folds.{Holds}
 use Rattle.streetmap_ledger.specs.declared.fold.PageFold.{PageFold}
-use Rattle.streetmap_reading.specs.declared.fault.ReadFault.{ReadFault}
-use Rattle.streetmap_reading.specs.declared.fault.ReadFault.TheVariants.{Memory, Store, Unread}
+use Rattle.streetmap_rows.specs.declared.fault.ReadFault.{ReadFault}
+use Rattle.streetmap_rows.specs.declared.fault.ReadFault.TheVariants.{Memory, Store, Unread}
 use Rattle.streetmap_rows.specs.Failing.{IsOfStore, HasReason}
-use Rattle.streetmap_reading.specs.Candidates.{candidate_row, IsStored, ShowsOf}
+use Rattle.streetmap_reading.specs.Candidates.{candidate_row, ShowsOf}
+use Rattle.streetmap_rows.specs.Stored.{IsStored}
 
 -- a look that stopped left the connection as it was, or the store failed for a reason; it met no
 -- row that cannot be read

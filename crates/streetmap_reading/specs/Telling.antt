@@ -15,7 +15,7 @@ use Rattle.streetmap_ledger.specs.Summaries.{summaries_in}
 use Rattle.streetmap_ledger.specs.SummaryView.{summary_value, summary_values}
 use Rattle.streetmap_ledger.specs.declared.outline.FeatureOutline.{FeatureOutline}
 use Rattle.streetmap_ledger.specs.declared.summary.Summary.{Summary}
-use Rattle.streetmap_reading.specs.declared.fault.ReadFault.{ReadFault}
+use Rattle.streetmap_rows.specs.declared.fault.ReadFault.{ReadFault}
 use Rattle.streetmap_reading.specs.Looking.{LooksInto}
 use Rattle.streetmap_reading.specs.Held.{head_of}
 

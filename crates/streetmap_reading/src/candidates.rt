@@ -1,43 +1,22 @@
 //! Candidates of a page, taken row by row.
-ghost use Rattle.std.specs.Prelude.{◌≡◌, ◌<◌, Ok, Option, false, IfOk, OnOk, MatchResult, length};
+ghost use Rattle.std.specs.Prelude.{◌≡◌, ◌<◌, Ok, Option, false, MatchResult, length};
 ghost use Rattle.std.specs.Option.{option_copied};
 ghost use Rattle.sqlite.specs.Order.{column};
 ghost use Rattle.sqlite.specs.declared.types.Value.TheVariants.{Text as Words};
 ghost use Rattle.sqlite.specs.Held.{state};
-ghost use Rattle.sqlite.specs.Given.{IsPlain, HasGiven};
-ghost use Rattle.sqlite.specs.Listing.{understood};
 ghost use Rattle.sqlite.specs.State.{HasCleanDisk, Survives, CommitsShowing};
 ghost use Rattle.sqlite.specs.Values.{bound};
 ghost use Rattle.streetmap_geojson.specs.FeatureValue.{FeatureValue};
-ghost use Rattle.streetmap_geojson.specs.Fault.{Gives};
-ghost use Rattle.streetmap_geojson.specs.FeatureView.{feature_value};
 ghost use Rattle.streetmap_rows.specs.Rows.{feature_text};
-ghost use Rattle.streetmap_reading.specs.Candidates.{IsStored, TextReadsAs};
+ghost use Rattle.streetmap_rows.specs.Stored.{IsStored};
 ghost use Rattle.streetmap_reading.specs.Taking.{TakesNext, TakesRest, TakesAll};
 
-use crate::fault::ReadFault;
 use sqlite::types::ValueRef;
 use sqlite::{Alter, Connection, Error, ErrorCode, Row, Rows};
 use std::alloc::Global;
-use streetmap_geojson::{Feature, JsonFault, read_feature, read_json};
+use streetmap_geojson::{Feature, JsonFault};
 use streetmap_ledger::PageFold;
-
-/// The feature of a text that is kept of it, under a collection's time property.
-///
-/// The text is JSON (RFC 8259) of a GeoJSON Feature (RFC 7946), as `push_feature` writes it.
-///
-/// # Errors
-///
-/// `Memory` where memory was refused; `Fault` where the text reads as no feature, which never comes
-/// of a text that is kept.
-pub fn read_body(alloc: Global, body: &[u8], property: Option<&str>) -> Result<Feature, JsonFault>
-    ensures reads { IfOk result (TextReadsAs (option_copied property.entry) body.now) }
-    ensures again { (f : FeatureValue) → body.now ≡ feature_text f →
-        IsStored (option_copied property.entry) f → Gives feature_value result (Ok f) }
-{
-    let value = read_json(alloc, body)?;
-    read_feature(alloc, &value, property)
-}
+use streetmap_rows::{ReadFault, read_body};
 
 /// The feature of a row that shows its text first.
 pub fn read_row(alloc: Global, row: &Row, property: Option<&str>) -> Result<Feature, ReadFault>

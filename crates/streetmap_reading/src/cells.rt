@@ -10,10 +10,10 @@ ghost use Rattle.streetmap_grid.specs.Views.{box_value};
 ghost use Rattle.streetmap_grid.specs.WellFormed.{IsBox};
 ghost use Rattle.streetmap_reading.specs.Folding.{IsForMemory};
 
-use crate::fault::{ReadFault, unread};
 use sqlite::Row;
 use sqlite::types::ValueRef;
 use streetmap_grid::GridBox;
+use streetmap_rows::{ReadFault, unread};
 
 /// The text in a cell.
 pub fn text_at(row: &Row, at: usize) -> Result<String, ReadFault>

@@ -12,10 +12,10 @@ ghost use Rattle.streetmap_reading.specs.Telling.{IsExtentIn};
 ghost use Rattle.streetmap_reading.specs.Views.{extent_row};
 
 use crate::cells::box_at;
-use crate::fault::ReadFault;
 use crate::fold::{RowFold, fold_rows};
 use sqlite::{Alter, Connection, Row, params};
 use streetmap_grid::GridBox;
+use streetmap_rows::ReadFault;
 
 /// The bounds of the positions of both.
 fn bounds_of_both(one: Option<GridBox>, other: Option<GridBox>) -> Option<GridBox>

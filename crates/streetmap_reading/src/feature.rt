@@ -8,12 +8,12 @@ ghost use Rattle.streetmap_reading.specs.Looking.{LooksInto, Stays, IsTextRow, I
 ghost use Rattle.streetmap_reading.specs.Looking.{IsFeatureIn};
 
 use crate::candidates::read_row;
-use crate::fault::ReadFault;
 use crate::page::{collection_row, property_in};
 use sqlite::types::ValueRef;
 use sqlite::{Alter, Connection, Row, params};
 use std::alloc::Global;
 use streetmap_geojson::Feature;
+use streetmap_rows::ReadFault;
 
 /// The row that shows the text of a feature and the first second of its time; none where it is not
 /// there.

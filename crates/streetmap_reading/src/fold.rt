@@ -6,9 +6,9 @@ ghost use Rattle.sqlite.specs.State.{HasCleanDisk, Survives, CommitsShowing};
 ghost use Rattle.sqlite.specs.Values.{bound};
 ghost use Rattle.streetmap_reading.specs.Folding.{TakesRow, TakesNext, TakesRest, TakesAll};
 
-use crate::fault::ReadFault;
 use sqlite::types::ValueRef;
 use sqlite::{Alter, Connection, Error, ErrorCode, Row, Rows};
+use streetmap_rows::ReadFault;
 
 /// What takes rows one after the other, and holds what they say.
 pub trait RowFold {

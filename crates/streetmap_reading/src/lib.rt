@@ -6,29 +6,34 @@
 //! state has it, by its collection and its id, with the time that the collection's time property
 //! tells. Nothing changes, and a stop may leave no more than before. Where one gives up it says
 //! why: for memory, because a statement failed, or at a row that is none that this product writes;
-//! the last never on the tables of a state.
+//! the last never on the tables of a state (`streetmap_rows`' `ReadFault`).
 //!
 //! `summary_of` and `summaries_of` tell of one collection and of all, and `outlines_of` lists a
 //! collection's features by what is stored beside their bodies, in one pass; none of them reads a
 //! body.
 //!
-//! In the order of reading: `fault`, `candidates` (rows of a query, one after the other), `page`,
-//! `feature`; `cells` (a value of a row), `fold` (rows taken one by one), `extents`, `summaries`,
-//! `outlines`.
+//! `batch_of` answers the batch that was accepted with a serial, and `batches_of` those behind one,
+//! in order and as many as there is room for: each by one statement over the index of the column
+//! `serial`, the second in one scan that stops where the room is full.
+//!
+//! In the order of reading: `candidates` (rows of a query, one after the other), `page`, `feature`;
+//! `cells` (a value of a row), `fold` (rows taken one by one), `extents`, `summaries`, `outlines`;
+//! `batch_cells` (a batch from its row), `scanning`, `batches` (looks by a serial).
 #![tactic(auto)]
 
+mod batch_cells;
+mod batches;
 mod candidates;
 mod cells;
 mod extents;
-mod fault;
 mod feature;
 mod fold;
 mod outlines;
 mod page;
+mod scanning;
 mod summaries;
 
-pub use candidates::read_body;
-pub use fault::{ReadFault, unread};
+pub use batches::{batch_of, batches_of};
 pub use feature::feature_of;
 pub use outlines::outlines_of;
 pub use page::page_of;

@@ -10,12 +10,12 @@ ghost use Rattle.streetmap_reading.specs.Telling.{AreOutlinesOf, AreOutlinesIn};
 ghost use Rattle.streetmap_reading.specs.Views.{outline_row, IsOutline};
 
 use crate::cells::{box_at, seconds_at, text_at};
-use crate::fault::ReadFault;
 use crate::fold::{RowFold, fold_rows};
 use crate::page::collection_row;
 use sqlite::{Alter, Connection, Row, params};
 use std::alloc::Global;
 use streetmap_ledger::FeatureOutline;
+use streetmap_rows::ReadFault;
 
 /// The outline that a row shows.
 fn outline_in(row: &Row) -> Result<FeatureOutline, ReadFault>

@@ -22,14 +22,13 @@ ghost use Rattle.streetmap_reading.specs.Looking.{IsPageUnder};
 ghost use Rattle.streetmap_rows.specs.Views.{collection_view};
 
 use crate::candidates::take_rows;
-use crate::fault::{ReadFault, unread};
 use sqlite::{Alter, Connection, Row, params};
 use std::alloc::Global;
 use streetmap_grid::GridBox;
 use streetmap_ledger::{Page, PageFold};
 use streetmap_moment::Interval;
 use streetmap_query::Query;
-use streetmap_rows::time_in;
+use streetmap_rows::{ReadFault, time_in, unread};
 
 /// Takes all features of a collection.
 fn take_all<S: Alter>(
@@ -206,7 +205,10 @@ pub fn property_in(row: &Row) -> Result<Option<String>, ReadFault>
         → MatchResult result (λ time. option_map string_bytes time ≡ c.time) (λ fault. fault
         ≡ ReadFault.Memory) }
 {
-    time_in(row).map_err(unread)
+    match time_in(row) {
+        Ok(time) => Ok(time),
+        Err(error) => Err(unread(error)),
+    }
 }
 
 /// The page of a collection that is there, whose time property is known.

@@ -16,12 +16,12 @@ ghost use Rattle.streetmap_reading.specs.Telling.{TellsAll};
 
 use crate::cells::{text_at, text_if_at};
 use crate::extents::extent_of;
-use crate::fault::ReadFault;
 use crate::fold::{RowFold, fold_rows};
 use crate::page::collection_row;
 use sqlite::{Alter, Connection, Row, params};
 use std::alloc::Global;
 use streetmap_ledger::Summary;
+use streetmap_rows::ReadFault;
 
 /// What is told of a collection before its extent is known, from its row without its id.
 fn head_under(alloc: Global, id: &str, row: &Row) -> Result<Summary, ReadFault>

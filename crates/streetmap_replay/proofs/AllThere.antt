@@ -19,7 +19,7 @@ use Rattle.streetmap_batch.specs.Text.{Text, text_cmp}
 use Rattle.streetmap_ledger.specs.State.{State, AcceptedBatch}
 use Rattle.streetmap_ledger.specs.WellFormed.{IsState}
 use Rattle.streetmap_ledger.proofs.TextMaps.{first, second}
-use Rattle.streetmap_kept.specs.Kept.{batch_in}
+use Rattle.streetmap_ledger.specs.Kept.{batch_in}
 use Rattle.streetmap_replay.specs.Journal.{kept_text, JournalIsWhole}
 use Rattle.streetmap_replay.proofs.Texts.{kept_with, text_with, texts_to, texts_in, text_is}
 use Rattle.streetmap_replay.proofs.Texts.{texts_are, journal_is}

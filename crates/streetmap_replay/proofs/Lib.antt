@@ -1,3 +1,9 @@
+pub mod Rows
+pub mod Refuted
+pub mod Ended
+pub mod Maps
+pub mod Pages
+pub mod Same
 pub mod Texts
 pub mod TextAgain
 pub mod Untimed
@@ -13,3 +19,9 @@ pub mod Printed
 pub mod Lined
 pub mod AllThere
 pub mod Torn
+pub mod Tabs
+pub mod Under
+pub mod Told
+pub mod Underway
+pub mod Endings
+pub mod Beginning

@@ -8,7 +8,7 @@ use Rattle.std.specs.FinMap.{FinMap, entries, values, len}
 use Rattle.std.proofs.lemmas.List.{map-append}
 use Rattle.streetmap_batch.specs.Text.{Text, text_cmp}
 use Rattle.streetmap_ledger.specs.State.{State, AcceptedBatch}
-use Rattle.streetmap_kept.specs.Kept.{KeyedBatch, has_serial, batch_in, batches_next}
+use Rattle.streetmap_ledger.specs.Kept.{KeyedBatch, has_serial, batch_in, batches_next}
 use Rattle.streetmap_replay.specs.Journal.{kept_text, journal}
 
 -- what is kept for each accepted key

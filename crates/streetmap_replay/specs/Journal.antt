@@ -9,8 +9,8 @@ use Rattle.streetmap_ledger.specs.State.{State, opening_state}
 use Rattle.streetmap_ledger.specs.Batches.{act, after_all}
 use Rattle.streetmap_ledger.specs.Laws.{is_accepted, accepted_of}
 use Rattle.streetmap_ledger.specs.WellFormed.{IsState}
-use Rattle.streetmap_kept.specs.Kept.{KeyedBatch, batch_count, batch_in}
-use Rattle.streetmap_kept.specs.Kept.{batches_next, batches_behind}
+use Rattle.streetmap_ledger.specs.Kept.{KeyedBatch, batch_count, batch_in}
+use Rattle.streetmap_ledger.specs.Kept.{batches_next, batches_behind}
 
 -- the text of a kept batch
 abbrev pub kept_text : KeyedBatch → Text

@@ -1,3 +1,8 @@
+pub mod Stops
+pub mod Names
+pub mod Given
+pub mod Alike
+pub mod Checked
 pub mod Again
 pub mod Journal
 pub mod Lines
@@ -6,3 +11,10 @@ pub mod Following
 pub mod Sittings
 pub mod Replay
 pub mod Faults
+pub mod View
+pub mod Acting
+pub mod LineReading
+pub mod Ends
+pub mod Replies
+pub mod FollowNames
+pub mod Beginnings

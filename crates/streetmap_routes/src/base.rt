@@ -12,7 +12,7 @@ use std::alloc::{AllocError, Global};
 use url::{ParseError, Position, Url};
 
 /// Why a text gives no base.
-#[derive(Clone, Copy, Debug, PartialEq, Eq)]
+#[derive(Clone, Copy, PartialEq, Eq)]
 pub enum BaseFault {
     /// `bad_base`: the text is no `http` or `https` URL with the path `/` and no user name,
     /// password, query or fragment.

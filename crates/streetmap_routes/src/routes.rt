@@ -12,7 +12,7 @@ use percent_encoding::{DecodeError, percent_decode};
 use std::alloc::{AllocError, Global};
 
 /// A path with places for names.
-#[derive(Clone, Copy, Debug, PartialEq, Eq, Drop)]
+#[derive(Clone, Copy, PartialEq, Eq, Drop)]
 pub enum Route {
     Landing,
     Api,

@@ -24,6 +24,7 @@ pub mod PutBatch
 pub mod PutCollection
 pub mod PutFeature
 pub mod Readable
+pub mod Reading
 pub mod Reasons
 pub mod Refusing
 pub mod Resolving

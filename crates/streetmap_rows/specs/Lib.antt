@@ -9,5 +9,6 @@ pub mod Settling
 pub mod Shapes
 pub mod Stands
 pub mod Statements
+pub mod Stored
 pub mod Tables
 pub mod Views

@@ -10,7 +10,7 @@ use crate::openness::probe;
 use sqlite::{Alter, Connection, Error, ErrorCode};
 
 /// What shut a keeper.
-#[derive(Clone, Copy, Debug, PartialEq, Eq, Drop)]
+#[derive(Clone, Copy, PartialEq, Eq, Drop)]
 pub enum Shut {
     /// The store failed, or has no room: the error that told it.
     Device(Error),
@@ -19,7 +19,7 @@ pub enum Shut {
 }
 
 /// Why a call gives up.
-#[derive(Clone, Copy, Debug, PartialEq, Eq, Drop)]
+#[derive(Clone, Copy, PartialEq, Eq, Drop)]
 pub enum Stop {
     /// Memory was refused, and nothing changed.
     Memory,

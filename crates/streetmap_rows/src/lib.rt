@@ -11,15 +11,20 @@
 //! shows (`proofs/Choosing`).
 //!
 //! In the order of reading: `openness` (whether a connection is open), `failing` (how a call ends
-//! that met an error), `looks` (by a key), `writes` (of one row).
+//! that met an error), `fault` (why a look gives up), `bodies` (a feature's text, read again),
+//! `looks` (by a key), `writes` (of one row).
 #![tactic(auto)]
 
+mod bodies;
 mod failing;
+mod fault;
 mod looks;
 mod openness;
 mod writes;
 
+pub use bodies::read_body;
 pub use failing::{Shut, Stop, cause_of, is_memory, is_of_store, settle};
+pub use fault::{ReadFault, unread};
 pub use looks::{collection_rows, has_feature, kept_rows, time_in};
 pub use openness::probe;
 pub use writes::{delete_feature, insert_batch, insert_collection, insert_feature};

@@ -22,7 +22,7 @@ use Rattle.streetmap_rows.proofs.Schemas.{one_schema}
 use Rattle.streetmap_rows.specs.Tables.{Roots, IsOurs, IsNamed, meta_name, features_name}
 use Rattle.sqlite.specs.State.{State as Seen}
 use Rattle.streetmap_rows.specs.Keeping.{Keeps, MayLeave, Rests, Tells}
-use Rattle.streetmap_opening.specs.Old.{KeepsOld}
+use Rattle.streetmap_tables.specs.Old.{KeepsOld}
 use Rattle.streetmap_store.specs.Reopening.{IsJustOpened, OpensWithin}
 use Rattle.streetmap_store.specs.Sparing.{LeavesLast, LeavesStates, tells_last}
 

@@ -11,8 +11,8 @@ use Rattle.streetmap_ledger.specs.declared.reply.Fault.TheVariants as fault
 use Rattle.streetmap_rows.specs.Keeping.{Rests, MayLeave}
 use Rattle.streetmap_rows.proofs.Leaving.{rests_only}
 use Rattle.streetmap_rows.specs.declared.failing.Shut.{Shut}
-use Rattle.streetmap_writing.proofs.Resting.{rests_still, rests_if_open}
-use Rattle.streetmap_opening.proofs.Stopping.{may_leave_it}
+use Rattle.streetmap_tables.proofs.Resting.{rests_still, rests_if_open}
+use Rattle.streetmap_tables.proofs.Stopping.{may_leave_it}
 use Rattle.sqlite.proofs.Callers.{unchanged_then}
 use Rattle.streetmap_batch.specs.BatchValue.{BatchValue}
 use Rattle.streetmap_ledger.specs.Keep.{Looks, Acts, ShutsBy, LeavesOnly, ApplyLeaves}
@@ -20,10 +20,10 @@ use Rattle.streetmap_rows.specs.Keeping.{MayBecome, Tells}
 use Rattle.streetmap_ledger.specs.Batches.{act}
 use Rattle.streetmap_rows.proofs.Leaving.{leaves_only, leaves_either}
 use Rattle.streetmap_reading.specs.Taking.{Stopped}
-use Rattle.streetmap_reading.specs.declared.fault.ReadFault.{ReadFault}
-use Rattle.streetmap_reading.specs.declared.fault.ReadFault.TheVariants as read
-use Rattle.streetmap_writing.specs.Acting.{Applied, IsToldByStore, LeavesOtherTables}
-use Rattle.streetmap_writing.proofs.Joining.{same_all}
+use Rattle.streetmap_rows.specs.declared.fault.ReadFault.{ReadFault}
+use Rattle.streetmap_rows.specs.declared.fault.ReadFault.TheVariants as read
+use Rattle.streetmap_tables.specs.Acting.{Applied, IsToldByStore, LeavesOtherTables}
+use Rattle.streetmap_tables.proofs.Joining.{same_all}
 use Rattle.sqlite_disk.specs.Disk.{MoreFaults}
 use Rattle.streetmap_rows.proofs.Reasons.{counts_then, more_before, more_later}
 use Rattle.streetmap_rows.specs.declared.failing.Stop.{Stop}

@@ -1,3 +1,8 @@
 pub mod Serving
 pub mod Sparing
 pub mod Reopening
+pub mod Holding
+pub mod Refusing
+pub mod Surviving
+pub mod Reasons
+pub mod Tables

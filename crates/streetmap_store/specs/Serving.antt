@@ -20,9 +20,9 @@ use Rattle.streetmap_rows.specs.declared.failing.Shut.{Shut}
 use Rattle.streetmap_rows.specs.declared.failing.Shut.TheVariants.{Device, Damaged}
 use Rattle.streetmap_rows.specs.Failing.{IsOfStore, is_of_store, HasReason}
 use Rattle.streetmap_rows.specs.Keeping.{Rests, MayLeave}
-use Rattle.streetmap_writing.specs.Acting.{LeavesOtherTables}
-use Rattle.streetmap_reading.specs.declared.fault.ReadFault.{ReadFault}
-use Rattle.streetmap_reading.specs.declared.fault.ReadFault.TheVariants as read
+use Rattle.streetmap_tables.specs.Acting.{LeavesOtherTables}
+use Rattle.streetmap_rows.specs.declared.fault.ReadFault.{ReadFault}
+use Rattle.streetmap_rows.specs.declared.fault.ReadFault.TheVariants as read
 
 -- the cause that shut it
 abbrev pub cause_in : Shut → Cause

@@ -13,8 +13,8 @@ use Rattle.streetmap_rows.specs.Keeping.{Rests, Tells}
 use Rattle.streetmap_rows.proofs.Reasons.{counts_then, more_before, more_later, reason_on}
 use Rattle.streetmap_rows.proofs.Reasons.{reason_still}
 use Rattle.streetmap_rows.specs.Elsewhere.{IsSameElsewhere}
-use Rattle.streetmap_writing.specs.Acting.{LeavesOtherTables}
-use Rattle.streetmap_writing.proofs.Joining.{same_all, elsewhere_then}
+use Rattle.streetmap_tables.specs.Acting.{LeavesOtherTables}
+use Rattle.streetmap_tables.proofs.Joining.{same_all, elsewhere_then}
 use Rattle.streetmap_store.specs.Serving.{KeepsState, HasShut, cause_in}
 
 -- a stop leaves what was committed last

@@ -7,18 +7,18 @@ ghost use Rattle.sqlite.specs.State.{HasCleanDisk, Survives};
 ghost use Rattle.streetmap_ledger.specs.State.{State, opening_state};
 ghost use Rattle.streetmap_ledger.specs.Keep.{ShutsBy, LeavesOnly, LeavesEither};
 ghost use Rattle.streetmap_rows.specs.Failing.{IsOfStore};
-ghost use Rattle.streetmap_writing.specs.Acting.{IsToldByStore};
+ghost use Rattle.streetmap_tables.specs.Acting.{IsToldByStore};
 ghost use Rattle.streetmap_rows.specs.Keeping.{Rests, MayLeave};
-ghost use Rattle.streetmap_opening.specs.Adopting.{IsAsItWas, LeavesTheSame};
-ghost use Rattle.streetmap_opening.specs.Making.{is_taken, IsReady, KeepsOtherTables, Makes};
-ghost use Rattle.streetmap_opening.specs.Making.{MayOpen};
-ghost use Rattle.streetmap_opening.specs.Refusing.{IsTold, IsReasoned};
-ghost use Rattle.streetmap_opening.specs.Reasons.{OpensFor};
-ghost use Rattle.streetmap_opening.specs.Telling.{TellsKeys};
-ghost use Rattle.streetmap_opening.specs.Part.{HasCarried};
-ghost use Rattle.streetmap_opening.specs.Old.{RestsOld};
-ghost use Rattle.streetmap_opening.specs.Carrying.{UntouchedUnlessFormat1, MayCarry, Carries};
-ghost use Rattle.streetmap_opening.specs.Carrying.{Opens, OpensBy, KeepsNoMore};
+ghost use Rattle.streetmap_tables.specs.Adopting.{IsAsItWas, LeavesTheSame};
+ghost use Rattle.streetmap_tables.specs.Making.{is_taken, IsReady, KeepsOtherTables, Makes};
+ghost use Rattle.streetmap_tables.specs.Making.{MayOpen};
+ghost use Rattle.streetmap_tables.specs.Refusing.{IsTold, IsReasoned};
+ghost use Rattle.streetmap_tables.specs.Reasons.{OpensFor};
+ghost use Rattle.streetmap_tables.specs.Telling.{TellsKeys};
+ghost use Rattle.streetmap_tables.specs.Part.{HasCarried};
+ghost use Rattle.streetmap_tables.specs.Old.{RestsOld};
+ghost use Rattle.streetmap_tables.specs.Carrying.{UntouchedUnlessFormat1, MayCarry, Carries};
+ghost use Rattle.streetmap_tables.specs.Carrying.{Opens, OpensBy, KeepsNoMore};
 ghost use Rattle.streetmap_store.specs.Reopening.{IsJustOpened, OpensAs, OpensAsEither};
 ghost use Rattle.streetmap_store.specs.Serving.{KeepsState, EndsLook, HasShut, GaveUp, is_named};
 ghost use Rattle.streetmap_store.specs.Serving.{cause_in, error_in, count_after, shut_by, fault_by};
@@ -28,14 +28,15 @@ ghost use Rattle.streetmap_store.specs.Sparing.{LeavesStates};
 use sqlite::{Alter, Connection, Error};
 use std::alloc::Global;
 use streetmap_geojson::Feature;
-use streetmap_kept::{KeepsBatches, KeptBatch};
-use streetmap_ledger::{Batch, Fault, FeatureOutline, Keeper, Page, Reply, Summary};
-use streetmap_opening::{MakeFault, TablesFault, make_tables, open_tables};
+use streetmap_ledger::{
+    Batch, Fault, FeatureOutline, Keeper, KeepsBatches, KeptBatch, Page, Reply, Summary,
+};
 use streetmap_query::Query;
-use streetmap_reading::{ReadFault, feature_of, outlines_of, page_of, summaries_of, summary_of};
-use streetmap_rows::{Shut, Stop, settle};
-use streetmap_serials::{batch_of, batches_of};
-use streetmap_writing::apply_batch;
+use streetmap_reading::{
+    batch_of, batches_of, feature_of, outlines_of, page_of, summaries_of, summary_of,
+};
+use streetmap_rows::{ReadFault, Shut, Stop, settle};
+use streetmap_tables::{MakeFault, TablesFault, apply_batch, make_tables, open_tables};
 
 /// A keeper over the tables of a connection, between whose calls no transaction is open.
 #[derive(Drop)]

@@ -1,11 +1,29 @@
-//! The keeper over the tables of a connection.
+//! The keeper over the tables of a connection, and over the files at a path.
 //!
 //! `TableKeeper` keeps a state in four tables, and meets the trait `Keeper` there: each batch is
 //! one transaction, and pages and looks read rows. `make` makes the tables with the opening state,
 //! `adopt` opens tables that are there, and `release` gives the connection back. A failure of the
 //! store shuts it.
+//!
+//! `create` makes the tables with the opening state in the database at a path, and `open` opens
+//! those that it has. Both are proved for whatever the files held (`Start`): files that hold the
+//! tables of a state are kept at that state, and it is said which refusal comes for which files. A
+//! database is two files, the one at the path and its log beside it (`-wal`); while a keeper has
+//! them, SQLite finds them locked.
+//!
+//! `run_over_tables`, `serve_over_tables` and `serve_clients_over_tables` say what a stop leaves of
+//! batches and of requests: the sentence that README begins with.
+//!
+//! Modules, in the order of reading: `keeper`; `fault`, `file`, `session`, `laws`.
 #![tactic(auto)]
 
+mod fault;
+mod file;
 mod keeper;
+pub mod laws;
+mod session;
 
+pub use fault::{CreateFault, Left, OpenFault};
+pub use file::{FileKeeper, FilesLeft, create, open};
 pub use keeper::{TableKeeper, what_a_stop_leaves_opens};
+pub use session::{run_over_tables, serve_clients_over_tables, serve_over_tables};

@@ -1,7 +1,7 @@
 //! Tables of a connection in memory, made beside others.
 use sqlite::{Alter, Connection};
 use std::test::Fail;
-use streetmap_opening::{MakeFault, adopt_tables, make_tables};
+use streetmap_tables::{MakeFault, adopt_tables, make_tables};
 
 /// Whether the tables were made.
 fn made<S: Alter>(conn: &mut Connection<S>) -> bool {

@@ -8,8 +8,8 @@ use std::alloc::Global;
 use std::test::Fail;
 use streetmap_ledger::Keeper;
 use streetmap_memory::PlainKeeper;
-use streetmap_opening::TablesFault;
 use streetmap_store::TableKeeper;
+use streetmap_tables::TablesFault;
 
 /// Points, features without a geometry, and features with a time.
 const BATCHES: [&str; COUNT] = [

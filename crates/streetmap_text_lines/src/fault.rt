@@ -3,7 +3,7 @@ use std::alloc::AllocError;
 use std::io::{Error, ErrorKind};
 
 /// Why a line is not read.
-#[derive(Clone, Copy, Debug, PartialEq, Eq)]
+#[derive(Clone, Copy, PartialEq, Eq)]
 pub enum LineFault {
     /// It has more bytes than asked for, its line feed not counted.
     LineTooLong,

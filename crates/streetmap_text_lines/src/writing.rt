@@ -6,7 +6,7 @@ ghost use Rattle.streetmap_text_lines.specs.Written.{AppendsFirst};
 use std::io::{ErrorKind, Write};
 
 /// Bytes were not written whole: a write failed, or took none.
-#[derive(Clone, Copy, Debug, Drop)]
+#[derive(Clone, Copy, Drop)]
 pub struct NotWritten {
     /// How many of them were written.
     pub written: usize,

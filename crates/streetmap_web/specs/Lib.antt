@@ -6,3 +6,6 @@ pub mod Turns
 pub mod Exchanges
 pub mod Coming
 pub mod Beginnings
+pub mod Answering
+pub mod ServingClients
+pub mod SurvivingClients

@@ -9,17 +9,24 @@
 //!
 //! For an edge with many connections there are the two halves of a turn: `streetmap_http` says what
 //! bytes that came hold of a request, and `answer_request` answers the bytes of one.
+//! `serve_clients` serves the clients of a listener so: many at once, or one after the other.
 //!
 //! Modules, in the order of reading: `response`, `respond` (what is answered in a state), `answer`
-//! (with its head), `requests` (the bytes of one), `serving`.
+//! (with its head), `requests` (the bytes of one), `serving` (a stream); `log`, `keeper_service`
+//! (a request of a client), `clients`.
 #![tactic(auto)]
 
 mod answer;
+mod clients;
+mod keeper_service;
+mod log;
 mod requests;
 mod respond;
 mod response;
 mod serving;
 
 pub use answer::Answer;
+pub use clients::serve_clients;
+pub use keeper_service::KeeperService;
 pub use requests::answer_request;
 pub use serving::{End, Served, serve};

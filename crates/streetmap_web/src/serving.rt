@@ -27,7 +27,7 @@ use streetmap_ledger::{Fault, Keeper};
 use streetmap_routes::Base;
 
 /// What one turn of the loop did.
-#[derive(Clone, Copy, Debug, PartialEq, Eq)]
+#[derive(Clone, Copy, PartialEq, Eq)]
 enum Turn {
     /// An answer was written, and the connection stays open.
     Open,
@@ -44,7 +44,7 @@ enum Turn {
 }
 
 /// How serving ended.
-#[derive(Clone, Copy, Debug, PartialEq, Eq)]
+#[derive(Clone, Copy, PartialEq, Eq)]
 pub enum End {
     /// The connection closed behind an answer, or the input ended behind a whole request.
     Ended,
@@ -57,7 +57,7 @@ pub enum End {
 }
 
 /// What was served.
-#[derive(Clone, Copy, Debug, PartialEq, Eq)]
+#[derive(Clone, Copy, PartialEq, Eq)]
 pub struct Served {
     /// How many answers were begun: a byte of each was written.
     pub answers: u64,

@@ -1,7 +1,7 @@
 use Rattle.std.proofs.Common.{ap, subst}
 use Rattle.sqlite.specs.Held.{state}
-use Rattle.streetmap_opening.proofs.Stopping.{clean_back}
-use Rattle.streetmap_opening.proofs.Opened.{rests_same}
+use Rattle.streetmap_tables.proofs.Stopping.{clean_back}
+use Rattle.streetmap_tables.proofs.Opened.{rests_same}
 use Rattle.streetmap_rows.specs.declared.failing.Stop.TheVariants.{Closed}
 use Rattle.streetmap_rows.specs.declared.failing.Shut.TheVariants.{Device}
 use Rattle.streetmap_rows.specs.Settling.{Settles}

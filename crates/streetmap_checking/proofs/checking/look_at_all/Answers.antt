@@ -2,7 +2,7 @@ use Rattle.std.proofs.Common.{◌≡◌, [], inl, inr, sym, ◌∙◌, length, m
 use Rattle.sqlite.specs.Held.{state}
 use Rattle.sqlite.proofs.Callers.{unchanged_then}
 use Rattle.streetmap_reading.proofs.Rests.{clean_before}
-use Rattle.streetmap_opening.proofs.Stopping.{is_handed}
+use Rattle.streetmap_tables.proofs.Stopping.{is_handed}
 use Rattle.streetmap_rows.specs.Statements.{select_collections}
 use Rattle.streetmap_rows.proofs.Reasons.{counts_then}
 use Rattle.streetmap_checking.specs.Checking.{IsDamaged}

@@ -1,7 +1,7 @@
 use Rattle.std.proofs.Common.{◌≡◌, ℕ, List, ◌∷◌, cond, find, Some, nat_eq, true, false}
 use Rattle.std.proofs.Common.{string_bytes, sym, ap, ◌∙◌, arith}
 use Rattle.std.proofs.lemmas.Bool.Decides.{nat_tests}
-use Rattle.streetmap_kept.specs.Kept.{KeyedBatch, has_serial}
+use Rattle.streetmap_ledger.specs.Kept.{KeyedBatch, has_serial}
 use Rattle.streetmap_memory.specs.Slots.{by_text}
 use Rattle.streetmap_memory.proofs.batches.batch_with.Goals as goal
 

@@ -1,5 +1,5 @@
 use Rattle.std.proofs.Common.{◌≡◌, find}
-use Rattle.streetmap_kept.specs.Kept.{has_serial}
+use Rattle.streetmap_ledger.specs.Kept.{has_serial}
 use Rattle.streetmap_memory.specs.Slots.{by_text}
 use Rattle.streetmap_memory.proofs.batches.batch_with.Given as goal
 

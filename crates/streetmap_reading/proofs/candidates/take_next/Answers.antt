@@ -4,7 +4,7 @@ use Rattle.std.specs.List.{AllByRecursion}
 use Rattle.sqlite.specs.Held.{state}
 use Rattle.streetmap_geojson.specs.FeatureValue.{FeatureValue}
 use Rattle.streetmap_ledger.specs.Folds.{Holds}
-use Rattle.streetmap_reading.specs.Candidates.{IsStored}
+use Rattle.streetmap_rows.specs.Stored.{IsStored}
 use Rattle.streetmap_reading.specs.Taking.{Stopped}
 use Rattle.streetmap_rows.proofs.Answering.{handed_on}
 use Rattle.streetmap_reading.proofs.Rests.{at_end, at_row, at_fault, first_cell, first_text}

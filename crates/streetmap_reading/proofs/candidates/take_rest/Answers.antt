@@ -4,7 +4,7 @@ use Rattle.std.specs.Option.{option_copied}
 use Rattle.sqlite.specs.Held.{state}
 use Rattle.sqlite.proofs.Callers.{unchanged_then}
 use Rattle.streetmap_ledger.specs.Folds.{Holds}
-use Rattle.streetmap_reading.specs.Candidates.{IsStored}
+use Rattle.streetmap_rows.specs.Stored.{IsStored}
 use Rattle.streetmap_reading.specs.Taking.{TookNext}
 use Rattle.streetmap_rows.proofs.Answering.{handed_on}
 use Rattle.streetmap_reading.proofs.Rests.{given_open, survives_still, survives_on, shows_still, stopped_on, clean_before}

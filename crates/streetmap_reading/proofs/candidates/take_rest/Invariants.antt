@@ -11,7 +11,8 @@ use Rattle.streetmap_query.specs.QueryValue.{QueryValue}
 use Rattle.streetmap_batch.specs.Text.{Text}
 use Rattle.streetmap_ledger.specs.Folds.{Holds}
 use Rattle.streetmap_ledger.specs.declared.fold.PageFold.{PageFold}
-use Rattle.streetmap_reading.specs.Candidates.{candidate_row, IsStored, ShowsOf}
+use Rattle.streetmap_reading.specs.Candidates.{candidate_row, ShowsOf}
+use Rattle.streetmap_rows.specs.Stored.{IsStored}
 use Rattle.streetmap_reading.proofs.candidates.take_rest.Given as goal
 
 -- some of the features were taken

@@ -1,7 +1,7 @@
 use Rattle.std.proofs.Common.{◌∙◌, sym, subst}
 use Rattle.std.specs.FinMap.{get}
 use Rattle.sqlite.specs.Held.{state}
-use Rattle.streetmap_reading.specs.Candidates.{IsStored}
+use Rattle.streetmap_rows.specs.Stored.{IsStored}
 use Rattle.streetmap_reading.specs.Taking.{Stopped}
 use Rattle.streetmap_rows.proofs.Answering.{handed_on}
 use Rattle.streetmap_reading.proofs.Features.{some_cell, text_first, stored_at, read_on}

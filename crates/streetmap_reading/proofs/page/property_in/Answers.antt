@@ -1,5 +1,8 @@
-use Rattle.streetmap_reading.proofs.Failing.{read_told}
+use Rattle.std.proofs.Common.{ap, if◌then◌else◌, ◌∙◌}
+use Rattle.streetmap_rows.specs.Failing.{is_memory}
+use Rattle.streetmap_rows.specs.declared.fault.ReadFault.TheVariants.{Memory, Unread}
 use Rattle.streetmap_reading.proofs.page.property_in.Goals as goal
 
-pub returns : goal.returns
-returns c = λ name k is fine. read_told _ c.time_in.result c.map_err.result c.map_err.ensures.cases (c.time_in.ensures.reads name k is fine)
+pub returns-in-Err : goal.returns-in-Err
+returns-in-Err c = λ name k is fine.
+    c.unread.ensures ∙ ap (λ e. if is_memory e then Memory else Unread) (c.in-Err.ensures.reads name k is fine)

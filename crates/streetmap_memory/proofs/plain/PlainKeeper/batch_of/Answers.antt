@@ -1,6 +1,6 @@
 use Rattle.std.proofs.Common.{find, sym, ap, ◌∙◌}
 use Rattle.std.proofs.lemmas.Result.{IfOk-weaker}
-use Rattle.streetmap_kept.specs.Kept.{has_serial}
+use Rattle.streetmap_ledger.specs.Kept.{has_serial}
 use Rattle.streetmap_memory.proofs.Ordered.{entries_of}
 use Rattle.streetmap_memory.proofs.plain.PlainKeeper.batch_of.Goals as goal
 

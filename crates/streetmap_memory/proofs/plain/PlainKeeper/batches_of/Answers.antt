@@ -1,9 +1,9 @@
 use Rattle.std.proofs.Common.{Vec, Global, sym, ap, subst, ◌∙◌}
 use Rattle.std.specs.Option.{option_map}
-use Rattle.streetmap_kept.specs.Kept.{AreNext}
-use Rattle.streetmap_kept.specs.View.{keyed_batch}
-use Rattle.streetmap_kept.specs.declared.batch.KeptBatch.{KeptBatch}
-use Rattle.streetmap_kept.proofs.Nexts.{next_found, one_pushed, none_pushed}
+use Rattle.streetmap_ledger.specs.Kept.{AreNext}
+use Rattle.streetmap_ledger.specs.KeptView.{keyed_batch}
+use Rattle.streetmap_ledger.specs.declared.kept_batch.KeptBatch.{KeptBatch}
+use Rattle.streetmap_ledger.proofs.Nexts.{next_found, one_pushed, none_pushed}
 use Rattle.streetmap_memory.specs.Plain.{plain_state}
 use Rattle.streetmap_memory.proofs.plain.PlainKeeper.batches_of.Goals.{in-Some+in_ok-push, in_default}
 use Rattle.streetmap_memory.proofs.plain.PlainKeeper.batches_of.Goals as goal

@@ -1,7 +1,7 @@
 use Rattle.std.proofs.Common.{sym, subst}
 use Rattle.streetmap_ledger.specs.WellFormed.{IsState}
-use Rattle.streetmap_kept.specs.Kept.{AreNext}
-use Rattle.streetmap_kept.specs.View.{keyed_batches}
+use Rattle.streetmap_ledger.specs.Kept.{AreNext}
+use Rattle.streetmap_ledger.specs.KeptView.{keyed_batches}
 use Rattle.streetmap_memory.proofs.plain.PlainKeeperKeepsBatches.batches.Goals as goal
 
 pub returns-in-Ok-clause-lists : goal.returns-in-Ok-clause-lists

@@ -1,6 +1,6 @@
 use Rattle.std.proofs.Common.{refl, sym, rules}
 use Rattle.sqlite.specs.Held.{state}
-use Rattle.streetmap_opening.proofs.Stopping.{leaves_same}
+use Rattle.streetmap_tables.proofs.Stopping.{leaves_same}
 use Rattle.streetmap_store.proofs.Standing.{serves}
 use Rattle.streetmap_store.proofs.keeper.TableKeeper.adopt.Goals as goal
 

@@ -2,7 +2,7 @@ use Rattle.std.proofs.Common.{refl, sym, rules}
 use Rattle.std.specs.FinMap.{len-empty}
 use Rattle.sqlite.specs.Held.{state}
 use Rattle.streetmap_ledger.specs.State.{opening_state}
-use Rattle.streetmap_opening.proofs.Stopping.{leaves_same}
+use Rattle.streetmap_tables.proofs.Stopping.{leaves_same}
 use Rattle.streetmap_store.proofs.Standing.{serves}
 use Rattle.streetmap_store.proofs.keeper.TableKeeper.make.Goals as goal
 

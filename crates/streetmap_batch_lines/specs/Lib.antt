@@ -1,3 +1,0 @@
-pub mod Stops
-pub mod Printed
-pub mod Laws

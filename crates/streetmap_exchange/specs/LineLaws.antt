@@ -1,0 +1,13 @@
+-- The lines that are written are those of a journal.
+use Rattle.std.specs.Prelude.{◌≡◌, ℕ, map, drop}
+use Rattle.streetmap_ledger.specs.State.{State}
+use Rattle.streetmap_ledger.specs.WellFormed.{IsState}
+use Rattle.streetmap_ledger.specs.Kept.{batches_behind}
+use Rattle.streetmap_replay.specs.JournalText.{journal_lines}
+use Rattle.streetmap_exchange.specs.Printed.{line_of}
+
+-- the lines of the batches behind a serial are the lines of the journal behind so many
+abbrev pub LinesAreOfTheJournal : Type 0
+LinesAreOfTheJournal =
+    (s : State) (after : ℕ) → IsState s →
+    map line_of (batches_behind s after) ≡ drop after (journal_lines s)

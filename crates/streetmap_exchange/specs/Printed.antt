@@ -1,0 +1,32 @@
+-- What is written of kept batches.
+use Rattle.std.specs.Prelude.{◌≡◌, ℕ, max, List, ◌∷◌, ◌++◌, [], map, Option, Result, Ok, Err}
+use Rattle.std.specs.Io.KnownBytes.{Appends}
+use Rattle.streetmap_exchange.specs.Exports.{AppendsFirst}
+use Rattle.streetmap_ledger.specs.State.{State}
+use Rattle.streetmap_ledger.specs.Kept.{KeyedBatch, batch_count, batches_behind}
+use Rattle.streetmap_replay.specs.JournalText.{text_of_lines}
+use Rattle.streetmap_replay.specs.Lines.{Line, numbered, line_bytes}
+use Rattle.streetmap_exchange.specs.Stops.{StaysBy}
+use Rattle.streetmap_exchange.specs.declared.lines_stop.LinesStop.{LinesStop}
+
+-- the line of a batch: its serial and its text
+abbrev pub line_of : KeyedBatch → Line
+line_of b = numbered b.1.serial b.1.text
+
+-- its bytes, with a line feed
+abbrev pub line_text : KeyedBatch → List ℕ
+line_text b = line_bytes (line_of b) ++ 10 ∷ []
+
+-- the lines of batches as bytes
+abbrev pub lines_text : List KeyedBatch → List ℕ
+lines_text bs = text_of_lines (map line_of bs)
+
+-- the lines of the batches behind a serial were written, up to the last serial, or a beginning of
+-- them; and the state stays
+abbrev pub WritesLines : State → ℕ → Result ℕ LinesStop
+    → Option (List ℕ) → Option (List ℕ) → (State → Type 0) → Type 0
+WritesLines s after (Ok last) old new stands =
+    Appends old new (lines_text (batches_behind s after))
+    × (last ≡ max after (batch_count s)) × stands s
+WritesLines s after (Err stop) old new stands =
+    AppendsFirst old new (lines_text (batches_behind s after)) × StaysBy s stop stands

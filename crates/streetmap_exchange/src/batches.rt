@@ -1,0 +1,58 @@
+//! The lines of the batches behind a serial.
+ghost use Rattle.std.specs.Prelude.{◌≡◌, Err, Some};
+ghost use Rattle.streetmap_ledger.specs.Keep.{LeavesOnly};
+ghost use Rattle.streetmap_ledger.specs.State.{State};
+ghost use Rattle.streetmap_ledger.specs.declared.reply.Fault.TheVariants.{Device};
+ghost use Rattle.streetmap_exchange.specs.Printed.{WritesLines};
+ghost use Rattle.streetmap_exchange.specs.Stops.{LinesShut};
+
+use crate::batch_lines::write_lines;
+use crate::lines_stop::LinesStop;
+use std::alloc::Global;
+use std::io::Write;
+use streetmap_ledger::KeepsBatches;
+
+/// So many bytes of texts, and one text more, are in memory at most.
+const ROOM: usize = 1 << 20;
+
+/// Writes a line for each batch that is kept behind a serial, in order of their serials: its serial
+/// in decimal, a tab, its text and a line feed. It answers the last serial, or the one given where
+/// none is kept behind it.
+///
+/// # Errors
+///
+/// `Stopped` with the fault of the keeper, or with `Memory` where a buffer of the writer finds
+/// none; `WriteFailed` where a write failed. A beginning of the lines is written then. After
+/// 2^64 - 1 turns it ends as after a failed write.
+pub fn write_batches<K: KeepsBatches, W: Write>(
+    alloc: Global,
+    keeper: &mut K,
+    after: u64,
+    writer: &mut W,
+) -> Result<u64, LinesStop>
+    ensures spared { K.spares keeper.old keeper.new }
+    ensures began_clean { K.is_clean keeper.new → K.is_clean keeper.old }
+    ensures faults { LinesShut result (K.cause keeper.old) (K.cause keeper.new) }
+    ensures writes { K.is_clean keeper.new → (s : State) → K.stands keeper.old s →
+        WritesLines s after result (W.contents writer.old) (W.contents writer.new)
+        (K.stands keeper.new) }
+    ensures device { K.is_clean keeper.new → (s : State) → K.stands keeper.old s →
+        result ≡ Err (LinesStop.Stopped Device) → K.fails keeper.old keeper.new }
+    ensures leaves { K.is_clean keeper.new → (s : State) → K.stands keeper.old s →
+        LeavesOnly (K.may_leave keeper.old) (Some s) →
+        LeavesOnly (K.may_leave keeper.new) (Some s) }
+{
+    let mut last = after;
+    for _turn in 0..u64::MAX {
+        let batches = match keeper.batches(alloc, last, ROOM) {
+            Ok(batches) => batches,
+            Err(fault) => return Err(LinesStop::Stopped(fault)),
+        };
+        let Some(latest) = batches.last() else {
+            return Ok(last);
+        };
+        last = latest.serial;
+        write_lines(writer, batches.as_slice())?;
+    }
+    Err(LinesStop::WriteFailed)
+}

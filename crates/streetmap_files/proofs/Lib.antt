@@ -1,4 +1,0 @@
-pub mod New
-pub mod Opened
-pub mod Refusals
-pub mod Surviving

@@ -1,5 +1,0 @@
-use Rattle.streetmap_files.proofs.New.{new_leaves_room}
-use Rattle.streetmap_files.proofs.laws.new_files_leave_room.Goals as goal
-
-pub returns : goal.returns
-returns c = new_leaves_room

@@ -1,0 +1,15 @@
+//! A batch that is kept.
+use crate::reply::Counts;
+
+/// A batch that was accepted, as it is kept.
+#[derive(Drop)]
+pub struct KeptBatch {
+    /// Its key.
+    pub key: String,
+    /// Its text, as bytes: rows that no batch made may have any there, also none that are UTF-8.
+    pub text: Vec<u8>,
+    /// How many edits of each kind it had.
+    pub counts: Counts,
+    /// Its serial, from 1.
+    pub serial: u64,
+}

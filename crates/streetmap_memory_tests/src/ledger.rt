@@ -1,0 +1,56 @@
+//! How many features a page examines, which no answer tells.
+use std::alloc::Global;
+use std::test::Fail;
+use streetmap_ledger::{Keeper, read_batch};
+use streetmap_memory::PlainKeeper;
+use streetmap_query::read_query;
+
+/// Features with a geometry and a time: D has no time, and E and F no geometry.
+const STREET: &str = r#"{"key":"street","edits":[
+    {"op":"open","collection":"street","time":"when"},
+    {"op":"insert","collection":"street","feature":{"type":"Feature","id":"A","geometry":{"type":"LineString","coordinates":[[0,0],[10,10]]},"properties":{"when":"2024-05-01"}}},
+    {"op":"insert","collection":"street","feature":{"type":"Feature","id":"B","geometry":{"type":"Point","coordinates":[1,7]},"properties":{"when":"2024-05-01"}}},
+    {"op":"insert","collection":"street","feature":{"type":"Feature","id":"C","geometry":{"type":"Point","coordinates":[2,8]},"properties":{"when":"2024-05-02"}}},
+    {"op":"insert","collection":"street","feature":{"type":"Feature","id":"D","geometry":{"type":"Point","coordinates":[1,7]}}},
+    {"op":"insert","collection":"street","feature":{"type":"Feature","id":"E","properties":{"when":"2024-05-01"}}},
+    {"op":"insert","collection":"street","feature":{"type":"Feature","id":"F","properties":{"when":"2024-05-01T12:00:00.5Z"}}}]}"#;
+
+/// A query, and how many features its page examines: those whose extent overlaps the box, and whose
+/// seconds overlap those of the interval.
+const EXAMINED: &[(&str, u64)] = &[
+    ("", 6),
+    ("limit=1&after=D", 6),
+    ("bbox=0,6,3,9", 4),
+    ("bbox=0,6,3,9&limit=1&after=B", 4),
+    ("bbox=4,5,5,6", 1),
+    ("bbox=11,0,12,9", 0),
+    ("bbox=-2000000000,-2000000000,2000000000,2000000000", 4),
+    ("datetime=2024-05-01T12:00:00Z", 4),
+    ("datetime=2024-05-03T00:00:00Z/..", 0),
+    ("bbox=0,6,3,9&datetime=2024-05-01T12:00:00Z", 2),
+];
+
+/// How many features a page of the street examines; none where it is not open.
+fn examined(alloc: Global, keeper: &mut PlainKeeper, query: &str) -> Result<Option<u64>, Fail> {
+    let query = read_query(alloc, Some(query))?;
+    let page = keeper.page("street", &query)?;
+    Ok(page.map(|page| page.examined))
+}
+
+/// Acts on the batch of the street.
+fn fill(alloc: Global, keeper: &mut PlainKeeper) -> Result<(), Fail> {
+    let batch = read_batch(alloc, STREET.as_bytes())?;
+    keeper.apply(&batch)?;
+    Ok(())
+}
+
+#[test]
+fn pages_tell_how_many_they_examined(rt: HostRuntime) -> Result<(), Fail> {
+    let mut keeper = PlainKeeper::new(rt.alloc());
+    fill(rt.alloc(), &mut keeper)?;
+    for (query, count) in EXAMINED {
+        let told = examined(rt.alloc(), &mut keeper, query)?;
+        assert!(rt; told == Some(*count), "at {query}");
+    }
+    Ok(())
+}

@@ -1,0 +1,21 @@
+//! Tests over the keeper in memory, of what no clause says and the built program cannot show, by
+//! public items alone: want of memory, how many features a page examines, ids that are known
+//! unread; heads and bodies from readers that are interrupted or fail, answers to writers that
+//! stop, and memory that is refused to a stream. What the program can show stands in
+//! `tests/groups/`.
+#![tactic(auto)]
+
+#[cfg(test)]
+mod answers;
+#[cfg(test)]
+mod fakes;
+#[cfg(test)]
+mod features;
+#[cfg(test)]
+mod ledger;
+#[cfg(test)]
+mod readers;
+#[cfg(test)]
+mod refused_memory;
+#[cfg(test)]
+mod sending;

@@ -1,0 +1,103 @@
+//! Looks by a serial.
+ghost use Rattle.std.specs.Prelude.{◌≡◌, ℕ, pos, false};
+ghost use Rattle.sqlite.specs.Held.{state};
+ghost use Rattle.sqlite.specs.State.{HasCleanDisk, Survives};
+ghost use Rattle.streetmap_reading.specs.Looking.{LooksInto, Stays};
+ghost use Rattle.streetmap_reading.specs.Serials.{column_serial, most_serial, IsBatchRow};
+ghost use Rattle.streetmap_reading.specs.Serials.{IsBatchOf, AreNextOf};
+
+use crate::batch_cells::batch_in;
+use crate::scanning::first_batches;
+use sqlite::{Alter, Connection, Row, params};
+use std::alloc::Global;
+use streetmap_ledger::KeptBatch;
+use streetmap_rows::ReadFault;
+
+/// A serial as a column has it; one that no column can have is 0, which no batch has either.
+fn number_of(serial: u64) -> i64
+    ensures { result ≡ pos (column_serial serial) }
+{
+    match i64::try_from(serial) {
+        Ok(number) => number,
+        Err(_) => 0,
+    }
+}
+
+/// A serial as a column has it; one that no column can have is the greatest that one can.
+fn most_of(serial: u64) -> i64
+    ensures { result ≡ pos (most_serial serial) }
+{
+    match i64::try_from(serial) {
+        Ok(number) => number,
+        Err(_) => i64::MAX,
+    }
+}
+
+/// The row of the batch that is kept with a serial; none where there is none.
+fn batch_row<S: Alter>(conn: &mut Connection<S>, serial: i64) -> Result<Option<Row>, ReadFault>
+    ensures finds { (n : ℕ) → serial ≡ pos n → HasCleanDisk (state S.Store conn.new) →
+        LooksInto (IsBatchRow n) (state S.Store conn.old) (state S.Store conn.new) result }
+    ensures mode { conn.old.in_transaction ≡ false → conn.new.in_transaction ≡ false }
+    ensures survives { Survives (state S.Store conn.old) (state S.Store conn.new) (λ _. Unit {0}) }
+    ensures stays { Stays (state S.Store conn.old) (state S.Store conn.new) }
+{
+    match conn.query_all(
+        "SELECT key, body, opened, inserted, replaced, deleted, serial FROM streetmap_batches WHERE serial = ?1",
+        params![serial],
+    ) {
+        Ok(mut rows) => Ok(rows.pop()),
+        Err(error) => Err(ReadFault::Store(error)),
+    }
+}
+
+/// The batch that was accepted with a serial; `None` where there is none.
+///
+/// # Errors
+///
+/// `Memory` where memory was refused while its row was read, `Store` where the statement failed, by
+/// its error, which may be that memory was refused to it, and `Unread` at a row that is none that
+/// this product writes.
+pub fn batch_of<S: Alter>(
+    alloc: Global,
+    conn: &mut Connection<S>,
+    serial: u64,
+) -> Result<Option<KeptBatch>, ReadFault>
+    ensures shows { HasCleanDisk (state S.Store conn.new) →
+        LooksInto (IsBatchOf serial) (state S.Store conn.old) (state S.Store conn.new) result }
+    ensures mode { conn.old.in_transaction ≡ false → conn.new.in_transaction ≡ false }
+    ensures survives { Survives (state S.Store conn.old) (state S.Store conn.new) (λ _. Unit {0}) }
+    ensures stays { Stays (state S.Store conn.old) (state S.Store conn.new) }
+{
+    let Some(row) = batch_row(conn, number_of(serial))? else {
+        return Ok(None);
+    };
+    let batch = batch_in(alloc, &row)?;
+    Ok(Some(batch))
+}
+
+/// The batches with the next serials behind one, in order: one at least, where one is kept, and
+/// further ones while the texts of those before have at most `room` bytes.
+///
+/// # Errors
+///
+/// As `batch_of`.
+pub fn batches_of<S: Alter>(
+    alloc: Global,
+    conn: &mut Connection<S>,
+    after: u64,
+    room: usize,
+) -> Result<Vec<KeptBatch>, ReadFault>
+    ensures shows { HasCleanDisk (state S.Store conn.new) →
+        LooksInto (AreNextOf after room) (state S.Store conn.old) (state S.Store conn.new) result }
+    ensures mode { conn.old.in_transaction ≡ false → conn.new.in_transaction ≡ false }
+    ensures survives { Survives (state S.Store conn.old) (state S.Store conn.new) (λ _. Unit {0}) }
+    ensures stays { Stays (state S.Store conn.old) (state S.Store conn.new) }
+{
+    first_batches(
+        alloc,
+        conn,
+        "SELECT key, body, opened, inserted, replaced, deleted, serial FROM streetmap_batches WHERE serial > ?1 ORDER BY serial",
+        params![most_of(after)],
+        room,
+    )
+}

@@ -1,0 +1,91 @@
+-- Collections that are the same in two states.
+use Rattle.std.specs.Prelude.{◌≡◌, ℕ, Bool, List, All, IfSome, take, slice_get, bytes_eq}
+use Rattle.std.specs.Prelude.{Option, None, Some, Result, Ok, Err, string_bytes}
+use Rattle.std.specs.FinMap.{get, entries}
+use Rattle.std.specs.List.{list_any}
+use Rattle.serde_json.specs.Written.{compact_text}
+use Rattle.streetmap_batch.specs.Text.{Text}
+use Rattle.streetmap_feature_text.specs.Written.{collection_data}
+use Rattle.streetmap_ledger.specs.Pages.{PageValue}
+use Rattle.streetmap_ledger.specs.State.{State, Collection}
+use Rattle.streetmap_ledger.specs.Summaries.{SummaryValue}
+use Rattle.streetmap_ledger.specs.declared.summary.Summary.{Summary}
+use Rattle.streetmap_query.specs.QueryValue.{QueryValue}
+use Rattle.streetmap_replay.specs.Faults.{StaysBut}
+use Rattle.streetmap_replay.specs.declared.fault.ReplayStop.{ReplayStop}
+use Rattle.streetmap_replay.specs.declared.fault.ReplayStop.TheVariants.{Kept, Fresh, Memory}
+use Rattle.streetmap_replay.specs.declared.fault.ReplayFault.{ReplayFault}
+use Rattle.streetmap_replay.specs.declared.fault.ReplayFault.TheVariants.{Stopped, Batch}
+use Rattle.streetmap_replay.specs.declared.fault.ReplayFault.TheVariants.{Collection as Other}
+use Rattle.streetmap_replay.specs.declared.features.PageEnd.{PageEnd}
+use Rattle.streetmap_replay.specs.declared.features.PageEnd.TheVariants.{Unlike, Last, Next}
+
+-- ---- pages
+
+-- a page of a thousand features behind an id
+abbrev pub part_query : Option Text → QueryValue
+part_query after = record { bbox = None; datetime = None; limit = 1000; after = after }
+
+-- the features of two pages have one text
+abbrev pub SameText : PageValue → PageValue → Type 0
+SameText p q =
+    compact_text (collection_data p.features) ≡ compact_text (collection_data q.features)
+
+-- two pages are not the same; or their features have one text, and the same follows them
+abbrev pub EndsAs : PageValue → PageValue → PageEnd → Type 0
+EndsAs p q Unlike = p ≡ q → ⊥
+EndsAs p q Last = SameText p q × (p.next ≡ None) × (q.next ≡ None)
+EndsAs p q (Next id) = SameText p q × (p.next ≡ Some id) × (q.next ≡ Some id)
+
+-- ---- collections
+
+-- two collections have one title and one time property
+abbrev pub AreAlike : SummaryValue → SummaryValue → Type 0
+AreAlike a b = (a.title ≡ b.title) × (a.time ≡ b.time)
+
+-- the collection of this name is the same in both states, or is in neither
+abbrev pub IsSame : State → State → Text → Type 0
+IsSame s t name = get s.collections name ≡ get t.collections name
+
+abbrev pub AreSame : State → State → List (Text × Collection) → Type 0
+AreSame s t named = All (λ (e : Text × Collection). IsSame s t e.0) named
+
+-- a collection of the first state is another in the second, and those before it are the same; or
+-- all of the first are the same, and the second has it alone
+pub record Differs (s t : State) (name : Text) : Type 0 where
+  pub other : IsSame s t name → ⊥
+  pub place : ℕ
+  pub before : AreSame s t (take place (entries s.collections))
+  pub here : IfSome (slice_get (entries s.collections) place) (λ e. e.0 ≡ name)
+
+-- one of these has this id
+abbrev pub is_named : Text → List Summary → Bool
+is_named name summaries = list_any (λ (a : Summary). bytes_eq (string_bytes a.id) name) summaries
+
+-- the fault that the collection of this name is another, or a want of memory
+abbrev pub IsUnlike : Text → ReplayFault → Type 0
+IsUnlike name (Stopped (Kept fault)) = ⊥
+IsUnlike name (Stopped (Fresh fault)) = ⊥
+IsUnlike name (Stopped Memory) = Unit {0}
+IsUnlike name (Batch serial) = ⊥
+IsUnlike name (Other text) = string_bytes text ≡ name
+
+-- ---- looks at two keepers
+
+-- a look at two keepers that stood for these states: what was seen is so, and both states stay
+abbrev pub LooksBoth : {T : Type 0} → State → State → (T → Type 0) → Result T ReplayStop →
+    (State → Type 0) → (State → Type 0) → Type 0
+LooksBoth s t Is (Ok seen) kept fresh = Is seen × kept s × fresh t
+LooksBoth s t Is (Err (Kept fault)) kept fresh = StaysBut s fault kept × fresh t
+LooksBoth s t Is (Err (Fresh fault)) kept fresh = kept s × StaysBut t fault fresh
+LooksBoth s t Is (Err Memory) kept fresh = kept s × fresh t
+
+-- a comparison of their collections: this is so, or which collection is another
+abbrev pub Compares : {T : Type 0} → State → State → Type 0 → Result T ReplayFault →
+    (State → Type 0) → (State → Type 0) → Type 0
+Compares s t Same (Ok done) kept fresh = Same × kept s × fresh t
+Compares s t Same (Err (Stopped stop)) kept fresh =
+    LooksBoth {T = Unit {0}} s t (λ _. Same) (Err stop) kept fresh
+Compares s t Same (Err (Batch serial)) kept fresh = ⊥
+Compares s t Same (Err (Other name)) kept fresh =
+    Differs s t (string_bytes name) × kept s × fresh t

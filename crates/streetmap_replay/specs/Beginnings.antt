@@ -1,0 +1,32 @@
+-- Following the lines of a journal.
+use Rattle.std.specs.Prelude.{◌≡◌, ◌+◌, ℕ, max, List, ◌++◌, take, All, Option, None, Some}
+use Rattle.streetmap_batch.specs.BatchValue.{BatchValue}
+use Rattle.streetmap_ledger.specs.State.{State}
+use Rattle.streetmap_replay.specs.Following.{follower}
+use Rattle.streetmap_replay.specs.JournalText.{text_of_lines}
+use Rattle.streetmap_replay.specs.Lines.{Line}
+use Rattle.streetmap_replay.specs.Sittings.{IsLineOf, highest}
+use Rattle.streetmap_text_lines.specs.Reading.{HasNoLineFeed}
+use Rattle.streetmap_replay.specs.Acting.{KeepsBut}
+use Rattle.streetmap_replay.specs.declared.line_stop.LineStop.TheVariants as stops
+use Rattle.streetmap_replay.specs.declared.following.End.{End}
+use Rattle.streetmap_replay.specs.declared.following.End.TheVariants as ends
+
+-- the input is known: lines of the journal of these batches, in any order and any of them again,
+-- and maybe a beginning of a line behind them
+abbrev pub IsOfJournal : List BatchValue → List Line → Option (List ℕ) → Type 0
+IsOfJournal bs lines None = ⊥
+IsOfJournal bs lines (Some input) =
+    All (IsLineOf bs) lines
+    × ((part : List ℕ) × (input ≡ text_of_lines lines ++ part) × HasNoLineFeed part)
+
+-- the follower of the first k lines that followed some first of these lines is then the follower of
+-- as many as the highest serial among them, or as before
+abbrev pub FollowerBy : List BatchValue → ℕ → List Line → (count : ℕ) → End → (State → Type 0) →
+    Type 0
+FollowerBy bs k lines count ends.NotTold stands =
+    stands (follower bs (max k (highest (take (count + 1) lines))))
+FollowerBy bs k lines count (ends.Stopped (stops.Stopped fault)) stands =
+    KeepsBut (follower bs (max k (highest (take count lines)))) fault stands
+FollowerBy bs k lines count end stands =
+    stands (follower bs (max k (highest (take count lines))))

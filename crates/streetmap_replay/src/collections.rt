@@ -1,0 +1,194 @@
+//! The collections of two keepers.
+ghost use Rattle.std.specs.Prelude.{◌≡◌, Err, Some, None, IfSome, IsTrue, All, slice_get};
+ghost use Rattle.std.specs.Prelude.{option_map, string_bytes, false};
+ghost use Rattle.std.specs.Bool.{Decides};
+ghost use Rattle.std.specs.FinMap.{get, entries};
+ghost use Rattle.streetmap_ledger.specs.Keep.{LeavesOnly};
+ghost use Rattle.streetmap_ledger.specs.State.{State};
+ghost use Rattle.streetmap_ledger.specs.Summaries.{summary_in, summaries_in};
+ghost use Rattle.streetmap_ledger.specs.SummaryView.{summary_value, summary_values};
+ghost use Rattle.streetmap_ledger.specs.declared.reply.Fault.{Fault};
+ghost use Rattle.streetmap_ledger.specs.declared.summary.Summary.{Summary};
+ghost use Rattle.streetmap_replay.specs.Alike.{AreAlike, AreSame, LooksBoth, Compares};
+ghost use Rattle.streetmap_replay.specs.Alike.{IsUnlike, is_named};
+ghost use Rattle.streetmap_replay.specs.Stops.{FreshEnds, FreshStops, KeptEnds, KeptStops};
+ghost use Rattle.streetmap_replay.specs.Stops.{StaysBy, StopStays};
+
+use crate::fault::{ReplayFault, ReplayStop};
+use crate::features::has_same_features;
+use std::alloc::Global;
+use streetmap_ledger::{Keeper, Summary};
+
+/// Whether two time properties are one.
+fn is_same_property(ours: &Option<String>, theirs: &Option<String>) -> bool
+    ensures { Decides result (option_map string_bytes ours.now ≡
+        option_map string_bytes theirs.now) }
+{
+    match (ours, theirs) {
+        (Some(our), Some(their)) => our.as_str() == their.as_str(),
+        (None, None) => true,
+        _ => false,
+    }
+}
+
+/// Whether two collections are declared alike: by their titles and their time properties.
+fn is_declared_alike(ours: &Summary, theirs: &Summary) -> bool
+    ensures { Decides result (AreAlike (summary_value ours.now) (summary_value theirs.now)) }
+{
+    ours.title.as_str() == theirs.title.as_str() && is_same_property(&ours.time, &theirs.time)
+}
+
+/// Whether a collection of the first keeper, which told this of it, is the same in the second.
+fn is_alike<K: Keeper, L: Keeper>(
+    alloc: Global,
+    keeper: &mut K,
+    fresh: &mut L,
+    ours: &Summary,
+) -> Result<bool, ReplayStop>
+    ensures spared { K.spares keeper.old keeper.new }
+    ensures fresh_spared { L.spares fresh.old fresh.new }
+    ensures began_clean { K.is_clean keeper.new → K.is_clean keeper.old }
+    ensures fresh_clean { L.is_clean fresh.new → L.is_clean fresh.old }
+    ensures faults { KeptStops result (K.cause keeper.old) (K.cause keeper.new) }
+    ensures fresh_faults { FreshStops result (L.cause fresh.old) (L.cause fresh.new) }
+    ensures stays { K.is_clean keeper.new → (s : State) → K.stands keeper.old s →
+        StopStays s result (K.stands keeper.new) }
+    ensures compares { K.is_clean keeper.new → L.is_clean fresh.new → (s t : State) →
+        K.stands keeper.old s → L.stands fresh.old t →
+        summary_in s (string_bytes ours.now.id) ≡ Some (summary_value ours.now) →
+        LooksBoth s t (λ same. Decides same (get s.collections (string_bytes ours.now.id) ≡
+        get t.collections (string_bytes ours.now.id))) result
+        (K.stands keeper.new) (L.stands fresh.new) }
+    ensures device { K.is_clean keeper.new → (s : State) → K.stands keeper.old s →
+        result ≡ Err (ReplayStop.Kept Fault.Device) → K.fails keeper.old keeper.new }
+    ensures leaves { K.is_clean keeper.new → (s : State) → K.stands keeper.old s →
+        LeavesOnly (K.may_leave keeper.old) (Some s) →
+        LeavesOnly (K.may_leave keeper.new) (Some s) }
+{
+    match fresh.collection(ours.id.as_str()) {
+        Ok(Some(theirs)) => {
+            if is_declared_alike(ours, &theirs) {
+                has_same_features(alloc, keeper, fresh, ours.id.as_str())
+            } else {
+                Ok(false)
+            }
+        }
+        Ok(None) => Ok(false),
+        Err(fault) => Err(ReplayStop::Fresh(fault)),
+    }
+}
+
+/// The fault that a collection is another, unless memory for its id is refused.
+fn unlike(alloc: Global, name: &str) -> ReplayFault
+    ensures { IsUnlike name.now result }
+{
+    match String::from_str(alloc, name) {
+        Ok(name) => ReplayFault::Collection(name),
+        Err(_) => ReplayFault::Stopped(ReplayStop::Memory),
+    }
+}
+
+/// Compares the collections of the first keeper, which told these, with those of the second, in
+/// order, up to the first that is another.
+fn compare_each<K: Keeper, L: Keeper>(
+    alloc: Global,
+    keeper: &mut K,
+    fresh: &mut L,
+    ours: &[Summary],
+) -> Result<(), ReplayFault>
+    ensures spared { K.spares keeper.old keeper.new }
+    ensures fresh_spared { L.spares fresh.old fresh.new }
+    ensures began_clean { K.is_clean keeper.new → K.is_clean keeper.old }
+    ensures fresh_clean { L.is_clean fresh.new → L.is_clean fresh.old }
+    ensures faults { KeptEnds result (K.cause keeper.old) (K.cause keeper.new) }
+    ensures fresh_faults { FreshEnds result (L.cause fresh.old) (L.cause fresh.new) }
+    ensures stays { K.is_clean keeper.new → (s : State) → K.stands keeper.old s →
+        StaysBy s result (K.stands keeper.new) }
+    ensures compares { K.is_clean keeper.new → L.is_clean fresh.new → (s t : State) →
+        K.stands keeper.old s → L.stands fresh.old t → summary_values ours.now ≡ summaries_in s →
+        Compares s t (AreSame s t (entries s.collections)) result
+        (K.stands keeper.new) (L.stands fresh.new) }
+    ensures device { K.is_clean keeper.new → (s : State) → K.stands keeper.old s →
+        result ≡ Err (ReplayFault.Stopped (ReplayStop.Kept Fault.Device)) →
+        K.fails keeper.old keeper.new }
+    ensures leaves { K.is_clean keeper.new → (s : State) → K.stands keeper.old s →
+        LeavesOnly (K.may_leave keeper.old) (Some s) →
+        LeavesOnly (K.may_leave keeper.new) (Some s) }
+{
+    for summary in ours {
+        match is_alike(alloc, keeper, fresh, summary) {
+            Ok(true) => {}
+            Ok(false) => return Err(unlike(alloc, summary.id.as_str())),
+            Err(stop) => return Err(ReplayFault::Stopped(stop)),
+        }
+    }
+    Ok(())
+}
+
+/// Whether one of the collections has this id.
+fn is_among(name: &str, summaries: &[Summary]) -> bool
+    ensures { result ≡ is_named name.now summaries.now }
+{
+    summaries.iter().any(|summary| summary.id.as_str() == name)
+}
+
+/// Where a collection stands that is none of the others.
+fn find_other(theirs: &[Summary], ours: &[Summary]) -> Option<usize>
+    ensures found { IfSome result (λ place. (other : Summary) × (slice_get theirs.now place ≡
+        Some other) × (is_named (string_bytes other.id) ours.now ≡ false)) }
+    ensures none { result ≡ None → All (λ other. IsTrue (is_named (string_bytes other.id)
+        ours.now)) theirs.now }
+{
+    for place in 0..theirs.len() {
+        if !is_among(theirs[place].id.as_str(), ours) {
+            return Some(place);
+        }
+    }
+    None
+}
+
+/// Compares the collections of two keepers: their titles, their time properties and their features.
+///
+/// # Errors
+///
+/// `Collection` with the id of the first collection of the first keeper that is another in the
+/// second, or else of one that the second has alone; `Stopped` with the fault of a keeper, or with
+/// `Memory`.
+pub fn compare_collections<K: Keeper, L: Keeper>(
+    alloc: Global,
+    keeper: &mut K,
+    fresh: &mut L,
+) -> Result<(), ReplayFault>
+    ensures spared { K.spares keeper.old keeper.new }
+    ensures fresh_spared { L.spares fresh.old fresh.new }
+    ensures began_clean { K.is_clean keeper.new → K.is_clean keeper.old }
+    ensures fresh_clean { L.is_clean fresh.new → L.is_clean fresh.old }
+    ensures faults { KeptEnds result (K.cause keeper.old) (K.cause keeper.new) }
+    ensures fresh_faults { FreshEnds result (L.cause fresh.old) (L.cause fresh.new) }
+    ensures compares { K.is_clean keeper.new → L.is_clean fresh.new → (s t : State) →
+        K.stands keeper.old s → L.stands fresh.old t →
+        Compares s t (s.collections ≡ t.collections) result
+        (K.stands keeper.new) (L.stands fresh.new) }
+    ensures device { K.is_clean keeper.new → (s : State) → K.stands keeper.old s →
+        result ≡ Err (ReplayFault.Stopped (ReplayStop.Kept Fault.Device)) →
+        K.fails keeper.old keeper.new }
+    ensures leaves { K.is_clean keeper.new → (s : State) → K.stands keeper.old s →
+        LeavesOnly (K.may_leave keeper.old) (Some s) →
+        LeavesOnly (K.may_leave keeper.new) (Some s) }
+{
+    let ours = match keeper.collections() {
+        Ok(ours) => ours,
+        Err(fault) => return Err(ReplayFault::Stopped(ReplayStop::Kept(fault))),
+    };
+    let theirs = match fresh.collections() {
+        Ok(theirs) => theirs,
+        Err(fault) => return Err(ReplayFault::Stopped(ReplayStop::Fresh(fault))),
+    };
+    match compare_each(alloc, keeper, fresh, ours.as_slice()) {
+        Ok(()) => match find_other(theirs.as_slice(), ours.as_slice()) {
+            Some(place) => Err(unlike(alloc, theirs[place].id.as_str())),
+            None => Ok(()),
+        },
+        Err(fault) => Err(fault),
+    }
+}

@@ -1,0 +1,135 @@
+//! The features of a collection in two keepers.
+ghost use Rattle.std.specs.Prelude.{◌≡◌, Err, Some, IfOk};
+ghost use Rattle.std.specs.Bool.{Decides};
+ghost use Rattle.std.specs.FinMap.{get, values};
+ghost use Rattle.streetmap_ledger.specs.Keep.{LeavesOnly};
+ghost use Rattle.streetmap_ledger.specs.PageView.{page_value};
+ghost use Rattle.streetmap_ledger.specs.State.{State, Collection};
+ghost use Rattle.streetmap_ledger.specs.declared.reply.Fault.{Fault};
+ghost use Rattle.streetmap_query.specs.Views.{query_value};
+ghost use Rattle.streetmap_replay.specs.Alike.{EndsAs, SameText, part_query, LooksBoth};
+ghost use Rattle.streetmap_replay.specs.Stops.{FreshStops, KeptStops, StopStays};
+
+use crate::fault::ReplayStop;
+use std::alloc::{AllocError, Global};
+use streetmap_feature_text::collection_text;
+use streetmap_geojson::Id;
+use streetmap_ledger::{Keeper, Page};
+use streetmap_query::Query;
+
+/// What two pages of one place come to.
+#[derive(Drop)]
+enum PageEnd {
+    /// They are not the same.
+    Unlike,
+    /// They are the same, and the last.
+    Last,
+    /// They are the same, and more features follow behind this id.
+    Next(Id),
+}
+
+/// What is asked for a page of a thousand features behind an id.
+fn query_behind(after: Option<Id>) -> Query
+    ensures { query_value result ≡ part_query after }
+{
+    Query {
+        bbox: None,
+        datetime: None,
+        limit: 1000,
+        after,
+    }
+}
+
+/// The last id of a page, where more features follow.
+fn next_id(page: Page) -> Option<Id>
+    ensures { result ≡ (page_value page).next }
+{
+    let next = page.next;
+    match next {
+        Some(text) => match Id::new(text) {
+            Ok(id) => Some(id),
+            Err(_) => None,
+        },
+        None => None,
+    }
+}
+
+/// Whether the features of two pages have one text, as a collection.
+fn has_same_text(alloc: Global, ours: &Page, theirs: &Page) -> Result<bool, AllocError>
+    ensures { IfOk result (λ same. Decides same (SameText (page_value ours.now)
+        (page_value theirs.now))) }
+{
+    let first = collection_text(alloc, ours.features.as_slice())?;
+    let second = collection_text(alloc, theirs.features.as_slice())?;
+    Ok(first.as_str() == second.as_str())
+}
+
+/// Compares two pages of one place: the texts of their features, and what follows them.
+fn compare_pages(alloc: Global, ours: Page, theirs: Page) -> Result<PageEnd, AllocError>
+    ensures { IfOk result (EndsAs (page_value ours) (page_value theirs)) }
+{
+    if !has_same_text(alloc, &ours, &theirs)? {
+        return Ok(PageEnd::Unlike);
+    }
+    match (next_id(ours), next_id(theirs)) {
+        (None, None) => Ok(PageEnd::Last),
+        (Some(our), Some(their)) => {
+            if our.as_str() == their.as_str() {
+                Ok(PageEnd::Next(our))
+            } else {
+                Ok(PageEnd::Unlike)
+            }
+        }
+        _ => Ok(PageEnd::Unlike),
+    }
+}
+
+/// Whether a collection that both keepers have, with one time property, has the same features in
+/// both: ids, geometries, properties and times. It asks each for pages of a thousand features.
+pub(crate) fn has_same_features<K: Keeper, L: Keeper>(
+    alloc: Global,
+    keeper: &mut K,
+    fresh: &mut L,
+    name: &str,
+) -> Result<bool, ReplayStop>
+    ensures spared { K.spares keeper.old keeper.new }
+    ensures fresh_spared { L.spares fresh.old fresh.new }
+    ensures began_clean { K.is_clean keeper.new → K.is_clean keeper.old }
+    ensures fresh_clean { L.is_clean fresh.new → L.is_clean fresh.old }
+    ensures faults { KeptStops result (K.cause keeper.old) (K.cause keeper.new) }
+    ensures fresh_faults { FreshStops result (L.cause fresh.old) (L.cause fresh.new) }
+    ensures stays { K.is_clean keeper.new → (s : State) → K.stands keeper.old s →
+        StopStays s result (K.stands keeper.new) }
+    ensures compares { K.is_clean keeper.new → L.is_clean fresh.new → (s t : State) →
+        (c d : Collection) → K.stands keeper.old s → L.stands fresh.old t →
+        get s.collections name.now ≡ Some c → get t.collections name.now ≡ Some d →
+        c.time ≡ d.time → LooksBoth s t (λ same. Decides same (values c.features ≡
+        values d.features)) result (K.stands keeper.new) (L.stands fresh.new) }
+    ensures device { K.is_clean keeper.new → (s : State) → K.stands keeper.old s →
+        result ≡ Err (ReplayStop.Kept Fault.Device) → K.fails keeper.old keeper.new }
+    ensures leaves { K.is_clean keeper.new → (s : State) → K.stands keeper.old s →
+        LeavesOnly (K.may_leave keeper.old) (Some s) →
+        LeavesOnly (K.may_leave keeper.new) (Some s) }
+{
+    let mut after = None;
+    for _turn in 0..u64::MAX {
+        let query = query_behind(after);
+        let ours = match keeper.page(name, &query) {
+            Ok(Some(page)) => page,
+            Ok(None) => return Ok(false),
+            Err(fault) => return Err(ReplayStop::Kept(fault)),
+        };
+        let theirs = match fresh.page(name, &query) {
+            Ok(Some(page)) => page,
+            Ok(None) => return Ok(false),
+            Err(fault) => return Err(ReplayStop::Fresh(fault)),
+        };
+        match compare_pages(alloc, ours, theirs) {
+            Ok(PageEnd::Next(id)) => after = Some(id),
+            Ok(PageEnd::Last) => return Ok(true),
+            Ok(PageEnd::Unlike) => return Ok(false),
+            Err(_) => return Err(ReplayStop::Memory),
+        }
+    }
+    Err(ReplayStop::Memory)
+}

@@ -1,0 +1,85 @@
+//! Lines, followed in order.
+ghost use Rattle.std.specs.Prelude.{◌≡◌, ℕ, List, All as AllOf};
+ghost use Rattle.streetmap_batch.specs.BatchValue.{BatchValue};
+ghost use Rattle.streetmap_ledger.specs.State.{State};
+ghost use Rattle.streetmap_replay.specs.Again.{IsWritable};
+ghost use Rattle.streetmap_replay.specs.Following.{follower};
+ghost use Rattle.streetmap_replay.specs.Lines.{Line};
+ghost use Rattle.streetmap_replay.specs.Beginnings.{IsOfJournal, FollowerBy};
+ghost use Rattle.streetmap_replay.specs.Ends.{Follows};
+
+use crate::acting::follow_line;
+use crate::length::MAX_LINE;
+use crate::line_stop::LineStop;
+use crate::replies::Replies;
+use std::alloc::Global;
+use std::io::BufRead;
+use streetmap_ledger::KeepsBatches;
+use streetmap_text_lines::{LineFault, WholeLine, next_whole_line};
+
+/// By what following ended.
+#[derive(Clone, Copy, Drop)]
+pub enum End {
+    /// All lines were followed.
+    All,
+    /// The next line is not followed.
+    Stopped(LineStop),
+    /// The next line lacks its line feed.
+    CutLine,
+    /// The next line was not read: it is too long, a read failed or memory was refused.
+    NotRead(LineFault),
+    /// The next line was followed, and its reply was not told.
+    NotTold,
+}
+
+/// How many lines were followed and their replies told, and by what it ended: the line at fault has
+/// the number behind theirs.
+#[derive(Clone, Copy, Drop)]
+pub struct Followed {
+    pub count: u64,
+    pub end: End,
+}
+
+/// Follows the lines of a reader, in order, up to the first that is not followed (`follow_line`),
+/// has more than `MAX_LINE` bytes or lacks its line feed, and tells the reply to each. A batch that
+/// was accepted before is repeated, and changes nothing: so the same lines again go on where this
+/// ended.
+pub fn follow_lines<K: KeepsBatches, R: BufRead, T: Replies>(
+    alloc: Global,
+    keeper: &mut K,
+    reader: &mut R,
+    replies: &mut T,
+) -> Followed
+    ensures spared { K.spares keeper.old keeper.new }
+    ensures began_clean { K.is_clean keeper.new → K.is_clean keeper.old }
+    ensures follows { K.is_clean keeper.new → (s : State) → K.stands keeper.old s →
+        Follows s (R.remaining reader.old) (R.remaining reader.new) T.tells replies.old replies.new
+        (K.may_leave keeper.old) (K.may_leave keeper.new) result (K.stands keeper.new) }
+    // Of a journal's lines: a follower goes on, or is as before.
+    ensures beginnings { K.is_clean keeper.new → (bs : List BatchValue) (k : ℕ)
+        (lines : List Line) → AllOf IsWritable bs → K.stands keeper.old (follower bs k) →
+        IsOfJournal bs lines (R.remaining reader.old) →
+        FollowerBy bs k lines result.count result.end (K.stands keeper.new) }
+{
+    for turn in 0..u64::MAX {
+        let end = match next_whole_line(alloc, reader, MAX_LINE) {
+            Ok(WholeLine::Line(line)) => match follow_line(alloc, keeper, line.as_slice()) {
+                Ok(it) => {
+                    if replies.tell(&it.batch, it.reply).is_ok() {
+                        continue;
+                    }
+                    End::NotTold
+                }
+                Err(stop) => End::Stopped(stop),
+            },
+            Ok(WholeLine::Cut) => End::CutLine,
+            Ok(WholeLine::End) => End::All,
+            Err(fault) => End::NotRead(fault),
+        };
+        return Followed { count: turn, end };
+    }
+    Followed {
+        count: u64::MAX,
+        end: End::NotRead(LineFault::ReadFailed),
+    }
+}

@@ -1,0 +1,16 @@
+//! Why a line is not followed.
+use streetmap_batch::BatchFault;
+use streetmap_ledger::{Fault, Refusal};
+
+/// Why a line is not followed.
+#[derive(Clone, Copy, Drop)]
+pub enum LineStop {
+    /// It is no batch, or memory to read it was refused.
+    Unread(BatchFault),
+    /// Its serial is neither the next one nor that of its key.
+    NotNext,
+    /// Its batch is refused, with the place of the edit at fault, where there is one.
+    Refused(Refusal, Option<u64>),
+    /// The keeper answered with a fault.
+    Stopped(Fault),
+}

@@ -1,0 +1,28 @@
+//! The text that is kept of a feature, read again.
+ghost use Rattle.std.specs.Prelude.{◌≡◌, IfOk, Ok};
+ghost use Rattle.std.specs.Option.{option_copied};
+ghost use Rattle.streetmap_geojson.specs.FeatureValue.{FeatureValue};
+ghost use Rattle.streetmap_geojson.specs.Fault.{Gives};
+ghost use Rattle.streetmap_geojson.specs.FeatureView.{feature_value};
+ghost use Rattle.streetmap_rows.specs.Rows.{feature_text};
+ghost use Rattle.streetmap_rows.specs.Stored.{IsStored, TextReadsAs};
+
+use std::alloc::Global;
+use streetmap_geojson::{Feature, JsonFault, read_feature, read_json};
+
+/// The feature of a text that is kept of it, under a collection's time property.
+///
+/// The text is JSON (RFC 8259) of a GeoJSON Feature (RFC 7946), as `push_feature` writes it.
+///
+/// # Errors
+///
+/// `Memory` where memory was refused; `Fault` where the text reads as no feature, which never comes
+/// of a text that is kept.
+pub fn read_body(alloc: Global, body: &[u8], property: Option<&str>) -> Result<Feature, JsonFault>
+    ensures reads { IfOk result (TextReadsAs (option_copied property.entry) body.now) }
+    ensures again { (f : FeatureValue) → body.now ≡ feature_text f →
+        IsStored (option_copied property.entry) f → Gives feature_value result (Ok f) }
+{
+    let value = read_json(alloc, body)?;
+    read_feature(alloc, &value, property)
+}

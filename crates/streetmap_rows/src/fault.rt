@@ -1,0 +1,49 @@
+//! Why a look into the tables gave up.
+ghost use Rattle.std.specs.Prelude.{◌≡◌, if◌then◌else◌};
+ghost use Rattle.streetmap_rows.specs.Failing as failing;
+
+use crate::failing::is_memory;
+use sqlite::Error;
+use std::alloc::{AllocError, AllocFailed};
+
+/// Why a look into the tables gave up.
+#[derive(Drop)]
+pub enum ReadFault {
+    /// Memory was refused while a row was read.
+    Memory,
+    /// A statement failed.
+    Store(Error),
+    /// A row is none that this product writes.
+    Unread,
+}
+
+impl From<AllocError> for ReadFault {
+    ghost use Rattle.streetmap_rows.specs.declared.fault.ReadFault.TheVariants.{Memory};
+
+    ghost from_gives = { λ _ e. e ≡ Memory };
+
+    fn from(_: AllocError) -> ReadFault {
+        ReadFault::Memory
+    }
+}
+
+impl<T: Drop> From<AllocFailed<T>> for ReadFault {
+    ghost use Rattle.streetmap_rows.specs.declared.fault.ReadFault.TheVariants.{Memory};
+
+    ghost from_gives = { λ _ e. e ≡ Memory };
+
+    fn from(_: AllocFailed<T>) -> ReadFault {
+        ReadFault::Memory
+    }
+}
+
+/// Why a cell of a row was not read: memory was refused, or it is none that this product writes.
+pub fn unread(error: Error) -> ReadFault
+    ensures { result ≡ (if failing.is_memory error then ReadFault.Memory else ReadFault.Unread) }
+{
+    if is_memory(error) {
+        ReadFault::Memory
+    } else {
+        ReadFault::Unread
+    }
+}

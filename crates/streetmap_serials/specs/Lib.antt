@@ -1,3 +1,0 @@
-pub mod Statements
-pub mod Serials
-pub mod Scanning

@@ -1,3 +1,0 @@
-pub mod SurvivingClients
-pub mod Turns
-pub mod Waiting

@@ -1,3 +1,0 @@
-pub mod Answering
-pub mod ServingClients
-pub mod SurvivingClients

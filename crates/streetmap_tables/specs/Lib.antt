@@ -1,0 +1,14 @@
+pub mod Adopting
+pub mod Carrying
+pub mod Dropping
+pub mod Faults
+pub mod Made
+pub mod Making
+pub mod Old
+pub mod Part
+pub mod Reasons
+pub mod Refusing
+pub mod Telling
+pub mod Editing
+pub mod Acting
+pub mod Storing

@@ -1,0 +1,203 @@
+//! Edits inside a transaction.
+ghost use Rattle.std.specs.Prelude.{◌≡◌, IfErr, is_some, map};
+ghost use Rattle.std.specs.Option.{option_copied};
+ghost use Rattle.std.specs.FinMap.{get};
+ghost use Rattle.sqlite.specs.Held.{state};
+ghost use Rattle.sqlite.specs.State.{HasCleanDisk, Survives};
+ghost use Rattle.streetmap_batch.specs.BatchValue as edit;
+ghost use Rattle.streetmap_batch.specs.BatchView.{edit_value};
+ghost use Rattle.streetmap_rows.specs.Stands.{Looks};
+ghost use Rattle.streetmap_tables.specs.Editing.{Edits, EditsAll};
+ghost use Rattle.streetmap_rows.specs.Failing.{HasReason};
+
+use crate::storing::put_feature;
+use crate::timing::time_property;
+use sqlite::{Alter, Error, Transaction};
+use std::alloc::Global;
+use streetmap_geojson::Feature;
+use streetmap_ledger::{Edit, Refusal, TimeProperty};
+use streetmap_rows::{collection_rows, delete_feature, has_feature, insert_collection};
+
+/// Whether there is a collection with this id.
+fn has_collection<S: Alter>(tx: &mut Transaction<'_, S>, collection: &str) -> Result<bool, Error>
+    ensures same_reference { tx.new.conn.ghost_name ≡ tx.old.conn.ghost_name }
+    ensures looks { HasCleanDisk (state S.Store tx.new.conn.now)
+        → Looks (λ s. is_some (get s.collections collection.now)) (state S.Store tx.old.conn.now)
+        (state S.Store tx.new.conn.now) result }
+    ensures reason { HasCleanDisk (state S.Store tx.new.conn.now) →
+        IfErr result (HasReason (state S.Store tx.old.conn.now) (state S.Store tx.new.conn.now)) }
+    ensures survives { Survives (state S.Store tx.old.conn.now) (state S.Store tx.new.conn.now)
+        (λ _. ⊥) }
+{
+    let rows = collection_rows(tx, collection)?;
+    Ok(!rows.is_empty())
+}
+
+/// Opens a collection, or tells that it is there.
+#[tactic(auto, using(crate::proofs::Deciding::is_open))]
+fn open_in<S: Alter>(
+    tx: &mut Transaction<'_, S>,
+    collection: &str,
+    title: &str,
+    time: Option<&str>,
+) -> Result<Option<Refusal>, Error>
+    ensures same_reference { tx.new.conn.ghost_name ≡ tx.old.conn.ghost_name }
+    ensures edits { HasCleanDisk (state S.Store tx.new.conn.now)
+        → Edits (edit.«open» collection.now title.now (option_copied time.entry))
+        (state S.Store tx.old.conn.now) (state S.Store tx.new.conn.now) result }
+    ensures reason { HasCleanDisk (state S.Store tx.new.conn.now) →
+        IfErr result (HasReason (state S.Store tx.old.conn.now) (state S.Store tx.new.conn.now)) }
+    ensures survives { Survives (state S.Store tx.old.conn.now) (state S.Store tx.new.conn.now)
+        (λ _. ⊥) }
+{
+    if has_collection(tx, collection)? {
+        return Ok(Some(Refusal::CollectionExists));
+    }
+    insert_collection(tx, collection, title, time)?;
+    Ok(None)
+}
+
+/// Inserts a feature, or tells why not.
+fn insert_in<S: Alter>(
+    tx: &mut Transaction<'_, S>,
+    alloc: Global,
+    collection: &str,
+    feature: &Feature,
+) -> Result<Option<Refusal>, Error>
+    ensures same_reference { tx.new.conn.ghost_name ≡ tx.old.conn.ghost_name }
+    ensures edits { HasCleanDisk (state S.Store tx.new.conn.now)
+        → Edits (edit.insert collection.now feature.now) (state S.Store tx.old.conn.now)
+        (state S.Store tx.new.conn.now) result }
+    ensures reason { HasCleanDisk (state S.Store tx.new.conn.now) →
+        IfErr result (HasReason (state S.Store tx.old.conn.now) (state S.Store tx.new.conn.now)) }
+    ensures survives { Survives (state S.Store tx.old.conn.now) (state S.Store tx.new.conn.now)
+        (λ _. ⊥) }
+{
+    let Some(property) = time_property(tx, collection)? else {
+        return Ok(Some(Refusal::NoCollection));
+    };
+    if has_feature(tx, collection, feature.id())? {
+        return Ok(Some(Refusal::FeatureExists));
+    }
+    put_feature(tx, alloc, collection, property.as_deref(), feature)
+}
+
+/// Replaces a feature by another with its id, or tells why not.
+fn replace_in<S: Alter>(
+    tx: &mut Transaction<'_, S>,
+    alloc: Global,
+    collection: &str,
+    feature: &Feature,
+) -> Result<Option<Refusal>, Error>
+    ensures same_reference { tx.new.conn.ghost_name ≡ tx.old.conn.ghost_name }
+    ensures edits { HasCleanDisk (state S.Store tx.new.conn.now)
+        → Edits (edit.replace collection.now feature.now) (state S.Store tx.old.conn.now)
+        (state S.Store tx.new.conn.now) result }
+    ensures reason { HasCleanDisk (state S.Store tx.new.conn.now) →
+        IfErr result (HasReason (state S.Store tx.old.conn.now) (state S.Store tx.new.conn.now)) }
+    ensures survives { Survives (state S.Store tx.old.conn.now) (state S.Store tx.new.conn.now)
+        (λ _. ⊥) }
+{
+    let Some(property) = time_property(tx, collection)? else {
+        return Ok(Some(Refusal::NoCollection));
+    };
+    if !has_feature(tx, collection, feature.id())? {
+        return Ok(Some(Refusal::NoFeature));
+    }
+    delete_feature(tx, collection, feature.id())?;
+    put_feature(tx, alloc, collection, property.as_deref(), feature)
+}
+
+/// Deletes a feature, or tells why not.
+#[tactic(auto, using(crate::proofs::Deciding::no_collection, crate::proofs::Deciding::no_feature))]
+fn delete_in<S: Alter>(
+    tx: &mut Transaction<'_, S>,
+    collection: &str,
+    id: &str,
+) -> Result<Option<Refusal>, Error>
+    ensures same_reference { tx.new.conn.ghost_name ≡ tx.old.conn.ghost_name }
+    ensures edits { HasCleanDisk (state S.Store tx.new.conn.now)
+        → Edits (edit.delete collection.now id.now) (state S.Store tx.old.conn.now)
+        (state S.Store tx.new.conn.now) result }
+    ensures reason { HasCleanDisk (state S.Store tx.new.conn.now) →
+        IfErr result (HasReason (state S.Store tx.old.conn.now) (state S.Store tx.new.conn.now)) }
+    ensures survives { Survives (state S.Store tx.old.conn.now) (state S.Store tx.new.conn.now)
+        (λ _. ⊥) }
+{
+    if !has_collection(tx, collection)? {
+        return Ok(Some(Refusal::NoCollection));
+    }
+    if !has_feature(tx, collection, id)? {
+        return Ok(Some(Refusal::NoFeature));
+    }
+    delete_feature(tx, collection, id)?;
+    Ok(None)
+}
+
+/// The name of a time property, where one is given.
+fn name_of(time: &Option<TimeProperty>) -> Option<&str>
+    ensures { option_copied result ≡ time.now }
+{
+    match time {
+        Some(property) => Some(property.as_str()),
+        None => None,
+    }
+}
+
+/// Makes an edit, or tells why not.
+fn edit_in<S: Alter>(
+    tx: &mut Transaction<'_, S>,
+    alloc: Global,
+    edit: &Edit,
+) -> Result<Option<Refusal>, Error>
+    ensures same_reference { tx.new.conn.ghost_name ≡ tx.old.conn.ghost_name }
+    ensures edits { HasCleanDisk (state S.Store tx.new.conn.now)
+        → Edits (edit_value edit.now) (state S.Store tx.old.conn.now)
+        (state S.Store tx.new.conn.now) result }
+    ensures reason { HasCleanDisk (state S.Store tx.new.conn.now) →
+        IfErr result (HasReason (state S.Store tx.old.conn.now) (state S.Store tx.new.conn.now)) }
+    ensures survives { Survives (state S.Store tx.old.conn.now) (state S.Store tx.new.conn.now)
+        (λ _. ⊥) }
+{
+    match edit {
+        Edit::Open {
+            collection,
+            title,
+            time,
+        } => open_in(tx, collection.as_str(), title.as_str(), name_of(time)),
+        Edit::Insert {
+            collection,
+            feature,
+        } => insert_in(tx, alloc, collection.as_str(), feature),
+        Edit::Replace {
+            collection,
+            feature,
+        } => replace_in(tx, alloc, collection.as_str(), feature),
+        Edit::Delete { collection, id } => delete_in(tx, collection.as_str(), id.as_str()),
+    }
+}
+
+/// Makes edits in order, up to the first that is refused, whose place from 1 it tells.
+pub fn edit_each<S: Alter>(
+    tx: &mut Transaction<'_, S>,
+    alloc: Global,
+    edits: &[Edit],
+) -> Result<Option<(u64, Refusal)>, Error>
+    ensures same_reference { tx.new.conn.ghost_name ≡ tx.old.conn.ghost_name }
+    ensures edits { HasCleanDisk (state S.Store tx.new.conn.now)
+        → EditsAll (map edit_value edits.now) (state S.Store tx.old.conn.now)
+        (state S.Store tx.new.conn.now) result }
+    ensures reason { HasCleanDisk (state S.Store tx.new.conn.now) →
+        IfErr result (HasReason (state S.Store tx.old.conn.now) (state S.Store tx.new.conn.now)) }
+    ensures survives { Survives (state S.Store tx.old.conn.now) (state S.Store tx.new.conn.now)
+        (λ _. ⊥) }
+{
+    let mut place: u64 = 1;
+    'edits: for edit in edits {
+        if let Some(why) = edit_in(tx, alloc, edit)? {
+            return Ok(Some((place, why)));
+        }
+        place += 1;
+    }
+    Ok(None)
+}

@@ -1,0 +1,221 @@
+//! The features of format 1: their rows are taken, and put in as format 2 has them.
+ghost use Rattle.std.specs.Prelude.{◌≡◌, IfErr, IsTrue, IsUtf8, OnOk, MatchResult, string_bytes};
+ghost use Rattle.std.specs.Prelude.{IfOk};
+ghost use Rattle.std.specs.Option.{option_copied};
+ghost use Rattle.sqlite.specs.Held.{state};
+ghost use Rattle.sqlite.specs.State.{HasCleanDisk, KeepsCommit, Survives};
+ghost use Rattle.streetmap_geojson.specs.FeatureValue.{FeatureValue};
+ghost use Rattle.streetmap_rows.specs.Failing.{IsOfStore, HasReason};
+ghost use Rattle.streetmap_rows.specs.Holds.{KeyPair};
+ghost use Rattle.streetmap_rows.specs.Calls.{LooksAll};
+ghost use Rattle.streetmap_rows.specs.Views as views;
+ghost use Rattle.streetmap_rows.specs.Stored.{IsStored, TextReadsAs};
+ghost use Rattle.streetmap_tables.specs.Old.{old_cells};
+ghost use Rattle.sqlite.specs.declared.error.Error.{Error};
+ghost use Rattle.streetmap_tables.specs.Reasons.{IsOwn, HasReasonIn};
+ghost use Rattle.streetmap_tables.specs.Part.{TakesRows, FindsTime, PutsRow, PutsRows};
+ghost use Rattle.streetmap_tables.specs.Part.{PutsOne, PutsEach, pair_in, body_in, old_rows_text};
+ghost use Rattle.streetmap_tables.specs.Telling.{Sees};
+
+use crate::storing::put_feature;
+use sqlite::types::ValueRef;
+use sqlite::{Alter, Error, Row, Transaction, params};
+use std::alloc::Global;
+use streetmap_geojson::{Feature, JsonFault};
+use streetmap_rows::{ReadFault, is_of_store, read_body, time_in, unread};
+
+/// Why a look or a write of a feature gave up: the store failed, or the statement was refused, as
+/// one over a row that is none that this product writes.
+pub fn fault_of(error: Error) -> ReadFault
+    ensures only { (e : Error) → result ≡ ReadFault.Store e → e ≡ error }
+    ensures store { IsOfStore error → result ≡ ReadFault.Store error }
+{
+    if is_of_store(error) {
+        ReadFault::Store(error)
+    } else {
+        ReadFault::Unread
+    }
+}
+
+/// The rows of all features.
+pub fn take_rows<S: Alter>(tx: &mut Transaction<'_, S>) -> Result<Vec<Row>, ReadFault>
+    ensures reason { HasCleanDisk (state S.Store tx.new.conn.now) →
+        IfErr result (HasReasonIn (state S.Store tx.old.conn.now) (state S.Store tx.new.conn.now)) }
+    ensures same_reference { tx.new.conn.ghost_name ≡ tx.old.conn.ghost_name }
+    ensures takes { HasCleanDisk (state S.Store tx.new.conn.now)
+        → TakesRows (state S.Store tx.old.conn.now) (state S.Store tx.new.conn.now) result }
+    ensures shown { HasCleanDisk (state S.Store tx.new.conn.now) →
+        IfOk result (λ rows. Sees old_rows_text (state S.Store tx.old.conn.now) rows.items) }
+    ensures same { HasCleanDisk (state S.Store tx.new.conn.now) →
+        OnOk result ((state S.Store tx.new.conn.now).now ≡ (state S.Store tx.old.conn.now).now) }
+    ensures inside { HasCleanDisk (state S.Store tx.new.conn.now)
+        → IsTrue (state S.Store tx.old.conn.now).in_transaction
+        → OnOk result (IsTrue (state S.Store tx.new.conn.now).in_transaction) }
+    ensures kept { HasCleanDisk (state S.Store tx.new.conn.now)
+        → IsTrue (state S.Store tx.old.conn.now).in_transaction
+        → KeepsCommit (state S.Store tx.old.conn.now) (state S.Store tx.new.conn.now) }
+    ensures survives { Survives (state S.Store tx.old.conn.now) (state S.Store tx.new.conn.now)
+        (λ _. ⊥) }
+{
+    match tx.query_all("SELECT collection, id, body FROM streetmap_features", &[]) {
+        Ok(rows) => Ok(rows),
+        Err(error) => Err(fault_of(error)),
+    }
+}
+
+/// What is kept of a collection: a row of its title and its time property, or none.
+#[tactic(auto, using(streetmap_rows::proofs::Reasons::queried_inside))]
+fn head_rows<S: Alter>(tx: &mut Transaction<'_, S>, collection: &str) -> Result<Vec<Row>, Error>
+    ensures reason { HasCleanDisk (state S.Store tx.new.conn.now) →
+        IfErr result (HasReason (state S.Store tx.old.conn.now) (state S.Store tx.new.conn.now)) }
+    ensures same_reference { tx.new.conn.ghost_name ≡ tx.old.conn.ghost_name }
+    ensures looks { HasCleanDisk (state S.Store tx.new.conn.now)
+        → LooksAll (views.collection_rows collection.now) (state S.Store tx.old.conn.now)
+        (state S.Store tx.new.conn.now) result }
+    ensures same { HasCleanDisk (state S.Store tx.new.conn.now) →
+        OnOk result ((state S.Store tx.new.conn.now).now ≡ (state S.Store tx.old.conn.now).now) }
+    ensures inside { HasCleanDisk (state S.Store tx.new.conn.now)
+        → IsTrue (state S.Store tx.old.conn.now).in_transaction
+        → OnOk result (IsTrue (state S.Store tx.new.conn.now).in_transaction) }
+    ensures kept { HasCleanDisk (state S.Store tx.new.conn.now)
+        → IsTrue (state S.Store tx.old.conn.now).in_transaction
+        → KeepsCommit (state S.Store tx.old.conn.now) (state S.Store tx.new.conn.now) }
+    ensures survives { Survives (state S.Store tx.old.conn.now) (state S.Store tx.new.conn.now)
+        (λ _. ⊥) }
+{
+    tx.query_all(
+        "SELECT title, time FROM streetmap_collections WHERE id = ?1",
+        params![collection],
+    )
+}
+
+/// The time property of a collection, where it has one.
+fn find_time<S: Alter>(
+    tx: &mut Transaction<'_, S>,
+    collection: &str,
+) -> Result<Option<String>, ReadFault>
+    ensures reason { HasCleanDisk (state S.Store tx.new.conn.now) →
+        IfErr result (HasReasonIn (state S.Store tx.old.conn.now) (state S.Store tx.new.conn.now)) }
+    ensures same_reference { tx.new.conn.ghost_name ≡ tx.old.conn.ghost_name }
+    ensures finds { HasCleanDisk (state S.Store tx.new.conn.now)
+        → FindsTime collection.now (state S.Store tx.old.conn.now) (state S.Store tx.new.conn.now)
+        result }
+    ensures same { HasCleanDisk (state S.Store tx.new.conn.now) →
+        OnOk result ((state S.Store tx.new.conn.now).now ≡ (state S.Store tx.old.conn.now).now) }
+    ensures inside { HasCleanDisk (state S.Store tx.new.conn.now)
+        → IsTrue (state S.Store tx.old.conn.now).in_transaction
+        → OnOk result (IsTrue (state S.Store tx.new.conn.now).in_transaction) }
+    ensures kept { HasCleanDisk (state S.Store tx.new.conn.now)
+        → IsTrue (state S.Store tx.old.conn.now).in_transaction
+        → KeepsCommit (state S.Store tx.old.conn.now) (state S.Store tx.new.conn.now) }
+    ensures survives { Survives (state S.Store tx.old.conn.now) (state S.Store tx.new.conn.now)
+        (λ _. ⊥) }
+{
+    let rows = match head_rows(tx, collection) {
+        Ok(rows) => rows,
+        Err(error) => return Err(fault_of(error)),
+    };
+    let Some(row) = rows.first() else {
+        return Err(ReadFault::Unread);
+    };
+    match time_in(row) {
+        Ok(time) => Ok(time),
+        Err(error) => Err(unread(error)),
+    }
+}
+
+/// The collection in the row of a feature.
+#[tactic(auto, using(crate::proofs::Reasons::unread_own))]
+fn collection_in(row: &Row) -> Result<String, ReadFault>
+    ensures own { IfErr result IsOwn }
+    ensures named { IfOk result (λ name. string_bytes name ≡ (pair_in row.now).0) }
+    ensures reads { (p : KeyPair) (f : FeatureValue) → row.now ≡ old_cells p f → IsUtf8 p.0 →
+        MatchResult result (λ name. string_bytes name ≡ p.0) (λ fault. fault ≡ ReadFault.Memory) }
+{
+    match row.get::<String>(0) {
+        Ok(name) => Ok(name),
+        Err(error) => Err(unread(error)),
+    }
+}
+
+/// The feature in its row, under its collection's time property.
+fn feature_in(alloc: Global, row: &Row, property: Option<&str>) -> Result<Feature, ReadFault>
+    ensures own { IfErr result IsOwn }
+    ensures named { IfOk result (λ f. f.id ≡ (pair_in row.now).1) }
+    ensures worded { IfOk result (TextReadsAs (option_copied property.entry) (body_in row.now)) }
+    ensures reads { (p : KeyPair) (f : FeatureValue) → row.now ≡ old_cells p f → f.id ≡ p.1 →
+        IsStored (option_copied property.entry) f →
+        MatchResult result (λ g. g ≡ f) (λ fault. fault ≡ ReadFault.Memory) }
+{
+    let (Ok(ValueRef::Text(id)), Ok(ValueRef::Text(body))) = (row.get_ref(1), row.get_ref(2)) else {
+        return Err(ReadFault::Unread);
+    };
+    let feature = match read_body(alloc, body, property) {
+        Ok(feature) => feature,
+        Err(JsonFault::Memory) => return Err(ReadFault::Memory),
+        Err(JsonFault::Fault(_)) => return Err(ReadFault::Unread),
+    };
+    if feature.id().as_bytes() == id {
+        Ok(feature)
+    } else {
+        Err(ReadFault::Unread)
+    }
+}
+
+/// Puts the feature of a row in, with its extent and its seconds.
+fn put_row<S: Alter>(tx: &mut Transaction<'_, S>, alloc: Global, row: &Row) -> Result<(), ReadFault>
+    ensures reason { HasCleanDisk (state S.Store tx.new.conn.now) →
+        IfErr result (HasReasonIn (state S.Store tx.old.conn.now) (state S.Store tx.new.conn.now)) }
+    ensures same_reference { tx.new.conn.ghost_name ≡ tx.old.conn.ghost_name }
+    ensures puts { HasCleanDisk (state S.Store tx.new.conn.now)
+        → PutsRow row.now (state S.Store tx.old.conn.now) (state S.Store tx.new.conn.now) result }
+    ensures ran { HasCleanDisk (state S.Store tx.new.conn.now) →
+        IsTrue (state S.Store tx.old.conn.now).in_transaction →
+        OnOk result (PutsOne S.Store row.now tx.old.conn.now tx.new.conn.now) }
+    ensures inside { HasCleanDisk (state S.Store tx.new.conn.now)
+        → IsTrue (state S.Store tx.old.conn.now).in_transaction
+        → OnOk result (IsTrue (state S.Store tx.new.conn.now).in_transaction) }
+    ensures kept { HasCleanDisk (state S.Store tx.new.conn.now)
+        → IsTrue (state S.Store tx.old.conn.now).in_transaction
+        → KeepsCommit (state S.Store tx.old.conn.now) (state S.Store tx.new.conn.now) }
+    ensures survives { Survives (state S.Store tx.old.conn.now) (state S.Store tx.new.conn.now)
+        (λ _. ⊥) }
+{
+    let collection = collection_in(row)?;
+    let time = find_time(tx, collection.as_str())?;
+    let feature = feature_in(alloc, row, time.as_deref())?;
+    match put_feature(tx, alloc, collection.as_str(), time.as_deref(), &feature) {
+        Ok(None) => Ok(()),
+        Ok(Some(_)) => Err(ReadFault::Unread),
+        Err(error) => Err(fault_of(error)),
+    }
+}
+
+/// Puts the features of all rows in.
+pub fn put_rows<S: Alter>(
+    tx: &mut Transaction<'_, S>,
+    alloc: Global,
+    rows: &[Row],
+) -> Result<(), ReadFault>
+    ensures reason { HasCleanDisk (state S.Store tx.new.conn.now) →
+        IfErr result (HasReasonIn (state S.Store tx.old.conn.now) (state S.Store tx.new.conn.now)) }
+    ensures same_reference { tx.new.conn.ghost_name ≡ tx.old.conn.ghost_name }
+    ensures puts { HasCleanDisk (state S.Store tx.new.conn.now)
+        → PutsRows rows.now (state S.Store tx.old.conn.now) (state S.Store tx.new.conn.now) result }
+    ensures ran { HasCleanDisk (state S.Store tx.new.conn.now) →
+        IsTrue (state S.Store tx.old.conn.now).in_transaction →
+        OnOk result (PutsEach S.Store rows.now tx.old.conn.now tx.new.conn.now) }
+    ensures inside { HasCleanDisk (state S.Store tx.new.conn.now)
+        → IsTrue (state S.Store tx.old.conn.now).in_transaction
+        → OnOk result (IsTrue (state S.Store tx.new.conn.now).in_transaction) }
+    ensures kept { HasCleanDisk (state S.Store tx.new.conn.now)
+        → IsTrue (state S.Store tx.old.conn.now).in_transaction
+        → KeepsCommit (state S.Store tx.old.conn.now) (state S.Store tx.new.conn.now) }
+    ensures survives { Survives (state S.Store tx.old.conn.now) (state S.Store tx.new.conn.now)
+        (λ _. ⊥) }
+{
+    'rows: for row in rows {
+        put_row(tx, alloc, row)?;
+    }
+    Ok(())
+}

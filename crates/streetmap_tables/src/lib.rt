@@ -1,0 +1,41 @@
+//! The tables of a ledger in a connection: how they are made and opened, and how a batch changes
+//! them.
+//!
+//! `make_tables` makes the four tables with the opening state, in one transaction: after `Ok` the
+//! connection rests at that state and a stop may leave no other, and after a refusal it holds what
+//! it held. `adopt_tables` opens tables of format 2 whose rows are a state's as that state, and
+//! tells how many batches it has accepted; it writes nothing. `carry_tables` makes tables of format
+//! 1 those of format 2, with the same state, in one transaction; `open_tables` opens tables of
+//! either format.
+//!
+//! `apply_batch` answers what the batch comes to in the state whose rows the tables hold, and the
+//! tables then hold the rows of the state after it. A batch acts whole or not at all: it commits
+//! once, with the row of its key beside its edits, and a stop leaves what it left before, or the
+//! state after the batch. Where it gives up, memory was refused and nothing changed, or the store
+//! failed, and it tells the error that named the cause.
+//!
+//! In the order of reading: `kept` (what is kept for a key), `timing` and `storing` (what is
+//! written of a feature), `edits`, `acting` (a batch inside its transaction), `batch`; `making`,
+//! `adopting`, `remaking` (the tables of format 2 in the place of those of format 1), `features`
+//! (the rows of format 1, read and put back), `carrying`, `opening`.
+#![tactic(auto)]
+
+mod acting;
+mod adopting;
+mod batch;
+mod carrying;
+mod edits;
+mod features;
+mod kept;
+mod making;
+mod opening;
+mod remaking;
+mod storing;
+mod timing;
+
+pub use adopting::{AdoptFault, adopt_tables};
+pub use batch::apply_batch;
+pub use carrying::carry_tables;
+pub use making::{MakeFault, make_tables};
+pub use opening::{TablesFault, open_tables};
+pub use streetmap_rows::{Shut, Stop};

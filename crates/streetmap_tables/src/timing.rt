@@ -1,0 +1,52 @@
+//! The time property of a collection, and what it tells of a feature.
+ghost use Rattle.std.specs.Prelude.{◌≡◌, IfErr, Err, IfOk, OnErr};
+ghost use Rattle.std.specs.Option.{option_copied};
+ghost use Rattle.sqlite.specs.Held.{state};
+ghost use Rattle.sqlite.specs.State.{HasCleanDisk, Survives};
+ghost use Rattle.streetmap_ledger.specs.State.{timed};
+ghost use Rattle.streetmap_ledger.specs.declared.reply.Refusal.TheVariants.{BadTime};
+ghost use Rattle.streetmap_tables.specs.Storing.{FindsTime, IsTimed};
+ghost use Rattle.streetmap_rows.specs.Failing.{HasReason};
+
+use sqlite::{Alter, Error, Transaction};
+use streetmap_geojson::Feature;
+use streetmap_moment::TimeFault;
+use streetmap_rows::{collection_rows, time_in};
+
+/// The time property of a collection, where it has one; none where the collection is not there.
+pub fn time_property<S: Alter>(
+    tx: &mut Transaction<'_, S>,
+    collection: &str,
+) -> Result<Option<Option<String>>, Error>
+    ensures same_reference { tx.new.conn.ghost_name ≡ tx.old.conn.ghost_name }
+    ensures finds { HasCleanDisk (state S.Store tx.new.conn.now)
+        → FindsTime collection.now (state S.Store tx.old.conn.now) (state S.Store tx.new.conn.now)
+        result }
+    ensures reason { HasCleanDisk (state S.Store tx.new.conn.now) →
+        IfErr result (HasReason (state S.Store tx.old.conn.now) (state S.Store tx.new.conn.now)) }
+    ensures survives { Survives (state S.Store tx.old.conn.now) (state S.Store tx.new.conn.now)
+        (λ _. ⊥) }
+{
+    let rows = collection_rows(tx, collection)?;
+    let Some(row) = rows.first() else {
+        return Ok(None);
+    };
+    let time = time_in(row)?;
+    Ok(Some(time))
+}
+
+/// The seconds of the time that the property tells of a feature, where it tells one.
+pub fn seconds_under(
+    feature: &Feature,
+    property: Option<&str>,
+) -> Result<Option<(i64, i64)>, TimeFault>
+    ensures told { IfOk result (IsTimed (option_copied property.entry) feature.now) }
+    ensures refused { OnErr result (timed (option_copied property.entry) feature.now
+        ≡ Err BadTime) }
+{
+    feature.facts();
+    match feature.time_under(property)? {
+        Some(time) => Ok(Some(time.seconds())),
+        None => Ok(None),
+    }
+}

@@ -1,0 +1,43 @@
+-- The batches of many clients, and the states that a stop may leave of them.
+use Rattle.std.specs.Prelude.{◌≡◌, List, [], ◌∷◌, length, take}
+use Rattle.mio.specs.declared.net.stream.TcpStream.{TcpStream}
+use Rattle.streetmap_batch.specs.Text.{Text}
+use Rattle.streetmap_batch.specs.BatchValue.{BatchValue}
+use Rattle.streetmap_ledger.specs.State.{State}
+use Rattle.streetmap_connections.specs.declared.slot.Slot.{Slot}
+use Rattle.streetmap_web.specs.Standing.{Standing, of_state, shut, unknown}
+use Rattle.streetmap_web.specs.Exchanges as web
+use Rattle.streetmap_web.specs.Beginnings.{LeavesBeginning, batches_acted}
+use Rattle.streetmap_web.specs.Sight.{Sight}
+use Rattle.streetmap_web.specs.ServingClients.{ServesClients, requests_of}
+
+-- those of them that came while the keeper was not shut
+abbrev pub while_open : Standing → List web.Exchange → List web.Exchange
+while_open (shut why) ws = []
+while_open unknown ws = []
+while_open (of_state s) [] = []
+while_open (of_state s) (w ∷ ws) = w ∷ while_open (web.standing_after (of_state s) w) ws
+
+-- the batches that the keeper acted on: each was answered without a fault, or the device failed at
+-- it; a shut keeper acts on none
+abbrev pub acted_over : Standing → List web.Exchange → List BatchValue
+acted_over x ws = batches_acted (while_open x ws)
+
+-- those of them that were answered without a fault
+abbrev pub answered_over : Standing → List web.Exchange → List BatchValue
+answered_over x ws = web.batches_of (while_open x ws)
+
+-- There is one list of exchanges, an interleaving of the clients' own lists, each answered for what
+-- the keeper stood for
+-- behind the one before. Afterwards a stop leaves the state of a beginning of the batches of all
+-- clients, in the order
+-- of that list, that contains each that was answered without a fault.
+pub record SurvivesClients {K : Type 0} (sight : Sight K) (root : Text) (s : State) (old new : K)
+    (before after : List (Slot TcpStream)) : Type 0 where
+  pub serves : ServesClients sight root (of_state s) old new before after
+  pub requests : List web.Exchange
+  pub are : requests ≡ requests_of root (of_state s) serves.exchanges serves.last serves.answered
+  pub answered_first : take (length (answered_over (of_state s) requests))
+      (acted_over (of_state s) requests) ≡ answered_over (of_state s) requests
+  pub leaves : LeavesBeginning s (acted_over (of_state s) requests)
+      (length (answered_over (of_state s) requests)) (sight.may_leave new)

@@ -1,0 +1,64 @@
+//! Many clients over a listener.
+ghost use Rattle.std.specs.Prelude.{◌≡◌, ◌≤◌, length, Some, IsOk};
+ghost use Rattle.streetmap_ledger.specs.State.{State};
+ghost use Rattle.streetmap_ledger.specs.Keep.{LeavesOnly};
+ghost use Rattle.streetmap_routes.specs.BaseView.{root_of};
+ghost use Rattle.streetmap_web.specs.Sight.{sight_of};
+ghost use Rattle.streetmap_web.specs.Standing.{Standing, Stands};
+ghost use Rattle.streetmap_connections.specs.Served.{ended_of, slots_of};
+ghost use Rattle.streetmap_web.specs.ServingClients.{ServesClients};
+ghost use Rattle.streetmap_web.specs.SurvivingClients.{SurvivesClients};
+
+use crate::keeper_service::KeeperService;
+use mio::net::TcpStream;
+use std::io::Write;
+use std::net::{Net, TcpListener};
+use std::time::Clock;
+use streetmap_connections::{Clients, ServeFault, serve_connections};
+use streetmap_ledger::Keeper;
+
+/// Serves clients of a listener over a keeper, many at once, until so many of them ended.
+///
+/// A client that fails, or takes longer than the limits of `clients` allow, ends alone. From here
+/// on a call of `accept` on the listener does not wait.
+///
+/// After a stop, before or within any write, whatever is opened again holds the state of a
+/// beginning of the batches of all clients, in the one order in which they were answered, that
+/// contains each answered without a fault, and so each for which a byte of a 200 was written.
+///
+/// # Errors
+///
+/// `Net` where no client can be accepted while there is none, or sockets cannot be waited for, and
+/// `Memory` where there is no room for what is waited for.
+pub fn serve_clients<R: Net + Clock, K: Keeper, W: Write>(
+    rt: &R,
+    listener: &TcpListener,
+    count: u64,
+    clients: &mut Clients<TcpStream>,
+    service: &mut KeeperService<K, W>,
+) -> Result<(), ServeFault>
+    // Where the store was clean: one list of requests, answered one behind the other, which is an
+    // interleaving of the clients' own lists. The clients of a place were answered in turn, each to
+    // its end before the next was answered at all.
+    ensures serves { K.is_clean service.new.keeper → (x : Standing) →
+        Stands (K.stands service.old.keeper) (K.cause service.old.keeper) x →
+        ServesClients (sight_of K.stands K.cause K.may_leave K.is_clean K.applies K.spares K.fails)
+        (root_of service.old.base) x service.old.keeper service.new.keeper
+        (slots_of clients.old) (slots_of clients.new) }
+    // Where a stop could leave only the state that the keeper stood for, it may leave the state of
+    // a beginning of the batches of all clients, in the order of such a list, that contains each
+    // that was answered without a fault.
+    ensures survives { K.is_clean service.new.keeper → (s : State) →
+        K.stands service.old.keeper s → LeavesOnly (K.may_leave service.old.keeper) (Some s) →
+        SurvivesClients
+        (sight_of K.stands K.cause K.may_leave K.is_clean K.applies K.spares K.fails)
+        (root_of service.old.base) s service.old.keeper service.new.keeper
+        (slots_of clients.old) (slots_of clients.new) }
+    // What else the store has is kept.
+    ensures spared { K.spares service.old.keeper service.new.keeper }
+    ensures began_clean { K.is_clean service.new.keeper → K.is_clean service.old.keeper }
+    ensures base { service.new.base ≡ service.old.base }
+    ensures counted { IsOk result → count ≤ length (ended_of clients.new) }
+{
+    serve_connections(rt, listener, count, clients, service)
+}

@@ -1,3 +1,0 @@
-pub mod Editing
-pub mod Acting
-pub mod Storing
