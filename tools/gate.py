@@ -4,25 +4,28 @@
     python3 tools/gate.py NAME ..      the wrong bodies of these crates alone, as `rt must-fail`
 
 `rt ci` tries each wrong body in a check of its own, most of which is loading what stands below.
-But the proof of a function sees the contracts of others and not their bodies. So wrong bodies of
-different functions are tried in one check, and each must have its own function refused. One whose
-function is refused only because it calls another, or is not refused, is tried again, and at last
-without others; that check is `rt ci`'s own.
+But the proof of a function sees the contracts of others and not their bodies. So many wrong bodies
+are tried in one check, each in a copy of its function with the same contract and the same proof,
+or, where none can be made, in a function of its own, and each must have that refused. One whose
+function is refused only because it calls another, or is not refused, is tried again in its place,
+and at last without others; that check is `rt ci`'s own.
 
 `rt ci` also proves each crate twice, the second time for its wrong bodies to begin with. Here the
-built crate holds its checked proofs, and they begin with these, once a check of the crate as it
-stands has passed over them. The proof itself is made from nothing, by one check, as before. With
-another toolchain, whose parts have other names, this is `rt ci` alone.
+built crate holds its checked proofs, and they begin with these. The proof itself is made from
+nothing, by one check, as before. With another toolchain, whose parts have other names, this is
+`rt ci` alone.
 """
 
 import json
 import os
 import re
+import shutil
 import subprocess
 import sys
 import tempfile
 import threading
 from collections.abc import Callable
+from concurrent.futures import FIRST_COMPLETED, Future, ThreadPoolExecutor, wait
 from dataclasses import dataclass
 from pathlib import Path
 from types import ModuleType
@@ -32,11 +35,13 @@ import toolchain
 
 NEEDED = (
     *("ci", "edits_alone", "edits_of", "must_fail", "checked", "unread", "REFUSED", "rtlib"),
-    *("seeded", "in_lanes", "Crate"),
+    *("seeded", "SEEDS", "in_lanes", "ending", "Crate"),
 )
 # How many wrong bodies one check tries, and in how many such checks one is tried.
-MOST_TOGETHER, MOST_ROUNDS = 24, 2
+MOST_TOGETHER, MOST_ROUNDS = 32, 2
 LANES = int(os.environ.get("RT_JOBS") or len(os.sched_getaffinity(0)))
+# In how many processes the last crates are proved, when few others are left.
+PROCESSES = {"streetmap_store": 2, "streetmap": 3}
 FUNCTION = re.compile(r"^( *)(?:pub(?:\([\w ]+\))? )?(?:const |unsafe )*fn (\w+)", re.MULTILINE)
 IMPL = re.compile(
     r"^impl\b(?:<[^{]*?>)? *(?:(?P<trait>\w+)[^{]*? for )?(?P<type>\w+)", re.MULTILINE
@@ -142,8 +147,82 @@ def applied(folder: str, edit: Edit, texts: dict[str, str]) -> dict[str, str] | 
     return made
 
 
-def round_of(folder: str, edits: list[Edit], most: int) -> tuple[list[Edit], dict[str, str]]:
-    """The first edits that can be tried together, each in functions of its own, at most so many."""
+def text_of(source: str, function: Function) -> str:
+    """A function with its attributes, and without its documentation."""
+    lines = source.split("\n")
+    start = function.lines.start - 1
+    while start > 0 and lines[start - 1].strip() and lines[start - 1][-1] not in "{};":
+        start -= 1
+    own = lines[start : function.lines.stop - 1]
+    return "\n".join(line for line in own if not line.lstrip().startswith("///"))
+
+
+def in_its_impl(source: str, function: Function, text: str) -> str:
+    """The text of a method in an `impl` of its own, with all that its own `impl` names."""
+    lines = source.split("\n")
+    start = function.lines.start - 1
+    while not lines[start].startswith("impl"):
+        start -= 1
+    end = next(at for at in range(start, len(lines)) if lines[at] == "}")
+    head = next(at for at in range(start, end) if lines[at].endswith("{"))
+    names = [line for line in lines[head:end] if line.startswith("    ghost use ")]
+    return "\n".join([*lines[start : head + 1], *names, text, "}"])
+
+
+def parts_of(function: Function) -> list[str]:
+    """The names of the folders of a function's proof."""
+    return [it for it in (*function.module.split("::"), function.kind, function.name) if it]
+
+
+def is_named(folder: str, function: Function) -> bool:
+    """Whether a proof of another function, or a file of lemmas, names the function's modules."""
+    own, name = Path(folder, "proofs", *parts_of(function)), f".{'.'.join(parts_of(function))}."
+    others = [it for it in Path(folder, "proofs").rglob("*.antt") if own not in it.parents]
+    return any(name in it.read_text(encoding="utf-8") for it in others)
+
+
+def proof_of(folder: str, function: Function, name: str) -> dict[str, str]:
+    """The files of a function's proof, for a copy of the function with another name."""
+    parts = parts_of(function)
+    place, names = Path("proofs", *parts), ".".join(parts)
+    renamed = names.removesuffix(function.name) + name
+    return {
+        str(place.with_name(name) / path.relative_to(Path(folder, place))): re.sub(
+            rf"\.{re.escape(names)}\.", f".{renamed}.", path.read_text(encoding="utf-8")
+        )
+        for path in Path(folder, place).rglob("*.antt")
+    }
+
+
+def in_copy(
+    folder: str, edit: Edit, texts: dict[str, str], number: int
+) -> tuple[Edit, dict[str, str]] | None:
+    """An edit made in a copy of its function, behind all else of the file, and the texts with it.
+    None where there is no such copy: of a method of a trait, of functions that call themselves, and
+    where other proofs name the function's own modules, which a copy would lack."""
+    if edit.functions is None or len(edit.functions) != 1:
+        return None
+    (function,) = edit.functions
+    source = Path(folder, function.file).read_text(encoding="utf-8")
+    text = text_of(source, function)
+    behind = text.partition(f"fn {function.name}")[2]
+    calls_itself = "#[cycle" in text or re.search(rf"\b{function.name}\(", behind[1:])
+    if " " in function.kind or calls_itself or is_named(folder, function):
+        return None
+    for _, old, new in edit.pairs:
+        text = text.replace(old, new)
+    name = f"{function.name}_in_copy_{number}"
+    text = re.sub(rf"\bfn {function.name}\b", f"fn {name}", text)
+    if function.kind:
+        text = in_its_impl(source, function, text)
+    made = {**texts, **proof_of(folder, function, name)}
+    made[function.file] = f"{texts.get(function.file, source)}\n{text}\n"
+    copy = Function(function.file, range(0), function.module, function.kind, name)
+    return Edit(edit.path, edit.pairs, frozenset([copy])), made
+
+
+def round_in_place(folder: str, edits: list[Edit], most: int) -> tuple[list[Edit], dict[str, str]]:
+    """The first edits that can be made together, each in functions of its own, at most so many."""
     texts: dict[str, str] = {}
     taken: list[Edit] = []
     used: set[Function] = set()
@@ -154,6 +233,18 @@ def round_of(folder: str, edits: list[Edit], most: int) -> tuple[list[Edit], dic
         if made is not None:
             texts, used = made, used | edit.functions
             taken.append(edit)
+    return taken, texts
+
+
+def round_in_copies(folder: str, edits: list[Edit], most: int) -> tuple[list[Edit], dict[str, str]]:
+    """The first edits that can be made in copies of their functions, at most so many."""
+    texts: dict[str, str] = {}
+    taken: list[Edit] = []
+    for edit in edits:
+        found = in_copy(folder, edit, texts, len(taken)) if len(taken) < most else None
+        if found is not None:
+            taken.append(found[0])
+            texts = found[1]
     return taken, texts
 
 
@@ -224,14 +315,20 @@ class Rounds:
         self.refused: dict[str, str] = {}
 
     def take(self, path: str) -> tuple[list[Edit], dict[str, str]]:
-        """A round that a wrong body leads, but none once it was in as many as are tried."""
+        """A round that a wrong body leads, but none once it was in as many as are tried. It is made
+        in copies of functions where all are fresh and can be, and else in place: what calls a
+        function that is changed in place is not proved either, and would be read again."""
         if path not in self.left or self.rounds[path] == MOST_ROUNDS:
             return [], {}
-        led = [it for it in self.left.values() if it.path == path]
-        others = [it for it in self.left.values() if it.path != path]
-        others = [it for it in others if self.rounds[it.path] < MOST_ROUNDS]
-        together, texts = round_of(self.crate.folder, [*led, *others], MOST_TOGETHER)
-        if not together or together[0].path != path:
+        folder, left = self.crate.folder, [*self.left.values()]
+        left.sort(key=lambda it: it.path != path)
+        fresh = [it for it in left if not self.rounds[it.path] and in_copy(folder, it, {}, 0)]
+        others = [it for it in left if it not in fresh and self.rounds[it.path] < MOST_ROUNDS]
+        if left[0] in fresh:
+            together, texts = round_in_copies(folder, fresh, MOST_TOGETHER)
+        else:
+            together, texts = round_in_place(folder, others, MOST_TOGETHER)
+        if path not in [it.path for it in together]:
             return [], {}
         for edit in together:
             self.rounds[edit.path] += 1
@@ -240,11 +337,12 @@ class Rounds:
     def judges(self, ran: Any, texts: dict[str, str]) -> bool:
         """Whether a check of a round read all texts, and did not prove the crate."""
         lines = ran.stdout.rstrip("\n").split("\n")
+        changed = [path for path in texts if path.startswith("src/")]
         return (
             ran.returncode == 1
             and lines[-1].startswith(("logic=not-proved", "only="))
             and not self.rt.rtlib.STALE.search(ran.stdout)
-            and not any(self.rt.unread(it, texts) for it in lines)
+            and not any(self.rt.unread(it, changed) for it in lines)
         )
 
     def settle(self, together: list[Edit], ran: Any, texts: dict[str, str]) -> None:
@@ -312,6 +410,24 @@ def hold_proofs(rt: ModuleType) -> None:
     rt.Crate.prove = with_proofs
 
 
+def compile_at_once(rt: ModuleType) -> None:
+    """Has both compilers of the program work side by side: by then no proof is left that would need
+    the processors."""
+    compile_by = rt.Crate.compile_by
+    others: dict[str, int] = {}
+
+    def by_both(crate: Any, backend: str, words: list[str], to: str) -> int:
+        if backend != "llvm":
+            return others[crate.name]
+        with ThreadPoolExecutor(1) as pool:
+            other = pool.submit(compile_by, crate, "rattle", words, to)
+            status = int(compile_by(crate, backend, words, to))
+            others[crate.name] = int(other.result())
+        return status
+
+    rt.Crate.compile_by = by_both
+
+
 def take_out(rlib: Path, folder: Path) -> bool:
     """Writes the checked modules that a built crate holds into a folder, a file each; returns
     whether it holds them. Its list has a line for each: the name, and where its bytes stand. Those
@@ -327,93 +443,139 @@ def take_out(rlib: Path, folder: Path) -> bool:
     return True
 
 
-def seeded_by(rt: ModuleType) -> Callable[..., str | None]:
-    """What stands for `seeded` of `rt ci`: what wrong bodies begin with is a check of the crate as
-    it stands, over the proofs that the built crate holds."""
+def seeded_by(rt: ModuleType, held: set[str]) -> Callable[..., str | None]:
+    """What stands for `seeded` of `rt ci`: wrong bodies begin with the proofs that the built crate
+    holds, and no check of the crate as it stands is made. The folders of these are noted."""
     alone: Callable[..., str | None] = rt.seeded
     guard = threading.Lock()
     found: list[str] = []
 
-    def name_of_kept(crate: Any, room: str) -> str | None:
+    def name_of_kept(crate: Any) -> str | None:
         """The name that the prover gives to a folder of checked modules."""
-        with guard:
+        with guard, tempfile.TemporaryDirectory(prefix="streetmap-name-") as room:
             if not found:
                 rt.checked(crate, {}, ["--jobs", "1", "--only", ""], room)
                 found.extend(os.listdir(room)[:1])
         return found[0] if found else None
 
     def seeded(crate: Any, flags: list[str], start: str | None = None) -> str | None:
-        with tempfile.TemporaryDirectory(prefix="streetmap-proofs-") as room:
-            name = name_of_kept(crate, room)
-            if name is None:
-                return alone(crate, flags, start)
-            folder = Path(room, name)
-            folder.mkdir(exist_ok=True)
-            try:
-                held = take_out(Path(crate.rlib), folder)
-            except (OSError, ValueError):
-                held = False
-            return alone(crate, flags, room if held else start)
+        name = name_of_kept(crate)
+        if name is None:
+            return alone(crate, flags, start)
+        room = tempfile.mkdtemp(prefix=f"rt-edits-{os.getpid()}-")
+        rt.SEEDS.append(room)
+        folder = Path(room, "seed", name)
+        folder.mkdir(parents=True)
+        try:
+            holds = take_out(Path(crate.rlib), folder)
+        except (OSError, ValueError):
+            holds = False
+        if holds:
+            held.add(str(folder.parent))
+            return room
+        shutil.rmtree(room, ignore_errors=True)
+        return alone(crate, flags, start)
 
     return seeded
 
 
-def give_way(rt: ModuleType) -> None:
-    """Has checks of wrong bodies give way to proofs, which others wait for. What wrong bodies begin
-    with is checked once: `rt ci` looks whether its files stayed, and would check them again."""
-    guarded, checked = rt.rtlib.guarded, rt.checked
+def check_of(
+    rt: ModuleType, crate: Any, texts: dict[str, str], flags: list[str], kept: str | None
+) -> Any:
+    """As `checked` of `rt ci`, for texts of new files too."""
+    with tempfile.TemporaryDirectory(prefix=f"rt-edit-{os.getpid()}-") as room:
+        for part in rt.rtlib.PARTS:
+            if Path(crate.folder, part).is_dir():
+                shutil.copytree(Path(crate.folder, part), Path(room, part))
+        for path, text in texts.items():
+            Path(room, path).parent.mkdir(parents=True, exist_ok=True)
+            Path(room, path).write_text(text, encoding="utf-8")
+        words = [*rt.rtlib.guarded(), rt.rtlib.RATTLE, "check", *crate.words(flags, keeps=False)]
+        return subprocess.run(
+            [*words, *(["--incremental", kept] if kept else [])],
+            cwd=room,
+            stdin=subprocess.DEVNULL,
+            stdout=subprocess.PIPE,
+            stderr=subprocess.STDOUT,
+            errors="replace",
+            check=False,
+        )
+
+
+def give_way(rt: ModuleType, held: set[str]) -> None:
+    """Has checks of wrong bodies give way to proofs, which others wait for. `rt ci` asks at the end
+    whether the crate is proved over what wrong bodies began with: so it is where this is what the
+    built crate holds, and that the files have stayed as they were `rt ci` has looked."""
+    guarded = rt.rtlib.guarded
     this = threading.local()
-    passed: dict[str, Any] = {}
 
     def guarded_or_nice() -> list[str]:
         return [*(["nice", "-n", "10"] if getattr(this, "gives_way", False) else []), *guarded()]
 
     def checked_so(crate: Any, texts: dict[str, str], flags: list[str], kept: str | None) -> Any:
-        if not texts and kept in passed:
-            return passed[kept]
+        if not texts and kept in held:
+            return subprocess.CompletedProcess([], 0, "")
         this.gives_way = True
         try:
-            ran = checked(crate, texts, flags, kept)
+            return check_of(rt, crate, texts, flags, kept)
         finally:
             this.gives_way = False
-        if not texts and kept and "--only" not in flags and ran.returncode == 0:
-            passed[kept] = ran
-        return ran
 
     rt.rtlib.guarded = guarded_or_nice
     setattr(rt, "checked", checked_so)
 
 
-def last_of_chain(tasks: dict[Any, Any]) -> Any:
-    """The proof that ends the longest chain of crates, each of which waits for the one before, by
-    lines of code."""
-    lengths: dict[Any, int] = {}
-    for key, (waits, lines, *_) in tasks.items():
-        if key[1] == "proof":
-            lengths[key] = lines + max((lengths.get(it, 0) for it in waits), default=0)
-    return max(lengths, key=lambda it: lengths[it], default=None)
+def is_of_wrong_bodies(key: tuple[Any, ...]) -> bool:
+    return key[1] in ("edits", "seed")
+
+
+def processes(keys: list[tuple[Any, ...]]) -> int:
+    """How many processes these take together."""
+    proofs = [it[0] for it in keys if it[1] == "proof" and LANES >= 4]
+    return len(keys) + sum(PROCESSES.get(name, 1) - 1 for name in proofs)
+
+
+def in_order(tasks: dict[Any, Any]) -> list[Any]:
+    """Proofs before checks of wrong bodies, and first what has the longest chain of others behind
+    it, by lines. A task comes after those that it waits for."""
+    behind = dict.fromkeys(tasks, 0)
+    for key in reversed([*tasks]):
+        behind[key] += tasks[key][1]
+        for below in tasks[key][0]:
+            behind[below] = max(behind[below], behind[key])
+    return sorted(tasks, key=lambda it: (is_of_wrong_bodies(it), -behind[it]))
 
 
 def in_lanes_by(rt: ModuleType) -> Callable[..., Any]:
-    """What stands for `in_lanes` of `rt ci`: what wrong bodies begin with waits for the proof, and
-    those of a crate are tried one after the other, since one check tries many. A proof takes one
-    process, since two share little and take a third more time together; but the last of the
-    longest chain, where few others are left, takes three."""
+    """What stands for `in_lanes` of `rt ci`, where it is said how many checks run at once. What
+    wrong bodies begin with waits for the proof, and those of a crate are tried one after the other,
+    since one check tries many. A proof does not wait for checks of wrong bodies, which take minutes
+    and give way: two processes more than there are lanes may run then."""
     alone = rt.in_lanes
 
-    def in_processes(call: Callable[..., Any], number: int) -> Callable[..., Any]:
-        return lambda given, jobs: call(given, max(jobs, number))
+    def may_begin(key: Any, running: list[Any]) -> bool:
+        beside = [it for it in running if is_of_wrong_bodies(key) or not is_of_wrong_bodies(it)]
+        return len(beside) < LANES and (not running or processes([*running, key]) <= LANES + 2)
 
     def in_lanes(tasks: dict[Any, Any]) -> Any:
-        last = last_of_chain(tasks) if LANES >= 4 else None
-        for key, (waits, lines, memory, call) in tasks.items():
+        for key, (waits, *others) in tasks.items():
             if key[1] == "seed" and (key[0], "proof") in tasks:
-                tasks[key] = ([*waits, (key[0], "proof")], lines, memory, call)
+                tasks[key] = ([*waits, (key[0], "proof")], *others)
             elif key[1] == "edits" and key[2] > 0:
-                tasks[key] = ([*waits, (*key[:2], key[2] - 1)], lines, memory, call)
-            elif key == last:
-                tasks[key] = (waits, lines, memory, in_processes(call, 3))
-        return alone(tasks)
+                tasks[key] = ([*waits, (*key[:2], key[2] - 1)], *others)
+        if "RT_JOBS" not in os.environ:
+            return alone(tasks)
+        left, given = in_order(tasks), dict[Any, Any]()
+        running: dict[Future[Any], Any] = {}
+        with rt.ending(), ThreadPoolExecutor(LANES + 2) as pool:
+            while left or running:
+                for key in [it for it in left if all(below in given for below in tasks[it][0])]:
+                    if may_begin(key, [*running.values()]):
+                        left.remove(key)
+                        running[pool.submit(tasks[key][3], given, processes([key]))] = key
+                for ended in wait(running, return_when=FIRST_COMPLETED).done:
+                    given[running.pop(ended)] = ended.result()
+        return given
 
     return in_lanes
 
@@ -425,10 +587,12 @@ def main(names: list[str]) -> int:
         return subprocess.run(["rt", *words], check=False).returncode
     setattr(rt, "must_fail", must_fail_by(rt))
     setattr(rt, "in_lanes", in_lanes_by(rt))
-    give_way(rt)
+    held: set[str] = set()
+    give_way(rt, held)
     if not names:
         hold_proofs(rt)
-        setattr(rt, "seeded", seeded_by(rt))
+        compile_at_once(rt)
+        setattr(rt, "seeded", seeded_by(rt, held))
     return int(rt.edits_alone(names) if names else rt.ci(anew=False))
 
 
