@@ -1,14 +1,14 @@
 -- Looks, one after the other.
-use Rattle.std.proofs.Common.{◌≡◌, ◌≤◌, inl, inr, ℕ, List, [], ◌∷◌, ◌++◌, Ok, Err, Result}
+use Rattle.std.proofs.Common.{◌≡◌, ◌≤◌, inl, ℕ, List, [], ◌∷◌, ◌++◌, Ok, Err, Result}
 use Rattle.std.proofs.Common.{MatchResult, sym, subst}
 use Rattle.sqlite.specs.Order.{Row}
 use Rattle.sqlite.specs.State.{State as Seen, IsUnchanged}
 use Rattle.sqlite.proofs.Callers.{unchanged_then}
 use Rattle.streetmap_rows.specs.declared.fault.ReadFault.{ReadFault}
 use Rattle.streetmap_rows.specs.declared.fault.ReadFault.TheVariants.{Memory, Store, Unread}
-use Rattle.streetmap_checking.specs.Seeing.{IsSimple, Sees}
-use Rattle.streetmap_checking.specs.Folding.{Refuses, Stops}
-use Rattle.streetmap_checking.specs.Telling.{ShowsNone, TellsWhy, Looks, Known, SeesFeatures, SeesAllFeatures, SeesHeads, SeesOwners, SeesBatches, NoFeatures, NoFeaturesOfAll}
+use Rattle.streetmap_checking.specs.Seeing.{IsSimpleQuery, Sees}
+use Rattle.streetmap_checking.specs.Folding.{Refuses, StopsQuery}
+use Rattle.streetmap_checking.specs.Telling.{IsNotShown, is_refused, begins_badly, not_good, TellsWhy, LooksOver, Known, SeesFeatures, SeesAllFeatures, SeesHeads, SeesOwners, SeesBatches, NoFeatures, NoFeaturesOfAll}
 use Rattle.streetmap_checking.specs.Good.{AreFeatureRows}
 use Rattle.streetmap_checking.specs.Statements.{select_features, select_owners, select_batches}
 use Rattle.streetmap_rows.specs.Statements.{select_collections}
@@ -20,17 +20,17 @@ use Rattle.streetmap_checking.proofs.Stopping.{sees_on, unseen_on}
 
 -- what a fold that stopped tells
 pub stopped : {F : Type 0} (Holds : F → F → List Row → Type 0) (IsGood : F → List Row → Type 0) (sql : List ℕ) (params : Row) (start : F) (Good : List Row → Type 0) → ((rows : List Row) → Good rows → IsGood start rows)
-    → (old new : Seen) (fault : ReadFault) → Stops Holds IsGood sql params start old new fault → TellsWhy (ShowsNone sql params Good old) old new fault
+    → (old new : Seen) (fault : ReadFault) → StopsQuery Holds IsGood sql params start old new fault → TellsWhy (IsNotShown sql params Good old) old new fault
 stopped Holds IsGood sql params start Good good old new Memory h = h
-stopped Holds IsGood sql params start Good good old new Unread h = (inr (inl (h.0.0, h.0.1, λ later g. h.0.2 later (good (h.0.0 ++ later) g))), h.1)
-stopped Holds IsGood sql params start Good good old new (Store e) h = ((λ other. inl (h.0 other)), h.1, h.2)
+stopped Holds IsGood sql params start Good good old new Unread h = (begins_badly h.0.0 h.0.1 (λ later g. h.0.2 later (good (h.0.0 ++ later) g)), h.1)
+stopped Holds IsGood sql params start Good good old new (Store e) h = ((λ other. is_refused (h.0 other)), h.1, h.2)
 
-module _ (sql : List ℕ) (params : Row) (simple : IsSimple sql) (Good : List Row → Type 0) (a b : Seen) (same : IsUnchanged a b) (limit : b.step_limit ≡ a.step_limit) where
+module _ (sql : List ℕ) (params : Row) (simple : IsSimpleQuery sql) (Good : List Row → Type 0) (a b : Seen) (same : IsUnchanged a b) (limit : b.step_limit ≡ a.step_limit) where
   -- of a connection that was left as it was
-  pub none_on : ShowsNone sql params Good b → ShowsNone sql params Good a
-  none_on (inl h) = inl (unseen_on sql params simple a b same limit h)
-  none_on (inr (inl h)) = inr (inl (h.0, begins_there sql params simple b b a same.0.now_is h.0 h.1, h.2))
-  none_on (inr (inr h)) = inr (inr (h.0, sees_on sql params simple a b h.0 same h.1, h.2))
+  pub none_on : IsNotShown sql params Good b → IsNotShown sql params Good a
+  none_on (is_refused h) = is_refused (unseen_on sql params simple a b same limit h)
+  none_on (begins_badly rows first none) = begins_badly rows (begins_there sql params simple b b a same.0.now_is rows first) none
+  none_on (not_good rows shown bad) = not_good rows (sees_on sql params simple a b rows same shown) bad
 
 -- a fault of a look behind another
 pub fault_on : (why first : Type 0) (a b c : Seen) (fault : ReadFault) → IsUnchanged a b
@@ -51,13 +51,13 @@ why_for why first a b Unread turn h = (turn h.0, h.1)
 why_for why first a b (Store e) turn h = ((λ other. turn (h.0 other)), h.1, h.2)
 
 -- a fault that was told by another
-pub handed : {A : Type 0} (Is : A → Type 0) (why : Type 0) (a c : Seen) (r : Result A ReadFault) (fault : ReadFault) → r ≡ Err fault → TellsWhy why a c fault → Looks Is why a c r
-handed Is why a c r fault is h = subst (Looks Is why a c) (sym is) h
+pub handed : {A : Type 0} (Is : A → Type 0) (why : Type 0) (a c : Seen) (r : Result A ReadFault) (fault : ReadFault) → r ≡ Err fault → TellsWhy why a c fault → LooksOver Is why a c r
+handed Is why a c r fault is h = subst (LooksOver Is why a c) (sym is) h
 
 -- a fold that is the whole look
 pub looked : {F : Type 0} (Holds : F → F → List Row → Type 0) (IsGood : F → List Row → Type 0) (sql : List ℕ) (params : Row) (start after : F) (Good : List Row → Type 0) (Is : Type 0) (old new : Seen) (r : Result (Unit {0}) ReadFault)
     → ((rows : List Row) → Good rows → IsGood start rows) → ((rows : List Row) → Sees sql params old rows → Holds start after rows → Is)
-    → MatchResult r (λ _. ((rows : List Row) × Sees sql params old rows × Holds start after rows) × IsUnchanged old new) (Stops Holds IsGood sql params start old new) → Looks (λ _. Is) (ShowsNone sql params Good old) old new r
+    → MatchResult r (λ _. ((rows : List Row) × Sees sql params old rows × Holds start after rows) × IsUnchanged old new) (StopsQuery Holds IsGood sql params start old new) → LooksOver (λ _. Is) (IsNotShown sql params Good old) old new r
 looked Holds IsGood sql params start after Good Is old new (Ok u) good is h = (is h.0.0 h.0.1 h.0.2, h.1)
 looked Holds IsGood sql params start after Good Is old new (Err fault) good is h = stopped Holds IsGood sql params start Good good old new fault h
 

@@ -27,9 +27,9 @@ use Rattle.streetmap_rows.specs.Rows.{collection_cells, batch_cells}
 use Rattle.streetmap_rows.specs.Statements.{select_collections}
 use Rattle.streetmap_rows.proofs.Ordered.{find_has, mapped_has}
 use Rattle.streetmap_checking.specs.Statements.{select_formats, select_features, select_owners, select_batches}
-use Rattle.streetmap_checking.specs.Good.{HeadValue, head_cells, IsHead, feature_view, AreFormatRows, AreCollectionRows, AreFeatureRows, AreOwnerRows, AreBatchRows, serials_of}
-use Rattle.streetmap_checking.specs.Telling.{Known, ShowsNone, TellsWhy, SeesHeads, SeesAllFeatures}
-use Rattle.streetmap_checking.specs.Checking.{ShowsTotals, IsDamaged, AreTotals, feature_count}
+use Rattle.streetmap_checking.specs.Good.{CollectionHead, head_cells, IsHead, feature_view, AreFormatRows, AreCollectionRows, AreFeatureRows, AreOwnerRows, AreBatchRows, serials_of}
+use Rattle.streetmap_checking.specs.Telling.{Known, IsNotShown, TellsWhy, SeesHeads, SeesAllFeatures}
+use Rattle.streetmap_checking.specs.Checking.{ShowsTotals, IsDamaged, by_format, by_collections, by_features, by_owners, by_batches, AreTotals, feature_count}
 use Rattle.streetmap_checking.specs.declared.checking.Totals.{Totals}
 use Rattle.streetmap_checking.proofs.Only.{only_of, only_so, sees_good, not_none}
 use Rattle.streetmap_checking.proofs.RowCells.{name_of_cells, time_of_cells}
@@ -61,10 +61,10 @@ as_many f g xs ys e = sym (map_length f xs) ∙ ap length e ∙ map_length g ys
 
 -- ---- collections without their features
 
-abbrev head_of : Collection → HeadValue
+abbrev head_of : Collection → CollectionHead
 head_of c = record { title = c.title; time = c.time }
 
-abbrev headed : Text × Collection → Text × HeadValue
+abbrev headed : Text × Collection → Text × CollectionHead
 headed e = (e.0, head_of e.1)
 
 abbrev known_in : State → List Known
@@ -78,7 +78,7 @@ sorted_headed : (es : List (Text × Collection)) → T (is_sorted text_cmp es) �
 sorted_headed [] h = tt
 sorted_headed (e ∷ es) h = both (below_all text_cmp e.0 (map headed es)) (is_sorted text_cmp (map headed es)) (below_headed e.0 es (first (below_all text_cmp e.0 es) (is_sorted text_cmp es) h)) (sorted_headed es (second (below_all text_cmp e.0 es) (is_sorted text_cmp es) h))
 
-same_heads : (es : List (Text × HeadValue)) (fs : List (Text × Collection)) → map (λ e. head_cells e.0 e.1) es ≡ map (λ e. collection_cells e.0 e.1) fs → map {B = Known} (λ e. (e.0, e.1.time)) es ≡ map {B = Known} (λ e. (e.0, e.1.time)) fs
+same_heads : (es : List (Text × CollectionHead)) (fs : List (Text × Collection)) → map (λ e. head_cells e.0 e.1) es ≡ map (λ e. collection_cells e.0 e.1) fs → map {B = Known} (λ e. (e.0, e.1.time)) es ≡ map {B = Known} (λ e. (e.0, e.1.time)) fs
 same_heads [] [] e = refl
 same_heads [] (f ∷ fs) e = absurd cc
 same_heads (d ∷ es) [] e = absurd cc
@@ -118,12 +118,12 @@ module _ (old : Seen) (s : State) (rests : Rests old s) where
   good_collections : AreCollectionRows (map (λ e. collection_cells e.0 e.1) (entries s.collections))
   good_collections = record {
     entries = map headed (entries s.collections);
-    are = sym (map_twice (λ (e : Text × HeadValue). head_cells e.0 e.1) headed (entries s.collections));
+    are = sym (map_twice (λ (e : Text × CollectionHead). head_cells e.0 e.1) headed (entries s.collections));
     rising = sorted_headed (entries s.collections) (entries_sorted s.collections);
     fine = all_from _ (map headed (entries s.collections)) (λ x h.
         let e = mapped_has headed (entries s.collections) x h in
         let it = well.made e.0.0 e.0.1 (found_at e.0 e.1) in
-        subst (λ (y : Text × HeadValue). IsHead y.0 y.1) (sym e.2) (record { named = it.named; titled = it.titled; timed = it.timed }));
+        subst (λ (y : Text × CollectionHead). IsHead y.0 y.1) (sym e.2) (record { named = it.named; titled = it.titled; timed = it.timed }));
   }
 
   good_features : (name : Text) (c : Collection) → get s.collections name ≡ Some c → AreFeatureRows c.time (map (λ e. feature_view e.0 e.1) (entries c.features))
@@ -163,23 +163,23 @@ module _ (old : Seen) (s : State) (rests : Rests old s) where
       let is = sees_good select_collections [] old _ (only_of select_collections [] old.now _ (collections_at old.now s rests.kept)) rests.unlimited h.0 h.1 in
       h.3 ∙ same_heads h.2.entries (entries s.collections) (sym h.2.are ∙ is)
 
-  no_features : (e : Text × Collection) → get s.collections e.0 ≡ Some e.1 → ShowsNone select_features (Words e.0 ∷ []) (AreFeatureRows e.1.time) old → ⊥
+  no_features : (e : Text × Collection) → get s.collections e.0 ≡ Some e.1 → IsNotShown select_features (Words e.0 ∷ []) (AreFeatureRows e.1.time) old → ⊥
   no_features e at none =
       not_none select_features (Words e.0 ∷ []) old (AreFeatureRows e.1.time)
       (only_so select_features (Words e.0 ∷ []) old.now _ (AreFeatureRows e.1.time) (λ rows is. subst (AreFeatureRows e.1.time) (sym is) (good_features e.0 e.1 at)) (only_of select_features (Words e.0 ∷ []) old.now _ (features_at old.now s rests.kept e.0 e.1 at))) rests.unlimited none
 
   pub never_damaged : IsDamaged old → ⊥
-  never_damaged (inl none) =
+  never_damaged (by_format none) =
       not_none select_formats [] old AreFormatRows (only_of select_formats [] old.now (format_row ∷ []) (formats_at old.now s rests.kept)) rests.unlimited none
-  never_damaged (inr (inl none)) =
+  never_damaged (by_collections none) =
       not_none select_collections [] old AreCollectionRows (only_so select_collections [] old.now _ AreCollectionRows (λ rows is. subst AreCollectionRows (sym is) good_collections) (only_of select_collections [] old.now _ (collections_at old.now s rests.kept))) rests.unlimited none
-  never_damaged (inr (inr (inl (heads, shown, inl none)))) =
+  never_damaged (by_features heads shown none) =
       let e = mapped_has (λ (e : Text × Collection). (e.0, e.1.time)) (entries s.collections) none.0 (subst (λ l. Has l none.0) (shows_heads heads shown) none.1) in
-      no_features e.0 (found_at e.0 e.1) (subst (λ (k : Known). ShowsNone select_features (Words k.0 ∷ []) (AreFeatureRows k.1) old) e.2 none.2)
-  never_damaged (inr (inr (inl (heads, shown, inr none)))) =
+      no_features e.0 (found_at e.0 e.1) (subst (λ (k : Known). IsNotShown select_features (Words k.0 ∷ []) (AreFeatureRows k.1) old) e.2 none.2)
+  never_damaged (by_owners heads shown none) =
       let names : map (λ (k : Known). k.0) heads ≡ map (λ (e : Text × Collection). e.0) (entries s.collections) = ap (map (λ (k : Known). k.0)) (shows_heads heads shown) ∙ map_twice (λ (k : Known). k.0) (λ (e : Text × Collection). (e.0, e.1.time)) (entries s.collections) in
-      not_none select_owners [] old (AreOwnerRows (map (λ (e : Text × Collection). e.0) (entries s.collections))) (owners_at old.now s rests.kept) rests.unlimited (subst (λ l. ShowsNone select_owners [] (AreOwnerRows l) old) names none)
-  never_damaged (inr (inr (inr none))) =
+      not_none select_owners [] old (AreOwnerRows (map (λ (e : Text × Collection). e.0) (entries s.collections))) (owners_at old.now s rests.kept) rests.unlimited (subst (λ l. IsNotShown select_owners [] (AreOwnerRows l) old) names none)
+  never_damaged (by_batches none) =
       not_none select_batches [] old AreBatchRows (only_so select_batches [] old.now _ AreBatchRows (λ rows is. subst AreBatchRows (sym is) good_batches) (only_of select_batches [] old.now _ (batches_at old.now s rests.kept))) rests.unlimited none
 
   -- ---- the numbers

@@ -19,7 +19,7 @@ use Rattle.streetmap_rows.proofs.OfStore.{failure_is}
 use Rattle.streetmap_rows.proofs.Resolving.{Means, command_is, is_plain, is_whole, unlisted}
 use Rattle.streetmap_reading.specs.Candidates.{IsWhole, ShowsOf}
 use Rattle.streetmap_checking.specs.Seeing.{Sees}
-use Rattle.streetmap_checking.specs.Telling.{ShowsNone}
+use Rattle.streetmap_checking.specs.Telling.{IsNotShown, is_refused, begins_badly, not_good}
 
 -- the text is a query of this database that no rule refuses, and what it may show is so
 pub record OnlyShows (sql : List ℕ) (params : Row) (db : Database) (Good : List Row → Type 0) : Type 0 where
@@ -75,13 +75,13 @@ module _ (sql : List ℕ) (params : Row) (old : Seen) (Good : List Row → Type 
   sees_good rows h = shows.answers rows (reads_as sql params old old old.now.schema refl (Select shows.program shows.names) shows.is shows.plain shows.unlisted rows h)
 
   -- so it shows good rows
-  pub not_none : ShowsNone sql params Good old → ⊥
-  not_none (inl h) = h.1 (of_store h.0 h.2)
-  not_none (inr (inl h)) =
-      let first = begins_as sql params old old old.now.schema refl (Select shows.program shows.names) shows.is shows.plain shows.unlisted h.0 h.1 in
-      let tail = shows.starts h.0 first in
-      h.2 tail.0 tail.1
-  not_none (inr (inr h)) = h.2 (sees_good h.0 h.1)
+  pub not_none : IsNotShown sql params Good old → ⊥
+  not_none (is_refused h) = h.1 (of_store h.0 h.2)
+  not_none (begins_badly rows given none) =
+      let first = begins_as sql params old old old.now.schema refl (Select shows.program shows.names) shows.is shows.plain shows.unlisted rows given in
+      let tail = shows.starts rows first in
+      none tail.0 tail.1
+  not_none (not_good rows shown bad) = bad (sees_good rows shown)
 
 -- what is so of better rows
 pub only_so : (sql : List ℕ) (params : Row) (db : Database) (Good Fair : List Row → Type 0) → ((rows : List Row) → Good rows → Fair rows) → OnlyShows sql params db Good → OnlyShows sql params db Fair

@@ -5,7 +5,7 @@ use Rattle.sqlite.specs.Order.{Row, column}
 use Rattle.sqlite_rules.specs.Lists.{Has}
 use Rattle.streetmap_batch.specs.Text.{Text}
 use Rattle.streetmap_reading.proofs.Rests.{map_append}
-use Rattle.streetmap_checking.specs.Good.{HeadValue}
+use Rattle.streetmap_checking.specs.Good.{CollectionHead}
 use Rattle.streetmap_checking.proofs.RowCells.{one_cell}
 use Rattle.streetmap_checking.specs.Held.{last_key, known}
 use Rattle.streetmap_checking.specs.declared.collections.Head.{Head}
@@ -32,20 +32,20 @@ later_name names first rest row is other name same h = go (subst (λ l. Has l na
     go (inl at) = absurd (other (same ∙ ap (λ t. Words t ∷ []) at))
     go (inr later) = later
 
-same_known : (es : List (Text × HeadValue)) → last_key (map (λ e. (e.0, e.1.time)) es) ≡ last_key es
+same_known : (es : List (Text × CollectionHead)) → last_key (map (λ e. (e.0, e.1.time)) es) ≡ last_key es
 same_known [] = refl
 same_known (e ∷ []) = refl
 same_known (e ∷ f ∷ es) = same_known (f ∷ es)
 
 -- the last of what is known is the last of the entries
-pub last_is : (heads : List Head) (es : List (Text × HeadValue)) (last : Option Text) → known heads ≡ map (λ e. (e.0, e.1.time)) es → last ≡ last_key (known heads) → last ≡ last_key es
+pub last_is : (heads : List Head) (es : List (Text × CollectionHead)) (last : Option Text) → known heads ≡ map (λ e. (e.0, e.1.time)) es → last ≡ last_key (known heads) → last ≡ last_key es
 last_is heads es last are is = is ∙ ap last_key are ∙ same_known es
 
-pub one_head_more : (heads new : List Head) (h : Head) (es : List (Text × HeadValue)) (title : Text) → new ≡ heads ++ h ∷ [] → known heads ≡ map (λ e. (e.0, e.1.time)) es
+pub one_head_more : (heads new : List Head) (h : Head) (es : List (Text × CollectionHead)) (title : Text) → new ≡ heads ++ h ∷ [] → known heads ≡ map (λ e. (e.0, e.1.time)) es
     → known new ≡ map (λ e. (e.0, e.1.time)) (es ++ (string_bytes h.id, record { title = title; time = option_map string_bytes h.time }) ∷ [])
 one_head_more heads new h es title is are =
     ap known is ∙ map_append (λ (x : Head). (string_bytes x.id, option_map string_bytes x.time)) heads (h ∷ []) ∙ ap (λ l. l ++ (string_bytes h.id, option_map string_bytes h.time) ∷ []) are
-    ∙ sym (map_append (λ (e : Text × HeadValue). (e.0, e.1.time)) es ((string_bytes h.id, record { title = title; time = option_map string_bytes h.time }) ∷ []))
+    ∙ sym (map_append (λ (e : Text × CollectionHead). (e.0, e.1.time)) es ((string_bytes h.id, record { title = title; time = option_map string_bytes h.time }) ∷ []))
 
 pub first_name : (row : Row) (text name : Text) → length row ≡ 1 → text ≡ name → row ≡ Words name ∷ [] → (0 < length row) × (column row 0 ≡ Words text)
 first_name row text name one same is = (omega (arith, one), ap (λ (r : Row). column r 0) is ∙ ap Words (sym same))

@@ -7,7 +7,7 @@ use Rattle.streetmap_geojson.specs.FeatureValue.{FeatureValue}
 use Rattle.streetmap_batch.specs.Text.{Text}
 use Rattle.streetmap_ledger.specs.State.{AcceptedBatch}
 use Rattle.streetmap_rows.specs.Rows.{feature_text, extent_in, seconds_in, batch_cells}
-use Rattle.streetmap_checking.specs.Good.{HasTexts, HasExtent, HasSeconds, feature_view, HeadValue, head_cells}
+use Rattle.streetmap_checking.specs.Good.{HasTextCells, HasExtentCells, HasSeconds, feature_view, CollectionHead, head_cells}
 
 -- a row is its cells
 pub one_cell : (r : Row) → length r ≡ 1 → r ≡ column r 0 ∷ []
@@ -46,7 +46,7 @@ eight_cells (a ∷ r) h = ap (λ l. a ∷ l) (seven_cells r (omega (arith, h)))
 -- ---- the row of a feature
 
 abbrev pub HasCells : Text → FeatureValue → Row → Type 0
-HasCells body f row = HasTexts f.id body row × HasExtent (extent_in f) row × HasSeconds (seconds_in f) row
+HasCells body f row = HasTextCells f.id body row × HasExtentCells (extent_in f) row × HasSeconds (seconds_in f) row
 
 pub feature_row : (body : Text) (f : FeatureValue) (row : Row) → body ≡ feature_text f → length row ≡ 8 → HasCells body f row → row ≡ feature_view f.id f
 feature_row body f row text eight h = eight_cells row eight ∙ (λ i. h.0.0 i ∷ (h.0.1 ∙ ap Words text) i ∷ h.1.0 i ∷ h.1.1 i ∷ h.1.2 i ∷ h.1.3 i ∷ h.2.0 i ∷ h.2.1 i ∷ [])
@@ -64,7 +64,7 @@ id_of_cells p q f g is = let same : Words p ≡ Words q = ap (λ (r : Row). colu
 
 -- ---- the row of a collection
 
-pub name_of_cells : (p q : Text) (g h : HeadValue) → head_cells p g ≡ head_cells q h → p ≡ q
+pub name_of_cells : (p q : Text) (g h : CollectionHead) → head_cells p g ≡ head_cells q h → p ≡ q
 name_of_cells p q g h is = let same : Words p ≡ Words q = ap (λ (r : Row). column r 0) is in cc
 
 or_null_is : (s t : Option Text) → or_null Words s ≡ or_null Words t → s ≡ t
@@ -73,7 +73,7 @@ or_null_is None (Some t) e = absurd (cc)
 or_null_is (Some s) None e = absurd (cc)
 or_null_is (Some s) (Some t) e = let same : Words s ≡ Words t = e in cc
 
-pub time_of_cells : (p q : Text) (g h : HeadValue) → head_cells p g ≡ head_cells q h → g.time ≡ h.time
+pub time_of_cells : (p q : Text) (g h : CollectionHead) → head_cells p g ≡ head_cells q h → g.time ≡ h.time
 time_of_cells p q g h is = or_null_is g.time h.time (ap (λ (r : Row). column r 2) is)
 
 pub head_row : (name title : Text) (time : Option Text) (row : Row) → length row ≡ 3 → column row 0 ≡ Words name → column row 1 ≡ Words title → column row 2 ≡ or_null Words time → row ≡ head_cells name (record { title = title; time = time })

@@ -15,7 +15,7 @@ use Rattle.sqlite_resolve.specs.declared.error.CompileError.{CompileError}
 use Rattle.streetmap_rows.specs.Failing.{IsOfStore}
 use Rattle.streetmap_rows.proofs.OfStore.{failure_is}
 use Rattle.streetmap_tables.specs.Adopting.{IsAsItWas}
-use Rattle.streetmap_checking.specs.Seeing.{IsSimple, Sees, SeesFirst, IsUnseen}
+use Rattle.streetmap_checking.specs.Seeing.{IsSimpleQuery, Sees, SeesFirst, IsUnseen}
 
 -- unchanged is as it was
 pub unchanged_was : (old new : Seen) → IsUnchanged old new → IsAsItWas old new
@@ -28,7 +28,7 @@ pub was_then : (a b c : Seen) → IsUnchanged a b → IsAsItWas b c → IsAsItWa
 was_then a b c same was settled live =
     let late = was (same.0.now_is ∙ settled ∙ sym same.0.committed_is) live in (late.0 ∙ same.0.now_is, late.1 ∙ same.0.committed_is)
 
-module _ (sql : List ℕ) (params : Row) (simple : IsSimple sql) where
+module _ (sql : List ℕ) (params : Row) (simple : IsSimpleQuery sql) where
   -- ---- of one connection as of another with the same database
 
   module _ (mid end old : Seen) (same : mid.now ≡ old.now) where

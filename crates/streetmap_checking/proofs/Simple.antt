@@ -14,7 +14,7 @@ use Rattle.sqlite_tied.specs.Compute.{everything}
 use Rattle.streetmap_rows.proofs.Drafts.{parsed_of, was_parsed}
 use Rattle.streetmap_rows.specs.Statements.{select_collections}
 use Rattle.streetmap_tables.proofs.Seeing.{IsBare}
-use Rattle.streetmap_checking.specs.Seeing.{IsSimple}
+use Rattle.streetmap_checking.specs.Seeing.{IsSimpleQuery}
 use Rattle.streetmap_checking.specs.Statements as text
 
 abbrev Planned : Type 0
@@ -45,7 +45,7 @@ module _ (sql : List ℕ) (it : IsBare sql) where
           (ap (λ (x : Compiled). x.returning) (sym same) ∙ p.0, ap (λ (x : Compiled). x.formats) (sym same) ∙ p.1)
       go (Err why) at e = absurd (cc)
 
-  simple : IsSimple sql
+  simple : IsSimpleQuery sql
   unfolding understood
   simple schema c h = elim (cases_Bool (reads_listing schema sql)) [
     | inl listed ↦ lists (compiled listing_schema sql) refl (rw listed at h)
@@ -68,7 +68,7 @@ formats_bare : IsBare text.select_formats
 unfolding everything returning timed
 formats_bare = record { parsed = parsed_of (first text.select_formats) formats_read; is = was_parsed (first text.select_formats) formats_read; none = λ schema base. refl; untimed = λ schema. refl }
 
-pub formats_simple : IsSimple text.select_formats
+pub formats_simple : IsSimpleQuery text.select_formats
 formats_simple = simple text.select_formats formats_bare
 
 features_read : is_ok (first text.select_features) ≡ true
@@ -79,7 +79,7 @@ features_bare : IsBare text.select_features
 unfolding everything returning timed
 features_bare = record { parsed = parsed_of (first text.select_features) features_read; is = was_parsed (first text.select_features) features_read; none = λ schema base. refl; untimed = λ schema. refl }
 
-pub features_simple : IsSimple text.select_features
+pub features_simple : IsSimpleQuery text.select_features
 features_simple = simple text.select_features features_bare
 
 owners_read : is_ok (first text.select_owners) ≡ true
@@ -90,7 +90,7 @@ owners_bare : IsBare text.select_owners
 unfolding everything returning timed
 owners_bare = record { parsed = parsed_of (first text.select_owners) owners_read; is = was_parsed (first text.select_owners) owners_read; none = λ schema base. refl; untimed = λ schema. refl }
 
-pub owners_simple : IsSimple text.select_owners
+pub owners_simple : IsSimpleQuery text.select_owners
 owners_simple = simple text.select_owners owners_bare
 
 batches_read : is_ok (first text.select_batches) ≡ true
@@ -101,7 +101,7 @@ batches_bare : IsBare text.select_batches
 unfolding everything returning timed
 batches_bare = record { parsed = parsed_of (first text.select_batches) batches_read; is = was_parsed (first text.select_batches) batches_read; none = λ schema base. refl; untimed = λ schema. refl }
 
-pub batches_simple : IsSimple text.select_batches
+pub batches_simple : IsSimpleQuery text.select_batches
 batches_simple = simple text.select_batches batches_bare
 
 collections_read : is_ok (first select_collections) ≡ true
@@ -112,5 +112,5 @@ collections_bare : IsBare select_collections
 unfolding everything returning timed
 collections_bare = record { parsed = parsed_of (first select_collections) collections_read; is = was_parsed (first select_collections) collections_read; none = λ schema base. refl; untimed = λ schema. refl }
 
-pub collections_simple : IsSimple select_collections
+pub collections_simple : IsSimpleQuery select_collections
 collections_simple = simple select_collections collections_bare

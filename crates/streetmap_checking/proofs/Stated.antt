@@ -19,7 +19,7 @@ use Rattle.streetmap_rows.specs.Statements.{select_collections}
 use Rattle.streetmap_rows.proofs.Ordered.{has_mapped}
 use Rattle.streetmap_checking.specs.Statements.{select_formats, select_features, select_batches}
 use Rattle.streetmap_checking.specs.Seeing.{Sees}
-use Rattle.streetmap_checking.specs.Good.{HeadValue, head_cells, IsHead, feature_view, AreOwnerRows, AreSerials, IsAccepted, serials_of}
+use Rattle.streetmap_checking.specs.Good.{CollectionHead, head_cells, IsHead, feature_view, AreOwnerRows, AreSerials, IsAccepted, serials_of}
 use Rattle.streetmap_checking.specs.Telling.{Known, SeesAllFeatures}
 use Rattle.streetmap_checking.specs.Checking.{ShowsTotals, ShowsState, IsOfState, AreTotals, feature_count}
 use Rattle.streetmap_checking.specs.declared.checking.Totals.{Totals}
@@ -61,35 +61,35 @@ one_entry (x ∷ ks) e f up (inr a) (inl b) same = absurd (all_has _ (serials_of
 one_entry (x ∷ ks) e f up (inr a) (inr b) same = one_entry ks e f up.1 a b same
 
 module _ (seen : Seen) where
-  abbrev AllSeen : List (Text × HeadValue) → ℕ → Type 0
+  abbrev AllSeen : List (Text × CollectionHead) → ℕ → Type 0
   AllSeen hs n = SeesAllFeatures (map {B = Known} (λ e. (e.0, e.1.time)) hs) n seen
 
   -- the collections with their features
-  made : (hs : List (Text × HeadValue)) (n : ℕ) → AllSeen hs n → List (Text × Collection)
+  made : (hs : List (Text × CollectionHead)) (n : ℕ) → AllSeen hs n → List (Text × Collection)
   made [] n h = []
   made (e ∷ hs) n h = (e.0, record { title = e.1.title; time = e.1.time; features = from_sorted h.2.2.entries }) ∷ made hs h.1 h.3
 
-  made_cells : (hs : List (Text × HeadValue)) (n : ℕ) (h : AllSeen hs n) → map (λ e. collection_cells e.0 e.1) (made hs n h) ≡ map (λ e. head_cells e.0 e.1) hs
+  made_cells : (hs : List (Text × CollectionHead)) (n : ℕ) (h : AllSeen hs n) → map (λ e. collection_cells e.0 e.1) (made hs n h) ≡ map (λ e. head_cells e.0 e.1) hs
   unfolding made
   made_cells [] n h = refl
   made_cells (e ∷ hs) n h = ap (λ l. head_cells e.0 e.1 ∷ l) (made_cells hs h.1 h.3)
 
-  made_names : (hs : List (Text × HeadValue)) (n : ℕ) (h : AllSeen hs n) → map (λ e. e.0) (made hs n h) ≡ map (λ e. e.0) hs
+  made_names : (hs : List (Text × CollectionHead)) (n : ℕ) (h : AllSeen hs n) → map (λ e. e.0) (made hs n h) ≡ map (λ e. e.0) hs
   unfolding made
   made_names [] n h = refl
   made_names (e ∷ hs) n h = ap (λ l. e.0 ∷ l) (made_names hs h.1 h.3)
 
-  made_below : (k : Text) (hs : List (Text × HeadValue)) (n : ℕ) (h : AllSeen hs n) → T (below_all text_cmp k hs) → T (below_all text_cmp k (made hs n h))
+  made_below : (k : Text) (hs : List (Text × CollectionHead)) (n : ℕ) (h : AllSeen hs n) → T (below_all text_cmp k hs) → T (below_all text_cmp k (made hs n h))
   unfolding made
   made_below k [] n h up = tt
   made_below k (e ∷ hs) n h up = both (is_lt (text_cmp k e.0)) (below_all text_cmp k (made hs h.1 h.3)) (first (is_lt (text_cmp k e.0)) (below_all text_cmp k hs) up) (made_below k hs h.1 h.3 (second (is_lt (text_cmp k e.0)) (below_all text_cmp k hs) up))
 
-  made_sorted : (hs : List (Text × HeadValue)) (n : ℕ) (h : AllSeen hs n) → T (is_sorted text_cmp hs) → T (is_sorted text_cmp (made hs n h))
+  made_sorted : (hs : List (Text × CollectionHead)) (n : ℕ) (h : AllSeen hs n) → T (is_sorted text_cmp hs) → T (is_sorted text_cmp (made hs n h))
   unfolding made
   made_sorted [] n h up = tt
   made_sorted (e ∷ hs) n h up = both (below_all text_cmp e.0 (made hs h.1 h.3)) (is_sorted text_cmp (made hs h.1 h.3)) (made_below e.0 hs h.1 h.3 (first (below_all text_cmp e.0 hs) (is_sorted text_cmp hs) up)) (made_sorted hs h.1 h.3 (second (below_all text_cmp e.0 hs) (is_sorted text_cmp hs) up))
 
-  made_count : (hs : List (Text × HeadValue)) (n : ℕ) (h : AllSeen hs n) → n ≡ feature_count (made hs n h)
+  made_count : (hs : List (Text × CollectionHead)) (n : ℕ) (h : AllSeen hs n) → n ≡ feature_count (made hs n h)
   unfolding made
   made_count [] n h = h
   made_count (e ∷ hs) n h = omega (arith, h.4, h.2.3, len_of h.2.2.entries h.2.2.rising, made_count hs h.1 h.3)
@@ -97,7 +97,7 @@ module _ (seen : Seen) where
   abbrev SeesOf : Text × Collection → Type 0
   SeesOf e = Sees select_features (Words e.0 ∷ []) seen (map (λ f. feature_view f.0 f.1) (entries e.1.features))
 
-  made_seen : (hs : List (Text × HeadValue)) (n : ℕ) (h : AllSeen hs n) (e : Text × Collection) → Has (made hs n h) e → SeesOf e
+  made_seen : (hs : List (Text × CollectionHead)) (n : ℕ) (h : AllSeen hs n) (e : Text × Collection) → Has (made hs n h) e → SeesOf e
   unfolding made
   made_seen [] n h e there = absurd there
   made_seen (d ∷ hs) n h e (inl is) =
@@ -105,7 +105,7 @@ module _ (seen : Seen) where
       subst SeesOf (sym is) (subst (Sees select_features (Words d.0 ∷ []) seen) rows h.2.1)
   made_seen (d ∷ hs) n h e (inr later) = made_seen hs h.1 h.3 e later
 
-  made_fine : (hs : List (Text × HeadValue)) (n : ℕ) (h : AllSeen hs n) → AllByRecursion (λ e. IsHead e.0 e.1) hs → (e : Text × Collection) → Has (made hs n h) e → IsCollection e.0 e.1
+  made_fine : (hs : List (Text × CollectionHead)) (n : ℕ) (h : AllSeen hs n) → AllByRecursion (λ e. IsHead e.0 e.1) hs → (e : Text × Collection) → Has (made hs n h) e → IsCollection e.0 e.1
   unfolding made
   made_fine [] n h fine e there = absurd there
   made_fine (d ∷ hs) n h fine e (inl is) = subst (λ (x : Text × Collection). IsCollection x.0 x.1) (sym is) (record {
@@ -117,7 +117,7 @@ module _ (seen : Seen) where
   made_fine (d ∷ hs) n h fine e (inr later) = made_fine hs h.1 h.3 fine.1 e later
 
   module _ (totals : Totals) (shows : ShowsTotals totals seen) where
-    hs : List (Text × HeadValue)
+    hs : List (Text × CollectionHead)
     hs = shows.collections.2.entries
 
     all : AllSeen hs totals.features
@@ -191,12 +191,12 @@ module _ (seen : Seen) where
     }
       where
         names : map (λ (k : Known). k.0) shows.heads ≡ map (λ (e : Text × Collection). e.0) (entries s.collections)
-        names = ap (map (λ (k : Known). k.0)) shows.collections.3 ∙ map_twice (λ (k : Known). k.0) (λ (e : Text × HeadValue). (e.0, e.1.time)) hs ∙ sym (made_names hs totals.features all) ∙ ap (map (λ (e : Text × Collection). e.0)) (sym cs_are)
+        names = ap (map (λ (k : Known). k.0)) shows.collections.3 ∙ map_twice (λ (k : Known). k.0) (λ (e : Text × CollectionHead). (e.0, e.1.time)) hs ∙ sym (made_names hs totals.features all) ∙ ap (map (λ (e : Text × Collection). e.0)) (sym cs_are)
 
     numbers : AreTotals s totals
     unfolding cs hs ks
     numbers = record {
-      collections = shows.counted ∙ ap length shows.collections.3 ∙ map_length (λ (e : Text × HeadValue). (e.0, e.1.time)) hs ∙ sym (map_length (λ (e : Text × HeadValue). e.0) hs) ∙ ap length (sym (made_names hs totals.features all)) ∙ map_length (λ (e : Text × Collection). e.0) cs ∙ ap length (sym cs_are) ∙ sym (len-entries s.collections);
+      collections = shows.counted ∙ ap length shows.collections.3 ∙ map_length (λ (e : Text × CollectionHead). (e.0, e.1.time)) hs ∙ sym (map_length (λ (e : Text × CollectionHead). e.0) hs) ∙ ap length (sym (made_names hs totals.features all)) ∙ map_length (λ (e : Text × Collection). e.0) cs ∙ ap length (sym cs_are) ∙ sym (len-entries s.collections);
       features = made_count hs totals.features all ∙ ap feature_count (sym cs_are);
       batches = shows.batches.3 ∙ ap length (sym ks_are) ∙ sym (len-entries s.keys);
     }

@@ -13,11 +13,11 @@ use Rattle.streetmap_rows.proofs.Reasons.{other, queried, reason_on}
 use Rattle.streetmap_rows.specs.declared.fault.ReadFault.{ReadFault}
 use Rattle.streetmap_rows.specs.declared.fault.ReadFault.TheVariants.{Memory, Store, Unread}
 use Rattle.streetmap_tables.specs.Adopting.{IsAsItWas}
-use Rattle.streetmap_checking.specs.Seeing.{IsSimple, Sees, IsUnseen}
-use Rattle.streetmap_checking.specs.Folding.{Refuses, AreWrong, Stops}
+use Rattle.streetmap_checking.specs.Seeing.{IsSimpleQuery, Sees, IsUnseen}
+use Rattle.streetmap_checking.specs.Folding.{Refuses, AreWrong, StopsQuery}
 use Rattle.streetmap_checking.proofs.Seeing.{unchanged_was, was_then, shown_there, begins_there, fails_there, failed_was, seen, unseen}
 
-module _ (sql : List ℕ) (params : Row) (simple : IsSimple sql) where
+module _ (sql : List ℕ) (params : Row) (simple : IsSimpleQuery sql) where
   pub sees_on : (a b : Seen) (rows : List Row) → IsUnchanged a b → Sees sql params b rows → Sees sql params a rows
   sees_on a b rows same h = shown_there sql params simple b b a same.0.now_is rows h same.0.was_open
 
@@ -44,9 +44,9 @@ module _ (sql : List ℕ) (params : Row) (simple : IsSimple sql) where
         × IsAsItWas (state g old) (state g new) × HasReason (state g old) (state g new) e
     at_fault e fails = refused (state g old) (state g new) e (fails sql params done given)
 
-module _ {F : Type 0} (Holds : F → F → List Row → Type 0) (IsGood : F → List Row → Type 0) (sql : List ℕ) (params : Row) (simple : IsSimple sql) where
+module _ {F : Type 0} (Holds : F → F → List Row → Type 0) (IsGood : F → List Row → Type 0) (sql : List ℕ) (params : Row) (simple : IsSimpleQuery sql) where
   pub stops_at : {S : Type 0} (g : Ghosts S) (old new : Held S) (start : F) (rows : List Row) → IsUnchanged (state g old) (state g new) → HasGiven g sql params new rows → (fault : ReadFault) → Refuses (AreWrong Holds IsGood start rows) fault
-      → Stops Holds IsGood sql params start (state g old) (state g new) fault
+      → StopsQuery Holds IsGood sql params start (state g old) (state g new) fault
   stops_at g old new start rows same given Memory h = same
   stops_at g old new start rows same given Unread h = ((rows, begins_there sql params simple (state g new) (state g new) (state g old) same.0.now_is rows (given_begin g sql params new rows given), h), same)
   stops_at g old new start rows same given (Store e) h = (
@@ -57,7 +57,7 @@ module _ {F : Type 0} (Holds : F → F → List Row → Type 0) (IsGood : F → 
 
   pub stops_on : (start : F) (a b c : Seen) (fault : ReadFault) → IsUnchanged a b
       → b.step_limit ≡ a.step_limit → a.faults ≤ b.faults → b.faults ≤ c.faults
-      → Stops Holds IsGood sql params start b c fault → Stops Holds IsGood sql params start a c fault
+      → StopsQuery Holds IsGood sql params start b c fault → StopsQuery Holds IsGood sql params start a c fault
   stops_on start a b c Memory same limit first second h = unchanged_then a b c same h
   stops_on start a b c Unread same limit first second h = ((h.0.0, begins_there sql params simple b b a same.0.now_is h.0.0 h.0.1, h.0.2), unchanged_then a b c same h.1)
   stops_on start a b c (Store e) same limit first second h = (
@@ -68,8 +68,8 @@ module _ {F : Type 0} (Holds : F → F → List Row → Type 0) (IsGood : F → 
 
   pub took_on : (start after : F) (a b c : Seen) (r : Result (Unit {0}) ReadFault) → IsUnchanged a b
       → b.step_limit ≡ a.step_limit → a.faults ≤ b.faults → b.faults ≤ c.faults
-      → MatchResult r (λ _. ((rows : List Row) × Sees sql params b rows × Holds start after rows) × IsUnchanged b c) (Stops Holds IsGood sql params start b c)
-      → MatchResult r (λ _. ((rows : List Row) × Sees sql params a rows × Holds start after rows) × IsUnchanged a c) (Stops Holds IsGood sql params start a c)
+      → MatchResult r (λ _. ((rows : List Row) × Sees sql params b rows × Holds start after rows) × IsUnchanged b c) (StopsQuery Holds IsGood sql params start b c)
+      → MatchResult r (λ _. ((rows : List Row) × Sees sql params a rows × Holds start after rows) × IsUnchanged a c) (StopsQuery Holds IsGood sql params start a c)
   took_on start after a b c (Ok u) same limit first second h = ((h.0.0, sees_on sql params simple a b h.0.0 same h.0.1, h.0.2), unchanged_then a b c same h.1)
   took_on start after a b c (Err fault) same limit first second h =
       stops_on start a b c fault same limit first second h

@@ -1,5 +1,5 @@
 -- What a check of tables answers.
-use Rattle.std.specs.Prelude.{◌≡◌, ◌⊎◌, ◌+◌, ℕ, List, [], ◌∷◌, length, Result, Ok, Err, IsTrue}
+use Rattle.std.specs.Prelude.{◌≡◌, ◌+◌, ℕ, List, [], ◌∷◌, length, Result, Ok, Err, IsTrue}
 use Rattle.std.specs.Prelude.{map, codes, pos}
 use Rattle.sqlite.specs.Order.{Row}
 use Rattle.sqlite.specs.declared.types.Value.TheVariants.{Int, Text as Words}
@@ -35,11 +35,15 @@ pub record ShowsTotals (totals : Totals) (seen : Seen) : Type 0 where
   pub owners : SeesOwners heads seen
   pub batches : SeesBatches totals.batches seen
 
--- a statement is refused, or does not show good rows
-abbrev pub IsDamaged : Seen → Type 0
-IsDamaged seen = NoFormat seen
-    ⊎ (NoHeads seen ⊎ (((heads : List Known) × SeesHeads heads seen
-    × (NoFeaturesOfAll heads seen ⊎ NoOwners heads seen)) ⊎ NoBatches seen))
+-- what is not shown as good rows: the format, the collections, the features of one of them, the
+-- collections that features name, or the batches
+pub data IsDamaged (seen : Seen) : Type 0 where
+  by_format : NoFormat seen → IsDamaged seen
+  by_collections : NoHeads seen → IsDamaged seen
+  by_features : (heads : List Known) → SeesHeads heads seen → NoFeaturesOfAll heads seen
+      → IsDamaged seen
+  by_owners : (heads : List Known) → SeesHeads heads seen → NoOwners heads seen → IsDamaged seen
+  by_batches : NoBatches seen → IsDamaged seen
 
 -- how many features there are in these collections
 abbrev pub feature_count : List (Text × Collection) → ℕ
@@ -89,8 +93,8 @@ ChecksFor old new Memory = Unit {0}
 
 -- The tables of a state are never damaged: the numbers are its own, and the connection rests at it.
 -- But the store may fail, or memory be refused, which changes nothing.
-abbrev pub Checks : State → Seen → Seen → Result Totals CheckFault → Type 0
-Checks s old new (Ok totals) = AreTotals s totals × Rests new s
-Checks s old new (Err Memory) = Rests new s
-Checks s old new (Err (Device e)) = IsTrue new.is_open → Rests new s
-Checks s old new (Err Damaged) = ⊥
+abbrev pub ChecksState : State → Seen → Seen → Result Totals CheckFault → Type 0
+ChecksState s old new (Ok totals) = AreTotals s totals × Rests new s
+ChecksState s old new (Err Memory) = Rests new s
+ChecksState s old new (Err (Device e)) = IsTrue new.is_open → Rests new s
+ChecksState s old new (Err Damaged) = ⊥

@@ -9,7 +9,7 @@ use Rattle.streetmap_rows.specs.Failing.{IsOfStore, SparesDisk, HasReason}
 use Rattle.streetmap_rows.specs.declared.fault.ReadFault.{ReadFault}
 use Rattle.streetmap_rows.specs.declared.fault.ReadFault.TheVariants.{Memory, Store, Unread}
 use Rattle.streetmap_tables.specs.Adopting.{IsAsItWas}
-use Rattle.streetmap_checking.specs.Seeing.{IsSimple, Sees, SeesFirst, IsUnseen}
+use Rattle.streetmap_checking.specs.Seeing.{IsSimpleQuery, Sees, SeesFirst, IsUnseen}
 
 -- it gave up for memory, or for the store with no word of the disk, or for this reason
 abbrev pub Refuses : Type 0 → ReadFault → Type 0
@@ -23,49 +23,49 @@ module _ {F : Type 0} (Holds : F → F → List Row → Type 0) (IsGood : F → 
   AreWrong start rows = (later : List Row) → IsGood start (rows ++ later) → ⊥
 
   -- a row is taken behind those that were, or no good rows begin with them and it
-  abbrev pub TakesRow : Row → F → F → Result (Unit {0}) ReadFault → Type 0
-  TakesRow row before after result =
+  abbrev pub ChecksRow : Row → F → F → Result (Unit {0}) ReadFault → Type 0
+  ChecksRow row before after result =
       (start : F) (rows : List Row) → Holds start before rows
       → MatchResult result (λ _. Holds start after (rows ++ row ∷ []))
       (Refuses (AreWrong start (rows ++ row ∷ [])))
 
   -- why rows of a query were not all taken
-  abbrev pub Stops : List ℕ → Row → F → Seen → Seen → ReadFault → Type 0
-  Stops sql params start old new Memory = IsUnchanged old new
-  Stops sql params start old new Unread = ((rows : List Row) × SeesFirst sql params old rows
+  abbrev pub StopsQuery : List ℕ → Row → F → Seen → Seen → ReadFault → Type 0
+  StopsQuery sql params start old new Memory = IsUnchanged old new
+  StopsQuery sql params start old new Unread = ((rows : List Row) × SeesFirst sql params old rows
       × AreWrong start rows) × IsUnchanged old new
-  Stops sql params start old new (Store e) =
+  StopsQuery sql params start old new (Store e) =
       ((¬ (IsOfStore e)) → IsUnseen sql params old) × IsAsItWas old new × HasReason old new e
 
   -- all rows that the query shows were taken
-  abbrev pub TakesAll : List ℕ → Row → Seen → Seen → F → F → Result (Unit {0}) ReadFault → Type 0
-  TakesAll sql params old new before after result =
-      IsSimple sql → Holds before before []
+  abbrev pub ChecksAll : List ℕ → Row → Seen → Seen → F → F → Result (Unit {0}) ReadFault → Type 0
+  ChecksAll sql params old new before after result =
+      IsSimpleQuery sql → Holds before before []
       → MatchResult result (λ _. ((rows : List Row) × Sees sql params old rows
-      × Holds before after rows) × IsUnchanged old new) (Stops sql params before old new)
+      × Holds before after rows) × IsUnchanged old new) (StopsQuery sql params before old new)
 
   module _ {S : Type 0} (g : Ghosts S) where
     -- one row more was taken, or there was none
-    abbrev pub TookNext : List ℕ → Row → F → List Row → Held S → Held S → F → Bool → Type 0
-    TookNext sql params start done old new fold true = (row : Row)
+    abbrev pub CheckedNext : List ℕ → Row → F → List Row → Held S → Held S → F → Bool → Type 0
+    CheckedNext sql params start done old new fold true = (row : Row)
         × HasGiven g sql params new (done ++ row ∷ []) × Holds start fold (done ++ row ∷ [])
-    TookNext sql params start done old new fold false = Sees sql params (state g old) done
+    CheckedNext sql params start done old new fold false = Sees sql params (state g old) done
         × Holds start fold done
 
     -- after some of the rows were taken
-    abbrev pub TakesNext : Held S → Held S → F → F → Result Bool ReadFault → Type 0
-    TakesNext old new before after result =
-        (sql : List ℕ) (params : Row) (start : F) (done : List Row) → IsSimple sql
+    abbrev pub ChecksNext : Held S → Held S → F → F → Result Bool ReadFault → Type 0
+    ChecksNext old new before after result =
+        (sql : List ℕ) (params : Row) (start : F) (done : List Row) → IsSimpleQuery sql
         → HasGiven g sql params old done → Holds start before done
-        → MatchResult result (λ more. TookNext sql params start done old new after more
+        → MatchResult result (λ more. CheckedNext sql params start done old new after more
         × IsUnchanged (state g old) (state g new))
-        (Stops sql params start (state g old) (state g new))
+        (StopsQuery sql params start (state g old) (state g new))
 
     -- before any of them was taken
-    abbrev pub TakesRest : Held S → Held S → F → F → Result (Unit {0}) ReadFault → Type 0
-    TakesRest old new before after result =
-        (sql : List ℕ) (params : Row) (start : F) → IsSimple sql → HasGiven g sql params old []
+    abbrev pub ChecksRest : Held S → Held S → F → F → Result (Unit {0}) ReadFault → Type 0
+    ChecksRest old new before after result =
+        (sql : List ℕ) (params : Row) (start : F) → IsSimpleQuery sql → HasGiven g sql params old []
         → Holds start before []
         → MatchResult result (λ _. ((rows : List Row) × Sees sql params (state g old) rows
         × Holds start after rows) × IsUnchanged (state g old) (state g new))
-        (Stops sql params start (state g old) (state g new))
+        (StopsQuery sql params start (state g old) (state g new))

@@ -36,15 +36,15 @@ AreFormatRows rows = rows ≡ (Words (codes "format") ∷ Int (pos 2) ∷ []) �
 -- ---- collections
 
 -- a collection without its features
-pub record HeadValue : Type 0 where
+pub record CollectionHead : Type 0 where
   pub title : Text
   pub time : Option Text
 
-abbrev pub head_cells : Text → HeadValue → Row
+abbrev pub head_cells : Text → CollectionHead → Row
 head_cells name h = Words name ∷ Words h.title ∷ or_null Words h.time ∷ []
 
 -- its id, title and time property are as the rules ask
-pub record IsHead (name : Text) (h : HeadValue) : Type 0 where
+pub record IsHead (name : Text) (h : CollectionHead) : Type 0 where
   pub named : IsTrue (is_collection_id name)
   pub titled : IsTitle h.title
   pub timed : IsTimePropertyIf h.time
@@ -59,12 +59,12 @@ abbrev pub feature_view : Text → FeatureValue → Row
 feature_view id f = drop 1 (feature_cells ([], id) f)
 
 -- an id and a text stand in a row of a feature
-abbrev pub HasTexts : Text → Text → Row → Type 0
-HasTexts id body row = (column row 0 ≡ Words id) × (column row 1 ≡ Words body)
+abbrev pub HasTextCells : Text → Text → Row → Type 0
+HasTextCells id body row = (column row 0 ≡ Words id) × (column row 1 ≡ Words body)
 
 -- so do the bounds of an extent, or NULLs
-abbrev pub HasExtent : Option BoxValue → Row → Type 0
-HasExtent e row =
+abbrev pub HasExtentCells : Option BoxValue → Row → Type 0
+HasExtentCells e row =
     (column row 2 ≡ or_null Int (option_map (λ (b : BoxValue). b.x0) e))
     × (column row 3 ≡ or_null Int (option_map (λ (b : BoxValue). b.y0) e))
     × (column row 4 ≡ or_null Int (option_map (λ (b : BoxValue). b.x1) e))

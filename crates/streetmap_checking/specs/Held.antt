@@ -40,8 +40,8 @@ IsGoodFormat start rows = AreFormatRows rows
 abbrev pub known : List Head → List (Text × Option Text)
 known heads = map (λ h. (string_bytes h.id, option_map string_bytes h.time)) heads
 
-abbrev pub HoldsHeads : Vec Head Global → Vec Head Global → List Row → Type 0
-HoldsHeads start now rows = (are : AreCollectionRows rows)
+abbrev pub HoldsCollections : Vec Head Global → Vec Head Global → List Row → Type 0
+HoldsCollections start now rows = (are : AreCollectionRows rows)
     × (known now.items ≡ map (λ e. (e.0, e.1.time)) are.entries)
 
 abbrev pub IsGoodHeads : Vec Head Global → List Row → Type 0

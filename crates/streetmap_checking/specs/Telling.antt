@@ -1,5 +1,5 @@
 -- What the looks of a check tell, whatever the tables are.
-use Rattle.std.specs.Prelude.{◌≡◌, ◌⊎◌, ℕ, ◌+◌, List, [], ◌∷◌, ◌++◌, map, length, Option, Result}
+use Rattle.std.specs.Prelude.{◌≡◌, ℕ, ◌+◌, List, [], ◌∷◌, ◌++◌, map, length, Option, Result}
 use Rattle.std.specs.Prelude.{Ok, Err}
 use Rattle.sqlite.specs.declared.types.Value.TheVariants.{Text as Words}
 use Rattle.sqlite.specs.Order.{Row}
@@ -17,12 +17,15 @@ use Rattle.streetmap_checking.specs.Seeing.{Sees, SeesFirst, IsUnseen}
 use Rattle.streetmap_checking.specs.Good.{AreFormatRows, AreCollectionRows, AreFeatureRows}
 use Rattle.streetmap_checking.specs.Good.{AreOwnerRows, AreBatchRows}
 
--- a query is refused, or the rows that it shows, or those that it shows first, are not good
-abbrev pub ShowsNone : List ℕ → Row → (List Row → Type 0) → Seen → Type 0
-ShowsNone sql params Good seen =
-    IsUnseen sql params seen ⊎ (((rows : List Row) × SeesFirst sql params seen rows
-    × ((later : List Row) → Good (rows ++ later) → ⊥))
-    ⊎ ((rows : List Row) × Sees sql params seen rows × (Good rows → ⊥)))
+-- why a query does not show good rows: it is refused; no good rows begin with those that it shows
+-- first; or those that it shows are not good
+pub data IsNotShown (sql : List ℕ) (params : Row) (Good : List Row → Type 0) (seen : Seen) :
+    Type 0 where
+  is_refused : IsUnseen sql params seen → IsNotShown sql params Good seen
+  begins_badly : (rows : List Row) → SeesFirst sql params seen rows
+      → ((later : List Row) → Good (rows ++ later) → ⊥) → IsNotShown sql params Good seen
+  not_good : (rows : List Row) → Sees sql params seen rows → (Good rows → ⊥)
+      → IsNotShown sql params Good seen
 
 -- a look tells why not, or the store failed, or memory was refused
 abbrev pub TellsWhy : Type 0 → Seen → Seen → ReadFault → Type 0
@@ -32,9 +35,10 @@ TellsWhy why old new (Store e) =
     ((¬ (IsOfStore e)) → why) × IsAsItWas old new × HasReason old new e
 
 -- a look that leaves a connection tells this, or why not
-abbrev pub Looks : {A : Type 0} → (A → Type 0) → Type 0 → Seen → Seen → Result A ReadFault → Type 0
-Looks Is why old new (Ok a) = Is a × IsUnchanged old new
-Looks Is why old new (Err fault) = TellsWhy why old new fault
+abbrev pub LooksOver : {A : Type 0} → (A → Type 0) → Type 0 → Seen → Seen → Result A ReadFault
+    → Type 0
+LooksOver Is why old new (Ok a) = Is a × IsUnchanged old new
+LooksOver Is why old new (Err fault) = TellsWhy why old new fault
 
 -- ---- each look
 
@@ -76,19 +80,19 @@ SeesBatches count seen = (rows : List Row) × Sees select_batches [] seen rows
 -- ---- why a look tells nothing
 
 abbrev pub NoFormat : Seen → Type 0
-NoFormat = ShowsNone select_formats [] AreFormatRows
+NoFormat = IsNotShown select_formats [] AreFormatRows
 
 abbrev pub NoHeads : Seen → Type 0
-NoHeads = ShowsNone select_collections [] AreCollectionRows
+NoHeads = IsNotShown select_collections [] AreCollectionRows
 
 abbrev pub NoFeatures : Known → Seen → Type 0
-NoFeatures head = ShowsNone select_features (Words head.0 ∷ []) (AreFeatureRows head.1)
+NoFeatures head = IsNotShown select_features (Words head.0 ∷ []) (AreFeatureRows head.1)
 
 abbrev pub NoFeaturesOfAll : List Known → Seen → Type 0
 NoFeaturesOfAll heads seen = (head : Known) × Has heads head × NoFeatures head seen
 
 abbrev pub NoOwners : List Known → Seen → Type 0
-NoOwners heads = ShowsNone select_owners [] (AreOwnerRows (map (λ h. h.0) heads))
+NoOwners heads = IsNotShown select_owners [] (AreOwnerRows (map (λ h. h.0) heads))
 
 abbrev pub NoBatches : Seen → Type 0
-NoBatches = ShowsNone select_batches [] AreBatchRows
+NoBatches = IsNotShown select_batches [] AreBatchRows

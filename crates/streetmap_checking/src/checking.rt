@@ -6,10 +6,10 @@ ghost use Rattle.streetmap_ledger.specs.State.{State};
 ghost use Rattle.streetmap_ledger.specs.WellFormed.{IsState};
 ghost use Rattle.streetmap_rows.specs.Keeping.{Rests};
 ghost use Rattle.streetmap_tables.specs.Adopting.{IsAsItWas};
-ghost use Rattle.streetmap_checking.specs.Telling.{Looks};
+ghost use Rattle.streetmap_checking.specs.Telling.{LooksOver};
 ghost use Rattle.streetmap_checking.specs.Checking.{ShowsState, ShowsTotals, IsDamaged, ChecksBy};
 ghost use Rattle.streetmap_checking.specs.Checking.{ChecksFor};
-ghost use Rattle.streetmap_checking.specs.Checking.{Checks};
+ghost use Rattle.streetmap_checking.specs.Checking.{ChecksState};
 
 use crate::looks::{
     check_all_features, check_batches, check_collections, check_format, check_owners,
@@ -69,7 +69,7 @@ impl CheckFault {
 /// The totals, or why there are none.
 fn look_at_all<S: Alter>(alloc: Global, conn: &mut Connection<S>) -> Result<Totals, ReadFault>
     ensures looks { HasCleanDisk (state S.Store conn.new)
-        → Looks (λ totals. ShowsTotals totals (state S.Store conn.old))
+        → LooksOver (λ totals. ShowsTotals totals (state S.Store conn.old))
         (IsDamaged (state S.Store conn.old)) (state S.Store conn.old) (state S.Store conn.new)
         result }
     ensures mode { conn.old.in_transaction ≡ false → conn.new.in_transaction ≡ false }
@@ -111,7 +111,7 @@ pub fn check_tables<S: Alter>(alloc: Global, conn: &mut Connection<S>) -> Result
         → ChecksBy (state S.Store conn.old) result }
     ensures checks { HasCleanDisk (state S.Store conn.new) → (s : State)
         → Rests (state S.Store conn.old) s
-        → Checks s (state S.Store conn.old) (state S.Store conn.new) result }
+        → ChecksState s (state S.Store conn.old) (state S.Store conn.new) result }
 {
     match look_at_all(alloc, conn) {
         Ok(totals) => Ok(totals),

@@ -4,7 +4,7 @@ ghost use Rattle.std.specs.Option.{option_copied};
 ghost use Rattle.streetmap_batch.specs.Text.{Text};
 ghost use Rattle.streetmap_batch.specs.BatchFacts.{IsTimePropertyIf};
 ghost use Rattle.streetmap_checking.specs.Folding.{Refuses};
-ghost use Rattle.streetmap_checking.specs.Good.{HeadValue, head_cells, IsHead};
+ghost use Rattle.streetmap_checking.specs.Good.{CollectionHead, head_cells, IsHead};
 ghost use Rattle.streetmap_checking.specs.Held.{last_key, known};
 ghost use Rattle.streetmap_checking.specs.Looking.{known_of};
 
@@ -60,7 +60,7 @@ fn head_in(row: &Row) -> Result<Head, ReadFault>
         (record { title = title; time = option_map string_bytes head.time }))
         × IsHead (string_bytes head.id)
         (record { title = title; time = option_map string_bytes head.time }))
-        (Refuses ((name : Text) (h : HeadValue) → row.now ≡ head_cells name h → IsHead name h
+        (Refuses ((name : Text) (h : CollectionHead) → row.now ≡ head_cells name h → IsHead name h
         → ⊥)) }
 {
     if row.column_count() != 3 {
@@ -87,9 +87,9 @@ fn last_id(heads: &[Head]) -> Option<&str>
 }
 
 impl RowCheck for Vec<Head> {
-    ghost use Rattle.streetmap_checking.specs.Held.{HoldsHeads, IsGoodHeads};
+    ghost use Rattle.streetmap_checking.specs.Held.{HoldsCollections, IsGoodHeads};
 
-    ghost holds = { HoldsHeads };
+    ghost holds = { HoldsCollections };
 
     ghost is_good = { IsGoodHeads };
 

@@ -11,7 +11,8 @@ ghost use Rattle.streetmap_ledger.specs.WellFormed.{IsPlaced};
 ghost use Rattle.streetmap_rows.specs.Stored.{IsStored};
 ghost use Rattle.streetmap_rows.specs.Rows.{feature_text, extent_in, seconds_in};
 ghost use Rattle.streetmap_checking.specs.Folding.{Refuses};
-ghost use Rattle.streetmap_checking.specs.Good.{HasTexts, HasExtent, HasSeconds, feature_view};
+ghost use Rattle.streetmap_checking.specs.Good.{HasTextCells, HasExtentCells, HasSeconds};
+ghost use Rattle.streetmap_checking.specs.Good.{feature_view};
 
 use crate::cells::{follows, is_number, is_text, one_more};
 use crate::collections::Head;
@@ -69,7 +70,7 @@ fn text_of(alloc: Global, feature: &Feature) -> Result<String, AllocError>
 
 /// Whether the bounds in a row of eight cells are those of an extent, or NULLs where there is none.
 fn has_extent(row: &Row, extent: Option<GridBox>) -> bool
-    ensures { length row.now ≡ 8 → (IsTrue result ↔ HasExtent (option_map box_value extent)
+    ensures { length row.now ≡ 8 → (IsTrue result ↔ HasExtentCells (option_map box_value extent)
         row.now) }
 {
     match extent {
@@ -104,7 +105,7 @@ fn has_seconds(row: &Row, time: Option<Interval>) -> bool
 
 /// Whether the first two cells of a row of eight have these texts.
 fn has_texts(row: &Row, id: &str, body: &str) -> bool
-    ensures { length row.now ≡ 8 → (IsTrue result ↔ HasTexts id.now body.now row.now) }
+    ensures { length row.now ≡ 8 → (IsTrue result ↔ HasTextCells id.now body.now row.now) }
 {
     is_text(row, 0, id.as_bytes()) && is_text(row, 1, body.as_bytes())
 }
@@ -112,8 +113,9 @@ fn has_texts(row: &Row, id: &str, body: &str) -> bool
 /// Whether the cells of a row of eight are those of a feature, by its text.
 #[tactic(auto, unfolding(streetmap_rows::specs::Rows::extent_in, streetmap_rows::specs::Rows::seconds_in))]
 fn has_cells(row: &Row, feature: &Feature, body: &str) -> bool
-    ensures { length row.now ≡ 8 → (IsTrue result ↔ HasTexts feature.now.id body.now row.now
-        × HasExtent (extent_in feature.now) row.now × HasSeconds (seconds_in feature.now) row.now) }
+    ensures { length row.now ≡ 8 → (IsTrue result ↔ HasTextCells feature.now.id body.now row.now
+        × HasExtentCells (extent_in feature.now) row.now
+        × HasSeconds (seconds_in feature.now) row.now) }
 {
     has_texts(row, feature.id(), body)
         && has_extent(row, feature.extent())

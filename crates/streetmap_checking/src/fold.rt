@@ -4,8 +4,8 @@ ghost use Rattle.sqlite.specs.Held.{state};
 ghost use Rattle.sqlite.specs.Order.{Row as Cells};
 ghost use Rattle.sqlite.specs.State.{HasCleanDisk, Survives};
 ghost use Rattle.sqlite.specs.Values.{bound};
-ghost use Rattle.streetmap_checking.specs.Folding.{TakesRow, TakesNext, TakesRest, TakesAll};
-ghost use Rattle.streetmap_checking.specs.Seeing.{IsSimple};
+ghost use Rattle.streetmap_checking.specs.Folding.{ChecksRow, ChecksNext, ChecksRest, ChecksAll};
+ghost use Rattle.streetmap_checking.specs.Seeing.{IsSimpleQuery};
 
 use sqlite::types::ValueRef;
 use sqlite::{Alter, Connection, Error, ErrorCode, Row, Rows};
@@ -22,14 +22,14 @@ pub trait RowCheck {
     /// Takes the row that comes next; `Unread` where no good rows begin with it behind those
     /// before.
     fn take(&mut self, row: &Row) -> Result<(), ReadFault>
-        ensures { TakesRow holds is_good row.now self.old self.new result };
+        ensures { ChecksRow holds is_good row.now self.old self.new result };
 }
 
 /// Takes the next row, if there is one.
 fn take_next<S: Alter, F: RowCheck>(rows: &mut Rows<'_, S>, fold: &mut F) -> Result<bool, ReadFault>
     ensures same_reference { rows.new.conn.ghost_name ≡ rows.old.conn.ghost_name }
     ensures takes { HasCleanDisk (state S.Store rows.new.conn.now)
-        → TakesNext F.holds F.is_good S.Store rows.old.conn.now rows.new.conn.now fold.old fold.new
+        → ChecksNext F.holds F.is_good S.Store rows.old.conn.now rows.new.conn.now fold.old fold.new
         result }
     ensures mode { rows.old.conn.now.in_transaction ≡ false
         → rows.new.conn.now.in_transaction ≡ false }
@@ -51,7 +51,7 @@ fn take_next<S: Alter, F: RowCheck>(rows: &mut Rows<'_, S>, fold: &mut F) -> Res
 fn take_rest<S: Alter, F: RowCheck>(rows: &mut Rows<'_, S>, fold: &mut F) -> Result<(), ReadFault>
     ensures same_reference { rows.new.conn.ghost_name ≡ rows.old.conn.ghost_name }
     ensures takes { HasCleanDisk (state S.Store rows.new.conn.now)
-        → TakesRest F.holds F.is_good S.Store rows.old.conn.now rows.new.conn.now fold.old fold.new
+        → ChecksRest F.holds F.is_good S.Store rows.old.conn.now rows.new.conn.now fold.old fold.new
         result }
     ensures mode { rows.old.conn.now.in_transaction ≡ false
         → rows.new.conn.now.in_transaction ≡ false }
@@ -75,10 +75,10 @@ pub fn fold_rows<S: Alter, F: RowCheck>(
     fold: &mut F,
 ) -> Result<(), ReadFault>
     ensures takes { HasCleanDisk (state S.Store conn.new)
-        → TakesAll F.holds F.is_good sql.now (bound params.now) (state S.Store conn.old)
+        → ChecksAll F.holds F.is_good sql.now (bound params.now) (state S.Store conn.old)
         (state S.Store conn.new) fold.old fold.new result }
     ensures mode { conn.old.in_transaction ≡ false → conn.new.in_transaction ≡ false }
-    ensures survives { IsSimple sql.now
+    ensures survives { IsSimpleQuery sql.now
         → Survives (state S.Store conn.old) (state S.Store conn.new) (λ _. ⊥) }
 {
     match conn.query(sql, params) {

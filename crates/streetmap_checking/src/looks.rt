@@ -4,7 +4,7 @@ ghost use Rattle.sqlite.specs.Held.{state};
 ghost use Rattle.sqlite.specs.State.{HasCleanDisk, Survives};
 ghost use Rattle.streetmap_checking.specs.Held.{known};
 ghost use Rattle.streetmap_checking.specs.Looking.{known_of};
-ghost use Rattle.streetmap_checking.specs.Telling.{Looks, SeesFormat, SeesHeads, SeesFeatures};
+ghost use Rattle.streetmap_checking.specs.Telling.{LooksOver, SeesFormat, SeesHeads, SeesFeatures};
 ghost use Rattle.streetmap_checking.specs.Telling.{SeesAllFeatures, SeesOwners, SeesBatches};
 ghost use Rattle.streetmap_checking.specs.Telling.{NoFormat, NoHeads, NoFeatures, NoFeaturesOfAll};
 ghost use Rattle.streetmap_checking.specs.Telling.{NoOwners, NoBatches};
@@ -23,7 +23,7 @@ use streetmap_rows::ReadFault;
 /// Whether the row of the format is there, and no other.
 pub fn check_format<S: Alter>(conn: &mut Connection<S>) -> Result<(), ReadFault>
     ensures looks { HasCleanDisk (state S.Store conn.new)
-        → Looks (λ _. SeesFormat (state S.Store conn.old)) (NoFormat (state S.Store conn.old))
+        → LooksOver (λ _. SeesFormat (state S.Store conn.old)) (NoFormat (state S.Store conn.old))
         (state S.Store conn.old) (state S.Store conn.new) result }
     ensures mode { conn.old.in_transaction ≡ false → conn.new.in_transaction ≡ false }
     ensures survives { Survives (state S.Store conn.old) (state S.Store conn.new) (λ _. ⊥) }
@@ -47,7 +47,7 @@ pub fn check_collections<S: Alter>(
     conn: &mut Connection<S>,
 ) -> Result<Vec<Head>, ReadFault>
     ensures looks { HasCleanDisk (state S.Store conn.new)
-        → Looks (λ heads. SeesHeads (known heads.items) (state S.Store conn.old))
+        → LooksOver (λ heads. SeesHeads (known heads.items) (state S.Store conn.old))
         (NoHeads (state S.Store conn.old)) (state S.Store conn.old) (state S.Store conn.new)
         result }
     ensures mode { conn.old.in_transaction ≡ false → conn.new.in_transaction ≡ false }
@@ -70,7 +70,7 @@ fn check_features<S: Alter>(
     head: &Head,
 ) -> Result<u64, ReadFault>
     ensures looks { HasCleanDisk (state S.Store conn.new) → IsTrue (state S.Store conn.old).is_open
-        → Looks (λ count. SeesFeatures (known_of head.now) count (state S.Store conn.old))
+        → LooksOver (λ count. SeesFeatures (known_of head.now) count (state S.Store conn.old))
         (NoFeatures (known_of head.now) (state S.Store conn.old)) (state S.Store conn.old)
         (state S.Store conn.new) result }
     ensures mode { conn.old.in_transaction ≡ false → conn.new.in_transaction ≡ false }
@@ -100,7 +100,7 @@ pub fn check_all_features<S: Alter>(
     heads: &[Head],
 ) -> Result<u64, ReadFault>
     ensures looks { HasCleanDisk (state S.Store conn.new) → IsTrue (state S.Store conn.old).is_open
-        → Looks (λ count. SeesAllFeatures (known heads.now) count (state S.Store conn.old))
+        → LooksOver (λ count. SeesAllFeatures (known heads.now) count (state S.Store conn.old))
         (NoFeaturesOfAll (known heads.now) (state S.Store conn.old)) (state S.Store conn.old)
         (state S.Store conn.new) result }
     ensures mode { conn.old.in_transaction ≡ false → conn.new.in_transaction ≡ false }
@@ -117,7 +117,7 @@ pub fn check_all_features<S: Alter>(
 /// Whether each feature is in one of these collections.
 pub fn check_owners<S: Alter>(conn: &mut Connection<S>, heads: Vec<Head>) -> Result<(), ReadFault>
     ensures looks { HasCleanDisk (state S.Store conn.new)
-        → Looks (λ _. SeesOwners (known heads.items) (state S.Store conn.old))
+        → LooksOver (λ _. SeesOwners (known heads.items) (state S.Store conn.old))
         (NoOwners (known heads.items) (state S.Store conn.old)) (state S.Store conn.old)
         (state S.Store conn.new) result }
     ensures mode { conn.old.in_transaction ≡ false → conn.new.in_transaction ≡ false }
@@ -135,7 +135,7 @@ pub fn check_owners<S: Alter>(conn: &mut Connection<S>, heads: Vec<Head>) -> Res
 /// How many batches there are, whose serials are the numbers from 1 to that.
 pub fn check_batches<S: Alter>(alloc: Global, conn: &mut Connection<S>) -> Result<u64, ReadFault>
     ensures looks { HasCleanDisk (state S.Store conn.new)
-        → Looks (λ count. SeesBatches count (state S.Store conn.old))
+        → LooksOver (λ count. SeesBatches count (state S.Store conn.old))
         (NoBatches (state S.Store conn.old)) (state S.Store conn.old) (state S.Store conn.new)
         result }
     ensures mode { conn.old.in_transaction ≡ false → conn.new.in_transaction ≡ false }

@@ -13,43 +13,43 @@ use Rattle.streetmap_ledger.specs.declared.reply.Reply.TheVariants as replies
 use Rattle.streetmap_exchange.specs.declared.fault.ImportFault.{ImportFault}
 use Rattle.streetmap_exchange.specs.declared.fault.ImportStop.{ImportStop}
 use Rattle.streetmap_exchange.specs.declared.fault.ImportStop.TheVariants.{NotRead, Refused, Stopped}
-use Rattle.streetmap_exchange.specs.KeeperImports.{IsTold, BatchTells, BatchLeaves, Imports, ImportLeaves, ImportShuts, IsOfReply}
+use Rattle.streetmap_exchange.specs.KeeperImports.{IsReported, BatchTells, BatchLeaves, Imports, ImportLeaves, ImportShuts, IsOfReply}
 
 -- ---- a reply is told as its body or as its refusal
 
-never_unread : (key : Text) (reply : Reply) (fault : ImportFault) → IsTold key reply (Err (NotRead fault)) → ⊥
+never_unread : (key : Text) (reply : Reply) (fault : ImportFault) → IsReported key reply (Err (NotRead fault)) → ⊥
 never_unread key (replies.Accepted counts serial) fault h = h
 never_unread key (replies.Repeated counts serial) fault h = h
 never_unread key (replies.Refused why place) fault h = cc
 
-never_stopped : (key : Text) (reply : Reply) (fault : Fault) → IsTold key reply (Err (Stopped fault)) → ⊥
+never_stopped : (key : Text) (reply : Reply) (fault : Fault) → IsReported key reply (Err (Stopped fault)) → ⊥
 never_stopped key (replies.Accepted counts serial) fault h = h
 never_stopped key (replies.Repeated counts serial) fault h = h
 never_stopped key (replies.Refused why place) fault h = cc
 
 pub told_acts : (s : State) (b : BatchValue) (reply : Reply) (r : Result (String Global) ImportStop) (stands : State → Type 0)
-    → IsTold b.key reply r → reply ≡ (act s b).reply → stands (act s b).state → BatchTells s b r stands
-told_acts s b reply (Ok body) stands told e h = (subst (λ (x : Reply). IsTold b.key x (Ok body)) e told, h)
+    → IsReported b.key reply r → reply ≡ (act s b).reply → stands (act s b).state → BatchTells s b r stands
+told_acts s b reply (Ok body) stands told e h = (subst (λ (x : Reply). IsReported b.key x (Ok body)) e told, h)
 told_acts s b reply (Err (NotRead fault)) stands told e h = absurd (never_unread b.key reply fault told)
-told_acts s b reply (Err (Refused why place)) stands told e h = (subst (λ (x : Reply). IsTold b.key x (Err (Refused why place))) e told, h)
+told_acts s b reply (Err (Refused why place)) stands told e h = (subst (λ (x : Reply). IsReported b.key x (Err (Refused why place))) e told, h)
 told_acts s b reply (Err (Stopped fault)) stands told e h = absurd (never_stopped b.key reply fault told)
 
 pub told_leaves : (s : State) (b : BatchValue) (reply : Reply) (r : Result (String Global) ImportStop) (left : Option State → Type 0)
-    → IsTold b.key reply r → LeavesOnly left (Some (act s b).state) → BatchLeaves s b r left
+    → IsReported b.key reply r → LeavesOnly left (Some (act s b).state) → BatchLeaves s b r left
 told_leaves s b reply (Ok body) left told h = h
 told_leaves s b reply (Err (NotRead fault)) left told h = absurd (never_unread b.key reply fault told)
 told_leaves s b reply (Err (Refused why place)) left told h = h
 told_leaves s b reply (Err (Stopped fault)) left told h = absurd (never_stopped b.key reply fault told)
 
 pub told_shuts : (key : Text) (reply : Reply) (r : Result (String Global) ImportStop) (old new : Option Cause)
-    → IsTold key reply r → old ≡ None → new ≡ None → ImportShuts r old new
+    → IsReported key reply r → old ≡ None → new ≡ None → ImportShuts r old new
 told_shuts key reply (Ok body) old new told before after = (before, after)
 told_shuts key reply (Err (NotRead fault)) old new told before after = absurd (never_unread key reply fault told)
 told_shuts key reply (Err (Refused why place)) old new told before after = (before, after)
 told_shuts key reply (Err (Stopped fault)) old new told before after = absurd (never_stopped key reply fault told)
 
-pub told_answers : (key : Text) (reply : Reply) (r : Result (String Global) ImportStop) (fault : Fault) → IsTold key reply r → r ≡ Err (Stopped fault) → ⊥
-told_answers key reply r fault told e = never_stopped key reply fault (subst (λ (x : Result (String Global) ImportStop). IsTold key reply x) e told)
+pub told_answers : (key : Text) (reply : Reply) (r : Result (String Global) ImportStop) (fault : Fault) → IsReported key reply r → r ≡ Err (Stopped fault) → ⊥
+told_answers key reply r fault told e = never_stopped key reply fault (subst (λ (x : Result (String Global) ImportStop). IsReported key reply x) e told)
 
 -- ---- what a text's batch does is what the import does
 
@@ -85,7 +85,7 @@ read_leaves s read b r left e h =
 
 pub told_of_reply : {K : Type 0} (applies : K → BatchValue → Result Reply Fault → K → Type 0)
     (b : BatchValue) (reply : Reply) (r : Result (String Global) ImportStop) (old new : K)
-    → IsTold b.key reply r → applies old b (Ok reply) new
+    → IsReported b.key reply r → applies old b (Ok reply) new
     → IsOfReply b.key (λ x. applies old b x new) (new ≡ old) r
 told_of_reply applies b reply (Ok body) old new told h = (reply, h, told)
 told_of_reply applies b reply (Err (NotRead fault)) old new told h = absurd (never_unread b.key reply fault told)

@@ -51,11 +51,11 @@ of_batch (batch.BadFeature place cause) = BadFeature place cause
 of_batch batch.Memory = Memory
 
 -- a fault beside memory is that of what is read
-abbrev pub Fails : {Y : Type 0} → ImportFault → Result Y ImportFault → Type 0
-Fails Memory read = Unit {0}
-Fails e read = read ≡ Err e
+abbrev pub FailsToRead : {Y : Type 0} → ImportFault → Result Y ImportFault → Type 0
+FailsToRead Memory read = Unit {0}
+FailsToRead e read = read ≡ Err e
 
 -- what was answered, seen by view, is what is read, unless memory ran out
-abbrev pub Gives : {X Y : Type 0} → (X → Y) → Result X ImportFault → Result Y ImportFault → Type 0
-Gives view (Ok x) read = read ≡ Ok (view x)
-Gives view (Err e) read = Fails e read
+abbrev pub ReadsAs : {X Y : Type 0} → (X → Y) → Result X ImportFault → Result Y ImportFault → Type 0
+ReadsAs view (Ok x) read = read ≡ Ok (view x)
+ReadsAs view (Err e) read = FailsToRead e read

@@ -13,7 +13,7 @@ use Rattle.streetmap_ledger.specs.declared.reply.Fault.{Fault}
 use Rattle.streetmap_ledger.specs.declared.reply.Reply.{Reply}
 use Rattle.streetmap_ledger.specs.declared.reply.Reply.TheVariants as replies
 use Rattle.streetmap_bodies.specs.Replies.{reply_body}
-use Rattle.streetmap_exchange.specs.ImportFaults.{Fails}
+use Rattle.streetmap_exchange.specs.ImportFaults.{FailsToRead}
 use Rattle.streetmap_exchange.specs.declared.fault.ImportFault.{ImportFault}
 use Rattle.streetmap_exchange.specs.declared.fault.ImportStop.{ImportStop}
 use Rattle.streetmap_exchange.specs.declared.fault.ImportStop.TheVariants.{NotRead, Refused}
@@ -21,9 +21,9 @@ use Rattle.streetmap_exchange.specs.declared.fault.ImportStop.TheVariants.{Stopp
 
 -- of an accepted or repeated batch of this key the body of its reply is told, of a refused one the
 -- refusal
-abbrev pub IsTold : (key : Text) → Reply → Result (String Global) ImportStop → Type 0
-IsTold key (replies.Refused why place) told = told ≡ Err (Refused why place)
-IsTold key reply told = IsOkAnd told (λ body. string_bytes body
+abbrev pub IsReported : (key : Text) → Reply → Result (String Global) ImportStop → Type 0
+IsReported key (replies.Refused why place) told = told ≡ Err (Refused why place)
+IsReported key reply told = IsOkAnd told (λ body. string_bytes body
     ≡ compact_text (reply_body key reply))
 
 -- a batch on a keeper that stood for this state: its reply is told, and it stands for the state
@@ -32,7 +32,7 @@ abbrev pub BatchTells : State → BatchValue → Result (String Global) ImportSt
     → Type 0
 BatchTells s b (Err (NotRead fault)) stands = ⊥
 BatchTells s b (Err (Stopped fault)) stands = Acts s b (Err fault) stands
-BatchTells s b told stands = IsTold b.key (act s b).reply told × stands (act s b).state
+BatchTells s b told stands = IsReported b.key (act s b).reply told × stands (act s b).state
 
 -- what a stop may leave then
 abbrev pub BatchLeaves : State → BatchValue → Result (String Global) ImportStop
@@ -45,7 +45,7 @@ BatchLeaves s b told left = LeavesOnly left (Some (act s b).state)
 -- stays
 abbrev pub Imports : State → Result BatchValue ImportFault → Result (String Global) ImportStop
     → (State → Type 0) → Type 0
-Imports s read (Err (NotRead fault)) stands = Fails fault read × stands s
+Imports s read (Err (NotRead fault)) stands = FailsToRead fault read × stands s
 Imports s read told stands = (b : BatchValue) × (read ≡ Ok b) × BatchTells s b told stands
 
 -- what a stop may leave then
@@ -65,4 +65,4 @@ abbrev pub IsOfReply : (key : Text) → (came : Result Reply Fault → Type 0) �
     Result (String Global) ImportStop → Type 0
 IsOfReply key came same (Err (NotRead fault)) = same
 IsOfReply key came same (Err (Stopped fault)) = came (Err fault)
-IsOfReply key came same told = (reply : Reply) × came (Ok reply) × IsTold key reply told
+IsOfReply key came same told = (reply : Reply) × came (Ok reply) × IsReported key reply told

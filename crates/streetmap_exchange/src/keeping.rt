@@ -7,7 +7,7 @@ ghost use Rattle.streetmap_ledger.specs.Keep.{LeavesOnly, AsBefore};
 ghost use Rattle.streetmap_ledger.specs.State.{State};
 ghost use Rattle.streetmap_ledger.specs.declared.reply.Fault.TheVariants.{Reopen};
 ghost use Rattle.streetmap_exchange.specs.Imports.{import_of};
-ghost use Rattle.streetmap_exchange.specs.KeeperImports.{IsTold, IsOfReply, BatchTells};
+ghost use Rattle.streetmap_exchange.specs.KeeperImports.{IsReported, IsOfReply, BatchTells};
 ghost use Rattle.streetmap_exchange.specs.KeeperImports.{BatchLeaves, Imports, ImportLeaves};
 ghost use Rattle.streetmap_exchange.specs.KeeperImports.{ImportShuts};
 
@@ -35,7 +35,7 @@ fn room(alloc: Global) -> Result<String, ImportFault>
 fn tell(body: String, batch: &Batch, reply: Reply) -> Result<String, ImportStop>
     requires empty { string_bytes body ≡ [] }
     requires wide { string_len body + 320 ≤ string_capacity body }
-    ensures { IsTold (batch_value batch.now).key reply result }
+    ensures { IsReported (batch_value batch.now).key reply result }
 {
     match reply {
         Reply::Accepted(_, _) | Reply::Repeated(_, _) => {

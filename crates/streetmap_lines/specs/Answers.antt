@@ -18,7 +18,8 @@ use Rattle.streetmap_bodies.specs.Replies.{reply_body}
 use Rattle.streetmap_bodies.specs.RequestFaults.{fault_body}
 use Rattle.streetmap_bodies.specs.declared.request_fault.RequestFault.TheVariants.{NotFound, Query}
 use Rattle.streetmap_bodies.specs.declared.request_fault.RequestFault.TheVariants.{Batch}
-use Rattle.streetmap_lines.specs.Request.{Text, RequestValue, batch, page, feature}
+use Rattle.streetmap_batch.specs.Text.{Text}
+use Rattle.streetmap_lines.specs.Request.{LineRequest, batch, page, feature}
 
 -- the JSON value that is answered, and the state after it
 pub record Answer : Type 0 where
@@ -60,7 +61,7 @@ found_feature (Some f) = feature_data f
 -- ---- lines
 
 -- what a request is answered, in this state; where there is no request, the command is not known
-unfoldable pub answer_to : State → Option RequestValue → Answer
+unfoldable pub answer_to : State → Option LineRequest → Answer
 answer_to s None = record { body = unknown_command; state = s }
 answer_to s (Some (batch text)) = batch_answer s (batch_of text)
 answer_to s (Some (page collection text)) = record

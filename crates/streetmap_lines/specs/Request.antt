@@ -3,20 +3,18 @@ use Rattle.std.specs.Prelude.{◌≡◌, ℕ, false, List, ◌∷◌, ◌++◌, 
 use Rattle.std.specs.Prelude.{option_and_then, codes, length, nat_lt, IsUtf8, ◌==◌, if◌then◌else◌}
 use Rattle.std.specs.List.{position_or_len, before_first, after_first, list_any}
 use Rattle.std.specs.Str.{bytes_eq, is_utf8}
+use Rattle.streetmap_batch.specs.Text.{Text}
 
-abbrev pub Text : Type 0
-Text = List ℕ
-
-pub data RequestValue : Type 0 where
-  batch : (text : Text) → RequestValue
-  page : (collection : Text) (query : Option Text) → RequestValue
-  feature : (collection id : Text) → RequestValue
+pub data LineRequest : Type 0 where
+  batch : (text : Text) → LineRequest
+  page : (collection : Text) (query : Option Text) → LineRequest
+  feature : (collection id : Text) → LineRequest
 
 abbrev pub HasNoSpace : Text → Type 0
 HasNoSpace text = list_any (λ b. b == 32) text ≡ false
 
 -- how a request is spelled: its word, and its texts behind one space each
-abbrev pub Asks : Text → RequestValue → Type 0
+abbrev pub Asks : Text → LineRequest → Type 0
 Asks line (batch text) = line ≡ codes "batch " ++ text
 Asks line (page collection None) = (line ≡ codes "page " ++ collection) × HasNoSpace collection
 Asks line (page collection (Some query)) = (line ≡ codes "page " ++ (collection ++ 32 ∷ query))
@@ -25,7 +23,7 @@ Asks line (feature collection id) = (line ≡ codes "feature " ++ (collection ++
     × HasNoSpace collection
 
 -- a line is text in UTF-8 that asks for a request
-abbrev pub AsksFor : List ℕ → RequestValue → Type 0
+abbrev pub AsksFor : List ℕ → LineRequest → Type 0
 AsksFor line request = IsUtf8 line × Asks line request
 
 -- ---- the request of a text, where there is one
@@ -38,27 +36,27 @@ split_space text =
     else None
 
 -- a query holds no space
-abbrev pub queried : Text → Text → Option (Text × Text) → Option RequestValue
+abbrev pub queried : Text → Text → Option (Text × Text) → Option LineRequest
 queried collection query None = Some (page collection (Some query))
 queried collection query (Some _) = None
 
-abbrev pub page_asked : Text → Option (Text × Text) → Option RequestValue
+abbrev pub page_asked : Text → Option (Text × Text) → Option LineRequest
 page_asked text None = Some (page text None)
 page_asked text (Some p) = queried p.0 p.1 (split_space p.1)
 
-abbrev pub page_request_of : Text → Option RequestValue
+abbrev pub page_request_of : Text → Option LineRequest
 page_request_of text = page_asked text (split_space text)
 
-unfoldable pub request_by : Text → Text → Option RequestValue
+unfoldable pub request_by : Text → Text → Option LineRequest
 request_by word text =
     if bytes_eq word (codes "batch") then Some (batch text)
     else (if bytes_eq word (codes "page") then page_request_of text
     else (if bytes_eq word (codes "feature")
     then option_map (λ p. feature p.0 p.1) (split_space text) else None))
 
-abbrev pub request_of : Text → Option RequestValue
+abbrev pub request_of : Text → Option LineRequest
 request_of line = option_and_then (λ p. request_by p.0 p.1) (split_space line)
 
 -- the request of a line: none where it is no text
-abbrev pub request_in : List ℕ → Option RequestValue
+abbrev pub request_in : List ℕ → Option LineRequest
 request_in line = if is_utf8 line then request_of line else None

@@ -6,6 +6,7 @@ ghost use Rattle.serde_json.specs.Written.{compact_text};
 ghost use Rattle.streetmap_query.specs.Query.{query_of};
 ghost use Rattle.streetmap_batch.specs.BatchReading.{batch_of};
 ghost use Rattle.streetmap_batch.specs.BatchView.{batch_value};
+ghost use Rattle.streetmap_batch.specs.Text.{Text};
 ghost use Rattle.streetmap_ledger.specs.State.{State};
 ghost use Rattle.streetmap_memory.specs.Plain.{IsPlain as IsPlainState};
 ghost use Rattle.streetmap_ledger.specs.Pages.{feature_in};
@@ -13,7 +14,7 @@ ghost use Rattle.streetmap_bodies.specs.RequestFaults.{fault_body};
 ghost use Rattle.streetmap_lines.specs.Answers.{answer_to, batch_answer, page_body, found_feature};
 ghost use Rattle.streetmap_lines.specs.Answers.{unknown_command};
 ghost use Rattle.streetmap_lines.specs.AnswerView.{SaysOr, LineSays, ActsOr};
-ghost use Rattle.streetmap_lines.specs.Request.{request_in, Text};
+ghost use Rattle.streetmap_lines.specs.Request.{request_in};
 ghost use Rattle.streetmap_lines.specs.RequestView.{request_value};
 
 use crate::request::{Request, read_request};

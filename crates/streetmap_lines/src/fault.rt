@@ -63,7 +63,7 @@ impl LinesFault {
     }
 
     /// The fault of a write that failed.
-    pub fn of_write(error: &Error) -> LinesFault
+    pub(crate) fn of_write(error: &Error) -> LinesFault
         ensures memory { error_kind error.now ≡ ErrorKind.OutOfMemory → result ≡ LinesFault.Memory }
         ensures other { error_kind error.now ≢ ErrorKind.OutOfMemory
             → result ≡ LinesFault.WriteFailed }

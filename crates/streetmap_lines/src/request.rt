@@ -1,6 +1,6 @@
 //! What a line of input asks for.
 ghost use Rattle.std.specs.Prelude.{◌≡◌, Option, Some, None, option_map, IfSome, IsSome, IsUtf8};
-ghost use Rattle.streetmap_lines.specs.Request.{RequestValue, split_space, page_request_of};
+ghost use Rattle.streetmap_lines.specs.Request.{LineRequest, split_space, page_request_of};
 ghost use Rattle.streetmap_lines.specs.Request.{request_by, request_of, request_in, AsksFor};
 ghost use Rattle.streetmap_lines.specs.RequestView.{request_value};
 
@@ -52,7 +52,7 @@ fn read_page_request<'a>(text: &'a str) -> Option<Request<'a>>
 /// What stands behind `feature `.
 fn read_feature_request<'a>(text: &'a str) -> Option<Request<'a>>
     ensures { option_map request_value result
-        ≡ option_map (λ p. RequestValue.feature p.0 p.1) (split_space text.entry.now) }
+        ≡ option_map (λ p. LineRequest.feature p.0 p.1) (split_space text.entry.now) }
 {
     let (collection, id) = split_at_space(text)?;
     Some(Request::Feature { collection, id })
@@ -100,7 +100,7 @@ pub fn read_request<'a>(line: &'a [u8]) -> Option<Request<'a>>
     // What is read is what the line asks for.
     ensures found { IfSome result (λ r. AsksFor line.entry.now (request_value r)) }
     // What the line asks for is read.
-    ensures only { (r : RequestValue) → AsksFor line.entry.now r
+    ensures only { (r : LineRequest) → AsksFor line.entry.now r
         → option_map request_value result ≡ Some r }
 {
     read_line(line)

@@ -17,10 +17,10 @@ use Rattle.streetmap_ledger.specs.declared.reply.Fault.TheVariants as faults
 use Rattle.streetmap_ledger.specs.declared.reply.Reply.{Reply}
 use Rattle.streetmap_ledger.specs.declared.reply.Reply.TheVariants as replies
 use Rattle.streetmap_loading.specs.Places.{PlacedValue, edits_of, places_of, text_place}
-use Rattle.streetmap_loading.specs.Sources.{Item, TakesOff, HasNone}
-use Rattle.streetmap_loading.specs.Sinks.{TakesAll}
+use Rattle.streetmap_loading.specs.Sources.{Item, TakesOff, HasNoItem}
+use Rattle.streetmap_loading.specs.Sinks.{SinkTakesAll}
 use Rattle.streetmap_loading.specs.Ends.{AreLeft, EndsAt, EndsWithin, ByEnd, EndsBy, end_of_stop}
-use Rattle.streetmap_loading.specs.Loads.{Loads, AreRead, BeginsWith, items_of}
+use Rattle.streetmap_loading.specs.Loads.{Loads, AreRead, ItemsBeginWith, items_of}
 use Rattle.streetmap_loading.specs.Applying.{Applies, taken_of}
 use Rattle.streetmap_loading.specs.KeeperLoads.{keeper_fault, IsRead, AreAcknowledged, serial_of}
 use Rattle.streetmap_loading.specs.KeeperLoads.{last_serial, Rests, StopsAt, EndsAtBatch}
@@ -34,7 +34,7 @@ use Rattle.streetmap_loading.specs.declared.end.End.TheVariants.{All, AtFault, R
 use Rattle.streetmap_loading.specs.declared.end.End.TheVariants.{Refused, Stopped, WriteFailed}
 
 -- the items that were read, without what is left of the source
-begins_known : (items : List Item) (xs : List Item) → BeginsWith (Some items) xs →
+begins_known : (items : List Item) (xs : List Item) → ItemsBeginWith (Some items) xs →
     (rest : List Item) × (items ≡ xs ++ rest)
 begins_known items xs h = h
 
@@ -44,12 +44,12 @@ off_known items None xs off = absurd off
 off_known items (Some rest) xs off = (rest, off)
 
 all_known : (items : List Item) (new : Option (List Item)) (xs : List Item) →
-    TakesOff (Some items) new xs → HasNone (Some items) new → items ≡ xs
+    TakesOff (Some items) new xs → HasNoItem (Some items) new → items ≡ xs
 all_known items None xs off none = absurd off
 all_known items (Some rest) xs off none = off ∙ (ap (λ t. xs ++ t) none ∙ append-nil xs)
 
 fault_known : (items : List Item) (xs : List Item) (e : Item) →
-    BeginsWith (Some items) (xs ++ e ∷ []) → (rest : List Item) × (items ≡ xs ++ e ∷ rest)
+    ItemsBeginWith (Some items) (xs ++ e ∷ []) → (rest : List Item) × (items ≡ xs ++ e ∷ rest)
 fault_known items xs e h = (h.0, h.1 ∙ append_assoc xs (e ∷ []) h.0)
 
 pub is_read : (old new : Option (List Item)) (read : List PlacedValue) (end : End) →
@@ -116,7 +116,7 @@ module _ {S K : Type 0} (keeper : S → K) (is_clean : K → Type 0) (cause : K 
 
     pub clean_all :
         (first : S) (before : Option ℕ) (bs : List BatchValue) (last : S) (serial : Option ℕ) →
-        TakesAll takes first before bs last serial → is_clean (keeper last) → is_clean
+        SinkTakesAll takes first before bs last serial → is_clean (keeper last) → is_clean
         (keeper first)
     clean_all first before [] last serial all clean = subst (λ (x : S). is_clean (keeper x)) all.0
         clean
@@ -134,7 +134,7 @@ module _ {S K : Type 0} (keeper : S → K) (is_clean : K → Type 0) (cause : K 
     pub took_all :
         (s : State) (first : S) (before : Option ℕ) (bs : List BatchValue) (last : S)
         (serial : Option ℕ) →
-        TakesAll takes first before bs last serial → is_clean (keeper last) →
+        SinkTakesAll takes first before bs last serial → is_clean (keeper last) →
         stands (keeper first) s →
         TookAll s first last before bs serial
     took_all s first before [] last serial all clean h = record {
@@ -332,7 +332,7 @@ module _ {S K : Type 0} (keeper : S → K) (is_clean : K → Type 0) (cause : K 
 
     cause_kept :
         (first : S) (before : Option ℕ) (bs : List BatchValue) (last : S) (serial : Option ℕ) →
-        TakesAll takes first before bs last serial → cause (keeper last) ≡ cause (keeper first)
+        SinkTakesAll takes first before bs last serial → cause (keeper last) ≡ cause (keeper first)
     cause_kept first before [] last serial all = ap (λ (x : S). cause (keeper x)) all.0
     cause_kept first before (b ∷ bs) last serial all =
         let one = open_one b first all.0 all.1 all.2 in
@@ -413,7 +413,7 @@ module _ {S K : Type 0} (keeper : S → K) (is_clean : K → Type 0) (cause : K 
       none_some (Some x) none some = cc
 
       reopened : (sent : List BatchValue) (mid : S) (serial : Option ℕ) →
-          TakesAll takes first None sent mid serial → IsSome (cause (keeper mid)) →
+          SinkTakesAll takes first None sent mid serial → IsSome (cause (keeper mid)) →
           AsBefore (stands (keeper mid)) (stands (keeper last)) (may_leave (keeper mid))
           (may_leave (keeper last)) →
           AsBefore (stands (keeper first)) (stands (keeper last)) (may_leave (keeper first))
@@ -465,7 +465,7 @@ module _ {S K : Type 0} (keeper : S → K) (is_clean : K → Type 0) (cause : K 
           (then : (a b c : K) → spares a b → spares b c → spares a c) where
         spares_all :
             (from : S) (before : Option ℕ) (bs : List BatchValue) (to : S) (serial : Option ℕ) →
-            TakesAll takes from before bs to serial → spares (keeper from) (keeper to)
+            SinkTakesAll takes from before bs to serial → spares (keeper from) (keeper to)
         spares_all from before [] to serial all = subst
             (λ (x : S). spares (keeper from) (keeper x))
             (sym all.0) (itself (keeper from))

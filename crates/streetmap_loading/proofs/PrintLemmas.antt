@@ -7,7 +7,7 @@ use Rattle.streetmap_batch.specs.Text.{Text}
 use Rattle.streetmap_batch.specs.BatchValue.{BatchValue}
 use Rattle.streetmap_loading.specs.Places.{places_of}
 use Rattle.streetmap_loading.specs.Sources.{Item}
-use Rattle.streetmap_loading.specs.Sinks.{TakesAll}
+use Rattle.streetmap_loading.specs.Sinks.{SinkTakesAll}
 use Rattle.streetmap_loading.specs.Ends.{ByEnd, EndsAt, EndsWithin, end_of_stop}
 use Rattle.streetmap_loading.specs.Loads.{Loads}
 use Rattle.streetmap_loading.specs.Checking.{IsOfText}
@@ -27,7 +27,7 @@ module _ {S : Type 0} (contents : S → Option (List ℕ)) where
 
   written_all :
       (first : S) (before : Option ℕ) (bs : List BatchValue) (last : S) (serial : Option ℕ) →
-      TakesAll prints first before bs last serial →
+      SinkTakesAll prints first before bs last serial →
       Appends (contents first) (contents last) (lines_of bs)
   written_all first before [] last serial all = subst
       (λ (x : S). Appends (contents first) (contents x) []) (sym all.0)

@@ -17,10 +17,10 @@ use Rattle.streetmap_packing.proofs.Underway.{packs_last, one_in}
 use Rattle.streetmap_packing.proofs.RunLemmas.{one_more}
 use Rattle.streetmap_packing.proofs.PackLemmas.{shorter}
 use Rattle.streetmap_loading.specs.Places.{PlacedValue, edits_of, places_of, text_place}
-use Rattle.streetmap_loading.specs.Sinks.{TakesAll}
+use Rattle.streetmap_loading.specs.Sinks.{SinkTakesAll}
 use Rattle.streetmap_loading.specs.Ends.{AreLeft, IsShort, IsNext, ByEnd, EndsBy, end_of_stop}
 use Rattle.streetmap_loading.specs.Ends.{count_of_edits}
-use Rattle.streetmap_loading.specs.Sending.{IsSending, Sends, Fills, Puts, IsWithin, IsBehind}
+use Rattle.streetmap_loading.specs.Sending.{IsSending, Sends, SendsWhenFull, TakesEdit, EndsAtEdit, IsBehind}
 use Rattle.streetmap_loading.specs.declared.sending.Sending.{Sending}
 use Rattle.streetmap_loading.specs.declared.sink.Stop.{Stop}
 use Rattle.streetmap_loading.specs.declared.sink.Stop.TheVariants as stops
@@ -31,7 +31,7 @@ use Rattle.streetmap_loading.specs.declared.end.End.TheVariants.{Refused, Stoppe
 use Rattle.streetmap_loading.proofs.Sent.{length-numbered, edits-numbered, edits_more, one_numbered}
 use Rattle.streetmap_loading.proofs.Sent.{edits_of_more, places_of_more, first_places, takes_more}
 
-within_behind : (end : End) → IsWithin end → IsBehind end
+within_behind : (end : End) → EndsAtEdit end → IsBehind end
 within_behind All h = tt
 within_behind (AtFault fault) h = h
 within_behind ReadFailed h = h
@@ -134,7 +134,7 @@ module _ {S : Type 0} (takes : S → BatchValue → Result (Option ℕ) Stop →
       now
       batch (Err stop) last →
       EndsBy takes each key first last es l.batches l.taken l.serial (end_of_stop places stop) ×
-      IsWithin (end_of_stop places stop)
+      EndsAtEdit (end_of_stop places stop)
   stops_here es left ps are split next places places_are stop last took = by stop took where
     front : places ≡ take (length (edits_of it.left)) (places_of left)
     front = places_are ∙
@@ -147,7 +147,7 @@ module _ {S : Type 0} (takes : S → BatchValue → Result (Option ℕ) Stop →
 
     by : (s : Stop) → takes now batch (Err s) last →
         EndsBy takes each key first last es l.batches l.taken l.serial (end_of_stop places s) ×
-        IsWithin (end_of_stop places s)
+        EndsAtEdit (end_of_stop places s)
     by (stops.Refused why place) t = (
       ends_here es last (Refused why (text_place places place))
           (record {
@@ -220,9 +220,9 @@ module _ {S : Type 0} (takes : S → BatchValue → Result (Option ℕ) Stop →
         underway = underway;
         counted = omega (arith, one, counted, batches);
         held = omega (arith, held, more, taken);
-        all = subst (λ (bs : List BatchValue). TakesAll takes first None bs last n.serial)
+        all = subst (λ (bs : List BatchValue). SinkTakesAll takes first None bs last n.serial)
             (sym (one_numbered key it.sent (edits_of it.left)))
-            (subst (λ (o : Option ℕ). TakesAll takes first None (sent ++ batch ∷ []) last o)
+            (subst (λ (o : Option ℕ). SinkTakesAll takes first None (sent ++ batch ∷ []) last o)
             (sym serial_is) all);
       }
 
@@ -230,7 +230,7 @@ module _ {S : Type 0} (takes : S → BatchValue → Result (Option ℕ) Stop →
 
   pub put_memory : (p : PlacedValue) (result : Result (Unit {0}) End) (m : Sending) →
       result ≡ Err Memory → m.batches ≡ l.batches → m.taken ≡ l.taken → m.serial ≡ l.serial →
-      Puts takes each key first read p result m now
+      TakesEdit takes each key first read p result m now
   put_memory p result m e batches taken serial =
       let ended = ends_memory_more p in
       let moved : EndsBy takes each key first now (read ++ p ∷ []) m.batches m.taken m.serial
@@ -242,11 +242,11 @@ module _ {S : Type 0} (takes : S → BatchValue → Result (Option ℕ) Stop →
         counted = ended.counted ∙ sym batches;
         held =
             ended.held ∙ sym taken;
-        all = subst (λ (o : Option ℕ). TakesAll takes first None ended.sent ended.mid o)
+        all = subst (λ (o : Option ℕ). SinkTakesAll takes first None ended.sent ended.mid o)
             (sym serial) ended.all;
         ends = ended.ends;
       } in
-      subst (λ (r : Result (Unit {0}) End). Puts takes each key first read p r m now) (sym e)
+      subst (λ (r : Result (Unit {0}) End). TakesEdit takes each key first read p r m now) (sym e)
       (moved, tt)
 
   pub put_none : (p : PlacedValue) (m : Sending) →
@@ -274,20 +274,20 @@ module _ {S : Type 0} (takes : S → BatchValue → Result (Option ℕ) Stop →
             it.sent es) (sym (edits_of_more it.left p)) on);
         counted = it.counted ∙ sym batches;
         held = it.held ∙ sym taken;
-        all = subst (λ (o : Option ℕ). TakesAll takes first None sent now o) (sym serial) it.all;
+        all = subst (λ (o : Option ℕ). SinkTakesAll takes first None sent now o) (sym serial) it.all;
       }
 
   moves : (es : List PlacedValue) (m : Sending) (last : S) (end : End) → m.batches ≡ l.batches →
       m.taken ≡ l.taken → m.serial ≡ l.serial →
-      EndsBy takes each key first last es l.batches l.taken l.serial end × IsWithin end → EndsBy
-      takes each key first last es m.batches m.taken m.serial end × IsWithin end
+      EndsBy takes each key first last es l.batches l.taken l.serial end × EndsAtEdit end → EndsBy
+      takes each key first last es m.batches m.taken m.serial end × EndsAtEdit end
   moves es m last end batches taken serial ended = (
     record {
       sent = ended.0.sent;
       mid = ended.0.mid;
       counted = ended.0.counted ∙ sym batches;
       held = ended.0.held ∙ sym taken;
-      all = subst (λ (o : Option ℕ). TakesAll takes first None ended.0.sent ended.0.mid o)
+      all = subst (λ (o : Option ℕ). SinkTakesAll takes first None ended.0.sent ended.0.mid o)
           (sym serial) ended.0.all;
       ends = ended.0.ends;
     },
@@ -299,7 +299,7 @@ module _ {S : Type 0} (takes : S → BatchValue → Result (Option ℕ) Stop →
       (places : List (Option ℕ)) →
       Adds (packing l.packer) p.edit (Ok (Some b)) (packing m.packer) → m.places.items ≡ p.place ∷
       [] → m.batches ≡ l.batches → m.taken ≡ l.taken → m.serial ≡ l.serial →
-      places ≡ l.places.items → Sends takes m now (batch_value b) places result n last → Puts
+      places ≡ l.places.items → Sends takes m now (batch_value b) places result n last → TakesEdit
       takes
       each key first read p result n last
   put_some p b m n (Ok tt) last places adds own batches taken serial places_are sends =
@@ -340,15 +340,15 @@ module _ {S : Type 0} (takes : S → BatchValue → Result (Option ℕ) Stop →
       (ap (λ (x : Sending). x.taken) sends.3 ∙ taken)
       (ap (λ (x : Sending). x.serial) sends.3 ∙ serial)
       (subst (λ (x : End). EndsBy takes each key first last (read ++ p ∷ []) l.batches l.taken
-      l.serial x × IsWithin x) (sym sends.2) stopped)
+      l.serial x × EndsAtEdit x) (sym sends.2) stopped)
 
   -- ---- a full batch
 
   pub fill_memory : (result : Result (Unit {0}) End) (m : Sending) → result ≡ Err Memory →
       m.batches ≡ l.batches → m.taken ≡ l.taken → m.serial ≡ l.serial →
-      Fills takes each key first read result m now
+      SendsWhenFull takes each key first read result m now
   fill_memory result m e batches taken serial =
-      subst (λ (r : Result (Unit {0}) End). Fills takes each key first read r m now) (sym e)
+      subst (λ (r : Result (Unit {0}) End). SendsWhenFull takes each key first read r m now) (sym e)
       (moves read m now Memory batches taken serial (ends_memory, tt))
 
   some_left : (left : List EditValue) → each ≤ length left → left ≢ []
@@ -360,7 +360,7 @@ module _ {S : Type 0} (takes : S → BatchValue → Result (Option ℕ) Stop →
       (places : List (Option ℕ)) →
       packers.Fills (packing l.packer) (Ok (Some b)) (packing m.packer) → m.places.items ≡ [] →
       m.batches ≡ l.batches → m.taken ≡ l.taken → m.serial ≡ l.serial →
-      places ≡ l.places.items → Sends takes m now (batch_value b) places result n last → Fills
+      places ≡ l.places.items → Sends takes m now (batch_value b) places result n last → SendsWhenFull
       takes
       each key first read result n last
   fill_some b m n (Ok tt) last places fills own batches taken serial places_are sends =
@@ -399,7 +399,7 @@ module _ {S : Type 0} (takes : S → BatchValue → Result (Option ℕ) Stop →
       (ap (λ (x : Sending). x.taken) sends.3 ∙ taken)
       (ap (λ (x : Sending). x.serial) sends.3 ∙ serial)
       (subst (λ (x : End). EndsBy takes each key first last read l.batches l.taken l.serial x ×
-      IsWithin x) (sym sends.2) stopped)
+      EndsAtEdit x) (sym sends.2) stopped)
 
   -- ---- the last batch
 

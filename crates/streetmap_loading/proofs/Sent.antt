@@ -9,7 +9,7 @@ use Rattle.streetmap_packing.specs.Underway.{edits_in}
 use Rattle.streetmap_packing.proofs.PackLemmas.{numbered_append}
 use Rattle.streetmap_loading.specs.Ends.{count_of_edits}
 use Rattle.streetmap_loading.specs.Places.{PlacedValue, edits_of, places_of}
-use Rattle.streetmap_loading.specs.Sinks.{TakesAll}
+use Rattle.streetmap_loading.specs.Sinks.{SinkTakesAll}
 use Rattle.streetmap_loading.specs.declared.sink.Stop.{Stop}
 
 pub length-numbered : (key : Text) (n : ℕ) (runs : List (List EditValue)) →
@@ -52,7 +52,7 @@ module _ {S : Type 0} (takes : S → BatchValue → Result (Option ℕ) Stop →
   pub takes_more :
       (first : S) (before : Option ℕ) (bs : List BatchValue) (mid : S) (serial : Option ℕ)
       (b : BatchValue) (now : Option ℕ) (last : S)
-      → TakesAll takes first before bs mid serial → takes mid b (Ok now) last → TakesAll takes
+      → SinkTakesAll takes first before bs mid serial → takes mid b (Ok now) last → SinkTakesAll takes
       first
       before (bs ++ b ∷ []) last now
   takes_more first before [] mid serial b now last all one =

@@ -8,11 +8,11 @@ use Rattle.streetmap_batch.specs.BatchValue.{BatchValue}
 use Rattle.streetmap_packing.specs.PackerView.{packing}
 use Rattle.streetmap_packing.proofs.Underway.{nothing}
 use Rattle.streetmap_loading.specs.Places.{PlacedValue}
-use Rattle.streetmap_loading.specs.Sources.{Item, TakesOff, HasNone, FirstIs, TakesNext}
+use Rattle.streetmap_loading.specs.Sources.{Item, TakesOff, HasNoItem, FirstIs, SourceGives}
 use Rattle.streetmap_loading.specs.Ends.{EndsBy, end_of_unread}
-use Rattle.streetmap_loading.specs.Sending.{Begins, IsSending, Fills, Puts, Finishes, IsWithin}
+use Rattle.streetmap_loading.specs.Sending.{Begins, IsSending, SendsWhenFull, TakesEdit, SendsTheRest, EndsAtEdit}
 use Rattle.streetmap_loading.specs.Sending.{IsBehind}
-use Rattle.streetmap_loading.specs.Loads.{Loads, AreRead, BeginsWith, items_of}
+use Rattle.streetmap_loading.specs.Loads.{Loads, AreRead, ItemsBeginWith, items_of}
 use Rattle.streetmap_loading.specs.declared.sink.Stop.{Stop}
 use Rattle.streetmap_loading.specs.declared.source.Unread.{Unread}
 use Rattle.streetmap_loading.specs.declared.source.Unread.TheVariants as unread
@@ -36,20 +36,20 @@ takes_then (Some items) (Some rest) None xs ys p q = absurd q
 takes_then (Some items) (Some rest) (Some more) xs ys p q = p ∙
     (ap (λ t. xs ++ t) q ∙ sym (append_assoc xs ys more))
 
-pub none_left : (a b c : Option (List Item)) (xs : List Item) → TakesOff a b xs → HasNone b c →
-    HasNone a c
+pub none_left : (a b c : Option (List Item)) (xs : List Item) → TakesOff a b xs → HasNoItem b c →
+    HasNoItem a c
 none_left None b c xs h none = tt
 none_left (Some items) None c xs h none = absurd h
 none_left (Some items) (Some rest) None xs h none = tt
 none_left (Some items) (Some rest) (Some more) xs h none = none
 
-front : (old now : Option (List Item)) (xs : List Item) → TakesOff old now xs → BeginsWith old xs
+front : (old now : Option (List Item)) (xs : List Item) → TakesOff old now xs → ItemsBeginWith old xs
 front None now xs taken = tt
 front (Some items) None xs taken = absurd taken
 front (Some items) (Some rest) xs taken = (rest, taken)
 
 front_at : (old now : Option (List Item)) (xs : List Item) (fault : TextFault) →
-    TakesOff old now xs → FirstIs now fault → BeginsWith old (xs ++ Err fault ∷ [])
+    TakesOff old now xs → FirstIs now fault → ItemsBeginWith old (xs ++ Err fault ∷ [])
 front_at None now xs fault taken is = tt
 front_at (Some items) None xs fault taken is = absurd taken
 front_at (Some items) (Some rest) xs fault taken is =
@@ -61,7 +61,7 @@ items_more [] p = refl
 items_more (x ∷ ps) p = ap (λ t. Ok x ∷ t) (items_more ps p)
 
 -- an end within is one at which the edits that were read are those that were taken off
-are_within : (old now : Option (List Item)) (read : List PlacedValue) (end : End) → IsWithin end →
+are_within : (old now : Option (List Item)) (read : List PlacedValue) (end : End) → EndsAtEdit end →
     TakesOff old now (items_of read) → AreRead old now read end
 are_within old now read All within taken = absurd within
 are_within old now read (AtFault fault) within taken = absurd within
@@ -72,7 +72,7 @@ are_within old now read (Stopped fault) within taken = taken
 are_within old now read WriteFailed within taken = taken
 
 are_behind : (old now : Option (List Item)) (read : List PlacedValue) (end : End) → IsBehind end →
-    TakesOff old now (items_of read) → HasNone old now → AreRead old now read end
+    TakesOff old now (items_of read) → HasNoItem old now → AreRead old now read end
 are_behind old now read All behind taken none = (taken, none)
 are_behind old now read (AtFault fault) behind taken none = absurd behind
 are_behind old now read ReadFailed behind taken none = absurd behind
@@ -118,13 +118,13 @@ module _ {S : Type 0} (takes : S → BatchValue → Result (Option ℕ) Stop →
         { edits = edits; batches = m.batches; taken = m.taken; serial = m.serial; end = end }
 
     -- the batch under way was looked at
-    pub filled : (m : Sending) (next : S) → Fills takes each key first it.read (Ok tt) m next →
+    pub filled : (m : Sending) (next : S) → SendsWhenFull takes each key first it.read (Ok tt) m next →
         Reads each key first next old now count m
     filled m next fills = record
         { read = it.read; counted = it.counted; taken = it.taken; sending = fills.0 }
 
     pub not_filled : (m : Sending) (next : S) (end : End) →
-        Fills takes each key first it.read (Err end) m next →
+        SendsWhenFull takes each key first it.read (Err end) m next →
         Loads takes each key first next old now (told m count end)
     not_filled m next end fills = record {
       read = it.read;
@@ -147,7 +147,7 @@ module _ {S : Type 0} (takes : S → BatchValue → Result (Option ℕ) Stop →
 
     -- an edit was added
     pub goes_further : (later : Option (List Item)) (p : PlacedValue) (m : Sending) (next : S) →
-        TakesOff now later (Ok p ∷ []) → Puts takes each key first it.read p (Ok tt) m next →
+        TakesOff now later (Ok p ∷ []) → TakesEdit takes each key first it.read p (Ok tt) m next →
         Reads each key first next old later (count + 1) m
     goes_further later p m next took puts = record {
       read = it.read ++ p ∷ [];
@@ -158,7 +158,7 @@ module _ {S : Type 0} (takes : S → BatchValue → Result (Option ℕ) Stop →
 
     pub stops :
         (later : Option (List Item)) (p : PlacedValue) (m : Sending) (next : S) (end : End) →
-        TakesOff now later (Ok p ∷ []) → Puts takes each key first it.read p (Err end) m next →
+        TakesOff now later (Ok p ∷ []) → TakesEdit takes each key first it.read p (Err end) m next →
         Loads takes each key first next old later (told m (count + 1) end)
     stops later p m next end took puts = record {
       read = it.read ++ p ∷ [];
@@ -170,8 +170,8 @@ module _ {S : Type 0} (takes : S → BatchValue → Result (Option ℕ) Stop →
 
     -- no edit is left
     pub ends : (later : Option (List Item)) (loaded : Loaded) (next : S) → TakesOff now later [] →
-        HasNone now later → loaded.edits ≡ count →
-        Finishes takes each key first it.read loaded next →
+        HasNoItem now later → loaded.edits ≡ count →
+        SendsTheRest takes each key first it.read loaded next →
         Loads takes each key first next old later loaded
     ends later loaded next took none edits finishes =
         let taken = subst (λ (xs : List Item). TakesOff old later xs)
@@ -187,7 +187,7 @@ module _ {S : Type 0} (takes : S → BatchValue → Result (Option ℕ) Stop →
         }
 
     -- the next one was not read, or is at fault
-    pub not_read : (later : Option (List Item)) (u : Unread) → TakesNext now later (Err u) →
+    pub not_read : (later : Option (List Item)) (u : Unread) → SourceGives now later (Err u) →
         length (packing l.packer).edits < each →
         Loads takes each key first last old later (told l count (end_of_unread u))
     not_read later (unread.AtFault fault) took few = record {

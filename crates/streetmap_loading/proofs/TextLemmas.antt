@@ -9,7 +9,7 @@ use Rattle.streetmap_batch.specs.Text.{Text}
 use Rattle.streetmap_text_lines.specs.Lines.{first_too_long}
 use Rattle.streetmap_text_lines.specs.Reading.{WhereKnown, IsFirstLine}
 use Rattle.streetmap_loading.specs.Places.{PlacedValue}
-use Rattle.streetmap_loading.specs.Sources.{Item, TakesOff, HasNone, FirstIs, TakesNext}
+use Rattle.streetmap_loading.specs.Sources.{Item, TakesOff, HasNoItem, FirstIs, SourceGives}
 use Rattle.streetmap_loading.specs.Sources.{placed_value}
 use Rattle.streetmap_loading.specs.TextView.{rules_value, and_left, Steps}
 use Rattle.streetmap_loading.specs.declared.rules.FeatureRules.{FeatureRules}
@@ -134,7 +134,7 @@ no_items : (r : Rules) (features : ℕ) (input : Text) → input ≡ [] → item
 no_items r features input none = ap (λ t. items_in r features t) none
 
 pub at_end : (r : Rules) (features : ℕ) (a b : Option Text) → Keeps a b × IsAtEnd a →
-    TakesOff (items_left r features a) (items_left r features b) [] × HasNone
+    TakesOff (items_left r features a) (items_left r features b) [] × HasNoItem
     (items_left r features a) (items_left r features b)
 at_end r features None b end = (tt, tt)
 at_end r features (Some input) None end = absurd end.0
@@ -172,7 +172,7 @@ lift_off None b xs off = tt
 lift_off (Some items) None xs off = absurd off
 lift_off (Some items) (Some rest) xs off = off
 
-lift_none : (a b : Option (List Item)) → HasNone a b → HasNone (and_left None a) (and_left None b)
+lift_none : (a b : Option (List Item)) → HasNoItem a b → HasNoItem (and_left None a) (and_left None b)
 lift_none None b none = tt
 lift_none (Some items) None none = tt
 lift_none (Some items) (Some rest) none = none
@@ -212,16 +212,16 @@ module _ (old new : FeatureRules) (f n : ℕ) (a b : Option Text) (p q : Option 
       (takes_then (items_left (rules_value old) f a) mid
       (items_left (rules_value old) n b) [] xs off took))))
 
-  pub next_none : q ≡ None → HasNone mid (items_left (rules_value old) n b) →
-      HasNone (and_left p (items_left (rules_value old) f a))
+  pub next_none : q ≡ None → HasNoItem mid (items_left (rules_value old) n b) →
+      HasNoItem (and_left p (items_left (rules_value old) f a))
       (and_left q (items_left (rules_value new) n b))
   next_none after none =
-      subst (λ (x : Option PlacedEdit). HasNone (and_left x (items_left (rules_value old) f a))
+      subst (λ (x : Option PlacedEdit). HasNoItem (and_left x (items_left (rules_value old) f a))
       (and_left q (items_left (rules_value new) n b))) (sym before)
-      (subst (λ (x : Option PlacedEdit). HasNone
+      (subst (λ (x : Option PlacedEdit). HasNoItem
       (and_left None (items_left (rules_value old) f a))
       (and_left x (items_left (rules_value new) n b))) (sym after)
-      (subst (λ (x : FeatureRules). HasNone (and_left None (items_left (rules_value old) f a))
+      (subst (λ (x : FeatureRules). HasNoItem (and_left None (items_left (rules_value old) f a))
       (and_left None (items_left (rules_value x) n b))) (sym same)
       (lift_none (items_left (rules_value old) f a) (items_left (rules_value old) n b)
       (none_left (items_left (rules_value old) f a) mid
@@ -247,7 +247,7 @@ pub next_unread :
     p ≡ None →
     TakesOff (items_left (rules_value old) f a) mid [] → Steps mid
     (items_left (rules_value old) n b) (Err u) →
-    TakesNext (and_left p (items_left (rules_value old) f a))
+    SourceGives (and_left p (items_left (rules_value old) f a))
     (and_left q (items_left (rules_value new) n b)) (Err u)
 next_unread old new f n a b p q mid (unread.AtFault fault) before off first = next_first old f a p
     mid fault before off first

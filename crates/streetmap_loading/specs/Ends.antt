@@ -5,7 +5,7 @@ use Rattle.streetmap_batch.specs.Text.{Text}
 use Rattle.streetmap_batch.specs.BatchValue.{EditValue, BatchValue}
 use Rattle.streetmap_packing.specs.Packs.{numbered_key, passes, Packs, PacksFirst}
 use Rattle.streetmap_loading.specs.Places.{PlacedValue, edits_of, places_of, text_place}
-use Rattle.streetmap_loading.specs.Sinks.{TakesAll}
+use Rattle.streetmap_loading.specs.Sinks.{SinkTakesAll}
 use Rattle.streetmap_loading.specs.declared.source.Unread.{Unread}
 use Rattle.streetmap_loading.specs.declared.source.Unread.TheVariants as unread
 use Rattle.streetmap_loading.specs.declared.sink.Stop.{Stop}
@@ -92,5 +92,5 @@ module _ {S : Type 0} (takes : S → BatchValue → Result (Option ℕ) Stop →
     pub mid : S
     pub counted : length sent ≡ batches
     pub held : count_of_edits sent ≡ taken
-    pub all : TakesAll takes first None sent mid serial
+    pub all : SinkTakesAll takes first None sent mid serial
     pub ends : ByEnd each key read sent mid last end

@@ -60,12 +60,12 @@ module _ (s : State) (before : Option State → Type 0) (stands : State → Type
 
   -- the keeper did not answer this batch: a want of memory changes nothing, a failed device may
   -- have left the batch or not
-  abbrev pub Fails : State → BatchValue → Fault → Type 0
-  Fails t b faults.Memory = Rests t
-  Fails t b faults.Device = LeavesOnly before (Some s) → LeavesEither left (Some t)
+  abbrev pub LeavesUnanswered : State → BatchValue → Fault → Type 0
+  LeavesUnanswered t b faults.Memory = Rests t
+  LeavesUnanswered t b faults.Device = LeavesOnly before (Some s) → LeavesEither left (Some t)
       (Some (act t b).state)
-  Fails t b faults.Damaged = ⊥
-  Fails t b faults.Reopen = ⊥
+  LeavesUnanswered t b faults.Damaged = ⊥
+  LeavesUnanswered t b faults.Reopen = ⊥
 
   -- a batch of the first of these edits was refused, and is told with the place in the text; or it
   -- was not answered
@@ -73,7 +73,7 @@ module _ (s : State) (before : Option State → Type 0) (stands : State → Type
   StopsAt t placed b (Refused why place) =
       (inner : Option ℕ) × ((act t b).reply ≡ replies.Refused why inner) ×
       (place ≡ text_place (take (length b.edits) (places_of placed)) inner) × Rests t
-  StopsAt t placed b (Stopped fault) = Fails t b fault
+  StopsAt t placed b (Stopped fault) = LeavesUnanswered t b fault
   StopsAt t placed b _ = ⊥
 
   -- in the state t, behind the batches that were sent

@@ -4,7 +4,7 @@ use Rattle.std.specs.Prelude.{Err}
 use Rattle.streetmap_batch.specs.Text.{Text}
 use Rattle.streetmap_batch.specs.BatchValue.{BatchValue}
 use Rattle.streetmap_loading.specs.Places.{PlacedValue}
-use Rattle.streetmap_loading.specs.Sources.{Item, TakesOff, HasNone}
+use Rattle.streetmap_loading.specs.Sources.{Item, TakesOff, HasNoItem}
 use Rattle.streetmap_loading.specs.Ends.{EndsBy}
 use Rattle.streetmap_loading.specs.declared.sink.Stop.{Stop}
 use Rattle.streetmap_loading.specs.declared.end.Loaded.{Loaded}
@@ -17,17 +17,17 @@ items_of [] = []
 items_of (p ∷ ps) = Ok p ∷ items_of ps
 
 -- items that are known begin with these
-abbrev pub BeginsWith : Option (List Item) → List Item → Type 0
-BeginsWith None read = Unit {0}
-BeginsWith (Some items) read = (rest : List Item) × (items ≡ read ++ rest)
+abbrev pub ItemsBeginWith : Option (List Item) → List Item → Type 0
+ItemsBeginWith None read = Unit {0}
+ItemsBeginWith (Some items) read = (rest : List Item) × (items ≡ read ++ rest)
 
 -- the edits are those that were taken off the source: all of it; those in front of the item at
 -- fault; or its first
 abbrev pub AreRead : Option (List Item) → Option (List Item) → List PlacedValue → End → Type 0
-AreRead old new read All = TakesOff old new (items_of read) × HasNone old new
-AreRead old new read (AtFault fault) = BeginsWith old (items_of read ++ Err fault ∷ [])
-AreRead old new read ReadFailed = BeginsWith old (items_of read)
-AreRead old new read Memory = BeginsWith old (items_of read)
+AreRead old new read All = TakesOff old new (items_of read) × HasNoItem old new
+AreRead old new read (AtFault fault) = ItemsBeginWith old (items_of read ++ Err fault ∷ [])
+AreRead old new read ReadFailed = ItemsBeginWith old (items_of read)
+AreRead old new read Memory = ItemsBeginWith old (items_of read)
 AreRead old new read end = TakesOff old new (items_of read)
 
 -- these edits were read, and their batches were sent from the first sink to the last, up to the end

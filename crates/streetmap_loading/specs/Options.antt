@@ -99,14 +99,14 @@ abbrev pub skipping : LoadValue → Option Text → LoadValue
 skipping l property = record l { rules = record l.rules { skip = Some property } }
 
 -- a fault beside memory is that of what is asked
-abbrev pub Fails : {Y : Type 0} → LoadFault → Result Y LoadFault → Type 0
-Fails Memory asked = Unit {0}
-Fails e asked = asked ≡ Err e
+abbrev pub FaultAsAsked : {Y : Type 0} → LoadFault → Result Y LoadFault → Type 0
+FaultAsAsked Memory asked = Unit {0}
+FaultAsAsked e asked = asked ≡ Err e
 
 -- what was answered, seen by view, is what is asked, unless memory ran out
-abbrev pub Gives : {X Y : Type 0} → (X → Y) → Result X LoadFault → Result Y LoadFault → Type 0
-Gives view (Ok x) asked = asked ≡ Ok (view x)
-Gives view (Err e) asked = Fails e asked
+abbrev pub AsAsked : {X Y : Type 0} → (X → Y) → Result X LoadFault → Result Y LoadFault → Type 0
+AsAsked view (Ok x) asked = asked ≡ Ok (view x)
+AsAsked view (Err e) asked = FaultAsAsked e asked
 
 -- ---- its edits
 

@@ -7,7 +7,7 @@ use Rattle.streetmap_packing.specs.Packs.{numbered_all}
 use Rattle.streetmap_packing.specs.PackerView.{packing, begun}
 use Rattle.streetmap_packing.specs.Underway.{packing_at, Underway, edits_in}
 use Rattle.streetmap_loading.specs.Places.{PlacedValue, edits_of, places_of}
-use Rattle.streetmap_loading.specs.Sinks.{TakesAll}
+use Rattle.streetmap_loading.specs.Sinks.{SinkTakesAll}
 use Rattle.streetmap_loading.specs.Ends.{EndsBy, end_of_stop}
 use Rattle.streetmap_loading.specs.declared.sink.Stop.{Stop}
 use Rattle.streetmap_loading.specs.declared.end.End.{End}
@@ -37,16 +37,16 @@ pub record FewMore (old new : Sending) : Type 0 where
   pub taken : new.taken ≤ old.taken + 10000
 
 -- it ended at an edit that was read, or for want of memory
-abbrev pub IsWithin : End → Type 0
-IsWithin All = ⊥
-IsWithin (AtFault fault) = ⊥
-IsWithin ReadFailed = ⊥
-IsWithin _ = Unit {0}
+abbrev pub EndsAtEdit : End → Type 0
+EndsAtEdit All = ⊥
+EndsAtEdit (AtFault fault) = ⊥
+EndsAtEdit ReadFailed = ⊥
+EndsAtEdit _ = Unit {0}
 
 -- or behind the last
 abbrev pub IsBehind : End → Type 0
 IsBehind All = Unit {0}
-IsBehind end = IsWithin end
+IsBehind end = EndsAtEdit end
 
 module _ {S : Type 0} (takes : S → BatchValue → Result (Option ℕ) Stop → S → Type 0) where
   -- these edits were read from the first sink on: the runs that are done were sent, and the others
@@ -63,7 +63,7 @@ module _ {S : Type 0} (takes : S → BatchValue → Result (Option ℕ) Stop →
     pub underway : Underway each key (edits_of read) sent (edits_of left)
     pub counted : length sent ≡ l.batches
     pub held : edits_in sent ≡ l.taken
-    pub all : TakesAll takes first None (numbered_all key 1 sent) now l.serial
+    pub all : SinkTakesAll takes first None (numbered_all key 1 sent) now l.serial
 
   -- a batch was counted where it was taken, and else the load ended at it
   abbrev pub Sends : Sending → S → BatchValue → List (Option ℕ) → Result (Unit {0}) End → Sending
@@ -77,23 +77,23 @@ module _ {S : Type 0} (takes : S → BatchValue → Result (Option ℕ) Stop →
       (stop : Stop) × takes old b (Err stop) new × (end ≡ end_of_stop places stop) × (m ≡ l)
 
   -- the batch under way was sent where it was full
-  abbrev pub Fills : (each : ℕ) (key : Text) (first : S) → List PlacedValue →
+  abbrev pub SendsWhenFull : (each : ℕ) (key : Text) (first : S) → List PlacedValue →
       Result (Unit {0}) End → Sending → S → Type 0
-  Fills each key first read (Ok done) l now = IsSending each key first read l now ×
+  SendsWhenFull each key first read (Ok done) l now = IsSending each key first read l now ×
       (length (packing l.packer).edits < each)
-  Fills each key first read (Err end) l now = EndsBy takes each key first now read l.batches
+  SendsWhenFull each key first read (Err end) l now = EndsBy takes each key first now read l.batches
       l.taken
-      l.serial end × IsWithin end
+      l.serial end × EndsAtEdit end
 
   -- an edit was added
-  abbrev pub Puts : (each : ℕ) (key : Text) (first : S) → List PlacedValue → PlacedValue →
+  abbrev pub TakesEdit : (each : ℕ) (key : Text) (first : S) → List PlacedValue → PlacedValue →
       Result (Unit {0}) End → Sending → S → Type 0
-  Puts each key first read p (Ok done) l now = IsSending each key first (read ++ p ∷ []) l now
-  Puts each key first read p (Err end) l now = EndsBy takes each key first now (read ++ p ∷ [])
-      l.batches l.taken l.serial end × IsWithin end
+  TakesEdit each key first read p (Ok done) l now = IsSending each key first (read ++ p ∷ []) l now
+  TakesEdit each key first read p (Err end) l now = EndsBy takes each key first now (read ++ p ∷ [])
+      l.batches l.taken l.serial end × EndsAtEdit end
 
   -- the last batch was taken, or it ended there
-  abbrev pub Finishes : (each : ℕ) (key : Text) (first : S) → List PlacedValue → Loaded → S → Type
-      0
-  Finishes each key first read loaded now = EndsBy takes each key first now read loaded.batches
+  abbrev pub SendsTheRest : (each : ℕ) (key : Text) (first : S) → List PlacedValue → Loaded → S →
+      Type 0
+  SendsTheRest each key first read loaded now = EndsBy takes each key first now read loaded.batches
       loaded.taken loaded.serial loaded.end × IsBehind loaded.end

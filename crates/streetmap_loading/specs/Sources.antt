@@ -21,10 +21,10 @@ TakesOff (Some items) None taken = ⊥
 TakesOff (Some items) (Some rest) taken = items ≡ taken ++ rest
 
 -- none is left of items that were known
-abbrev pub HasNone : Option (List Item) → Option (List Item) → Type 0
-HasNone None new = Unit {0}
-HasNone (Some items) None = Unit {0}
-HasNone (Some items) (Some rest) = rest ≡ []
+abbrev pub HasNoItem : Option (List Item) → Option (List Item) → Type 0
+HasNoItem None new = Unit {0}
+HasNoItem (Some items) None = Unit {0}
+HasNoItem (Some items) (Some rest) = rest ≡ []
 
 -- items that are known begin with this fault
 abbrev pub FirstIs : Option (List Item) → TextFault → Type 0
@@ -32,11 +32,11 @@ FirstIs None fault = Unit {0}
 FirstIs (Some items) fault = (rest : List Item) × (items ≡ Err fault ∷ rest)
 
 -- the next edit, what stands at fault in its place, or the end
-abbrev pub TakesNext : Option (List Item) → Option (List Item) → Result (Option PlacedEdit) Unread
+abbrev pub SourceGives : Option (List Item) → Option (List Item) → Result (Option PlacedEdit) Unread
     →
     Type 0
-TakesNext old new (Ok (Some placed)) = TakesOff old new (Ok (placed_value placed) ∷ [])
-TakesNext old new (Ok None) = TakesOff old new [] × HasNone old new
-TakesNext old new (Err (AtFault fault)) = FirstIs old fault
-TakesNext old new (Err ReadFailed) = Unit {0}
-TakesNext old new (Err Memory) = Unit {0}
+SourceGives old new (Ok (Some placed)) = TakesOff old new (Ok (placed_value placed) ∷ [])
+SourceGives old new (Ok None) = TakesOff old new [] × HasNoItem old new
+SourceGives old new (Err (AtFault fault)) = FirstIs old fault
+SourceGives old new (Err ReadFailed) = Unit {0}
+SourceGives old new (Err Memory) = Unit {0}

@@ -6,7 +6,7 @@ use Rattle.streetmap_batch.specs.BatchText.{edit_data}
 use Rattle.streetmap_batch.specs.BatchValue.{EditValue}
 use Rattle.streetmap_batch.specs.Text.{Text}
 use Rattle.streetmap_loading.specs.Places.{PlacedValue}
-use Rattle.streetmap_loading.specs.Sources.{Item, TakesOff, HasNone, FirstIs, placed_value}
+use Rattle.streetmap_loading.specs.Sources.{Item, TakesOff, HasNoItem, FirstIs, placed_value}
 use Rattle.streetmap_loading.specs.Texts.{Rules}
 use Rattle.streetmap_loading.specs.declared.source.PlacedEdit.{PlacedEdit}
 use Rattle.streetmap_loading.specs.declared.source.Unread.{Unread}
@@ -43,7 +43,7 @@ Measures place e (Some placed) = placed_value placed ≡ record { place = place;
 abbrev pub Steps : Option (List Item) → Option (List Item) → Result Step Unread → Type 0
 Steps old new (Ok step.Past) = TakesOff old new []
 Steps old new (Ok (step.Edit placed)) = TakesOff old new (Ok (placed_value placed) ∷ [])
-Steps old new (Ok step.End) = TakesOff old new [] × HasNone old new
+Steps old new (Ok step.End) = TakesOff old new [] × HasNoItem old new
 Steps old new (Err (AtFault fault)) = FirstIs old fault
 Steps old new (Err ReadFailed) = Unit {0}
 Steps old new (Err Memory) = Unit {0}

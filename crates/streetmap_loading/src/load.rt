@@ -52,7 +52,7 @@ pub struct Load {
 }
 
 impl Load {
-    ghost use Rattle.streetmap_loading.specs.Options.{Gives, load_of, load_value, skipping};
+    ghost use Rattle.streetmap_loading.specs.Options.{AsAsked, load_of, load_value, skipping};
     ghost use Rattle.streetmap_loading.specs.TextView.{property_of};
     ghost use Rattle.std.specs.Prelude.{◌≡◌};
 
@@ -64,7 +64,7 @@ impl Load {
     /// to have no edit or more than 10,000; then `BadBatch`, where a name of the collection is
     /// none.
     pub fn new(alloc: Global, options: LoadOptions<'_>) -> Result<Load, LoadFault>
-        ensures { Gives load_value result (load_of options.entry) }
+        ensures { AsAsked load_value result (load_of options.entry) }
     {
         if !is_key(options.key) || options.key.len() > MAX_KEY {
             return Err(LoadFault::BadKey);

@@ -3,7 +3,7 @@ ghost use Rattle.std.specs.Prelude.{◌≡◌, None, IfOk, option_map};
 ghost use Rattle.streetmap_batch.specs.BatchView.{edit_value};
 ghost use Rattle.streetmap_batch.specs.Names.{is_collection_id};
 ghost use Rattle.streetmap_loading.specs.Sources.{placed_value};
-ghost use Rattle.streetmap_loading.specs.Options.{Gives, named, title_of, time_of, opening_of};
+ghost use Rattle.streetmap_loading.specs.Options.{AsAsked, named, title_of, time_of, opening_of};
 ghost use Rattle.streetmap_loading.specs.Options.{opening_if, IsOpening};
 
 use crate::load::Opening;
@@ -14,7 +14,7 @@ use streetmap_batch::{CollectionId, Edit, TimeProperty, Title};
 
 /// The id of a collection.
 fn read_id(alloc: Global, text: &str) -> Result<CollectionId, LoadFault>
-    ensures { Gives (λ id. id) result (named is_collection_id text.now) }
+    ensures { AsAsked (λ id. id) result (named is_collection_id text.now) }
 {
     let text = String::from_str(alloc, text)?;
     match CollectionId::new(text) {
@@ -25,7 +25,7 @@ fn read_id(alloc: Global, text: &str) -> Result<CollectionId, LoadFault>
 
 /// The title of a collection.
 fn read_title(alloc: Global, id: &CollectionId, title: Option<&str>) -> Result<Title, LoadFault>
-    ensures { Gives (λ t. t) result (title_of id.now (option_map (λ t. t.now) title.entry)) }
+    ensures { AsAsked (λ t. t) result (title_of id.now (option_map (λ t. t.now) title.entry)) }
 {
     match title {
         None => Ok(Title::from_id(alloc, id)?),
@@ -41,7 +41,7 @@ fn read_title(alloc: Global, id: &CollectionId, title: Option<&str>) -> Result<T
 
 /// The name of a time property, where one is given.
 fn read_time(alloc: Global, time: Option<&str>) -> Result<Option<TimeProperty>, LoadFault>
-    ensures { Gives (λ t. t) result (time_of (option_map (λ t. t.now) time.entry)) }
+    ensures { AsAsked (λ t. t) result (time_of (option_map (λ t. t.now) time.entry)) }
 {
     match time {
         None => Ok(None),
@@ -63,7 +63,7 @@ fn open_edit(
     time: Option<&str>,
 ) -> Result<Edit, LoadFault>
     ensures opens { IfOk result (λ e. IsOpening (edit_value e)) }
-    ensures exact { Gives edit_value result (opening_of collection.now
+    ensures exact { AsAsked edit_value result (opening_of collection.now
         (option_map (λ t. t.now) title.entry) (option_map (λ t. t.now) time.entry)) }
 {
     let collection = read_id(alloc, collection)?;
@@ -94,7 +94,7 @@ pub(crate) fn read_opening(
     collection: &str,
     opening: Option<Opening<'_>>,
 ) -> Result<Option<PlacedEdit>, LoadFault>
-    ensures { Gives (λ o. option_map placed_value o) result
+    ensures { AsAsked (λ o. option_map placed_value o) result
         (opening_if collection.now opening.entry) }
 {
     match opening {

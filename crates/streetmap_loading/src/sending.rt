@@ -6,7 +6,8 @@ ghost use Rattle.streetmap_batch.specs.Names.{is_key};
 ghost use Rattle.streetmap_batch.specs.Text.{Text};
 ghost use Rattle.streetmap_loading.specs.Places.{PlacedValue};
 ghost use Rattle.streetmap_loading.specs.Sources.{placed_value};
-ghost use Rattle.streetmap_loading.specs.Sending.{Begins, IsSending, Sends, Fills, Puts, Finishes};
+ghost use Rattle.streetmap_loading.specs.Sending.{Begins, IsSending, Sends, SendsWhenFull};
+ghost use Rattle.streetmap_loading.specs.Sending.{TakesEdit, SendsTheRest};
 ghost use Rattle.streetmap_loading.specs.Sending.{HasRoom, FewMore};
 
 use crate::end::{End, Loaded};
@@ -86,7 +87,7 @@ impl Sending {
         ensures few { OnOk result (FewMore self.old self.new) }
         ensures fills { (each : ℕ) (key : Text) (first : S) (read : List PlacedValue) →
             IsSending S.takes each key first read self.old sink.old →
-            Fills S.takes each key first read result self.new sink.new }
+            SendsWhenFull S.takes each key first read result self.new sink.new }
     {
         match self.packer.fill(alloc)? {
             None => Ok(()),
@@ -109,7 +110,7 @@ impl Sending {
         ensures few { OnOk result (FewMore self.old self.new) }
         ensures puts { (each : ℕ) (key : Text) (first : S) (read : List PlacedValue) →
             IsSending S.takes each key first read self.old sink.old →
-            Puts S.takes each key first read (placed_value placed) result self.new sink.new }
+            TakesEdit S.takes each key first read (placed_value placed) result self.new sink.new }
     {
         let PlacedEdit { place, edit, size } = placed;
         match self.packer.add(alloc, edit, size)? {
@@ -131,7 +132,7 @@ impl Sending {
         ensures edits { result.edits ≡ edits }
         ensures finishes { (each : ℕ) (key : Text) (first : S) (read : List PlacedValue) →
             IsSending S.takes each key first read self sink.old →
-            Finishes S.takes each key first read result sink.new }
+            SendsTheRest S.takes each key first read result sink.new }
     {
         let Sending {
             packer,

@@ -33,14 +33,14 @@ pub struct PlacedEdit {
 
 /// Edits, one after the other.
 pub trait Edits {
-    ghost use Rattle.streetmap_loading.specs.Sources.{Item, TakesNext};
+    ghost use Rattle.streetmap_loading.specs.Sources.{Item, SourceGives};
 
     /// The edits that are left, where it tells them, and what stands at fault among them.
     ghost left: { Self → Option (List Item) };
 
     /// The next edit; none at the end.
     fn next_edit(&mut self) -> Result<Option<PlacedEdit>, Unread>
-        ensures { TakesNext (left self.old) (left self.new) result };
+        ensures { SourceGives (left self.old) (left self.new) result };
 }
 
 impl From<AllocError> for Unread {

@@ -22,7 +22,7 @@ use Rattle.mio.specs.declared.net.stream.TcpStream.{TcpStream}
 use Rattle.streetmap_connections.specs.declared.slot.Slot.{Slot}
 use Rattle.streetmap_web.specs.SurvivingClients.{SurvivesClients}
 use Rattle.streetmap_store.specs.Sparing.{LeavesStates}
-use Rattle.streetmap_store.specs.Surviving.{Holds}
+use Rattle.streetmap_store.specs.Surviving.{HoldsBeginning}
 use Rattle.streetmap_store.specs.Surviving.{IsOfOne, Survives, ServesTables, ServesTablesAtOnce}
 
 -- where a stop may leave these states alone, a database that is opened again is of one of them
@@ -78,7 +78,7 @@ run_survives_next seen s bs k fault left =
 
 -- where each database that a stop may leave is a state's, that state is there
 pub holds : (seen : Seen) (s : State) (bs : List BatchValue) (k : ℕ) → LeavesStates seen
-    → Survives s bs k seen → Holds s bs k seen
+    → Survives s bs k seen → HoldsBeginning s bs k seen
 holds seen s bs k states survives db left sound =
     let it = states db.trees left in
     let kept = keeps_too it.0 it.1.0 db.schema db.trees sound it.1.1 in

@@ -28,8 +28,8 @@ Survives s batches acknowledged seen = (db : Database) → seen.may_leave db.tre
     → IsOfOne (IsAfterBeginning s batches acknowledged) db
 
 -- such a state is there, in whatever database is opened again
-abbrev pub Holds : State → List BatchValue → ℕ → Seen → Type 0
-Holds s batches acknowledged seen =
+abbrev pub HoldsBeginning : State → List BatchValue → ℕ → Seen → Type 0
+HoldsBeginning s batches acknowledged seen =
     (db : Database) → seen.may_leave db.trees → IsDatabase db →
     (t : State) × IsAfterBeginning s batches acknowledged t × Keeps t db
 

@@ -20,7 +20,7 @@ ghost use Rattle.streetmap_web.specs.Exchanges.{Serves as ServesStream};
 ghost use Rattle.streetmap_web.specs.ServingClients.{ServesClients};
 ghost use Rattle.streetmap_connections.specs.Served.{ended_of, slots_of};
 ghost use Rattle.streetmap_store.specs.Surviving.{Survives, ServesTables, ServesTablesAtOnce};
-ghost use Rattle.streetmap_store.specs.Surviving.{Holds};
+ghost use Rattle.streetmap_store.specs.Surviving.{HoldsBeginning};
 ghost use Rattle.streetmap_store.specs.Tables.{tables_sight, journaled_sight};
 ghost use Rattle.streetmap_journal.specs.Telling.{IsForIf, ReachesUnless};
 
@@ -81,7 +81,7 @@ pub fn run_over_tables<S: Alter>(
     ensures holds { HasCleanDisk (state S.Store keeper.new.conn) → (s : State) →
         KeepsState keeper.old.shut (state S.Store keeper.old.conn) keeper.old.count s →
         LeavesOnly (MayLeave (state S.Store keeper.old.conn)) (Some s) →
-        Holds s (take (length result.replies.items + 1) (map batch_value batches.now))
+        HoldsBeginning s (take (length result.replies.items + 1) (map batch_value batches.now))
         (length result.replies.items) (state S.Store keeper.new.conn) }
 {
     run(alloc, keeper, batches)

@@ -9,7 +9,7 @@ use Rattle.streetmap_ledger.specs.Batches.{after_all}
 use Rattle.streetmap_ledger.specs.Keep.{LeavesOnly}
 use Rattle.streetmap_ledger.proofs.Repeat.{after_append}
 use Rattle.streetmap_routes.specs.Ask.{AskValue}
-use Rattle.streetmap_web.specs.Standing.{Standing, Outcome, told, starved, failed, looked, of_state, Leaves, Stays}
+use Rattle.streetmap_web.specs.Standing.{Standing, RequestOutcome, told, starved, failed, looked, of_state, Leaves, LeavesUntouched}
 use Rattle.streetmap_web.specs.Standing.{StateLeaves}
 use Rattle.streetmap_web.specs.Exchanges.{Around, TurnSays, Serves, with_batch, with_answered, batches_of, last_of}
 use Rattle.streetmap_web.specs.Beginnings.{LeavesBeginning, ServedLeaves, with_acted, batches_acted}
@@ -27,7 +27,7 @@ module _ (s : State) (bs : List BatchValue) (left : Option State → Type 0) whe
   behind cs = sym (after_append s bs cs) ∙ ap (after_all s) (sym (take-length (bs ++ cs)))
 
   -- a request that came out so
-  last_leaves : (ask : AskValue) (o : Outcome) → StateLeaves (after_all s bs) ask o left → LeavesBeginning s (bs ++ with_acted ask o []) (length (bs ++ with_answered ask o [])) left
+  last_leaves : (ask : AskValue) (o : RequestOutcome) → StateLeaves (after_all s bs) ask o left → LeavesBeginning s (bs ++ with_acted ask o []) (length (bs ++ with_answered ask o [])) left
   last_leaves ask told only =
       let w = with_batch ask [] in
       λ o is. (_, only o is, record { len = length (bs ++ w); contains = omega arith; is = sym (batch_acts (after_all s bs) ask []) ∙ behind w })
@@ -51,11 +51,11 @@ turn_leaves : (s : State) (bs : List BatchValue) (turn : Turn) (root : Text) (y 
     → LeavesBeginning s (bs ++ batches_acted (last_of turn root y a says)) (length (bs ++ batches_of (last_of turn root y a says))) a.new_leaves
 turn_leaves s bs turn root y a says is known = ends turn says
   where
-    acted : (ask : AskValue) (o : Outcome) → Leaves y ask o a.known a.old_leaves a.new_leaves → LeavesBeginning s (bs ++ with_acted ask o []) (length (bs ++ with_answered ask o [])) a.new_leaves
+    acted : (ask : AskValue) (o : RequestOutcome) → Leaves y ask o a.known a.old_leaves a.new_leaves → LeavesBeginning s (bs ++ with_acted ask o []) (length (bs ++ with_answered ask o [])) a.new_leaves
     acted ask o leaves = last_leaves s bs a.new_leaves ask o (subst (λ z. Leaves z ask o a.known a.old_leaves a.new_leaves) is leaves known)
 
-    rested : Stays y a.known a.old_leaves a.new_leaves → LeavesBeginning s (bs ++ []) (length (bs ++ [])) a.new_leaves
-    rested leaves = none_leaves s bs a.new_leaves (subst (λ z. Stays z a.known a.old_leaves a.new_leaves) is leaves known)
+    rested : LeavesUntouched y a.known a.old_leaves a.new_leaves → LeavesBeginning s (bs ++ []) (length (bs ++ [])) a.new_leaves
+    rested leaves = none_leaves s bs a.new_leaves (subst (λ z. LeavesUntouched z a.known a.old_leaves a.new_leaves) is leaves known)
 
     ends : (turn : Turn) (says : TurnSays turn root y a) → LeavesBeginning s (bs ++ batches_acted (last_of turn root y a says)) (length (bs ++ batches_of (last_of turn root y a says))) a.new_leaves
     ends Open says = acted says.0.request.ask says.0.outcome says.1.leaves

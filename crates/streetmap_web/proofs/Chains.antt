@@ -10,35 +10,35 @@ use Rattle.streetmap_ledger.specs.declared.reply.Cause.{Cause}
 use Rattle.streetmap_ledger.specs.declared.reply.Fault.TheVariants.{Memory, Device}
 use Rattle.streetmap_routes.specs.Ask.{AskValue, faulty, landing_page, api_text, conformance_classes, all_collections, one_collection, page, feature, batch}
 use Rattle.streetmap_web.specs.Response.{closes_with, state_in}
-use Rattle.streetmap_web.specs.Standing.{Standing, Outcome, of_state, shut, unknown, told, starved, failed}
+use Rattle.streetmap_web.specs.Standing.{Standing, RequestOutcome, of_state, shut, unknown, told, starved, failed}
 use Rattle.streetmap_web.specs.Standing.{looked, CanBe, answer_by, after, Leaves, LeavesAsBefore, IsKnown}
-use Rattle.streetmap_web.specs.Exchanges.{Exchange, IsExchange, GoOn, closes, standing_after, standing_after_all, all_requests, all_answers, answer_bytes, batches_of, with_batch, with_answered, after_batches}
+use Rattle.streetmap_web.specs.Exchanges.{HttpExchange, IsExchange, GoOn, closes, standing_after, standing_after_all, all_requests, all_answers, answer_bytes, batches_of, with_batch, with_answered, after_batches}
 use Rattle.streetmap_web.proofs.Standings.{fault_closes}
 
-pub GoOn-more : (root : Text) (x : Standing) (es : List Exchange) (e : Exchange) → GoOn root x es → IsExchange (standing_after_all x es) e
+pub GoOn-more : (root : Text) (x : Standing) (es : List HttpExchange) (e : HttpExchange) → GoOn root x es → IsExchange (standing_after_all x es) e
     → closes root (standing_after_all x es) e ≡ false → GoOn root x (es ++ e ∷ [])
 GoOn-more root x [] e h is opens = (is, opens, tt)
 GoOn-more root x (f ∷ es) e (first, stays, more) is opens = (first, stays, GoOn-more root (standing_after x f) es e more is opens)
 
-pub requests-more : (es : List Exchange) (e : Exchange) → all_requests (es ++ e ∷ []) ≡ all_requests es ++ e.bytes
+pub requests-more : (es : List HttpExchange) (e : HttpExchange) → all_requests (es ++ e ∷ []) ≡ all_requests es ++ e.bytes
 requests-more [] e = append-nil e.bytes
 requests-more (f ∷ es) e = ap (λ l. f.bytes ++ l) (requests-more es e) ∙ sym (append_assoc f.bytes (all_requests es) e.bytes)
 
-pub answers-more : (root : Text) (x : Standing) (es : List Exchange) (e : Exchange) → all_answers root x (es ++ e ∷ []) ≡ all_answers root x es ++ answer_bytes root (standing_after_all x es) e
+pub answers-more : (root : Text) (x : Standing) (es : List HttpExchange) (e : HttpExchange) → all_answers root x (es ++ e ∷ []) ≡ all_answers root x es ++ answer_bytes root (standing_after_all x es) e
 answers-more root x [] e = append-nil (answer_bytes root x e)
 answers-more root x (f ∷ es) e =
     let y = standing_after x f in
     ap (λ l. answer_bytes root x f ++ l) (answers-more root y es e)
     ∙ sym (append_assoc (answer_bytes root x f) (all_answers root y es) (answer_bytes root (standing_after_all y es) e))
 
-pub standing-more : (x : Standing) (es : List Exchange) (e : Exchange) → standing_after_all x (es ++ e ∷ []) ≡ standing_after (standing_after_all x es) e
+pub standing-more : (x : Standing) (es : List HttpExchange) (e : HttpExchange) → standing_after_all x (es ++ e ∷ []) ≡ standing_after (standing_after_all x es) e
 standing-more x [] e = refl
 standing-more x (f ∷ es) e = standing-more (standing_after x f) es e
 
 -- ---- what a stop may leave
 
 -- the connection closes behind a fault, so what leaves it open was answered as asked
-open_told : (root : Text) (s : State) (ask : AskValue) (asked : Bool) (o : Outcome) → CanBe (of_state s) ask o → closes_with asked (answer_by root (of_state s) ask o) ≡ false → o ≡ told
+open_told : (root : Text) (s : State) (ask : AskValue) (asked : Bool) (o : RequestOutcome) → CanBe (of_state s) ask o → closes_with asked (answer_by root (of_state s) ask o) ≡ false → o ≡ told
 open_told root s ask asked told can h = refl
 open_told root s ask asked starved can h = let e : true ≡ false = fault_closes asked Memory ∙ h in cc
 open_told root s ask asked failed can h = let e : true ≡ false = fault_closes asked Device ∙ h in cc
@@ -55,14 +55,14 @@ batch_acts s (page name q) bs = refl
 batch_acts s (feature name id) bs = refl
 batch_acts s (batch b) bs = refl
 
-told_acts : (s : State) (ask : AskValue) (o : Outcome) (bs : List BatchValue) → o ≡ told → after_all s (with_answered ask o bs) ≡ after_all (state_in s ask) bs
+told_acts : (s : State) (ask : AskValue) (o : RequestOutcome) (bs : List BatchValue) → o ≡ told → after_all s (with_answered ask o bs) ≡ after_all (state_in s ask) bs
 told_acts s ask o bs e = ap (λ p. after_all s (with_answered ask p bs)) e ∙ batch_acts s ask bs
 
-told_after : (s : State) (ask : AskValue) (o : Outcome) → o ≡ told → after (of_state s) ask o ≡ of_state (state_in s ask)
+told_after : (s : State) (ask : AskValue) (o : RequestOutcome) → o ≡ told → after (of_state s) ask o ≡ of_state (state_in s ask)
 told_after s ask o e = ap (after (of_state s) ask) e
 
 -- exchanges that leave the connection open take a state to the one after their batches
-pub states_after : (root : Text) (s : State) (es : List Exchange) → GoOn root (of_state s) es → standing_after_all (of_state s) es ≡ of_state (after_all s (batches_of es))
+pub states_after : (root : Text) (s : State) (es : List HttpExchange) → GoOn root (of_state s) es → standing_after_all (of_state s) es ≡ of_state (after_all s (batches_of es))
 states_after root s [] h = refl
 states_after root s (e ∷ es) (first, opens, more) =
     let is : e.outcome ≡ told = open_told root s e.request.ask e.request.closes e.outcome first.can opens in
@@ -72,41 +72,41 @@ states_after root s (e ∷ es) (first, opens, more) =
     ∙ ap of_state (sym (told_acts s e.request.ask e.outcome (batches_of es) is))
 
 -- a shut keeper stays shut
-pub stays_shut : (why : Cause) (es : List Exchange) → standing_after_all (shut why) es ≡ shut why
+pub stays_shut : (why : Cause) (es : List HttpExchange) → standing_after_all (shut why) es ≡ shut why
 stays_shut why [] = refl
 stays_shut why (e ∷ es) = stays_shut why es
 
 -- and nothing is known of one of which nothing was
-stays_unknown : (es : List Exchange) → standing_after_all unknown es ≡ unknown
+stays_unknown : (es : List HttpExchange) → standing_after_all unknown es ≡ unknown
 stays_unknown [] = refl
 stays_unknown (e ∷ es) = stays_unknown es
 
 -- the batches of one more exchange
-abbrev after_each : (s : State) (ask : AskValue) (o : Outcome) → State
+abbrev after_each : (s : State) (ask : AskValue) (o : RequestOutcome) → State
 after_each s ask told = state_in s ask
 after_each s ask starved = s
 after_each s ask failed = s
 after_each s ask (looked shown) = s
 
-each_acts : (s : State) (ask : AskValue) (o : Outcome) (bs : List BatchValue) → after_all s (with_answered ask o bs) ≡ after_all (after_each s ask o) bs
+each_acts : (s : State) (ask : AskValue) (o : RequestOutcome) (bs : List BatchValue) → after_all s (with_answered ask o bs) ≡ after_all (after_each s ask o) bs
 each_acts s ask told bs = batch_acts s ask bs
 each_acts s ask starved bs = refl
 each_acts s ask failed bs = refl
 each_acts s ask (looked shown) bs = refl
 
-batches-more : (s : State) (es : List Exchange) (e : Exchange) → e.outcome ≡ told → after_all s (batches_of (es ++ e ∷ [])) ≡ state_in (after_all s (batches_of es)) e.request.ask
+batches-more : (s : State) (es : List HttpExchange) (e : HttpExchange) → e.outcome ≡ told → after_all s (batches_of (es ++ e ∷ [])) ≡ state_in (after_all s (batches_of es)) e.request.ask
 batches-more s [] e is = told_acts s e.request.ask e.outcome [] is
 batches-more s (f ∷ es) e is =
     each_acts s f.request.ask f.outcome (batches_of (es ++ e ∷ []))
     ∙ batches-more (after_each s f.request.ask f.outcome) es e is
     ∙ ap (λ t. state_in t e.request.ask) (sym (each_acts s f.request.ask f.outcome (batches_of es)))
 
-leaves_state : (t : State) (known : Type 0) (old new : Option State → Type 0) (ask : AskValue) (o : Outcome) → o ≡ told → known
+leaves_state : (t : State) (known : Type 0) (old new : Option State → Type 0) (ask : AskValue) (o : RequestOutcome) → o ≡ told → known
     → Leaves (of_state t) ask o known old new → LeavesOnly new (Some (state_in t ask))
 leaves_state t known old new ask o is k leaves = subst (λ p. Leaves (of_state t) ask p known old new) is leaves k
 
 -- what a stop may leave after exchanges that leave the connection open
-abbrev pub LeavesAll : Standing → List Exchange → (old new : Option State → Type 0) → Type 0
+abbrev pub LeavesAll : Standing → List HttpExchange → (old new : Option State → Type 0) → Type 0
 LeavesAll (of_state s) es old new = LeavesOnly old (Some s) → LeavesOnly new (Some (after_all s (batches_of es)))
 LeavesAll (shut why) es old new = LeavesAsBefore old new
 LeavesAll unknown es old new = ⊤
@@ -116,7 +116,7 @@ LeavesAll-none (of_state s) left = λ only. only
 LeavesAll-none (shut why) left = λ o. (λ h. h, λ h. h)
 LeavesAll-none unknown left = tt
 
-pub LeavesAll-more : (root : Text) (x : Standing) (es : List Exchange) (e : Exchange) (old middle new : Option State → Type 0) → GoOn root x es
+pub LeavesAll-more : (root : Text) (x : Standing) (es : List HttpExchange) (e : HttpExchange) (old middle new : Option State → Type 0) → GoOn root x es
     → IsExchange (standing_after_all x es) e → closes root (standing_after_all x es) e ≡ false → LeavesAll x es old middle
     → Leaves (standing_after_all x es) e.request.ask e.outcome (IsKnown (standing_after_all x es) middle) middle new → LeavesAll x (es ++ e ∷ []) old new
 LeavesAll-more root (of_state s) es e old middle new go_on is_one opens all leaves = λ only.
@@ -132,17 +132,17 @@ LeavesAll-more root (shut why) es e old middle new go_on is_one opens all leaves
     λ o. (λ h. (all o).0 ((one o).0 h), λ h. (one o).1 ((all o).1 h))
 
 -- what is known after them
-pub known_after : (root : Text) (x : Standing) (es : List Exchange) (old middle : Option State → Type 0) → GoOn root x es → LeavesAll x es old middle → IsKnown x old → IsKnown (standing_after_all x es) middle
+pub known_after : (root : Text) (x : Standing) (es : List HttpExchange) (old middle : Option State → Type 0) → GoOn root x es → LeavesAll x es old middle → IsKnown x old → IsKnown (standing_after_all x es) middle
 known_after root (of_state s) es old middle go_on all known = subst (λ y. IsKnown y middle) (sym (states_after root s es go_on)) (all known)
 known_after root (shut why) es old middle go_on all known = subst (λ y. IsKnown y middle) (sym (stays_shut why es)) tt
 known_after root unknown es old middle go_on all known = subst (λ y. IsKnown y middle) (sym (stays_unknown es)) tt
 
-pub batches_after : (root : Text) (x : Standing) (es : List Exchange) → GoOn root x es → standing_after_all x es ≡ after_batches x (batches_of es)
+pub batches_after : (root : Text) (x : Standing) (es : List HttpExchange) → GoOn root x es → standing_after_all x es ≡ after_batches x (batches_of es)
 batches_after root (of_state s) es go_on = states_after root s es go_on
 batches_after root (shut why) es go_on = stays_shut why es
 batches_after root unknown es go_on = stays_unknown es
 
-pub as_before_after : (x : Standing) (es : List Exchange) (old middle : Option State → Type 0) (why : Cause) → standing_after_all x es ≡ shut why → LeavesAll x es old middle → (root : Text) → GoOn root x es → LeavesAsBefore old middle
+pub as_before_after : (x : Standing) (es : List HttpExchange) (old middle : Option State → Type 0) (why : Cause) → standing_after_all x es ≡ shut why → LeavesAll x es old middle → (root : Text) → GoOn root x es → LeavesAsBefore old middle
 as_before_after (of_state s) es old middle why e all root go_on = let wrong : of_state (after_all s (batches_of es)) ≡ shut why = sym (states_after root s es go_on) ∙ e in cc
 as_before_after (shut cause) es old middle why e all root go_on = all
 as_before_after unknown es old middle why e all root go_on = let wrong : unknown ≡ shut why = sym (stays_unknown es) ∙ e in cc

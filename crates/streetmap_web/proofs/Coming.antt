@@ -13,7 +13,7 @@ use Rattle.streetmap_web.specs.Response.{ResponseValue, response_text}
 use Rattle.streetmap_web.specs.Standing.{Standing, told, starved}
 use Rattle.streetmap_web.specs.Sight.{Sight}
 use Rattle.streetmap_web.specs.Responds.{Answers, BatchAnswers, TellsBatch, unasked_of}
-use Rattle.streetmap_web.specs.Exchanges.{Exchange, RequestValue, request_of, broken_request, closes, answer_bytes, response, standing_after, standing_after_all}
+use Rattle.streetmap_web.specs.Exchanges.{HttpExchange, RequestValue, request_of, broken_request, closes, answer_bytes, response, standing_after, standing_after_all}
 use Rattle.streetmap_web.specs.Coming.{Comes, ComesAll}
 use Rattle.streetmap_web.proofs.Standings.{told_is_no_failure, starved_is_no_failure}
 use Rattle.streetmap_web.proofs.Outcomes.{starved_closes, starved_bytes, starved_response}
@@ -29,7 +29,7 @@ no_batch : (fault : RequestFault) (b : BatchValue) → faulty fault ≡ batch b 
 no_batch fault b e = cc
 
 -- the bytes of the answer to a request that was answered so
-pub bytes_of : (root : Text) (x : Standing) (e : Exchange) (text : Text) (closing : Bool) → closing ≡ closes root x e → text ≡ response_text closing e.request.bare (response root x e)
+pub bytes_of : (root : Text) (x : Standing) (e : HttpExchange) (text : Text) (closing : Bool) → closing ≡ closes root x e → text ≡ response_text closing e.request.bare (response root x e)
     → text ≡ answer_bytes root x e
 bytes_of root x e text closing ends is = is ∙ ap (λ c. response_text c e.request.bare (response root x e)) ends
 
@@ -57,7 +57,7 @@ module _ {K : Type 0} (sight : Sight K) (root : Text) where
       → TellsBatch sight.applies (ask_of h.method h.target body) h.closes (is_bare h.method) text closing old new
       → Comes sight root x old (record { bytes = bytes; request = request_of h body; outcome = answers.outcome }) new
   whole_comes x old new h bytes body text closing answers tells =
-      let e : Exchange = record { bytes = bytes; request = request_of h body; outcome = answers.outcome } in
+      let e : HttpExchange = record { bytes = bytes; request = request_of h body; outcome = answers.outcome } in
       record {
         told = λ b is. same_answer b.key h.closes (is_bare h.method) text (answer_bytes root x e) closing (closes root x e) _ _
             (bytes_of root x e text closing answers.closed answers.bytes) answers.closed (tells b is);
@@ -66,7 +66,7 @@ module _ {K : Type 0} (sight : Sight K) (root : Text) where
       }
 
   -- requests behind others
-  pub comes_behind : (x : Standing) (first mid last : K) (es fs : List Exchange) → ComesAll sight root x first es mid → ComesAll sight root (standing_after_all x es) mid fs last
+  pub comes_behind : (x : Standing) (first mid last : K) (es fs : List HttpExchange) → ComesAll sight root x first es mid → ComesAll sight root (standing_after_all x es) mid fs last
       → ComesAll sight root x first (es ++ fs) last
   comes_behind x first mid last [] fs before behind = subst (λ k. ComesAll sight root x k fs last) before behind
   comes_behind x first mid last (e ∷ es) fs before behind = (before.0, before.1, comes_behind (standing_after x e) before.0 mid last es fs before.2 behind)

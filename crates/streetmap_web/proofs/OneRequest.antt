@@ -14,7 +14,7 @@ use Rattle.streetmap_web.specs.Response.{fault_response, response_text}
 use Rattle.streetmap_web.specs.Standing.{Standing, told, starved}
 use Rattle.streetmap_web.specs.Sight.{Sight, StandsSo}
 use Rattle.streetmap_web.specs.Responds.{Answers, RefusesBy, TellsBatch}
-use Rattle.streetmap_web.specs.Exchanges.{Exchange, request_of, broken_request, whole, broken}
+use Rattle.streetmap_web.specs.Exchanges.{HttpExchange, request_of, broken_request, whole, broken}
 use Rattle.streetmap_web.specs.Coming.{Answered}
 use Rattle.streetmap_web.proofs.Outcomes.{faulty_after, faulty_response, faulty_leaves, can_told, starved_after, starved_leaves, can_starve, starved_bytes, starved_closes}
 use Rattle.streetmap_web.proofs.Coming.{bytes_of, starved_comes, broken_comes, whole_comes}
@@ -26,7 +26,7 @@ module _ {K : Type 0} (sight : Sight K) (root : Text) (x : Standing) where
       → TellsBatch sight.applies (ask_of h.method h.target body) h.closes (is_bare h.method) text closing old new
       → Answered sight root x bytes text closing old new
   whole_answered h bytes body text closing old new is answers tells =
-      let e : Exchange = record { bytes = bytes; request = request_of h body; outcome = answers.outcome } in
+      let e : HttpExchange = record { bytes = bytes; request = request_of h body; outcome = answers.outcome } in
       record {
         exchange = e;
         bytes_are = refl;

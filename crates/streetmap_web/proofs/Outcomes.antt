@@ -9,8 +9,8 @@ use Rattle.streetmap_routes.specs.Ask.{AskValue, faulty}
 use Rattle.streetmap_bodies.specs.declared.request_fault.RequestFault.TheVariants.{Keeper, Framing}
 use Rattle.streetmap_web.specs.Response.{fault_response, closes_with, response_text}
 use Rattle.streetmap_web.specs.Standing.{Standing, of_state, shut, unknown, told, starved, answer_by}
-use Rattle.streetmap_web.specs.Standing.{after, CanBe, Leaves, Stays, IsKnown}
-use Rattle.streetmap_web.specs.Exchanges.{Exchange, RequestValue, closes, response, answer_bytes}
+use Rattle.streetmap_web.specs.Standing.{after, CanBe, Leaves, LeavesUntouched, IsKnown}
+use Rattle.streetmap_web.specs.Exchanges.{HttpExchange, RequestValue, closes, response, answer_bytes}
 use Rattle.streetmap_web.proofs.Standings.{fault_closes}
 
 pub faulty_after : (x : Standing) (stands : Standing → Type 0) (fault : FramingFault) → stands x → stands (after x (faulty (Framing fault)) told)
@@ -61,11 +61,11 @@ starved_closes root x bytes request = fault_closes request.closes Memory ∙ ap 
 pub starved_bytes : (root : Text) (x : Standing) (bytes : Text) (request : RequestValue)
     → response_text true request.bare (fault_response (Keeper Memory)) ≡ answer_bytes root x (record { bytes = bytes; request = request; outcome = starved })
 starved_bytes root x bytes request =
-    let e : Exchange = record { bytes = bytes; request = request; outcome = starved } in
+    let e : HttpExchange = record { bytes = bytes; request = request; outcome = starved } in
     ap (response_text true request.bare) (sym (starved_response root x request.ask)) ∙ ap (λ c. response_text c request.bare (response root x e)) (starved_closes root x bytes request)
 
 -- where nothing was acted on
-pub stays : (x : Standing) (leaves : Option State → Type 0) → Stays x (IsKnown x leaves) leaves leaves
+pub stays : (x : Standing) (leaves : Option State → Type 0) → LeavesUntouched x (IsKnown x leaves) leaves leaves
 stays (of_state s) leaves = λ known. known
 stays (shut why) leaves = λ o. (λ h. h, λ h. h)
 stays unknown leaves = tt

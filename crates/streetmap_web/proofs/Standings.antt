@@ -13,9 +13,10 @@ use Rattle.streetmap_web.specs.Response.{ResponseValue, asks_state, fault_respon
 use Rattle.streetmap_web.specs.Standing.{Standing, of_state, shut, unknown, told, starved, failed, looked}
 use Rattle.streetmap_web.specs.Standing.{LeavesAsBefore}
 use Rattle.streetmap_web.specs.Sight.{Sight, StandsSo}
-use Rattle.streetmap_web.specs.Responds.{answer_text, Answers, TriesIn, TriesShut, TriesAny, AnswerLeaves}
+use Rattle.streetmap_web.specs.Responds.{Answers, TriesIn, TriesShut, TriesAny, AnswerLeaves}
 use Rattle.streetmap_web.proofs.Statuses.{told_well, starved_well}
-use Rattle.streetmap_web.specs.declared.answer.Answer.{Answer}
+use Rattle.streetmap_connections.specs.Answers.{answer_text}
+use Rattle.streetmap_connections.specs.declared.service.Answer.{Answer}
 use Rattle.streetmap_bodies.specs.declared.request_fault.RequestFault.TheVariants.{Keeper}
 
 or_true : (b : Bool) → true ≡ (b || true)

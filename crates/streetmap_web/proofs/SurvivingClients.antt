@@ -6,7 +6,7 @@ use Rattle.streetmap_ledger.specs.State.{State}
 use Rattle.streetmap_ledger.specs.Keep.{LeavesOnly}
 use Rattle.streetmap_routes.specs.Ask.{AskValue, faulty, landing_page, api_text, conformance_classes, all_collections, one_collection, page, feature, batch}
 use Rattle.streetmap_web.specs.Response.{state_in}
-use Rattle.streetmap_web.specs.Standing.{Standing, Outcome, of_state, shut, unknown, told, starved, failed}
+use Rattle.streetmap_web.specs.Standing.{Standing, RequestOutcome, of_state, shut, unknown, told, starved, failed}
 use Rattle.streetmap_web.specs.Standing.{looked, after, Leaves, LeavesAsBefore, StateLeaves, IsKnown}
 use Rattle.streetmap_web.specs.Exchanges as web
 use Rattle.streetmap_web.specs.Beginnings.{IsAfterBeginning, LeavesBeginning, with_acted}
@@ -54,7 +54,7 @@ first_behind (batch b) acted answered is = ap (λ bs. b ∷ bs) is
 -- ---- a request before others
 
 -- behind requests a stop leaves a beginning, where it could leave only what the keeper stood for; a shut keeper leaves exactly what it could before
-abbrev pub LeavesBehind : Standing → List web.Exchange → (old new : Option State → Type 0) → Type 0
+abbrev pub LeavesBehind : Standing → List web.HttpExchange → (old new : Option State → Type 0) → Type 0
 LeavesBehind (of_state s) ws old new = LeavesOnly old (Some s) → LeavesBeginning s (acted_over (of_state s) ws) (length (answered_over (of_state s) ws)) new
 LeavesBehind (shut why) ws old new = LeavesAsBefore old new
 LeavesBehind unknown ws old new = ⊤
@@ -64,7 +64,7 @@ none_leaves (of_state s) left = λ only o is. (s, only o is, record { len = 0; c
 none_leaves (shut why) left = λ o. (λ is. is, λ is. is)
 none_leaves unknown left = tt
 
-acted_leaves : (s : State) (ask : AskValue) (o : Outcome) (ws : List web.Exchange) (middle new : Option State → Type 0) → StateLeaves s ask o middle → LeavesBehind (after (of_state s) ask o) ws middle new
+acted_leaves : (s : State) (ask : AskValue) (o : RequestOutcome) (ws : List web.HttpExchange) (middle new : Option State → Type 0) → StateLeaves s ask o middle → LeavesBehind (after (of_state s) ask o) ws middle new
     → LeavesBeginning s (with_acted ask o (acted_over (after (of_state s) ask o) ws)) (length (web.with_answered ask o (answered_over (after (of_state s) ask o) ws))) new
 acted_leaves s ask told ws middle new one behind = λ o is.
     let it = behind one o is in
@@ -77,7 +77,7 @@ acted_leaves s ask failed ws middle new one behind = λ o is. elim (one o ((behi
   | inr acted ↦ (state_in s ask, acted, alone s ask)
 ]
 
-pub more_leaves : (x : Standing) (w : web.Exchange) (ws : List web.Exchange) (old middle new : Option State → Type 0) → Leaves x w.request.ask w.outcome (IsKnown x old) old middle
+pub more_leaves : (x : Standing) (w : web.HttpExchange) (ws : List web.HttpExchange) (old middle new : Option State → Type 0) → Leaves x w.request.ask w.outcome (IsKnown x old) old middle
     → LeavesBehind (web.standing_after x w) ws middle new → LeavesBehind x (w ∷ ws) old new
 more_leaves (of_state s) w ws old middle new one behind = λ only. acted_leaves s w.request.ask w.outcome ws middle new (one only) behind
 more_leaves unknown w ws old middle new one behind = tt
@@ -85,17 +85,17 @@ more_leaves (shut why) w ws old middle new one behind = λ o. (λ is. (one o).0 
 
 -- ---- the batches that were answered come first
 
-abbrev AnsweredFirst : Standing → List web.Exchange → Type 0
+abbrev AnsweredFirst : Standing → List web.HttpExchange → Type 0
 AnsweredFirst x ws = take (length (answered_over x ws)) (acted_over x ws) ≡ answered_over x ws
 
-acted_first : (s : State) (ask : AskValue) (o : Outcome) (ws : List web.Exchange) → AnsweredFirst (after (of_state s) ask o) ws
+acted_first : (s : State) (ask : AskValue) (o : RequestOutcome) (ws : List web.HttpExchange) → AnsweredFirst (after (of_state s) ask o) ws
     → let y = after (of_state s) ask o in take (length (web.with_answered ask o (answered_over y ws))) (with_acted ask o (acted_over y ws)) ≡ web.with_answered ask o (answered_over y ws)
 acted_first s ask told ws is = let y = of_state (state_in s ask) in first_behind ask (acted_over y ws) (answered_over y ws) is
 acted_first s ask starved ws is = is
 acted_first s ask failed ws is = refl
 acted_first s ask (looked shown) ws is = is
 
-pub answered_first : (x : Standing) (ws : List web.Exchange) → AnsweredFirst x ws
+pub answered_first : (x : Standing) (ws : List web.HttpExchange) → AnsweredFirst x ws
 answered_first (shut why) ws = refl
 answered_first unknown ws = refl
 answered_first (of_state s) [] = refl

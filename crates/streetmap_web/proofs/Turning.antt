@@ -17,12 +17,12 @@ use Rattle.streetmap_ledger.specs.declared.reply.Fault.TheVariants.{Memory}
 use Rattle.streetmap_routes.specs.Ask.{AskValue, ask_of, faulty}
 use Rattle.streetmap_bodies.specs.declared.request_fault.RequestFault.TheVariants.{Keeper, Framing}
 use Rattle.streetmap_web.specs.Response.{fault_response, response_text}
-use Rattle.streetmap_web.specs.Standing.{Standing, of_state, shut, unknown, told, starved, Outcome}
-use Rattle.streetmap_web.specs.Standing.{Leaves, LeavesAsBefore, Stays}
+use Rattle.streetmap_web.specs.Standing.{Standing, of_state, shut, unknown, told, starved, RequestOutcome}
+use Rattle.streetmap_web.specs.Standing.{Leaves, LeavesAsBefore, LeavesUntouched}
 use Rattle.streetmap_web.specs.Sight.{Sight, StandsSo}
 use Rattle.streetmap_web.specs.Responds.{Answers, TellsBatch}
 use Rattle.streetmap_web.specs.Turns.{turn_after, RefuseSays}
-use Rattle.streetmap_web.specs.Exchanges.{Exchange, RequestValue, request_of, broken_request, Asks, whole, broken, closes, answer_bytes}
+use Rattle.streetmap_web.specs.Exchanges.{HttpExchange, RequestValue, request_of, broken_request, Asks, whole, broken, closes, answer_bytes}
 use Rattle.streetmap_web.specs.Exchanges.{Around, Acted, Rested, TurnSays, TurnComes, last_of}
 use Rattle.streetmap_web.specs.Coming.{Comes, around}
 use Rattle.streetmap_web.specs.declared.serving.Turn.{Turn}
@@ -44,7 +44,7 @@ turn_of sent closing turn root x a is comes = subst (λ t. TurnComes t root x a)
 
 module _ {K : Type 0} (sight : Sight K) (root : Text) (x : Standing) (left rest : Option Text) where
   -- an exchange that was acted on, and how its answer was sent
-  sent_turn : (e : Exchange) (closing : Bool) (text : Text) (sent : Sent) (held now : Option Text) (old new : K)
+  sent_turn : (e : HttpExchange) (closing : Bool) (text : Text) (sent : Sent) (held now : Option Text) (old new : K)
       → Acted x e (around sight root x left rest held now old new) → Comes sight root x old e new
       → closing ≡ closes root x e → text ≡ answer_bytes root x e → SentSays sent text held now
       → TurnComes (turn_after sent closing) root x (around sight root x left rest held now old new)
@@ -63,7 +63,7 @@ module _ {K : Type 0} (sight : Sight K) (root : Text) (x : Standing) (left rest 
       → TellsBatch sight.applies (ask_of h.method h.target body) h.closes (is_bare h.method) text closing old new
       → SentSays sent text held now → TurnComes (turn_after sent closing) root x (around sight root x left rest held now old new)
   answered_turn h head body text closing sent held now old new cut framed len read answers tells written =
-      let e : Exchange = record { bytes = head ++ body; request = request_of h body; outcome = answers.outcome } in
+      let e : HttpExchange = record { bytes = head ++ body; request = request_of h body; outcome = answers.outcome } in
       let acted : Acted x e (around sight root x left rest held now old new) = record {
         is = record { asks = whole h body (record { head = head; parts = refl; cut = cut; framed = framed; len = len }) refl; can = answers.can };
         read = read;
@@ -79,7 +79,7 @@ module _ {K : Type 0} (sight : Sight K) (root : Text) (x : Standing) (left rest 
         → Breaks bytes bare fault → Consumes left rest bytes → text ≡ response_text true bare (fault_response (Framing fault)) → SentSays sent text held now
         → TurnComes (turn_after sent true) root x (around sight root x left rest held now k k)
     refused_turn bytes text bare fault sent held now breaks read same written =
-        let e : Exchange = record { bytes = bytes; request = broken_request bare fault; outcome = told } in
+        let e : HttpExchange = record { bytes = bytes; request = broken_request bare fault; outcome = told } in
         let acted : Acted x e (around sight root x left rest held now k k) = record {
           is = record { asks = broken bare fault breaks refl; can = can_told x fault };
           read = read;
@@ -95,7 +95,7 @@ module _ {K : Type 0} (sight : Sight K) (root : Text) (x : Standing) (left rest 
         → text ≡ response_text true request.bare (fault_response (Keeper Memory)) → SentSays sent text held now
         → TurnComes (turn_after sent true) root x (around sight root x left rest held now k k)
     starved_turn bytes text request sent held now asks read same written =
-        let e : Exchange = record { bytes = bytes; request = request; outcome = starved } in
+        let e : HttpExchange = record { bytes = bytes; request = request; outcome = starved } in
         let acted : Acted x e (around sight root x left rest held now k k) = record {
           is = record { asks = asks; can = can_starve x request.ask };
           read = read;
@@ -135,19 +135,19 @@ module _ {K : Type 0} (sight : Sight K) (root : Text) (x : Standing) (left rest 
 as_before : (old middle new : Option State → Type 0) → LeavesAsBefore old middle → LeavesAsBefore middle new → LeavesAsBefore old new
 as_before old middle new first second = λ o. (λ h. (first o).0 ((second o).0 h), λ h. (second o).1 ((first o).1 h))
 
-leaves_known : (y : Standing) (ask : AskValue) (o : Outcome) (k known : Type 0) (middle old new : Option State → Type 0) → (known → k) → ((why : Cause) → y ≡ shut why → LeavesAsBefore old middle)
+leaves_known : (y : Standing) (ask : AskValue) (o : RequestOutcome) (k known : Type 0) (middle old new : Option State → Type 0) → (known → k) → ((why : Cause) → y ≡ shut why → LeavesAsBefore old middle)
     → Leaves y ask o k middle new → Leaves y ask o known old new
 leaves_known (of_state s) ask o k known middle old new know none leaves = λ h. leaves (know h)
 leaves_known (shut why) ask o k known middle old new know none leaves = as_before old middle new (none why refl) leaves
 leaves_known unknown ask o k known middle old new know none leaves = tt
 
 stays_known : (y : Standing) (k known : Type 0) (middle old new : Option State → Type 0) → (known → k) → ((why : Cause) → y ≡ shut why → LeavesAsBefore old middle)
-    → Stays y k middle new → Stays y known old new
+    → LeavesUntouched y k middle new → LeavesUntouched y known old new
 stays_known (of_state s) k known middle old new know none leaves = λ h. leaves (know h)
 stays_known (shut why) k known middle old new know none leaves = as_before old middle new (none why refl) leaves
 stays_known unknown k known middle old new know none leaves = tt
 
-acted_known : (y : Standing) (e : Exchange) (a : Around) (known : Type 0) (old : Option State → Type 0) (comes : List Exchange → Type 0) → (known → a.known) → ((why : Cause) → y ≡ shut why → LeavesAsBefore old a.old_leaves)
+acted_known : (y : Standing) (e : HttpExchange) (a : Around) (known : Type 0) (old : Option State → Type 0) (comes : List HttpExchange → Type 0) → (known → a.known) → ((why : Cause) → y ≡ shut why → LeavesAsBefore old a.old_leaves)
     → Acted y e a → Acted y e (record a { known = known; old_leaves = old; comes = comes })
 acted_known y e a known old comes know none acted = record {
   is = acted.is;
@@ -156,7 +156,7 @@ acted_known y e a known old comes know none acted = record {
   leaves = leaves_known y e.request.ask e.outcome a.known known a.old_leaves old a.new_leaves know none acted.leaves;
 }
 
-rested_known : (y : Standing) (a : Around) (known : Type 0) (old : Option State → Type 0) (comes : List Exchange → Type 0) → (known → a.known) → ((why : Cause) → y ≡ shut why → LeavesAsBefore old a.old_leaves)
+rested_known : (y : Standing) (a : Around) (known : Type 0) (old : Option State → Type 0) (comes : List HttpExchange → Type 0) → (known → a.known) → ((why : Cause) → y ≡ shut why → LeavesAsBefore old a.old_leaves)
     → Rested y a → Rested y (record a { known = known; old_leaves = old; comes = comes })
 rested_known y a known old comes know none rested = record {
   written = rested.written;
@@ -164,7 +164,7 @@ rested_known y a known old comes know none rested = record {
   leaves = stays_known y a.known known a.old_leaves old a.new_leaves know none rested.leaves;
 }
 
-pub turn_known : (turn : Turn) (root : Text) (y : Standing) (a : Around) (known : Type 0) (old : Option State → Type 0) (comes : List Exchange → Type 0) → (known → a.known)
+pub turn_known : (turn : Turn) (root : Text) (y : Standing) (a : Around) (known : Type 0) (old : Option State → Type 0) (comes : List HttpExchange → Type 0) → (known → a.known)
     → ((why : Cause) → y ≡ shut why → LeavesAsBefore old a.old_leaves) → TurnSays turn root y a → TurnSays turn root y (record a { known = known; old_leaves = old; comes = comes })
 turn_known Open root y a known old comes know none says = (says.0, acted_known y says.0 a known old comes know none says.1, says.2, says.3)
 turn_known Closed root y a known old comes know none says = (says.0, acted_known y says.0 a known old comes know none says.1, says.2, says.3)
@@ -174,7 +174,7 @@ turn_known Truncated root y a known old comes know none says = (rested_known y a
 turn_known ReadFailed root y a known old comes know none says = rested_known y a known old comes know none says
 
 -- the request of the turn is the same
-pub last_known : (turn : Turn) (root : Text) (y : Standing) (a : Around) (known : Type 0) (old : Option State → Type 0) (comes : List Exchange → Type 0) (know : known → a.known)
+pub last_known : (turn : Turn) (root : Text) (y : Standing) (a : Around) (known : Type 0) (old : Option State → Type 0) (comes : List HttpExchange → Type 0) (know : known → a.known)
     (none : (why : Cause) → y ≡ shut why → LeavesAsBefore old a.old_leaves) (says : TurnSays turn root y a)
     → last_of turn root y a says ≡ last_of turn root y (record a { known = known; old_leaves = old; comes = comes }) (turn_known turn root y a known old comes know none says)
 unfolding turn_known

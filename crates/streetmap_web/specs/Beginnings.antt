@@ -5,19 +5,20 @@ use Rattle.streetmap_batch.specs.BatchValue.{BatchValue}
 use Rattle.streetmap_ledger.specs.State.{State}
 use Rattle.streetmap_ledger.specs.Batches.{after_all}
 use Rattle.streetmap_routes.specs.Ask.{AskValue}
-use Rattle.streetmap_web.specs.Standing.{Outcome, told, starved, failed, looked, of_state}
-use Rattle.streetmap_web.specs.Exchanges.{Exchange, Around, Serves, with_batch, batches_of, last_of}
+use Rattle.streetmap_web.specs.Standing.{RequestOutcome, told, starved, failed, looked, of_state}
+use Rattle.streetmap_web.specs.Exchanges.{HttpExchange, Around, Serves, with_batch, batches_of}
+use Rattle.streetmap_web.specs.Exchanges.{last_of}
 use Rattle.streetmap_web.specs.declared.serving.End.{End}
 
 -- a batch before others, where the keeper acted on it: it was answered without a fault, or the
 -- device failed at it
-abbrev pub with_acted : AskValue → Outcome → List BatchValue → List BatchValue
+abbrev pub with_acted : AskValue → RequestOutcome → List BatchValue → List BatchValue
 with_acted ask told others = with_batch ask others
 with_acted ask starved others = others
 with_acted ask failed others = with_batch ask others
 with_acted ask (looked shown) others = others
 
-abbrev pub batches_acted : List Exchange → List BatchValue
+abbrev pub batches_acted : List HttpExchange → List BatchValue
 batches_acted [] = []
 batches_acted (e ∷ es) = with_acted e.request.ask e.outcome (batches_acted es)
 

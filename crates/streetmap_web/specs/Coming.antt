@@ -5,7 +5,7 @@ use Rattle.streetmap_web.specs.Standing.{Standing, failed, IsKnown, Leaves}
 use Rattle.streetmap_web.specs.Sight.{Sight, StandsSo}
 use Rattle.streetmap_web.specs.Response.{asks_state}
 use Rattle.streetmap_web.specs.Responds.{TellsBatch}
-use Rattle.streetmap_web.specs.Exchanges.{Exchange, IsExchange, Around, response, closes}
+use Rattle.streetmap_web.specs.Exchanges.{HttpExchange, IsExchange, Around, response, closes}
 use Rattle.streetmap_web.specs.Exchanges.{answer_bytes}
 use Rattle.streetmap_web.specs.Exchanges.{standing_after}
 
@@ -16,7 +16,7 @@ use Rattle.streetmap_web.specs.Exchanges.{standing_after}
 -- 500),
 -- the keeper is shut.
 pub record Comes {K : Type 0} (sight : Sight K) (root : Text) (x : Standing) (old : K)
-    (e : Exchange)
+    (e : HttpExchange)
     (new : K) : Type 0 where
   pub told :
       TellsBatch sight.applies e.request.ask e.request.closes e.request.bare (answer_bytes root x e)
@@ -27,7 +27,7 @@ pub record Comes {K : Type 0} (sight : Sight K) (root : Text) (x : Standing) (ol
 
 -- requests in a row, each over the keeper that the one before left
 abbrev pub ComesAll :
-    {K : Type 0} (sight : Sight K) (root : Text) (x : Standing) (old : K) (es : List Exchange)
+    {K : Type 0} (sight : Sight K) (root : Text) (x : Standing) (old : K) (es : List HttpExchange)
     (new : K)
     → Type 0
 ComesAll sight root x old [] new = new ≡ old
@@ -55,7 +55,7 @@ around sight root x old_left new_left old_held new_held old new = record {
 -- second keeper stands for what is after it, and a stop may leave that
 pub record Answered {K : Type 0} (sight : Sight K) (root : Text) (x : Standing) (bytes text : Text)
     (closing : Bool) (old new : K) : Type 0 where
-  pub exchange : Exchange
+  pub exchange : HttpExchange
   pub bytes_are : exchange.bytes ≡ bytes
   pub is : IsExchange x exchange
   pub text_is : text ≡ answer_bytes root x exchange

@@ -13,9 +13,9 @@ use Rattle.streetmap_ledger.specs.State.{State}
 use Rattle.streetmap_ledger.specs.Batches.{after_all}
 use Rattle.streetmap_routes.specs.Ask.{AskValue, faulty, batch, ask_of}
 use Rattle.streetmap_web.specs.Response.{ResponseValue, closes_with, response_text}
-use Rattle.streetmap_web.specs.Standing.{Standing, Outcome, told, starved, failed, looked}
-use Rattle.streetmap_web.specs.Standing.{CanBe, answer_by, after, Leaves, Stays, of_state, shut}
-use Rattle.streetmap_web.specs.Standing.{unknown}
+use Rattle.streetmap_web.specs.Standing.{Standing, RequestOutcome, told, starved, failed, looked}
+use Rattle.streetmap_web.specs.Standing.{CanBe, answer_by, after, Leaves, LeavesUntouched}
+use Rattle.streetmap_web.specs.Standing.{of_state, shut, unknown}
 use Rattle.streetmap_web.specs.Turns.{begun_in, end_of}
 use Rattle.streetmap_web.specs.declared.serving.End.{End}
 use Rattle.streetmap_web.specs.declared.serving.Turn.{Turn}
@@ -44,14 +44,14 @@ abbrev pub broken_request : Bool → FramingFault → RequestValue
 broken_request bare fault = record { ask = faulty (Framing fault); closes = true; bare = bare }
 
 -- one request of the stream: its bytes, what it says, and how it came out
-pub record Exchange : Type 0 where
+pub record HttpExchange : Type 0 where
   pub bytes : Text
   pub request : RequestValue
-  pub outcome : Outcome
+  pub outcome : RequestOutcome
 
 -- the bytes are this request: a head with its body, or bytes that break a rule of framing; where
 -- memory was refused for the body, they are the head alone
-pub data Asks (e : Exchange) : Type 0 where
+pub data Asks (e : HttpExchange) : Type 0 where
   whole : (h : HeadValue) (body : Text) → IsRequest e.bytes h body → e.request ≡ request_of h body
       → Asks e
   broken : (bare : Bool) (fault : FramingFault) → Breaks e.bytes bare fault
@@ -60,43 +60,43 @@ pub data Asks (e : Exchange) : Type 0 where
       → e.request ≡ request_of h [] → e.outcome ≡ starved → Asks e
 
 -- the answer, over a keeper that stands so
-abbrev pub response : Text → Standing → Exchange → ResponseValue
+abbrev pub response : Text → Standing → HttpExchange → ResponseValue
 response root x e = answer_by root x e.request.ask e.outcome
 
 -- whether the connection closes behind it
-abbrev pub closes : Text → Standing → Exchange → Bool
+abbrev pub closes : Text → Standing → HttpExchange → Bool
 closes root x e = closes_with e.request.closes (response root x e)
 
 -- the bytes of the answer
-abbrev pub answer_bytes : Text → Standing → Exchange → Text
+abbrev pub answer_bytes : Text → Standing → HttpExchange → Text
 answer_bytes root x e = response_text (closes root x e) e.request.bare (response root x e)
 
 -- what the keeper stands for afterwards
-abbrev pub standing_after : Standing → Exchange → Standing
+abbrev pub standing_after : Standing → HttpExchange → Standing
 standing_after x e = after x e.request.ask e.outcome
 
 -- the request is one of the stream, and came out as it can
-pub record IsExchange (x : Standing) (e : Exchange) : Type 0 where
+pub record IsExchange (x : Standing) (e : HttpExchange) : Type 0 where
   pub asks : Asks e
   pub can : CanBe x e.request.ask e.outcome
 
 -- exchanges in a row, each of which leaves the connection open
-abbrev pub GoOn : Text → Standing → List Exchange → Type 0
+abbrev pub GoOn : Text → Standing → List HttpExchange → Type 0
 GoOn root x [] = ⊤
 GoOn root x (e ∷ es) = IsExchange x e × (closes root x e ≡ false)
     × GoOn root (standing_after x e) es
 
 -- the bytes of the requests
-abbrev pub all_requests : List Exchange → Text
+abbrev pub all_requests : List HttpExchange → Text
 all_requests es = flat_map (λ e. e.bytes) es
 
 -- the bytes of the answers
-abbrev pub all_answers : Text → Standing → List Exchange → Text
+abbrev pub all_answers : Text → Standing → List HttpExchange → Text
 all_answers root x [] = []
 all_answers root x (e ∷ es) = answer_bytes root x e ++ all_answers root (standing_after x e) es
 
 -- what the keeper stands for after them
-abbrev pub standing_after_all : Standing → List Exchange → Standing
+abbrev pub standing_after_all : Standing → List HttpExchange → Standing
 standing_after_all x [] = x
 standing_after_all x (e ∷ es) = standing_after_all (standing_after x e) es
 
@@ -106,14 +106,14 @@ with_batch (batch b) others = b ∷ others
 with_batch _ others = others
 
 -- the same, where it was answered as asked
-abbrev pub with_answered : AskValue → Outcome → List BatchValue → List BatchValue
+abbrev pub with_answered : AskValue → RequestOutcome → List BatchValue → List BatchValue
 with_answered ask told others = with_batch ask others
 with_answered ask starved others = others
 with_answered ask failed others = others
 with_answered ask (looked shown) others = others
 
 -- the batches that the keeper answered without a fault, in order
-abbrev pub batches_of : List Exchange → List BatchValue
+abbrev pub batches_of : List HttpExchange → List BatchValue
 batches_of [] = []
 batches_of (e ∷ es) = with_answered e.request.ask e.outcome (batches_of es)
 
@@ -137,11 +137,11 @@ pub record Around : Type 1 where
   pub known : Type 0
   pub old_leaves : Option State → Type 0
   pub new_leaves : Option State → Type 0
-  pub comes : List Exchange → Type 0
+  pub comes : List HttpExchange → Type 0
 
 -- a request was read and acted on: its bytes are off the reader, the keeper stands for what is
 -- after it, and a stop may leave that
-pub record Acted (x : Standing) (e : Exchange) (a : Around) : Type 0 where
+pub record Acted (x : Standing) (e : HttpExchange) (a : Around) : Type 0 where
   pub is : IsExchange x e
   pub read : Consumes a.old_left a.new_left e.bytes
   pub stands : a.stands (standing_after x e)
@@ -151,15 +151,15 @@ pub record Acted (x : Standing) (e : Exchange) (a : Around) : Type 0 where
 pub record Rested (x : Standing) (a : Around) : Type 0 where
   pub written : Keeps a.old_held a.new_held
   pub stands : a.stands x
-  pub leaves : Stays x a.known a.old_leaves a.new_leaves
+  pub leaves : LeavesUntouched x a.known a.old_leaves a.new_leaves
 
 -- what a turn did
 abbrev pub TurnSays : Turn → Text → Standing → Around → Type 0
-TurnSays Open root x a = (e : Exchange) × Acted x e a
+TurnSays Open root x a = (e : HttpExchange) × Acted x e a
     × Appends a.old_held a.new_held (answer_bytes root x e) × (closes root x e ≡ false)
-TurnSays Closed root x a = (e : Exchange) × Acted x e a
+TurnSays Closed root x a = (e : HttpExchange) × Acted x e a
     × Appends a.old_held a.new_held (answer_bytes root x e) × (closes root x e ≡ true)
-TurnSays (WriteFailed begun) root x a = (e : Exchange) × Acted x e a × (n : ℕ)
+TurnSays (WriteFailed begun) root x a = (e : HttpExchange) × Acted x e a × (n : ℕ)
     × (n < length (answer_bytes root x e)) × (begun ≡ nat_lt 0 n)
     × Appends a.old_held a.new_held (take n (answer_bytes root x e))
 TurnSays Ended root x a = Rested x a × (bytes : Text) × IsBlank bytes
@@ -170,7 +170,8 @@ TurnSays ReadFailed root x a = Rested x a
 
 -- the request that was answered in a turn, where one was
 abbrev pub last_of :
-    (turn : Turn) (root : Text) (x : Standing) (a : Around) → TurnSays turn root x a → List Exchange
+    (turn : Turn) (root : Text) (x : Standing) (a : Around) → TurnSays turn root x a
+    → List HttpExchange
 last_of Open root x a says = says.0 ∷ []
 last_of Closed root x a says = says.0 ∷ []
 last_of (WriteFailed begun) root x a says = says.0 ∷ []
@@ -186,7 +187,7 @@ TurnComes turn root x a =
 -- what was served: exchanges that leave the connection open, and then the turn that ends it; the
 -- keeper came along all of them
 pub record Serves (root : Text) (end : End) (count : ℕ) (x : Standing) (a : Around) : Type 0 where
-  pub exchanges : List Exchange
+  pub exchanges : List HttpExchange
   pub turn : Turn
   pub middle : Option Text
   pub written : Option Text

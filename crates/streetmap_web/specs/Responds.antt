@@ -1,7 +1,7 @@
 -- What the functions that answer say of their results.
 use Rattle.std.specs.Prelude.{◌≡◌, ◌≢◌, ◌⊎◌, Bool, true, false, Option, Some, IsSome, Result, Ok}
 use Rattle.std.specs.Prelude.{Err}
-use Rattle.std.specs.Prelude.{string_bytes, ◌++◌, ⊤}
+use Rattle.std.specs.Prelude.{string_bytes, ⊤}
 use Rattle.streetmap_batch.specs.Text.{Text}
 use Rattle.streetmap_batch.specs.BatchValue.{BatchValue}
 use Rattle.streetmap_ledger.specs.State.{State}
@@ -15,15 +15,15 @@ use Rattle.streetmap_routes.specs.Ask.{AskValue, batch}
 use Rattle.streetmap_web.specs.Response.{ResponseValue, response_in, response_shut, state_in}
 use Rattle.streetmap_web.specs.Response.{asks_state, fault_response, closes_with, response_text}
 use Rattle.streetmap_web.specs.Response.{replied}
-use Rattle.streetmap_web.specs.Standing.{Standing, Outcome, failed, answer_by, after, CanBe}
+use Rattle.streetmap_web.specs.Standing.{Standing, RequestOutcome, failed, answer_by, after, CanBe}
 use Rattle.streetmap_web.specs.Standing.{Leaves, IsKnown}
 use Rattle.streetmap_web.specs.Sight.{Sight, StandsSo}
 use Rattle.streetmap_http.specs.declared.fault.FramingFault.{FramingFault}
 use Rattle.streetmap_bodies.specs.declared.request_fault.RequestFault.{RequestFault}
 use Rattle.streetmap_bodies.specs.declared.request_fault.RequestFault.TheVariants.{Keeper, Framing}
 use Rattle.streetmap_web.specs.declared.response.Response.{Response}
-use Rattle.streetmap_web.specs.declared.answer.Answer.{Answer}
-use Rattle.streetmap_web.specs.declared.answer.Answer.TheVariants.{Made, Fixed}
+use Rattle.streetmap_connections.specs.Answers.{answer_text}
+use Rattle.streetmap_connections.specs.declared.service.Answer.{Answer}
 
 -- an answer without its head, as a value
 abbrev pub response_value : Response → ResponseValue
@@ -92,27 +92,13 @@ AnswerLeaves s ask (Err faults.Device) left = LeavesEither left (Some s) (Some (
 AnswerLeaves s ask (Err faults.Damaged) left = LeavesOnly left (Some s)
 AnswerLeaves s ask (Err faults.Reopen) left = LeavesOnly left (Some s)
 
--- the bytes of the head of an answer
-abbrev pub head_bytes : Answer → Text
-head_bytes (Made head body) = string_bytes head
-head_bytes (Fixed head body) = head.now
-
--- the bytes of its body
-abbrev pub body_bytes : Answer → Text
-body_bytes (Made head body) = string_bytes body
-body_bytes (Fixed head body) = body.now
-
--- the bytes of an answer
-abbrev pub answer_text : Answer → Text
-answer_text answer = head_bytes answer ++ body_bytes answer
-
 -- what is asked was answered between two keepers: how it came out, the bytes of its answer, whether
 -- the connection closes, what the second keeper stands for, what a stop may leave, that the store
 -- failed where the device did, and that the keeper is shut where a failure is answered to what asks
 -- the state
 pub record Answers {K : Type 0} (sight : Sight K) (root : Text) (x : Standing) (ask : AskValue)
     (asked bare : Bool) (text : Text) (closes : Bool) (old new : K) : Type 0 where
-  pub outcome : Outcome
+  pub outcome : RequestOutcome
   pub can : CanBe x ask outcome
   pub closed : closes ≡ closes_with asked (answer_by root x ask outcome)
   pub bytes : text ≡ response_text closes bare (answer_by root x ask outcome)

@@ -14,7 +14,7 @@ use Rattle.streetmap_web.specs.Sight.{Sight, StandsSo}
 use Rattle.streetmap_web.specs.Standing.{Standing}
 
 -- the exchange is this request of the web, answered over a keeper that stands so
-pub record IsAnswerTo (root : Text) (x : Standing) (e : Exchange) (w : web.Exchange) : Type 0 where
+pub record IsAnswerTo (root : Text) (x : Standing) (e : Exchange) (w : web.HttpExchange) : Type 0 where
   pub is : web.IsExchange x w
   pub request : w.bytes ≡ e.request
   pub text : e.text ≡ web.answer_bytes root x w
@@ -23,12 +23,12 @@ pub record IsAnswerTo (root : Text) (x : Standing) (e : Exchange) (w : web.Excha
 -- each request was answered for what the keeper stood for behind the one before
 abbrev pub AnsweredInTurn : Text → Standing → List Exchange → Standing → Type 0
 AnsweredInTurn root x [] last = last ≡ x
-AnsweredInTurn root x (e ∷ es) last = (w : web.Exchange) × IsAnswerTo root x e w
+AnsweredInTurn root x (e ∷ es) last = (w : web.HttpExchange) × IsAnswerTo root x e w
     × AnsweredInTurn root (web.standing_after x w) es last
 
 -- the requests of the web that the exchanges of the one list are, in its order
 abbrev pub requests_of : (root : Text) (x : Standing) (es : List Exchange) (last : Standing)
-    → AnsweredInTurn root x es last → List web.Exchange
+    → AnsweredInTurn root x es last → List web.HttpExchange
 requests_of root x [] last answered = []
 requests_of root x (e ∷ es) last answered = answered.0
     ∷ requests_of root (web.standing_after x answered.0) es last answered.2

@@ -5,7 +5,7 @@ use Rattle.streetmap_ledger.specs.State.{State}
 use Rattle.streetmap_ledger.specs.declared.reply.Cause.{Cause}
 use Rattle.streetmap_ledger.specs.declared.reply.Fault.{Fault}
 use Rattle.streetmap_ledger.specs.declared.reply.Reply.{Reply}
-use Rattle.streetmap_web.specs.Standing.{Standing, Stands}
+use Rattle.streetmap_web.specs.Standing.{Standing, KeeperStands}
 
 -- the states that a keeper stands for, what shut it, what a stop may leave, and whether its store
 -- is
@@ -36,4 +36,4 @@ sight_of stands cause may_leave is_clean applies spares fails = record {
 
 -- the keeper stands so
 abbrev pub StandsSo : {K : Type 0} → Sight K → K → Standing → Type 0
-StandsSo sight keeper x = Stands (sight.stands keeper) (sight.cause keeper) x
+StandsSo sight keeper x = KeeperStands (sight.stands keeper) (sight.cause keeper) x

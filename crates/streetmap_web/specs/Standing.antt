@@ -20,24 +20,24 @@ pub data Standing : Type 0 where
 -- the keeper that stands for these states, and that this shut, stands so; each one stands for
 -- something
 -- unknown
-abbrev pub Stands : (State → Type 0) → Option Cause → Standing → Type 0
-Stands stands cause (of_state s) = stands s
-Stands stands cause (shut why) = cause ≡ Some why
-Stands stands cause unknown = ⊤
+abbrev pub KeeperStands : (State → Type 0) → Option Cause → Standing → Type 0
+KeeperStands stands cause (of_state s) = stands s
+KeeperStands stands cause (shut why) = cause ≡ Some why
+KeeperStands stands cause unknown = ⊤
 
 -- how a request came out: it was answered as asked, memory was refused, or the device failed; or
 -- the
 -- keeper answered so, of which nothing is known
-pub data Outcome : Type 0 where
-  told : Outcome
-  starved : Outcome
-  failed : Outcome
-  looked : (shown : ResponseValue) → Outcome
+pub data RequestOutcome : Type 0 where
+  told : RequestOutcome
+  starved : RequestOutcome
+  failed : RequestOutcome
+  looked : (shown : ResponseValue) → RequestOutcome
 
 -- A device fails only where the state is asked of a keeper that is not shut. Where nothing is known
 -- of
 -- the keeper, what asks no state is answered as ever, and what asks it somehow.
-abbrev pub CanBe : Standing → AskValue → Outcome → Type 0
+abbrev pub CanBe : Standing → AskValue → RequestOutcome → Type 0
 CanBe (of_state s) ask told = ⊤
 CanBe (of_state s) ask starved = ⊤
 CanBe (of_state s) ask failed = asks_state ask ≡ true
@@ -52,7 +52,7 @@ CanBe unknown ask failed = ⊥
 CanBe unknown ask (looked shown) = asks_state ask ≡ true
 
 -- the answer
-abbrev pub answer_by : Text → Standing → AskValue → Outcome → ResponseValue
+abbrev pub answer_by : Text → Standing → AskValue → RequestOutcome → ResponseValue
 answer_by root (of_state s) ask told = response_in root s ask
 answer_by root (shut why) ask told = response_shut root ask
 answer_by root unknown ask told = response_shut root ask
@@ -61,7 +61,7 @@ answer_by root x ask failed = fault_response (Keeper Device)
 answer_by root x ask (looked shown) = shown
 
 -- what the keeper stands for afterwards
-abbrev pub after : Standing → AskValue → Outcome → Standing
+abbrev pub after : Standing → AskValue → RequestOutcome → Standing
 after (of_state s) ask told = of_state (state_in s ask)
 after (of_state s) ask starved = of_state s
 after (of_state s) ask failed = shut causes.Device
@@ -70,7 +70,7 @@ after (shut why) ask outcome = shut why
 after unknown ask outcome = unknown
 
 -- what a stop may leave behind a request, where it could leave the state and no other before
-abbrev pub StateLeaves : State → AskValue → Outcome → (Option State → Type 0) → Type 0
+abbrev pub StateLeaves : State → AskValue → RequestOutcome → (Option State → Type 0) → Type 0
 StateLeaves s ask told left = LeavesOnly left (Some (state_in s ask))
 StateLeaves s ask starved left = LeavesOnly left (Some s)
 StateLeaves s ask failed left = LeavesEither left (Some s) (Some (state_in s ask))
@@ -89,13 +89,15 @@ IsKnown unknown left = ⊤
 -- what a stop may leave behind a request, where this was known before; behind one over a shut
 -- keeper exactly what it could leave before
 abbrev pub Leaves :
-    Standing → AskValue → Outcome → (known : Type 0) → (old new : Option State → Type 0) → Type 0
+    Standing → AskValue → RequestOutcome → (known : Type 0) → (old new : Option State → Type 0)
+    → Type 0
 Leaves (of_state s) ask outcome known old new = known → StateLeaves s ask outcome new
 Leaves (shut why) ask outcome known old new = LeavesAsBefore old new
 Leaves unknown ask outcome known old new = ⊤
 
 -- what a stop may leave where nothing was acted on
-abbrev pub Stays : Standing → (known : Type 0) → (old new : Option State → Type 0) → Type 0
-Stays (of_state s) known old new = known → LeavesOnly new (Some s)
-Stays (shut why) known old new = LeavesAsBefore old new
-Stays unknown known old new = ⊤
+abbrev pub LeavesUntouched : Standing → (known : Type 0) → (old new : Option State → Type 0)
+    → Type 0
+LeavesUntouched (of_state s) known old new = known → LeavesOnly new (Some s)
+LeavesUntouched (shut why) known old new = LeavesAsBefore old new
+LeavesUntouched unknown known old new = ⊤

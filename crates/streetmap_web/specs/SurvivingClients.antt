@@ -12,7 +12,7 @@ use Rattle.streetmap_web.specs.Sight.{Sight}
 use Rattle.streetmap_web.specs.ServingClients.{ServesClients, requests_of}
 
 -- those of them that came while the keeper was not shut
-abbrev pub while_open : Standing → List web.Exchange → List web.Exchange
+abbrev pub while_open : Standing → List web.HttpExchange → List web.HttpExchange
 while_open (shut why) ws = []
 while_open unknown ws = []
 while_open (of_state s) [] = []
@@ -20,11 +20,11 @@ while_open (of_state s) (w ∷ ws) = w ∷ while_open (web.standing_after (of_st
 
 -- the batches that the keeper acted on: each was answered without a fault, or the device failed at
 -- it; a shut keeper acts on none
-abbrev pub acted_over : Standing → List web.Exchange → List BatchValue
+abbrev pub acted_over : Standing → List web.HttpExchange → List BatchValue
 acted_over x ws = batches_acted (while_open x ws)
 
 -- those of them that were answered without a fault
-abbrev pub answered_over : Standing → List web.Exchange → List BatchValue
+abbrev pub answered_over : Standing → List web.HttpExchange → List BatchValue
 answered_over x ws = web.batches_of (while_open x ws)
 
 -- There is one list of exchanges, an interleaving of the clients' own lists, each answered for what
@@ -35,7 +35,7 @@ answered_over x ws = web.batches_of (while_open x ws)
 pub record SurvivesClients {K : Type 0} (sight : Sight K) (root : Text) (s : State) (old new : K)
     (before after : List (Slot TcpStream)) : Type 0 where
   pub serves : ServesClients sight root (of_state s) old new before after
-  pub requests : List web.Exchange
+  pub requests : List web.HttpExchange
   pub are : requests ≡ requests_of root (of_state s) serves.exchanges serves.last serves.answered
   pub answered_first : take (length (answered_over (of_state s) requests))
       (acted_over (of_state s) requests) ≡ answered_over (of_state s) requests

@@ -4,15 +4,16 @@ ghost use Rattle.std.specs.Prelude.{string_bytes, string_len, string_capacity};
 ghost use Rattle.streetmap_ledger.specs.Keep.{LeavesOnly};
 ghost use Rattle.streetmap_ledger.specs.State.{State};
 ghost use Rattle.streetmap_ledger.specs.declared.reply.Cause.{Cause};
+ghost use Rattle.streetmap_connections.specs.Answers.{answer_text};
 ghost use Rattle.streetmap_http.specs.AnswerHead.{head_text};
 ghost use Rattle.streetmap_http.specs.Framing.{is_bare as is_bare_of};
 ghost use Rattle.streetmap_batch.specs.BatchValue.{BatchValue};
 ghost use Rattle.streetmap_routes.specs.Ask.{ask_of, batch};
 ghost use Rattle.streetmap_routes.specs.BaseView.{root_of};
 ghost use Rattle.streetmap_web.specs.Response.{response_text, closes_with, head_of, fault_response};
-ghost use Rattle.streetmap_web.specs.Standing.{Standing, Stands, LeavesAsBefore};
+ghost use Rattle.streetmap_web.specs.Standing.{Standing, KeeperStands, LeavesAsBefore};
 ghost use Rattle.streetmap_web.specs.Sight.{sight_of};
-ghost use Rattle.streetmap_web.specs.Responds.{response_value, answer_text, Answers, TriesIn};
+ghost use Rattle.streetmap_web.specs.Responds.{response_value, Answers, TriesIn};
 ghost use Rattle.streetmap_web.specs.Responds.{TriesShut, TriesAny, AnswerLeaves, BatchTries};
 ghost use Rattle.streetmap_web.specs.Responds.{TellsBatch};
 ghost use Rattle.streetmap_web.specs.Responds.{RefusesBy};
@@ -24,42 +25,10 @@ use crate::response::Response;
 use http::StatusCode;
 use std::alloc::{AllocError, Global};
 use streetmap_bodies::RequestFault;
+use streetmap_connections::Answer;
 use streetmap_http::{AnswerHead, FramingFault, RequestHead, is_bare, push_head};
 use streetmap_ledger::{Fault, Keeper};
 use streetmap_routes::Base;
-
-/// An answer: its head and its body, both at hand.
-#[derive(Drop)]
-pub enum Answer {
-    /// In memory of its own.
-    Made(String, String),
-    /// One of the fixed answers, which take no memory.
-    Fixed(&'static str, &'static str),
-}
-
-impl Answer {
-    ghost use Rattle.streetmap_web.specs.Responds.{head_bytes, body_bytes};
-
-    /// The status line and the fields, up to the empty line behind them.
-    pub fn head(&self) -> &[u8]
-        ensures { result.now ≡ head_bytes self.now }
-    {
-        match self {
-            Answer::Made(head, _) => head.as_bytes(),
-            Answer::Fixed(head, _) => head.as_bytes(),
-        }
-    }
-
-    /// The body; empty where the request is a `HEAD`.
-    pub fn body(&self) -> &[u8]
-        ensures { result.now ≡ body_bytes self.now }
-    {
-        match self {
-            Answer::Made(_, body) => body.as_bytes(),
-            Answer::Fixed(_, body) => body.as_bytes(),
-        }
-    }
-}
 
 /// The room that is taken for the head of an answer.
 const HEAD_ROOM: usize = 256;
@@ -212,7 +181,7 @@ pub(crate) fn answer_to<K: Keeper>(
     ensures spared { K.spares keeper.old keeper.new }
     ensures began_clean { K.is_clean keeper.new → K.is_clean keeper.old }
     ensures answers { K.is_clean keeper.new → (x : Standing) →
-        Stands (K.stands keeper.old) (K.cause keeper.old) x →
+        KeeperStands (K.stands keeper.old) (K.cause keeper.old) x →
         Answers (sight_of K.stands K.cause K.may_leave K.is_clean K.applies K.spares K.fails)
         (root_of base.now) x
         (ask_of request.entry.method.now request.entry.target.now body.now)

@@ -4,7 +4,7 @@ ghost use Rattle.streetmap_ledger.specs.State.{State};
 ghost use Rattle.streetmap_ledger.specs.Keep.{LeavesOnly};
 ghost use Rattle.streetmap_routes.specs.BaseView.{root_of};
 ghost use Rattle.streetmap_web.specs.Sight.{sight_of};
-ghost use Rattle.streetmap_web.specs.Standing.{Standing, Stands};
+ghost use Rattle.streetmap_web.specs.Standing.{Standing, KeeperStands};
 ghost use Rattle.streetmap_connections.specs.Served.{ended_of, slots_of};
 ghost use Rattle.streetmap_web.specs.ServingClients.{ServesClients};
 ghost use Rattle.streetmap_web.specs.SurvivingClients.{SurvivesClients};
@@ -41,7 +41,7 @@ pub fn serve_clients<R: Net + Clock, K: Keeper, W: Write>(
     // interleaving of the clients' own lists. The clients of a place were answered in turn, each to
     // its end before the next was answered at all.
     ensures serves { K.is_clean service.new.keeper → (x : Standing) →
-        Stands (K.stands service.old.keeper) (K.cause service.old.keeper) x →
+        KeeperStands (K.stands service.old.keeper) (K.cause service.old.keeper) x →
         ServesClients (sight_of K.stands K.cause K.may_leave K.is_clean K.applies K.spares K.fails)
         (root_of service.old.base) x service.old.keeper service.new.keeper
         (slots_of clients.old) (slots_of clients.new) }

@@ -1,9 +1,8 @@
 //! A keeper as the service of many clients.
-ghost use Rattle.std.specs.Prelude.{◌≡◌};
+ghost use Rattle.std.specs.Prelude.{◌≡◌, ◌≤◌, length, take};
+ghost use Rattle.streetmap_connections.specs.Cuts.{IfWhole, IfWaits, HasNone, HasNoneBefore};
 ghost use Rattle.streetmap_http.specs.Arrivals.{IsAnswered};
 ghost use Rattle.streetmap_routes.specs.BaseView.{root_of};
-ghost use Rattle.streetmap_connections.specs.Answers.{answer_text as sent_text};
-ghost use Rattle.streetmap_web.specs.Responds.{answer_text};
 ghost use Rattle.streetmap_web.specs.Sight.{sight_of};
 ghost use Rattle.streetmap_web.specs.Answering.{AnswersOne};
 
@@ -26,6 +25,20 @@ pub struct KeeperService<K, W> {
     pub log: Option<W>,
 }
 
+/// Where the first request of some bytes ends.
+fn cut_of(input: &[u8]) -> Cut
+    ensures fits { IfWhole result (λ len. len ≤ length input.now) }
+    ensures request { IfWhole result (λ len. IsAnswered (take len input.now)) }
+    ensures none { IfWaits result (λ needs. HasNone IsAnswered input.now) }
+    ensures not_before { IfWaits result (λ needs. HasNoneBefore IsAnswered input.now needs) }
+{
+    match arrival_of(input) {
+        Arrival::Request(len) => Cut::Whole(len),
+        Arrival::Head => Cut::Waits(input.len().saturating_add(1)),
+        Arrival::Body(missing) => Cut::Waits(input.len().saturating_add(missing)),
+    }
+}
+
 impl<K: Keeper, W: Write> Service for KeeperService<K, W> {
     ghost is_request = { IsAnswered };
 
@@ -34,27 +47,12 @@ impl<K: Keeper, W: Write> Service for KeeperService<K, W> {
         (root_of old.base) old.keeper request text closes new.keeper };
 
     fn cut(&self, input: &[u8]) -> Cut {
-        match arrival_of(input) {
-            Arrival::Request(len) => Cut::Whole(len),
-            Arrival::Head => Cut::Waits(input.len().saturating_add(1)),
-            Arrival::Body(missing) => Cut::Waits(input.len().saturating_add(missing)),
-        }
+        cut_of(input)
     }
 
     fn answer(&mut self, request: &[u8]) -> (Answer, bool) {
         let (answer, closes) = answer_request(self.alloc, &mut self.keeper, &self.base, request);
-        let answer = passed_on(answer);
         tell(self.alloc, &mut self.log, request, &answer);
         (answer, closes)
-    }
-}
-
-/// The same answer, in the form that is sent.
-fn passed_on(answer: crate::answer::Answer) -> Answer
-    ensures { sent_text result ≡ answer_text answer }
-{
-    match answer {
-        crate::answer::Answer::Made(head, body) => Answer::Made(head, body),
-        crate::answer::Answer::Fixed(head, body) => Answer::Fixed(head, body),
     }
 }

@@ -25,7 +25,6 @@ mod respond;
 mod response;
 mod serving;
 
-pub use answer::Answer;
 pub use clients::serve_clients;
 pub use keeper_service::KeeperService;
 pub use requests::answer_request;

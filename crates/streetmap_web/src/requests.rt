@@ -6,13 +6,15 @@ ghost use Rattle.streetmap_batch.specs.Text.{Text};
 ghost use Rattle.streetmap_routes.specs.Ask.{ask_of};
 ghost use Rattle.streetmap_routes.specs.BaseView.{root_of};
 ghost use Rattle.streetmap_web.specs.Coming.{Answered};
-ghost use Rattle.streetmap_web.specs.Responds.{answer_text, TellsBatch};
+ghost use Rattle.streetmap_connections.specs.Answers.{answer_text};
+ghost use Rattle.streetmap_web.specs.Responds.{TellsBatch};
 ghost use Rattle.streetmap_web.specs.Sight.{sight_of};
-ghost use Rattle.streetmap_web.specs.Standing.{Standing, Stands};
+ghost use Rattle.streetmap_web.specs.Standing.{Standing, KeeperStands};
 
-use crate::answer::{Answer, answer_to, refused};
+use crate::answer::{answer_to, refused};
 use httparse::spans::EMPTY_HEADER_SPAN;
 use std::alloc::Global;
+use streetmap_connections::Answer;
 use streetmap_http::{FIELD_LIMIT, Framed, split_request};
 use streetmap_ledger::Keeper;
 use streetmap_routes::Base;
@@ -32,7 +34,7 @@ pub fn answer_request<K: Keeper>(
     // Over a keeper that stands so: the answer of what stands there, and what stands there
     // afterwards. Want of memory (503) leaves the state as it was, and a 500 a keeper that is shut.
     ensures answers { K.is_clean keeper.new → (x : Standing) →
-        Stands (K.stands keeper.old) (K.cause keeper.old) x →
+        KeeperStands (K.stands keeper.old) (K.cause keeper.old) x →
         Answered (sight_of K.stands K.cause K.may_leave K.is_clean K.applies K.spares K.fails)
         (root_of base.now) x request.now (answer_text result.0) result.1 keeper.old keeper.new }
     // A batch is answered as the keeper answered it, whatever the reply is; 503 comes where the

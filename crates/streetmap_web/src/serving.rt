@@ -9,16 +9,17 @@ ghost use Rattle.streetmap_http.specs.FramingView.{framing_value, head_value};
 ghost use Rattle.streetmap_batch.specs.Text.{Text};
 ghost use Rattle.streetmap_routes.specs.BaseView.{root_of};
 ghost use Rattle.streetmap_web.specs.Coming.{around};
-ghost use Rattle.streetmap_web.specs.Responds.{answer_text};
+ghost use Rattle.streetmap_connections.specs.Answers.{answer_text};
 ghost use Rattle.streetmap_web.specs.Sight.{sight_of};
-ghost use Rattle.streetmap_web.specs.Standing.{Standing, Stands};
+ghost use Rattle.streetmap_web.specs.Standing.{Standing, KeeperStands};
 ghost use Rattle.streetmap_web.specs.Exchanges.{TurnComes, Serves};
 ghost use Rattle.streetmap_web.specs.Turns.{turn_after, end_of, begun_in, FillSays, RefuseSays};
 
-use crate::answer::{Answer, answer_to, fixed, refused};
+use crate::answer::{answer_to, fixed, refused};
 use httparse::spans::EMPTY_HEADER_SPAN;
 use std::alloc::{AllocError, Global};
 use std::io::{BufRead, Read, Write};
+use streetmap_connections::Answer;
 use streetmap_http::{
     BodyEnd, FIELD_LIMIT, Framed, FramingFault, HEAD_LIMIT, HeadEnd, RequestHead, Sent, frame_of,
     is_bare, read_body, read_head, send,
@@ -166,7 +167,7 @@ fn answer_turn<K: Keeper, R: Read, W: Write>(
     ensures says { K.is_clean keeper.new → (bytes : Text) (left : Option Text) (x : Standing) →
         IsHead bytes → Frames bytes (sized (head_value head.entry)) →
         Consumes left (R.remaining reader.old) bytes →
-        Stands (K.stands keeper.old) (K.cause keeper.old) x →
+        KeeperStands (K.stands keeper.old) (K.cause keeper.old) x →
         TurnComes result (root_of base.now) x
         (around (sight_of K.stands K.cause K.may_leave K.is_clean K.applies K.spares K.fails)
         (root_of base.now) x left (R.remaining reader.new)
@@ -199,7 +200,7 @@ fn take_turn<K: Keeper, R: Read, W: Write>(
     ensures spared { K.spares keeper.old keeper.new }
     ensures began_clean { K.is_clean keeper.new → K.is_clean keeper.old }
     ensures says { K.is_clean keeper.new → (x : Standing) →
-        Stands (K.stands keeper.old) (K.cause keeper.old) x →
+        KeeperStands (K.stands keeper.old) (K.cause keeper.old) x →
         TurnComes result (root_of base.now) x
         (around (sight_of K.stands K.cause K.may_leave K.is_clean K.applies K.spares K.fails)
         (root_of base.now) x (R.remaining reader.old) (R.remaining reader.new)
@@ -245,7 +246,7 @@ pub fn serve<K: Keeper, R: BufRead, W: Write>(
     // state before, it may leave only the state afterwards, or where the device failed at the last
     // request that state or the one before it.
     ensures serves { K.is_clean keeper.new → (x : Standing) →
-        Stands (K.stands keeper.old) (K.cause keeper.old) x →
+        KeeperStands (K.stands keeper.old) (K.cause keeper.old) x →
         Serves (root_of base.now) result.end result.answers x
         (around (sight_of K.stands K.cause K.may_leave K.is_clean K.applies K.spares K.fails)
         (root_of base.now) x (R.remaining reader.old) (R.remaining reader.new)

@@ -1,11 +1,11 @@
-use Rattle.std.proofs.Common.{◌≡◌, [], inl, inr, sym, ◌∙◌, length, map, subst, rules}
+use Rattle.std.proofs.Common.{◌≡◌, [], sym, ◌∙◌, length, map, subst, rules}
 use Rattle.sqlite.specs.Held.{state}
 use Rattle.sqlite.proofs.Callers.{unchanged_then}
 use Rattle.streetmap_reading.proofs.Rests.{clean_before}
 use Rattle.streetmap_tables.proofs.Stopping.{is_handed}
 use Rattle.streetmap_rows.specs.Statements.{select_collections}
 use Rattle.streetmap_rows.proofs.Reasons.{counts_then}
-use Rattle.streetmap_checking.specs.Checking.{IsDamaged}
+use Rattle.streetmap_checking.specs.Checking.{IsDamaged, by_format, by_collections, by_features, by_owners, by_batches}
 use Rattle.streetmap_checking.specs.Good.{AreCollectionRows, AreOwnerRows, AreBatchRows}
 use Rattle.streetmap_checking.specs.Held.{known}
 use Rattle.streetmap_checking.specs.Statements.{select_owners, select_batches}
@@ -19,7 +19,7 @@ pub returns-in_err-check_format-clause-looks : goal.returns-in_err-check_format-
 returns-in_err-check_format-clause-looks g c clean =
     let old = state g.S.Store c.args.conn.now in
     let one = state g.S.Store c.check_format.new.conn in
-    handed _ _ old one _ _ (is_handed _ _ c.from_residual.ensures.1) (why_for (IsDamaged old) (NoFormat old) old one c.in_err-check_format.field-0.0 (λ none. inl none) (c.in_err-check_format.ensures.looks clean))
+    handed _ _ old one _ _ (is_handed _ _ c.from_residual.ensures.1) (why_for (IsDamaged old) (NoFormat old) old one c.in_err-check_format.field-0.0 (λ none. by_format none) (c.in_err-check_format.ensures.looks clean))
 
 pub returns-in_err-heads-clause-looks : goal.returns-in_err-heads-clause-looks
 returns-in_err-heads-clause-looks g c clean =
@@ -29,7 +29,7 @@ returns-in_err-heads-clause-looks g c clean =
     let same = (c.in_ok-check_format.ensures.looks (clean_before one two _ c.check_collections.ensures.survives clean)).1 in
     let limit = c.check_format.ensures.survives.limit in
     handed _ _ old two _ _ (is_handed _ _ c.from_residual-in_err-heads.ensures.1)
-    (fault_on (IsDamaged old) (NoHeads one) old one two c.in_err-heads.field-0.0 same c.check_format.ensures.survives.counts c.check_collections.ensures.survives.counts (λ none. inr (inl (none_on select_collections [] collections_simple AreCollectionRows old one same limit none))) (c.in_err-heads.ensures.looks clean))
+    (fault_on (IsDamaged old) (NoHeads one) old one two c.in_err-heads.field-0.0 same c.check_format.ensures.survives.counts c.check_collections.ensures.survives.counts (λ none. by_collections (none_on select_collections [] collections_simple AreCollectionRows old one same limit none)) (c.in_err-heads.ensures.looks clean))
 
 pub returns-in_err-features-clause-looks : goal.returns-in_err-features-clause-looks
 returns-in_err-features-clause-looks g c clean =
@@ -47,7 +47,7 @@ returns-in_err-features-clause-looks g c clean =
     let told = subst (λ l. TellsWhy (NoFeaturesOfAll (known l) two) two three c.in_err-features.field-0.0) is (c.in_err-features.ensures.looks clean heads.1.0.is_open) in
     let counts = counts_then old.faults one.faults two.faults c.check_format.ensures.survives.counts c.check_collections.ensures.survives.counts in
     handed _ _ old three _ _ (is_handed _ _ c.from_residual-in_err-features.ensures.1)
-    (fault_on (IsDamaged old) (NoFeaturesOfAll all two) old two three c.in_err-features.field-0.0 same counts c.check_all_features.ensures.survives.counts (λ none. inr (inr (inl (all, heads_on all old one first heads.0, inl (no_features_all_on all old two same limit none))))) told)
+    (fault_on (IsDamaged old) (NoFeaturesOfAll all two) old two three c.in_err-features.field-0.0 same counts c.check_all_features.ensures.survives.counts (λ none. by_features all (heads_on all old one first heads.0) (no_features_all_on all old two same limit none)) told)
 
 pub returns-in_err-check_owners-clause-looks : goal.returns-in_err-check_owners-clause-looks
 returns-in_err-check_owners-clause-looks g c clean =
@@ -69,7 +69,7 @@ returns-in_err-check_owners-clause-looks g c clean =
     let counts = three_counts in
     handed _ _ old four _ _ (is_handed _ _ c.from_residual-in_err-check_owners.ensures.1)
     (fault_on (IsDamaged old) (NoOwners all three) old three four c.in_err-check_owners.field-0.0 same counts c.check_owners.ensures.survives.counts
-    (λ none. inr (inr (inl (all, heads_on all old one first heads.0, inr (none_on select_owners [] owners_simple (AreOwnerRows (map (λ (k : Known). k.0) all)) old three same limit none))))) (c.in_err-check_owners.ensures.looks clean))
+    (λ none. by_owners all (heads_on all old one first heads.0) (none_on select_owners [] owners_simple (AreOwnerRows (map (λ (k : Known). k.0) all)) old three same limit none)) (c.in_err-check_owners.ensures.looks clean))
 
 pub returns-in_err-batches-clause-looks : goal.returns-in_err-batches-clause-looks
 returns-in_err-batches-clause-looks g c clean =
@@ -92,7 +92,7 @@ returns-in_err-batches-clause-looks g c clean =
     let three_counts = counts_then old.faults two.faults three.faults two_counts c.check_all_features.ensures.survives.counts in
     let counts = counts_then old.faults three.faults four.faults three_counts c.check_owners.ensures.survives.counts in
     handed _ _ old five _ _ (is_handed _ _ c.from_residual-in_err-batches.ensures.1)
-    (fault_on (IsDamaged old) (NoBatches four) old four five c.in_err-batches.field-0.0 same counts c.check_batches.ensures.survives.counts (λ none. inr (inr (inr (none_on select_batches [] batches_simple AreBatchRows old four same limit none)))) (c.in_err-batches.ensures.looks clean))
+    (fault_on (IsDamaged old) (NoBatches four) old four five c.in_err-batches.field-0.0 same counts c.check_batches.ensures.survives.counts (λ none. by_batches (none_on select_batches [] batches_simple AreBatchRows old four same limit none)) (c.in_err-batches.ensures.looks clean))
 
 pub returns-clause-looks : goal.returns-clause-looks
 returns-clause-looks g c clean =

@@ -5,7 +5,7 @@ use Rattle.sqlite.specs.declared.error.ErrorCode.TheVariants.{TooBig}
 use Rattle.sqlite.proofs.Callers.{unchanged_then}
 use Rattle.streetmap_rows.proofs.Answering.{handed_on}
 use Rattle.streetmap_reading.proofs.Rests.{given_open, survives_still, survives_on, clean_before}
-use Rattle.streetmap_checking.specs.Folding.{TookNext}
+use Rattle.streetmap_checking.specs.Folding.{CheckedNext}
 use Rattle.streetmap_checking.proofs.Stopping.{stops_on, sees_on}
 use Rattle.streetmap_rows.proofs.Reasons.{other}
 use Rattle.streetmap_checking.proofs.Seeing.{unchanged_was}
@@ -32,7 +32,7 @@ rows-preserved g c =
             let t = before.took (clean_before _ _ _ c.take_next.ensures.survives clean) sql params start simple given held in
             let r = c.in_ok-took.ensures.takes clean sql params start t.done simple t.given t.held in
             let on : c.in_ok-took.took ≡ true = search rules in
-            let m = subst (TookNext g.F.RowCheck.holds g.F.RowCheck.is_good g.S.Store sql params start t.done c.rows.rows.conn.now c.take_next.new.rows.conn.now c.take_next.new.fold) on r.0 in
+            let m = subst (CheckedNext g.F.RowCheck.holds g.F.RowCheck.is_good g.S.Store sql params start t.done c.rows.rows.conn.now c.take_next.new.rows.conn.now c.take_next.new.fold) on r.0 in
             record { done = t.done ++ m.0 ∷ []; given = m.1; held = m.2; same = unchanged_then _ _ _ t.same r.1 };
       },
     )
@@ -43,7 +43,7 @@ returns-then-not-took-clause-takes g c clean = λ sql params start simple given 
     let t = before.took (clean_before _ _ _ c.take_next.ensures.survives clean) sql params start simple given held in
     let r = c.in_ok-took.ensures.takes clean sql params start t.done simple t.given t.held in
     let off : c.in_ok-took.took ≡ false = search rules in
-    let m = subst (TookNext g.F.RowCheck.holds g.F.RowCheck.is_good g.S.Store sql params start t.done c.rows.rows.conn.now c.take_next.new.rows.conn.now c.take_next.new.fold) off r.0 in
+    let m = subst (CheckedNext g.F.RowCheck.holds g.F.RowCheck.is_good g.S.Store sql params start t.done c.rows.rows.conn.now c.take_next.new.rows.conn.now c.take_next.new.fold) off r.0 in
     ((t.done, sees_on sql params simple _ _ t.done t.same m.0, m.1), unchanged_then _ _ _ t.same r.1)
 
 pub returns-in_err-took-clause-takes : goal.returns-in_err-took-clause-takes

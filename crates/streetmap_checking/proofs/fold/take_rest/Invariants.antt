@@ -4,7 +4,7 @@ use Rattle.sqlite.specs.Held.{Held, state}
 use Rattle.sqlite.specs.Order.{Row}
 use Rattle.sqlite.specs.Store.{Ghosts}
 use Rattle.sqlite.specs.State.{HasCleanDisk, IsUnchanged, Survives}
-use Rattle.streetmap_checking.specs.Seeing.{IsSimple}
+use Rattle.streetmap_checking.specs.Seeing.{IsSimpleQuery}
 use Rattle.streetmap_checking.proofs.fold.take_rest.Given as goal
 
 module _ {F : Type 0} (Holds : F → F → List Row → Type 0) where
@@ -18,7 +18,7 @@ module _ {F : Type 0} (Holds : F → F → List Row → Type 0) where
   pub record SoFar {S : Type 0} (g : Ghosts S) (old now : Held S) (before fold : F) : Type 0 where
     pub mode : old.in_transaction ≡ false → now.in_transaction ≡ false
     pub survives : Survives (state g old) (state g now) (λ _. ⊥)
-    pub took : HasCleanDisk (state g now) → (sql : List ℕ) (params : Row) (start : F) → IsSimple sql → HasGiven g sql params old [] → Holds start before [] → Took g old now start fold sql params
+    pub took : HasCleanDisk (state g now) → (sql : List ℕ) (params : Row) (start : F) → IsSimpleQuery sql → HasGiven g sql params old [] → Holds start before [] → Took g old now start fold sql params
 
 abbrev pub invariant-rows : goal.invariant-rows
 invariant-rows g l = (l.rows.conn.ghost_name ≡ l.fn.rows.conn.ghost_name) × SoFar g.F.RowCheck.holds g.S.Store l.fn.rows.conn.now l.rows.conn.now l.fn.fold l.fold

@@ -1,10 +1,11 @@
-use Rattle.std.proofs.Common.{◌≡◌, [], None, inr, false, refl, sym, subst, ◌∙◌, length, rules}
+use Rattle.std.proofs.Common.{◌≡◌, [], None, false, refl, sym, subst, ◌∙◌, length, rules}
 use Rattle.std.proofs.lemmas.Result.{err_from_is_err_and}
 use Rattle.sqlite.specs.Held.{state}
 use Rattle.streetmap_tables.proofs.Stopping.{is_handed}
 use Rattle.streetmap_checking.specs.Good.{AreBatchRows, AreSerials}
 use Rattle.streetmap_checking.specs.Held.{HoldsBatches, IsGoodBatches}
 use Rattle.streetmap_checking.specs.Statements.{select_batches}
+use Rattle.streetmap_checking.specs.Telling.{not_good}
 use Rattle.streetmap_checking.proofs.Found.{no_serials, as_many}
 use Rattle.streetmap_checking.proofs.Looked.{stopped, handed}
 use Rattle.streetmap_checking.proofs.Simple.{batches_simple}
@@ -27,7 +28,7 @@ pub returns-then-not-are-clause-looks : goal.returns-then-not-are-clause-looks
 returns-then-not-are-clause-looks g c clean =
     let r = c.in_ok-fold_rows.ensures.takes clean batches_simple (record { are = record { entries = []; are = refl; rising = tt; fine = tt }; last = refl; serials = c.new-serials.ensures.items }) in
     let off : c.in_ok-are.are ≡ false = search rules in
-    (inr (inr (r.0.0, r.0.1, no_serials r.0.0 r.0.2.are _ r.0.2.serials (λ good. absurd (let on = sym off ∙ c.in_ok-are.ensures.1 (subst AreSerials (search rules) good) in cc)))), r.1)
+    (not_good r.0.0 r.0.1 (no_serials r.0.0 r.0.2.are _ r.0.2.serials (λ good. absurd (let on = sym off ∙ c.in_ok-are.ensures.1 (subst AreSerials (search rules) good) in cc))), r.1)
 
 pub returns-clause-looks : goal.returns-clause-looks
 returns-clause-looks g c clean =

@@ -1,9 +1,10 @@
-use Rattle.std.proofs.Common.{[], inl, inr, refl, rules, arith}
+use Rattle.std.proofs.Common.{[], inl, refl, rules, arith}
 use Rattle.sqlite.specs.Held.{state}
 use Rattle.streetmap_tables.proofs.Stopping.{is_handed}
 use Rattle.streetmap_checking.specs.Good.{AreFormatRows}
 use Rattle.streetmap_checking.specs.Held.{HoldsFormat, IsGoodFormat}
 use Rattle.streetmap_checking.specs.Statements.{select_formats}
+use Rattle.streetmap_checking.specs.Telling.{not_good}
 use Rattle.streetmap_checking.proofs.Found.{format_found, format_lost}
 use Rattle.streetmap_checking.proofs.Looked.{stopped, handed}
 use Rattle.streetmap_checking.proofs.Simple.{formats_simple}
@@ -18,7 +19,7 @@ returns-in_err-fold_rows-clause-looks g c clean =
 pub returns-then-rows-eq0-clause-looks : goal.returns-then-rows-eq0-clause-looks
 returns-then-rows-eq0-clause-looks g c clean =
     let r = c.in_ok-fold_rows.ensures.takes clean formats_simple (inl (refl, refl)) in
-    (inr (inr (r.0.0, r.0.1, format_lost (record { found = 0 }) c.fold_rows.new.fold r.0.0 r.0.2 (search rules))), r.1)
+    (not_good r.0.0 r.0.1 (format_lost (record { found = 0 }) c.fold_rows.new.fold r.0.0 r.0.2 (search rules)), r.1)
 
 pub returns-clause-looks : goal.returns-clause-looks
 returns-clause-looks g c clean =

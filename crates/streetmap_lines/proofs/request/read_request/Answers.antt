@@ -1,7 +1,8 @@
 use Rattle.std.proofs.Common.{◌≡◌, Option, Some, None, option_map, IfSome, IsSome, IsUtf8, Bool, true, false, cond, sym, refl, ap, ◌∙◌}
 use Rattle.std.proofs.lemmas.Str.{IsUtf8-from_is_utf8, is_utf8-from_IsUtf8}
 use Rattle.std.specs.Str.{is_utf8}
-use Rattle.streetmap_lines.specs.Request.{Text, request_of, AsksFor}
+use Rattle.streetmap_batch.specs.Text.{Text}
+use Rattle.streetmap_lines.specs.Request.{request_of, AsksFor}
 use Rattle.streetmap_lines.specs.RequestView.{request_value}
 use Rattle.streetmap_lines.specs.declared.request.Request.{Request}
 use Rattle.streetmap_lines.proofs.Requests.{request_of-found, request_of-only}

@@ -3,7 +3,8 @@ use Rattle.streetmap_http.specs.FramingView.{head_value}
 use Rattle.streetmap_http.specs.declared.framing.Framed.TheVariants.{Broken, Request}
 use Rattle.streetmap_routes.specs.Ask.{ask_of}
 use Rattle.streetmap_routes.specs.BaseView.{root_of}
-use Rattle.streetmap_web.specs.Responds.{answer_text, TellsBatch}
+use Rattle.streetmap_connections.specs.Answers.{answer_text}
+use Rattle.streetmap_web.specs.Responds.{TellsBatch}
 use Rattle.streetmap_web.specs.Sight.{sight_of}
 use Rattle.streetmap_web.proofs.OneRequest.{split_as, whole_answered, broken_answered, not_broken, said_of}
 use Rattle.streetmap_web.proofs.requests.answer_request.Goals as goal

@@ -8,7 +8,7 @@ use Rattle.streetmap_http.specs.declared.body.BodyEnd.TheVariants.{Whole, Trunca
 use Rattle.streetmap_ledger.specs.declared.reply.Fault.TheVariants.{Memory}
 use Rattle.streetmap_routes.specs.BaseView.{root_of}
 use Rattle.streetmap_web.specs.Response.{response_text, fault_response}
-use Rattle.streetmap_web.specs.Responds.{answer_text}
+use Rattle.streetmap_connections.specs.Answers.{answer_text}
 use Rattle.streetmap_web.specs.Sight.{sight_of}
 use Rattle.streetmap_web.specs.Turns.{FillSays}
 use Rattle.streetmap_web.specs.Exchanges.{request_of, no_room}

@@ -1,5 +1,5 @@
 use Rattle.std.proofs.Common.{◌++◌, ap, ◌∙◌}
-use Rattle.streetmap_web.specs.Responds.{answer_text, head_bytes}
+use Rattle.streetmap_connections.specs.Answers.{answer_text, head_bytes}
 use Rattle.streetmap_web.proofs.Filling.{sent_kept}
 use Rattle.streetmap_web.proofs.serving.write_answer.Goals as goal
 

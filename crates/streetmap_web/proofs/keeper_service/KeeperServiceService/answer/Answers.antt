@@ -1,7 +1,6 @@
-use Rattle.std.proofs.Common.{refl, sym, subst}
-use Rattle.streetmap_batch.specs.Text.{Text}
+use Rattle.std.proofs.Common.{refl}
 use Rattle.streetmap_routes.specs.BaseView.{root_of}
-use Rattle.streetmap_web.specs.Responds.{answer_text}
+use Rattle.streetmap_connections.specs.Answers.{answer_text}
 use Rattle.streetmap_web.specs.Sight.{sight_of}
 use Rattle.streetmap_web.specs.Answering.{AnswersOne}
 use Rattle.streetmap_web.proofs.keeper_service.KeeperServiceService.answer.Goals as goal
@@ -14,4 +13,4 @@ returns g c =
     let said = c.answer_request-answer in
     let one : AnswersOne sight (root_of kept.base) kept.keeper c.args.request.now (answer_text said.result.0) said.result.1 said.new.keeper
     = record { answered = said.ensures.answers; told = said.ensures.told; spared = said.ensures.spared; began_clean = said.ensures.began_clean } in
-    (refl, subst (λ (t : Text). AnswersOne sight (root_of kept.base) kept.keeper c.args.request.now t said.result.1 said.new.keeper) (sym c.passed_on-answer.ensures) one)
+    (refl, one)
