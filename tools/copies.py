@@ -18,24 +18,25 @@ from typing import Any
 
 import gate
 import toolchain
+from wrong_bodies import Edit, in_copy, read_edit, round_in_copies
 
 
-def right_bodies(rt: ModuleType, crate: Any) -> list[gate.Edit]:
+def right_bodies(rt: ModuleType, crate: Any) -> list[Edit]:
     """An edit that changes nothing for each function that a wrong body changes."""
     paths, _ = rt.edits_of(crate)
-    edits = [gate.read_edit(crate.folder, path) for path in paths]
+    edits = [read_edit(crate.folder, path) for path in paths]
     changed = {it.functions: it for it in edits if it.functions is not None}
     right = [
-        gate.Edit(it.path, [(file, old, old) for file, old, _ in it.pairs], it.functions)
+        Edit(it.path, [(file, old, old) for file, old, _ in it.pairs], it.functions)
         for it in changed.values()
     ]
-    return [it for it in right if gate.in_copy(crate.folder, it, {}, 0) is not None]
+    return [it for it in right if in_copy(crate.folder, it, {}, 0) is not None]
 
 
 def look_at(rt: ModuleType, crate: Any) -> bool:
     """Says how many copies are proved, and which are not; returns whether all are."""
     edits = right_bodies(rt, crate)
-    taken, texts = gate.round_in_copies(crate.folder, edits, len(edits))
+    taken, texts = round_in_copies(crate.folder, edits, len(edits))
     words = [word for it in taken for name in it.functions or () for word in ("--only", name.path)]
     with tempfile.TemporaryDirectory(prefix="streetmap-copies-") as room:
         kept = gate.seeded_by(rt, set())(crate, ["--jobs", "1"])

@@ -1,0 +1,270 @@
+"""Wrong bodies: what an edit changes, in its place or in copies of functions, and how a check says
+that one is refused.
+
+A file NAME.edit of a crate's must-fail/ has pairs of texts, an old and a new one. Each that changes
+the bodies of functions alone can be tried beside others, since the proof of a function sees the
+contracts of others and not their bodies.
+"""
+
+import re
+from dataclasses import dataclass
+from pathlib import Path
+
+FUNCTION = re.compile(r"^( *)(?:pub(?:\([\w ]+\))? )?(?:const |unsafe )*fn (\w+)", re.MULTILINE)
+IMPL = re.compile(
+    r"^impl\b(?:<[^{]*?>)? *(?:(?P<trait>\w+)[^{]*? for )?(?P<type>\w+)", re.MULTILINE
+)
+STATUS = re.compile(r"^fn (\S+): (proved|not proved|no proof)(.*)$", re.MULTILINE)
+# What a proof file says where it names what an edit took away, which shows little of a contract.
+LOST_NAME = re.compile(r"has no field|is not in scope|has no `|was not admitted")
+
+
+@dataclass(frozen=True)
+class Function:
+    """A function of a crate by its place in the sources."""
+
+    file: str
+    lines: range  # from its name to the end of its body
+    module: str
+    kind: str  # the type of its `impl`, and the trait, or nothing
+    name: str
+
+    @property
+    def path(self) -> str:
+        """A name that the toolchain finds it by. A method's begins with its type, which may stand
+        in another module than the `impl`."""
+        before = self.kind.replace(" ", "") or self.module
+        return f"{before}::{self.name}" if before else self.name
+
+    def is_called(self, path: str) -> bool:
+        """Whether the toolchain's name for a function, without its crate, can be this one's."""
+        *before, name = path.split("::")
+        if name != self.name:
+            return False
+        if self.kind:
+            return before[-1:] in ([self.kind.partition(" ")[0]], [self.kind.replace(" ", "")])
+        return before == [it for it in self.module.split("::") if it]
+
+
+@dataclass
+class Edit:
+    """A wrong body: its file, its pairs of texts, and the functions whose bodies it changes."""
+
+    path: str
+    pairs: list[tuple[str, str, str]]
+    functions: frozenset[Function] | None
+
+
+def pairs_of(path: str) -> list[tuple[str, str, str]]:
+    """The file, the old and the new text of each pair of an edit."""
+    file, old, found = "", "", []
+    for line in Path(path).read_text(encoding="utf-8").split("\n"):
+        if line.startswith("file: "):
+            file = line.removeprefix("file: ").strip()
+        elif line.startswith("old: "):
+            old = line.removeprefix("old: ")
+        elif line.startswith("new:"):
+            found.append((file, old, line.removeprefix("new:").removeprefix(" ")))
+    return found
+
+
+def function_at(file: str, text: str, start: int, end: int) -> Function | None:
+    """The function within whose body a part of a file's text stands, if it is one."""
+    header = None
+    for header in FUNCTION.finditer(text, 0, start):
+        pass
+    if header is None:
+        return None
+    indent, name = header[1], header[2]
+    opened = re.compile(rf"(?:^{indent}|[^\n]* )\{{$", re.MULTILINE).search(text, header.start())
+    closed = re.compile(rf"^{indent}\}}$", re.MULTILINE).search(text, header.start())
+    if not opened or not closed or not opened.end() <= start <= end <= closed.start():
+        return None
+    kind = ""
+    if indent:
+        for found in IMPL.finditer(text, 0, start):
+            kind = found["type"] + (f" {found['trait']}" if found["trait"] else "")
+    module = file.removeprefix("src/").removesuffix(".rt").replace("/", "::")
+    module = re.sub(r"(^|::)(lib|main|mod)$", "", module)
+    lines = range(text.count("\n", 0, header.end()), text.count("\n", 0, closed.end()) + 2)
+    return Function(file, lines, module, kind, name)
+
+
+def read_edit(folder: str, path: str) -> Edit:
+    found: set[Function] = set()
+    pairs = pairs_of(path)
+    for file, old, _ in pairs:
+        source = Path(folder, file)
+        text = source.read_text(encoding="utf-8") if source.is_file() else ""
+        at = text.find(old) if file.startswith("src/") and text.count(old) == 1 else -1
+        function = function_at(file, text, at, at + len(old)) if at >= 0 else None
+        if function is None:
+            return Edit(path, pairs, None)
+        found.add(function)
+    return Edit(path, pairs, frozenset(found) or None)
+
+
+def applied(folder: str, edit: Edit, texts: dict[str, str]) -> dict[str, str] | None:
+    """The texts of the changed files with an edit too, or None where it can't stand beside them."""
+    made = dict(texts)
+    for file, old, new in edit.pairs:
+        text = made.get(file) or Path(folder, file).read_text(encoding="utf-8")
+        if text.count(old) != 1:
+            return None
+        made[file] = text.replace(old, new)
+    return made
+
+
+def text_of(source: str, function: Function) -> str:
+    """A function with its attributes, and without its documentation."""
+    lines = source.split("\n")
+    start = function.lines.start - 1
+    while start > 0 and lines[start - 1].strip() and lines[start - 1][-1] not in "{};":
+        start -= 1
+    own = lines[start : function.lines.stop - 1]
+    return "\n".join(line for line in own if not line.lstrip().startswith("///"))
+
+
+def in_its_impl(source: str, function: Function, text: str) -> str:
+    """The text of a method in an `impl` of its own, with all that its own `impl` names."""
+    lines = source.split("\n")
+    start = function.lines.start - 1
+    while not lines[start].startswith("impl"):
+        start -= 1
+    end = next(at for at in range(start, len(lines)) if lines[at] == "}")
+    head = next(at for at in range(start, end) if lines[at].endswith("{"))
+    names = [line for line in lines[head:end] if line.startswith("    ghost use ")]
+    return "\n".join([*lines[start : head + 1], *names, text, "}"])
+
+
+def parts_of(function: Function) -> list[str]:
+    """The names of the folders of a function's proof."""
+    return [it for it in (*function.module.split("::"), function.kind, function.name) if it]
+
+
+def is_named(folder: str, function: Function) -> bool:
+    """Whether a proof of another function, or a file of lemmas, names the function's modules."""
+    own, name = Path(folder, "proofs", *parts_of(function)), f".{'.'.join(parts_of(function))}."
+    others = [it for it in Path(folder, "proofs").rglob("*.antt") if own not in it.parents]
+    return any(name in it.read_text(encoding="utf-8") for it in others)
+
+
+def proof_of(folder: str, function: Function, name: str) -> dict[str, str]:
+    """The files of a function's proof, for a copy of the function with another name."""
+    parts = parts_of(function)
+    place, names = Path("proofs", *parts), ".".join(parts)
+    renamed = names.removesuffix(function.name) + name
+    return {
+        str(place.with_name(name) / path.relative_to(Path(folder, place))): re.sub(
+            rf"\.{re.escape(names)}\.", f".{renamed}.", path.read_text(encoding="utf-8")
+        )
+        for path in Path(folder, place).rglob("*.antt")
+    }
+
+
+def in_copy(
+    folder: str, edit: Edit, texts: dict[str, str], number: int
+) -> tuple[Edit, dict[str, str]] | None:
+    """An edit made in a copy of its function, behind all else of the file, and the texts with it.
+    None where there is no such copy: of a method of a trait, of functions that call themselves, and
+    where other proofs name the function's own modules, which a copy would lack."""
+    if edit.functions is None or len(edit.functions) != 1:
+        return None
+    (function,) = edit.functions
+    source = Path(folder, function.file).read_text(encoding="utf-8")
+    text = text_of(source, function)
+    behind = text.partition(f"fn {function.name}")[2]
+    calls_itself = "#[cycle" in text or re.search(rf"\b{function.name}\(", behind[1:])
+    if " " in function.kind or calls_itself or is_named(folder, function):
+        return None
+    for _, old, new in edit.pairs:
+        text = text.replace(old, new)
+    name = f"{function.name}_in_copy_{number}"
+    text = re.sub(rf"\bfn {function.name}\b", f"fn {name}", text)
+    if function.kind:
+        text = in_its_impl(source, function, text)
+    made = {**texts, **proof_of(folder, function, name)}
+    made[function.file] = f"{texts.get(function.file, source)}\n{text}\n"
+    copy = Function(function.file, range(0), function.module, function.kind, name)
+    return Edit(edit.path, edit.pairs, frozenset([copy])), made
+
+
+def round_in_place(folder: str, edits: list[Edit], most: int) -> tuple[list[Edit], dict[str, str]]:
+    """The first edits that can be made together, each in functions of its own, at most so many."""
+    texts: dict[str, str] = {}
+    taken: list[Edit] = []
+    used: set[Function] = set()
+    for edit in edits:
+        if len(taken) == most or edit.functions is None or edit.functions & used:
+            continue
+        made = applied(folder, edit, texts)
+        if made is not None:
+            texts, used = made, used | edit.functions
+            taken.append(edit)
+    return taken, texts
+
+
+def round_in_copies(folder: str, edits: list[Edit], most: int) -> tuple[list[Edit], dict[str, str]]:
+    """The first edits that can be made in copies of their functions, at most so many."""
+    texts: dict[str, str] = {}
+    taken: list[Edit] = []
+    for edit in edits:
+        found = in_copy(folder, edit, texts, len(taken)) if len(taken) < most else None
+        if found is not None:
+            taken.append(found[0])
+            texts = found[1]
+    return taken, texts
+
+
+def is_of(line: str, path: str, function: Function) -> bool:
+    """Whether a line of a check speaks of a goal of a function, by its proofs or its source."""
+    if line.startswith(f"./proofs/{path.replace('::', '/')}/") and ": error" in line:
+        return True
+    at = re.match(r"note: (\S+?):(\d+):", line)
+    return at is not None and at[1] == function.file and int(at[2]) in function.lines
+
+
+def errors_of(path: str, lines: list[str]) -> list[str]:
+    """The lines that refuse an answer of a function, by its path below the crate."""
+    proofs = f"./proofs/{path.replace('::', '/')}/"
+    told = [it for it in lines if it.startswith(proofs) and ": error" in it]
+    return [it for it in told if not LOST_NAME.search(it)]
+
+
+def fails_itself(path: str, behind: str, lines: list[str]) -> bool:
+    """Whether a function that is not proved fails at a goal of its own, whatever it calls: an
+    answer is refused, or a goal that was tried is open. One that waits for the proof of what the
+    function calls is not tried."""
+    return bool(errors_of(path, lines)) or "`search` did not prove" in behind
+
+
+def refusal(crate: str, edit: Edit, output: str, is_apart: bool) -> str | None:
+    """The first line that refuses a function of the edit at a goal of its own, if one does. A
+    function that calls one which is not proved counts where it fails itself, and no function that
+    no edit touches does (`is_apart`)."""
+    lines = output.splitlines()
+    for path, status, behind in STATUS.findall(output):
+        inside = path.removeprefix(f"{crate}::")
+        # A goal of its own is open: an answer is refused, or none is found and none is written.
+        is_own = status == "not proved" or behind.startswith(": expected answers")
+        function = next((it for it in edit.functions or () if it.is_called(inside)), None)
+        if function is None or not is_own:
+            continue
+        if "it calls" in behind and not (is_apart and fails_itself(inside, behind, lines)):
+            continue
+        told = [it for it in lines if is_of(it, inside, function)]
+        told.sort(key=lambda it: bool(LOST_NAME.search(it)))
+        return told[0] if told else f"fn {path}: {status}{behind}"
+    return None
+
+
+def only_edited(crate: str, edits: list[Edit], output: str) -> bool:
+    """Whether each function that fails itself is one that an edit changes."""
+    edited = [function for edit in edits for function in edit.functions or ()]
+    lines = output.splitlines()
+    for path, status, behind in STATUS.findall(output):
+        inside = path.removeprefix(f"{crate}::")
+        if status != "proved" and fails_itself(inside, behind, lines):
+            if not any(it.is_called(inside) for it in edited):
+                return False
+    return True
