@@ -6,9 +6,11 @@
 `rt ci` tries each wrong body in a check of its own, most of which is loading what stands below.
 But the proof of a function sees the contracts of others and not their bodies. So many wrong bodies
 are tried in one check, each in a copy of its function with the same contract and the same proof,
-or, where none can be made, in a function of its own, and each must have that refused. One whose
-function is refused only because it calls another, or is not refused, is tried again in its place,
-and at last without others; that check is `rt ci`'s own.
+or, where none can be made, in a function of its own, and each must have that refused. At first only
+the answers that the proof of the function has are read in a copy, and no tactic is tried on goals
+that have none: an answer that is refused there is refused in the whole proof too. One that no
+answer refuses is tried in a copy with its whole proof, and one whose function is refused only
+because it calls another, or is not refused, at last without others; that check is `rt ci`'s own.
 
 `rt ci` also proves each crate twice, the second time for its wrong bodies to begin with. Here the
 built crate holds its checked proofs, and they begin with these. The proof itself is made from
@@ -25,6 +27,7 @@ import tempfile
 import threading
 from collections.abc import Callable
 from concurrent.futures import ThreadPoolExecutor
+from dataclasses import replace
 from pathlib import Path
 from types import ModuleType
 from typing import Any
@@ -33,52 +36,52 @@ import toolchain
 from lanes import in_lanes_by
 from wrong_bodies import (
     Edit,
-    in_copy,
+    Way,
     only_edited,
     read_edit,
     refusal,
     round_in_copies,
     round_in_place,
+    ways_of,
 )
 
 NEEDED = (
     *("ci", "edits_alone", "edits_of", "must_fail", "checked", "unread", "REFUSED", "rtlib"),
     *("seeded", "SEEDS", "in_lanes", "ending", "Crate"),
 )
-# How many wrong bodies one check tries, and in how many such checks one is tried.
-MOST_TOGETHER, MOST_ROUNDS = 32, 2
+# How many wrong bodies one check tries.
+MOST_TOGETHER = 32
 
 
 class Rounds:
     """The wrong bodies of a crate, tried several in one check, one check after the other. A round
-    is led by the one that is asked for. What a round does not show as refused is tried in another.
+    is led by the one that is asked for. What a round does not show as refused is tried in another,
+    by its next way.
     """
 
     def __init__(self, rt: ModuleType, crate: Any) -> None:
         paths, _ = rt.edits_of(crate)
         self.rt, self.crate = rt, crate
         self.left = {it: read_edit(crate.folder, it) for it in paths}
-        self.rounds = dict.fromkeys(paths, 0)
+        self.ways = {it.path: ways_of(crate.folder, it) for it in self.left.values()}
         self.refused: dict[str, str] = {}
 
     def take(self, path: str) -> tuple[list[Edit], dict[str, str]]:
-        """A round that a wrong body leads, but none once it was in as many as are tried. It is made
-        in copies of functions where all are fresh and can be, and else in place: what calls a
-        function that is changed in place is not proved either, and would be read again."""
-        if path not in self.left or self.rounds[path] == MOST_ROUNDS:
+        """A round that a wrong body leads, but none where no way is left. Those in copies are apart
+        from those in place: what calls a function that is changed in place is not proved either,
+        and would be read again."""
+        is_in_place = self.ways.get(path, [])[:1] == [Way.PLACE]
+        beside = [
+            replace(it, way=self.ways[it.path][0])
+            for it in sorted(self.left.values(), key=lambda it: it.path != path)
+            if self.ways[it.path] and (self.ways[it.path][0] is Way.PLACE) == is_in_place
+        ]
+        if not beside or beside[0].path != path:
             return [], {}
-        folder, left = self.crate.folder, [*self.left.values()]
-        left.sort(key=lambda it: it.path != path)
-        fresh = [it for it in left if not self.rounds[it.path] and in_copy(folder, it, {}, 0)]
-        others = [it for it in left if it not in fresh and self.rounds[it.path] < MOST_ROUNDS]
-        if left[0] in fresh:
-            together, texts = round_in_copies(folder, fresh, MOST_TOGETHER)
-        else:
-            together, texts = round_in_place(folder, others, MOST_TOGETHER)
-        if path not in [it.path for it in together]:
-            return [], {}
+        make_round = round_in_place if is_in_place else round_in_copies
+        together, texts = make_round(self.crate.folder, beside[:MOST_TOGETHER])
         for edit in together:
-            self.rounds[edit.path] += 1
+            del self.ways[edit.path][0]
         return together, texts
 
     def judges(self, ran: Any, texts: dict[str, str]) -> bool:

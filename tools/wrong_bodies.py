@@ -6,7 +6,9 @@ the bodies of functions alone can be tried beside others, since the proof of a f
 contracts of others and not their bodies.
 """
 
+import enum
 import re
+from collections.abc import Iterable
 from dataclasses import dataclass
 from pathlib import Path
 
@@ -15,6 +17,7 @@ IMPL = re.compile(
     r"^impl\b(?:<[^{]*?>)? *(?:(?P<trait>\w+)[^{]*? for )?(?P<type>\w+)", re.MULTILINE
 )
 STATUS = re.compile(r"^fn (\S+): (proved|not proved|no proof)(.*)$", re.MULTILINE)
+TACTIC = re.compile(r"^ *#\[tactic\(.*?\)\]\n", re.MULTILINE | re.DOTALL)
 # What a proof file says where it names what an edit took away, which shows little of a contract.
 LOST_NAME = re.compile(r"has no field|is not in scope|has no `|was not admitted")
 
@@ -46,13 +49,31 @@ class Function:
         return before == [it for it in self.module.split("::") if it]
 
 
+class Way(enum.Enum):
+    """How a wrong body is tried beside others. In a copy whose answers alone are read no tactic is
+    tried on a goal that has none. An answer that is refused there is refused in the whole proof
+    too, which is the dearer the more goals a function has that the wrong body leaves as they are.
+    """
+
+    ANSWERS = "a copy of the function, and the answers that are written for it"
+    COPY = "a copy of the function, and its whole proof"
+    PLACE = "the function itself"
+
+
 @dataclass
 class Edit:
-    """A wrong body: its file, its pairs of texts, and the functions whose bodies it changes."""
+    """A wrong body: its file, its pairs of texts, the functions whose bodies it changes, and how it
+    is tried."""
 
     path: str
     pairs: list[tuple[str, str, str]]
     functions: frozenset[Function] | None
+    way: Way = Way.PLACE
+
+    @property
+    def function(self) -> Function:
+        """The function of an edit that changes one alone."""
+        return next(iter(self.functions or ()))
 
 
 def pairs_of(path: str) -> list[tuple[str, str, str]]:
@@ -162,40 +183,72 @@ def proof_of(folder: str, function: Function, name: str) -> dict[str, str]:
     }
 
 
-def in_copy(
-    folder: str, edit: Edit, texts: dict[str, str], number: int
-) -> tuple[Edit, dict[str, str]] | None:
-    """An edit made in a copy of its function, behind all else of the file, and the texts with it.
-    None where there is no such copy: of a method of a trait, of functions that call themselves, and
-    where other proofs name the function's own modules, which a copy would lack."""
+def calls_itself(function: Function, text: str) -> bool:
+    """Whether a function of this text calls itself, or others that call it."""
+    own = rf"(?:Self::|{function.kind}::|self\.)" if function.kind else r"(?<![\w.:])(?<!fn )"
+    return "#[cycle" in text or re.search(rf"{own}{function.name}\(", text) is not None
+
+
+def has_copy(folder: str, edit: Edit) -> bool:
+    """Whether an edit can be made in a copy of its function. Not so of a method of a trait, of
+    functions that call themselves, and where other proofs name the function's own modules, which a
+    copy would lack."""
     if edit.functions is None or len(edit.functions) != 1:
-        return None
-    (function,) = edit.functions
+        return False
+    function = edit.function
+    text = text_of(Path(folder, function.file).read_text(encoding="utf-8"), function)
+    is_of_trait = " " in function.kind
+    return not (is_of_trait or calls_itself(function, text) or is_named(folder, function))
+
+
+def ways_of(folder: str, edit: Edit) -> list[Way]:
+    """How an edit is tried beside others, the cheapest first."""
+    if edit.functions is None:
+        return []
+    if not has_copy(folder, edit):
+        return [Way.PLACE]
+    answers = Path(folder, "proofs", *parts_of(edit.function), "Answers.antt")
+    return [Way.ANSWERS, Way.COPY] if answers.is_file() else [Way.COPY]
+
+
+def with_no_tactics(text: str) -> str:
+    """The text of a function whose goals are left to written answers."""
+    indent = re.match(" *", text)
+    return f"{indent[0] if indent else ''}#[tactic(none)]\n{TACTIC.sub('', text)}"
+
+
+def in_copy(folder: str, edit: Edit, texts: dict[str, str], number: int) -> dict[str, str]:
+    """The texts of the changed files, and an edit in a copy of its function behind all else of the
+    file. The copy's name has the number."""
+    function = edit.function
     source = Path(folder, function.file).read_text(encoding="utf-8")
     text = text_of(source, function)
-    behind = text.partition(f"fn {function.name}")[2]
-    calls_itself = "#[cycle" in text or re.search(rf"\b{function.name}\(", behind[1:])
-    if " " in function.kind or calls_itself or is_named(folder, function):
-        return None
     for _, old, new in edit.pairs:
         text = text.replace(old, new)
-    name = f"{function.name}_in_copy_{number}"
+    name = copy_of(function, number).name
     text = re.sub(rf"\bfn {function.name}\b", f"fn {name}", text)
+    if edit.way is Way.ANSWERS:
+        text = with_no_tactics(text)
     if function.kind:
         text = in_its_impl(source, function, text)
     made = {**texts, **proof_of(folder, function, name)}
     made[function.file] = f"{texts.get(function.file, source)}\n{text}\n"
-    copy = Function(function.file, range(0), function.module, function.kind, name)
-    return Edit(edit.path, edit.pairs, frozenset([copy])), made
+    return made
 
 
-def round_in_place(folder: str, edits: list[Edit], most: int) -> tuple[list[Edit], dict[str, str]]:
-    """The first edits that can be made together, each in functions of its own, at most so many."""
+def copy_of(function: Function, number: int) -> Function:
+    """The copy of a function that has this number."""
+    name = f"{function.name}_in_copy_{number}"
+    return Function(function.file, range(0), function.module, function.kind, name)
+
+
+def round_in_place(folder: str, edits: Iterable[Edit]) -> tuple[list[Edit], dict[str, str]]:
+    """The first edits that can be made together, each in functions of its own."""
     texts: dict[str, str] = {}
     taken: list[Edit] = []
     used: set[Function] = set()
     for edit in edits:
-        if len(taken) == most or edit.functions is None or edit.functions & used:
+        if edit.functions is None or edit.functions & used:
             continue
         made = applied(folder, edit, texts)
         if made is not None:
@@ -204,45 +257,49 @@ def round_in_place(folder: str, edits: list[Edit], most: int) -> tuple[list[Edit
     return taken, texts
 
 
-def round_in_copies(folder: str, edits: list[Edit], most: int) -> tuple[list[Edit], dict[str, str]]:
-    """The first edits that can be made in copies of their functions, at most so many."""
+def round_in_copies(folder: str, edits: Iterable[Edit]) -> tuple[list[Edit], dict[str, str]]:
+    """Edits in copies of their functions, each with its copy's name, and the changed texts."""
     texts: dict[str, str] = {}
     taken: list[Edit] = []
-    for edit in edits:
-        found = in_copy(folder, edit, texts, len(taken)) if len(taken) < most else None
-        if found is not None:
-            taken.append(found[0])
-            texts = found[1]
+    for number, edit in enumerate(edits):
+        texts = in_copy(folder, edit, texts, number)
+        copies = frozenset([copy_of(edit.function, number)])
+        taken.append(Edit(edit.path, edit.pairs, copies, edit.way))
     return taken, texts
 
 
-def is_of(line: str, path: str, function: Function) -> bool:
-    """Whether a line of a check speaks of a goal of a function, by its proofs or its source."""
-    if line.startswith(f"./proofs/{path.replace('::', '/')}/") and ": error" in line:
+def messages_of(output: str) -> list[str]:
+    """What a check says: each message with the lines behind it that begin with a space."""
+    return re.split(r"\n(?! )", output)
+
+
+def is_of(message: str, path: str, function: Function) -> bool:
+    """Whether a message of a check speaks of a goal of a function, by its proofs or its source."""
+    if message.startswith(f"./proofs/{path.replace('::', '/')}/") and ": error" in message:
         return True
-    at = re.match(r"note: (\S+?):(\d+):", line)
+    at = re.match(r"note: (\S+?):(\d+):", message)
     return at is not None and at[1] == function.file and int(at[2]) in function.lines
 
 
-def errors_of(path: str, lines: list[str]) -> list[str]:
-    """The lines that refuse an answer of a function, by its path below the crate."""
+def errors_of(path: str, messages: list[str]) -> list[str]:
+    """What refuses an answer of a function, by its path below the crate."""
     proofs = f"./proofs/{path.replace('::', '/')}/"
-    told = [it for it in lines if it.startswith(proofs) and ": error" in it]
+    told = [it for it in messages if it.startswith(proofs) and ": error" in it]
     return [it for it in told if not LOST_NAME.search(it)]
 
 
-def fails_itself(path: str, behind: str, lines: list[str]) -> bool:
+def fails_itself(path: str, behind: str, messages: list[str]) -> bool:
     """Whether a function that is not proved fails at a goal of its own, whatever it calls: an
     answer is refused, or a goal that was tried is open. One that waits for the proof of what the
     function calls is not tried."""
-    return bool(errors_of(path, lines)) or "`search` did not prove" in behind
+    return bool(errors_of(path, messages)) or "`search` did not prove" in behind
 
 
 def refusal(crate: str, edit: Edit, output: str, is_apart: bool) -> str | None:
-    """The first line that refuses a function of the edit at a goal of its own, if one does. A
-    function that calls one which is not proved counts where it fails itself, and no function that
-    no edit touches does (`is_apart`)."""
-    lines = output.splitlines()
+    """The message that refuses a function of the edit at a goal of its own, if one does. A function
+    that calls one which is not proved counts where it fails itself, and no function that no edit
+    touches does (`is_apart`). Where the answers alone were read one of them has to be refused."""
+    messages = messages_of(output)
     for path, status, behind in STATUS.findall(output):
         inside = path.removeprefix(f"{crate}::")
         # A goal of its own is open: an answer is refused, or none is found and none is written.
@@ -250,9 +307,11 @@ def refusal(crate: str, edit: Edit, output: str, is_apart: bool) -> str | None:
         function = next((it for it in edit.functions or () if it.is_called(inside)), None)
         if function is None or not is_own:
             continue
-        if "it calls" in behind and not (is_apart and fails_itself(inside, behind, lines)):
+        if "it calls" in behind and not (is_apart and fails_itself(inside, behind, messages)):
             continue
-        told = [it for it in lines if is_of(it, inside, function)]
+        if edit.way is Way.ANSWERS:
+            return next(iter(errors_of(inside, messages)), None)
+        told = [it for it in messages if is_of(it, inside, function)]
         told.sort(key=lambda it: bool(LOST_NAME.search(it)))
         return told[0] if told else f"fn {path}: {status}{behind}"
     return None
@@ -261,10 +320,10 @@ def refusal(crate: str, edit: Edit, output: str, is_apart: bool) -> str | None:
 def only_edited(crate: str, edits: list[Edit], output: str) -> bool:
     """Whether each function that fails itself is one that an edit changes."""
     edited = [function for edit in edits for function in edit.functions or ()]
-    lines = output.splitlines()
+    messages = messages_of(output)
     for path, status, behind in STATUS.findall(output):
         inside = path.removeprefix(f"{crate}::")
-        if status != "proved" and fails_itself(inside, behind, lines):
+        if status != "proved" and fails_itself(inside, behind, messages):
             if not any(it.is_called(inside) for it in edited):
                 return False
     return True

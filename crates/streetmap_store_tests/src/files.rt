@@ -1,5 +1,5 @@
-//! Files in memory whose calls stop after so many, and what is done over a connection to them. Here
-//! alone their store is named.
+//! Databases in memory, and files there whose calls stop after so many, and what is done over a
+//! connection to them. Here alone their stores are named.
 ghost use Rattle.std.specs.Prelude.{◌≡◌, false, IfOk, IsTrue};
 ghost use Rattle.sqlite_disk.specs.Memory.{memory_is_usable};
 
@@ -33,6 +33,28 @@ pub(crate) trait Visit {
     /// Does it, and gives the store back.
     fn visit<S: Alter + Drop>(self, alloc: Global, conn: Connection<S>) -> (Self::Told, S)
         requires { conn.in_transaction ≡ false };
+}
+
+/// What is done over a connection that is let go of, whatever its store.
+pub(crate) trait Use {
+    /// What comes of it.
+    type Told;
+
+    /// Does it.
+    fn over<S: Alter + Drop>(self, alloc: Global, conn: Connection<S>) -> Self::Told
+        requires { conn.in_transaction ≡ false };
+}
+
+/// What comes of the use of a new database in memory; none where it is not opened.
+pub(crate) fn use_memory<U: Use + Drop>(alloc: Global, that: U) -> Option<U::Told> {
+    let Ok(conn) = Connection::open_in_memory(alloc) else {
+        return None;
+    };
+    if conn.is_autocommit() {
+        Some(that.over(alloc, conn))
+    } else {
+        None
+    }
 }
 
 /// A file with these bytes.

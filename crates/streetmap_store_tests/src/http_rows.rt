@@ -1,9 +1,10 @@
 //! The rows of HTTP over a keeper in memory, over tables, and with an index over each: the answers
 //! are the same bytes.
 use crate::answers::answers;
+use crate::files::{Use, use_memory};
 use crate::rows::{COUNT, ROWS};
 use serde_json::Value;
-use sqlite::{Connection, MemStore};
+use sqlite::{Alter, Connection};
 use std::alloc::{AllocError, Global};
 use std::test::Fail;
 use streetmap_index::IndexedKeeper;
@@ -56,29 +57,33 @@ fn is_answered_so<K: Keeper>(alloc: Global, keeper: &mut K, row: Row<'_>) -> boo
             == row.written.as_bytes())
 }
 
-/// A keeper over new tables; none where they are not made.
-fn over_tables(alloc: Global) -> Option<TableKeeper<MemStore>> {
-    let conn = Connection::open_in_memory(alloc).ok()?;
-    if conn.is_autocommit() {
-        TableKeeper::make(alloc, conn).ok()
-    } else {
-        None
+/// A row is sent to a keeper over new tables: whether it is answered so.
+#[derive(Clone, Copy)]
+struct OverTables<'a>(Row<'a>);
+
+impl Use for OverTables<'_> {
+    type Told = bool;
+
+    fn over<S: Alter + Drop>(self, alloc: Global, conn: Connection<S>) -> bool {
+        match TableKeeper::make(alloc, conn) {
+            Ok(mut keeper) => is_answered_so(alloc, &mut keeper, self.0),
+            Err(_) => false,
+        }
     }
 }
 
-/// Whether a keeper over new tables answers so.
-fn is_answered_by_tables(alloc: Global, row: Row<'_>) -> bool {
-    match over_tables(alloc) {
-        Some(mut keeper) => is_answered_so(alloc, &mut keeper, row),
-        None => false,
-    }
-}
+/// A row is sent to an index over a keeper over new tables: whether it is answered so.
+#[derive(Clone, Copy)]
+struct OverIndexedTables<'a>(Row<'a>);
 
-/// Whether an index over a keeper over new tables answers so.
-fn is_answered_by_indexed_tables(alloc: Global, row: Row<'_>) -> bool {
-    match over_tables(alloc) {
-        Some(keeper) => is_answered_so(alloc, &mut IndexedKeeper::new(alloc, keeper), row),
-        None => false,
+impl Use for OverIndexedTables<'_> {
+    type Told = bool;
+
+    fn over<S: Alter + Drop>(self, alloc: Global, conn: Connection<S>) -> bool {
+        match TableKeeper::make(alloc, conn) {
+            Ok(keeper) => is_answered_so(alloc, &mut IndexedKeeper::new(alloc, keeper), self.0),
+            Err(_) => false,
+        }
     }
 }
 
@@ -91,10 +96,10 @@ fn differing(alloc: Global, row: Row<'_>) -> Option<&'static str> {
     if !is_answered_so(alloc, &mut indexed, row) {
         return Some("with an index over memory");
     }
-    if !is_answered_by_tables(alloc, row) {
+    if use_memory(alloc, OverTables(row)) != Some(true) {
         return Some("over tables");
     }
-    if !is_answered_by_indexed_tables(alloc, row) {
+    if use_memory(alloc, OverIndexedTables(row)) != Some(true) {
         return Some("with an index over tables");
     }
     None

@@ -1,5 +1,7 @@
 //! Tables of a connection in memory, made beside others.
+use crate::files::{Use, use_memory};
 use sqlite::{Alter, Connection};
+use std::alloc::Global;
 use std::test::Fail;
 use streetmap_tables::{MakeFault, adopt_tables, make_tables};
 
@@ -23,26 +25,36 @@ fn ran<S: Alter>(conn: &mut Connection<S>, statements: &str) -> bool {
     conn.execute_batch(statements).is_ok()
 }
 
-/// How many notes another table has.
-fn notes<S: Alter>(conn: &mut Connection<S>) -> Result<i64, Fail> {
-    let row = conn.query_row("SELECT count(*) FROM notes", &[])?;
-    Ok(row.get(0)?)
+/// How many notes another table has; none where it is not there.
+fn notes<S: Alter>(conn: &mut Connection<S>) -> Option<i64> {
+    let row = conn.query_row("SELECT count(*) FROM notes", &[]).ok()?;
+    row.get(0).ok()
 }
 
 /// A table whose rowids are counted, with a row, and a view of one of the names of our tables.
 const BESIDE: &str =
     "CREATE TABLE notes (id INTEGER PRIMARY KEY AUTOINCREMENT, text TEXT) STRICT; INSERT INTO notes (text) VALUES ('a'); CREATE VIEW Streetmap_Batches AS SELECT 1";
 
+/// The tables are made beside others, where none of their names is used, and opened: what was seen,
+/// and whether the other table's row is there.
+#[derive(Clone, Copy)]
+struct MakeBeside;
+
+impl Use for MakeBeside {
+    type Told = [bool; 4];
+
+    fn over<S: Alter + Drop>(self, _: Global, conn: Connection<S>) -> [bool; 4] {
+        let mut conn = conn;
+        let is_taken = ran(&mut conn, BESIDE) && taken(&mut conn);
+        let is_made = ran(&mut conn, "DROP VIEW Streetmap_Batches") && made(&mut conn);
+        let is_opened = taken(&mut conn) && opens(&mut conn);
+        [is_taken, is_made, is_opened, notes(&mut conn) == Some(1)]
+    }
+}
+
 #[test]
 fn tables_are_made_once_and_opened(rt: HostRuntime) -> Result<(), Fail> {
-    let mut conn = Connection::open_in_memory(rt.alloc())?;
-    let is_taken = ran(&mut conn, BESIDE) && taken(&mut conn);
-    let is_made = ran(&mut conn, "DROP VIEW Streetmap_Batches") && made(&mut conn);
-    let is_opened = taken(&mut conn) && opens(&mut conn);
-    assert!(rt;
-        is_taken && is_made && is_opened,
-        "{is_taken} {is_made} {is_opened}"
-    );
-    assert!(rt; notes(&mut conn)? == 1);
+    let seen = use_memory(rt.alloc(), MakeBeside);
+    assert_eq!(rt; seen, Some([true; 4]));
     Ok(())
 }
