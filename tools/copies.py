@@ -20,7 +20,7 @@ from typing import Any
 
 import gate
 import toolchain
-from wrong_bodies import Edit, Way, messages_of, parts_of, read_edit, round_in_copies, ways_of
+from wrong_bodies import Edit, messages_of, parts_of, read_edit, round_in_copies, ways_of
 
 
 def right_bodies(rt: ModuleType, crate: Any) -> list[Edit]:
@@ -33,7 +33,7 @@ def right_bodies(rt: ModuleType, crate: Any) -> list[Edit]:
         Edit(it.path, [(file, old, old) for file, old, _ in it.pairs], it.functions, way)
         for it in changed.values()
         for way in ways_of(crate.folder, it)
-        if way is not Way.PLACE
+        if not way.is_in_place
     ]
 
 
@@ -43,7 +43,7 @@ def is_refused(copy: Edit, messages: list[str]) -> bool:
     status = re.compile(rf"^fn \S+::{copy.function.name}: proved")
     is_proved = any(status.match(it) for it in messages)
     has_errors = any(it.startswith(proofs) and ": error" in it for it in messages)
-    return has_errors if copy.way is Way.ANSWERS else not is_proved
+    return has_errors if copy.way.reads_answers_alone else not is_proved
 
 
 def look_at(rt: ModuleType, crate: Any) -> bool:

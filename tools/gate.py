@@ -35,6 +35,7 @@ from typing import Any
 import toolchain
 from lanes import in_lanes_by
 from wrong_bodies import (
+    WHOLE,
     Edit,
     Way,
     only_edited,
@@ -70,14 +71,14 @@ class Rounds:
         """A round that a wrong body leads, but none where no way is left. Those in copies are apart
         from those in place: what calls a function that is changed in place is not proved either,
         and would be read again."""
-        is_in_place = self.ways.get(path, [])[:1] == [Way.PLACE]
+        if path not in self.left or not self.ways[path]:
+            return [], {}
+        is_in_place = self.ways[path][0].is_in_place
         beside = [
             replace(it, way=self.ways[it.path][0])
             for it in sorted(self.left.values(), key=lambda it: it.path != path)
-            if self.ways[it.path] and (self.ways[it.path][0] is Way.PLACE) == is_in_place
+            if self.ways[it.path] and self.ways[it.path][0].is_in_place == is_in_place
         ]
-        if not beside or beside[0].path != path:
-            return [], {}
         make_round = round_in_place if is_in_place else round_in_copies
         together, texts = make_round(self.crate.folder, beside[:MOST_TOGETHER])
         for edit in together:
@@ -105,6 +106,9 @@ class Rounds:
             if line:
                 self.refused[edit.path] = line
                 del self.left[edit.path]
+            elif edit.way.reads_answers_alone:
+                name = f"{self.crate.name}/{os.path.basename(edit.path)}"
+                self.rt.say(f"{name}: no written answer refuses it, as a line `{WHOLE}` would say")
 
     def check(
         self, together: list[Edit], texts: dict[str, str], flags: list[str], kept: str

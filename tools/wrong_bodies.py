@@ -3,7 +3,8 @@ that one is refused.
 
 A file NAME.edit of a crate's must-fail/ has pairs of texts, an old and a new one. Each that changes
 the bodies of functions alone can be tried beside others, since the proof of a function sees the
-contracts of others and not their bodies.
+contracts of others and not their bodies. A line `proof: whole` says that no written answer refuses
+it, so that its copy is tried with its whole proof at once. `rt ci` reads no such line.
 """
 
 import enum
@@ -18,6 +19,7 @@ IMPL = re.compile(
 )
 STATUS = re.compile(r"^fn (\S+): (proved|not proved|no proof)(.*)$", re.MULTILINE)
 TACTIC = re.compile(r"^ *#\[tactic\(.*?\)\]\n", re.MULTILINE | re.DOTALL)
+WHOLE = "proof: whole"
 # What a proof file says where it names what an edit took away, which shows little of a contract.
 LOST_NAME = re.compile(r"has no field|is not in scope|has no `|was not admitted")
 
@@ -50,14 +52,23 @@ class Function:
 
 
 class Way(enum.Enum):
-    """How a wrong body is tried beside others. In a copy whose answers alone are read no tactic is
-    tried on a goal that has none. An answer that is refused there is refused in the whole proof
-    too, which is the dearer the more goals a function has that the wrong body leaves as they are.
+    """How a wrong body is tried beside others. Where the answers alone are read no tactic is tried
+    on a goal that has none. An answer that is refused there is refused in the whole proof too,
+    which is the dearer the more goals a function has that the wrong body leaves as they are.
     """
 
     ANSWERS = "a copy of the function, and the answers that are written for it"
     COPY = "a copy of the function, and its whole proof"
-    PLACE = "the function itself"
+    PLACE_ANSWERS = "the function itself, and the answers that are written for it"
+    PLACE = "the function itself, and its whole proof"
+
+    @property
+    def is_in_place(self) -> bool:
+        return self in (Way.PLACE_ANSWERS, Way.PLACE)
+
+    @property
+    def reads_answers_alone(self) -> bool:
+        return self in (Way.ANSWERS, Way.PLACE_ANSWERS)
 
 
 @dataclass
@@ -69,6 +80,11 @@ class Edit:
     pairs: list[tuple[str, str, str]]
     functions: frozenset[Function] | None
     way: Way = Way.PLACE
+
+    @property
+    def needs_whole(self) -> bool:
+        """Whether its file says that no written answer refuses it."""
+        return WHOLE in Path(self.path).read_text(encoding="utf-8").splitlines()
 
     @property
     def function(self) -> Function:
@@ -136,13 +152,18 @@ def applied(folder: str, edit: Edit, texts: dict[str, str]) -> dict[str, str] | 
     return made
 
 
-def text_of(source: str, function: Function) -> str:
-    """A function with its attributes, and without its documentation."""
-    lines = source.split("\n")
+def first_line_of(lines: list[str], function: Function) -> int:
+    """Where the attributes and the documentation of a function begin, or the line before it."""
     start = function.lines.start - 1
     while start > 0 and lines[start - 1].strip() and lines[start - 1][-1] not in "{};":
         start -= 1
-    own = lines[start : function.lines.stop - 1]
+    return start
+
+
+def text_of(source: str, function: Function) -> str:
+    """A function with its attributes, and without its documentation."""
+    lines = source.split("\n")
+    own = lines[first_line_of(lines, function) : function.lines.stop - 1]
     return "\n".join(line for line in own if not line.lstrip().startswith("///"))
 
 
@@ -160,7 +181,8 @@ def in_its_impl(source: str, function: Function, text: str) -> str:
 
 def parts_of(function: Function) -> list[str]:
     """The names of the folders of a function's proof."""
-    return [it for it in (*function.module.split("::"), function.kind, function.name) if it]
+    kind = function.kind.replace(" ", "")
+    return [it for it in (*function.module.split("::"), kind, function.name) if it]
 
 
 def is_named(folder: str, function: Function) -> bool:
@@ -205,16 +227,25 @@ def ways_of(folder: str, edit: Edit) -> list[Way]:
     """How an edit is tried beside others, the cheapest first."""
     if edit.functions is None:
         return []
-    if not has_copy(folder, edit):
-        return [Way.PLACE]
-    answers = Path(folder, "proofs", *parts_of(edit.function), "Answers.antt")
-    return [Way.ANSWERS, Way.COPY] if answers.is_file() else [Way.COPY]
+    places = [Path(folder, "proofs", *parts_of(it)) for it in edit.functions]
+    is_answered = all((it / "Answers.antt").is_file() for it in places) and not edit.needs_whole
+    if has_copy(folder, edit):
+        return [Way.ANSWERS, Way.COPY] if is_answered else [Way.COPY]
+    return [Way.PLACE_ANSWERS, Way.PLACE] if is_answered else [Way.PLACE]
 
 
 def with_no_tactics(text: str) -> str:
-    """The text of a function whose goals are left to written answers."""
-    indent = re.match(" *", text)
-    return f"{indent[0] if indent else ''}#[tactic(none)]\n{TACTIC.sub('', text)}"
+    """The text of a function whose goals are left to written answers, in as many lines."""
+    text = TACTIC.sub(lambda it: "\n" * it[0].count("\n"), text)
+    return FUNCTION.sub(lambda it: it[0].replace(it[1], f"{it[1]}#[tactic(none)] ", 1), text, 1)
+
+
+def in_place_with_no_tactics(text: str, function: Function) -> str:
+    """The text of a file in which the goals of a function are left to written answers."""
+    lines = text.split("\n")
+    start, stop = first_line_of(lines, function), function.lines.stop - 1
+    lines[start:stop] = with_no_tactics("\n".join(lines[start:stop])).split("\n")
+    return "\n".join(lines)
 
 
 def in_copy(folder: str, edit: Edit, texts: dict[str, str], number: int) -> dict[str, str]:
@@ -227,7 +258,7 @@ def in_copy(folder: str, edit: Edit, texts: dict[str, str], number: int) -> dict
         text = text.replace(old, new)
     name = copy_of(function, number).name
     text = re.sub(rf"\bfn {function.name}\b", f"fn {name}", text)
-    if edit.way is Way.ANSWERS:
+    if edit.way.reads_answers_alone:
         text = with_no_tactics(text)
     if function.kind:
         text = in_its_impl(source, function, text)
@@ -252,6 +283,8 @@ def round_in_place(folder: str, edits: Iterable[Edit]) -> tuple[list[Edit], dict
             continue
         made = applied(folder, edit, texts)
         if made is not None:
+            for function in edit.functions if edit.way.reads_answers_alone else ():
+                made[function.file] = in_place_with_no_tactics(made[function.file], function)
             texts, used = made, used | edit.functions
             taken.append(edit)
     return taken, texts
@@ -309,7 +342,7 @@ def refusal(crate: str, edit: Edit, output: str, is_apart: bool) -> str | None:
             continue
         if "it calls" in behind and not (is_apart and fails_itself(inside, behind, messages)):
             continue
-        if edit.way is Way.ANSWERS:
+        if edit.way.reads_answers_alone:
             return next(iter(errors_of(inside, messages)), None)
         told = [it for it in messages if is_of(it, inside, function)]
         told.sort(key=lambda it: bool(LOST_NAME.search(it)))
