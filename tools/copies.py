@@ -10,7 +10,6 @@ wrong body changes.
 """
 
 import os
-import re
 import shutil
 import sys
 import tempfile
@@ -20,7 +19,17 @@ from typing import Any
 
 import gate
 import toolchain
-from wrong_bodies import Edit, messages_of, parts_of, read_edit, round_in_copies, ways_of
+from wrong_bodies import (
+    NO_GOAL,
+    STATUS,
+    Edit,
+    messages_of,
+    parts_of,
+    read_edit,
+    refusal_of_copy,
+    round_in_copies,
+    ways_of,
+)
 
 
 def right_bodies(rt: ModuleType, crate: Any) -> list[Edit]:
@@ -37,13 +46,16 @@ def right_bodies(rt: ModuleType, crate: Any) -> list[Edit]:
     ]
 
 
-def is_refused(copy: Edit, messages: list[str]) -> bool:
-    """Whether a check refuses a copy, or one of its answers where these alone are read."""
+def is_refused(crate: str, copy: Edit, output: str) -> bool:
+    """Whether a check refuses an answer of a copy, leaves a goal of it open, or is silent."""
+    messages = messages_of(output)
     proofs = f"./proofs/{'/'.join(parts_of(copy.function))}/"
-    status = re.compile(rf"^fn \S+::{copy.function.name}: proved")
-    is_proved = any(status.match(it) for it in messages)
-    has_errors = any(it.startswith(proofs) and ": error" in it for it in messages)
-    return has_errors if copy.way.reads_answers_alone else not is_proved
+    errors = [it for it in messages if it.startswith(proofs) and ": error" in it]
+    is_told = any(
+        copy.function.is_called(it[0].removeprefix(f"{crate}::")) for it in STATUS.findall(output)
+    )
+    is_open = refusal_of_copy(crate, copy, output) is not None
+    return not is_told or is_open or any(f"`{NO_GOAL}`" not in it for it in errors)
 
 
 def look_at(rt: ModuleType, crate: Any) -> bool:
@@ -54,8 +66,7 @@ def look_at(rt: ModuleType, crate: Any) -> bool:
         kept = gate.seeded_by(rt, set())(crate, ["--jobs", "1"])
         place = shutil.move(f"{kept}/seed", room) if kept else room
         ran = gate.check_of(rt, crate, texts, ["--jobs", "1", *words], place)
-    messages = messages_of(ran.stdout)
-    bad = [it.function.path for it in copies if is_refused(it, messages)]
+    bad = [it.function.path for it in copies if is_refused(crate.name, it, ran.stdout)]
     print(f"{crate.name}: {len(copies)} copies, {len(bad)} refused", *bad, sep="\n  ", flush=True)
     return not bad and ran.returncode in (0, 1)
 

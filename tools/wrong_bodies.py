@@ -19,7 +19,14 @@ IMPL = re.compile(
 )
 STATUS = re.compile(r"^fn (\S+): (proved|not proved|no proof)(.*)$", re.MULTILINE)
 TACTIC = re.compile(r"^ *#\[tactic\(.*?\)\]\n", re.MULTILINE | re.DOTALL)
+# What the prover says of a goal that stays open, by its place in the sources.
+OPEN_GOAL = re.compile(
+    r"note: src/\S+: (?:it is not proved|this goal needs an answer|`search` found no proof)"
+)
 WHOLE = "proof: whole"
+# A copy's answer for a goal that it has not. For a function with no refused answer the prover runs
+# once more, to print what to write for its open goals.
+NO_GOAL = "no-such-goal"
 # What a proof file says where it names what an edit took away, which shows little of a contract.
 LOST_NAME = re.compile(r"has no field|is not in scope|has no `|was not admitted")
 
@@ -211,6 +218,16 @@ def calls_itself(function: Function, text: str) -> bool:
     return "#[cycle" in text or re.search(rf"{own}{function.name}\(", text) is not None
 
 
+def answers_of(folder: str, function: Function, name: str) -> dict[str, str]:
+    """The file of a copy's answers, and one more that is refused (`NO_GOAL`)."""
+    parts = parts_of(copy_named(function, name))
+    path = str(Path("proofs", *parts, "Answers.antt"))
+    answers = proof_of(folder, function, name).get(path, "")
+    goals = f"use Rattle.{Path(folder).name}.proofs.{'.'.join(parts)}.Goals as goal\n"
+    head = "" if goals in answers else goals
+    return {path: f"{head}{answers}\npub {NO_GOAL} : goal.{NO_GOAL}\n{NO_GOAL} c = c\n"}
+
+
 def has_copy(folder: str, edit: Edit) -> bool:
     """Whether an edit can be made in a copy of its function. Not so of a method of a trait, of
     functions that call themselves, and where other proofs name the function's own modules, which a
@@ -262,14 +279,17 @@ def in_copy(folder: str, edit: Edit, texts: dict[str, str], number: int) -> dict
         text = with_no_tactics(text)
     if function.kind:
         text = in_its_impl(source, function, text)
-    made = {**texts, **proof_of(folder, function, name)}
+    made = {**texts, **proof_of(folder, function, name), **answers_of(folder, function, name)}
     made[function.file] = f"{texts.get(function.file, source)}\n{text}\n"
     return made
 
 
 def copy_of(function: Function, number: int) -> Function:
     """The copy of a function that has this number."""
-    name = f"{function.name}_in_copy_{number}"
+    return copy_named(function, f"{function.name}_in_copy_{number}")
+
+
+def copy_named(function: Function, name: str) -> Function:
     return Function(function.file, range(0), function.module, function.kind, name)
 
 
@@ -318,7 +338,7 @@ def errors_of(path: str, messages: list[str]) -> list[str]:
     """What refuses an answer of a function, by its path below the crate."""
     proofs = f"./proofs/{path.replace('::', '/')}/"
     told = [it for it in messages if it.startswith(proofs) and ": error" in it]
-    return [it for it in told if not LOST_NAME.search(it)]
+    return [it for it in told if not LOST_NAME.search(it) and f"`{NO_GOAL}`" not in it]
 
 
 def fails_itself(path: str, behind: str, messages: list[str]) -> bool:
@@ -328,10 +348,37 @@ def fails_itself(path: str, behind: str, messages: list[str]) -> bool:
     return bool(errors_of(path, messages)) or "`search` did not prove" in behind
 
 
+def open_goals(messages: list[str]) -> dict[str, list[str]]:
+    """What a check says of the open goals of each function, in front of the function's own line."""
+    found: dict[str, list[str]] = {}
+    goals: list[str] = []
+    for message in messages:
+        status = STATUS.match(message)
+        if status:
+            found[status[1]], goals = goals, []
+        elif OPEN_GOAL.match(message):
+            goals.append(message)
+    return found
+
+
+def refusal_of_copy(crate: str, edit: Edit, output: str) -> str | None:
+    """The message that refuses an answer of a copy, or says that a goal of it is open, if one does.
+    Where the answers alone were read one of them has to be refused."""
+    messages = messages_of(output)
+    goals = {} if edit.way.reads_answers_alone else open_goals(messages)
+    for path, status, _ in STATUS.findall(output):
+        inside = path.removeprefix(f"{crate}::")
+        if status != "proved" and edit.function.is_called(inside):
+            return next(iter([*errors_of(inside, messages), *goals.get(path, [])]), None)
+    return None
+
+
 def refusal(crate: str, edit: Edit, output: str, is_apart: bool) -> str | None:
     """The message that refuses a function of the edit at a goal of its own, if one does. A function
     that calls one which is not proved counts where it fails itself, and no function that no edit
     touches does (`is_apart`). Where the answers alone were read one of them has to be refused."""
+    if not edit.way.is_in_place:
+        return refusal_of_copy(crate, edit, output)
     messages = messages_of(output)
     for path, status, behind in STATUS.findall(output):
         inside = path.removeprefix(f"{crate}::")
