@@ -55,7 +55,7 @@ def town_batch() -> bytes:
 def send(port: int, batch: bytes) -> str:
     request = urllib.request.Request(f"http://127.0.0.1:{port}/batches", data=batch)
     with urllib.request.urlopen(request, timeout=60) as answer:
-        return answer.read().decode()
+        return str(answer.read().decode())
 
 
 def wait_for(port: int, running: subprocess.Popen[bytes]) -> bool:
