@@ -218,12 +218,12 @@ def calls_itself(function: Function, text: str) -> bool:
     return "#[cycle" in text or re.search(rf"{own}{function.name}\(", text) is not None
 
 
-def answers_of(folder: str, function: Function, name: str) -> dict[str, str]:
-    """The file of a copy's answers, and one more that is refused (`NO_GOAL`)."""
-    parts = parts_of(copy_named(function, name))
+def answers_of(folder: str, copy: Function, proof: dict[str, str]) -> dict[str, str]:
+    """The file of a copy's answers: those of its proof, and one that is refused (`NO_GOAL`)."""
+    parts = parts_of(copy)
     path = str(Path("proofs", *parts, "Answers.antt"))
-    answers = proof_of(folder, function, name).get(path, "")
     goals = f"use Rattle.{Path(folder).name}.proofs.{'.'.join(parts)}.Goals as goal\n"
+    answers = proof.get(path, "")
     head = "" if goals in answers else goals
     return {path: f"{head}{answers}\npub {NO_GOAL} : goal.{NO_GOAL}\n{NO_GOAL} c = c\n"}
 
@@ -273,23 +273,21 @@ def in_copy(folder: str, edit: Edit, texts: dict[str, str], number: int) -> dict
     text = text_of(source, function)
     for _, old, new in edit.pairs:
         text = text.replace(old, new)
-    name = copy_of(function, number).name
-    text = re.sub(rf"\bfn {function.name}\b", f"fn {name}", text)
+    copy = copy_of(function, number)
+    text = re.sub(rf"\bfn {function.name}\b", f"fn {copy.name}", text)
     if edit.way.reads_answers_alone:
         text = with_no_tactics(text)
     if function.kind:
         text = in_its_impl(source, function, text)
-    made = {**texts, **proof_of(folder, function, name), **answers_of(folder, function, name)}
+    proof = proof_of(folder, function, copy.name)
+    made = {**texts, **proof, **answers_of(folder, copy, proof)}
     made[function.file] = f"{texts.get(function.file, source)}\n{text}\n"
     return made
 
 
 def copy_of(function: Function, number: int) -> Function:
     """The copy of a function that has this number."""
-    return copy_named(function, f"{function.name}_in_copy_{number}")
-
-
-def copy_named(function: Function, name: str) -> Function:
+    name = f"{function.name}_in_copy_{number}"
     return Function(function.file, range(0), function.module, function.kind, name)
 
 
