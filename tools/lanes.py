@@ -8,8 +8,17 @@ from types import ModuleType
 from typing import Any
 
 LANES = int(os.environ.get("RT_JOBS") or len(os.sched_getaffinity(0)))
-# In how many processes the last crates are proved, when few others are left.
-PROCESSES = {"streetmap_store": 2, "streetmap": 3}
+# In how many processes crates are proved for which nearly all others wait, and the last ones, when
+# few others are left.
+PROCESSES = {
+    "streetmap_grid": 2,
+    "streetmap_geojson": 2,
+    "streetmap_feature_text": 2,
+    "streetmap_batch": 3,
+    "streetmap_ledger": 2,
+    "streetmap_store": 2,
+    "streetmap": 3,
+}
 
 
 def is_of_wrong_bodies(key: tuple[Any, ...]) -> bool:
