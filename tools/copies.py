@@ -19,17 +19,8 @@ from typing import Any
 
 import gate
 import toolchain
-from wrong_bodies import (
-    NO_GOAL,
-    STATUS,
-    Edit,
-    messages_of,
-    parts_of,
-    read_edit,
-    refusal_of_copy,
-    round_in_copies,
-    ways_of,
-)
+from refusals import STATUS, messages_of, refusal_of_copy
+from wrong_bodies import NO_GOAL, Edit, parts_of, read_edit, round_in_copies, ways_of
 
 
 def right_bodies(rt: ModuleType, crate: Any) -> list[Edit]:

@@ -34,17 +34,8 @@ from typing import Any
 
 import toolchain
 from lanes import in_lanes_by
-from wrong_bodies import (
-    WHOLE,
-    Edit,
-    Way,
-    only_edited,
-    read_edit,
-    refusal,
-    round_in_copies,
-    round_in_place,
-    ways_of,
-)
+from refusals import only_edited, refusal
+from wrong_bodies import WHOLE, Edit, Way, read_edit, round_in_copies, round_in_place, ways_of
 
 NEEDED = (
     *("ci", "edits_alone", "edits_of", "must_fail", "checked", "unread", "REFUSED", "rtlib"),
