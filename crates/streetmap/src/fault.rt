@@ -15,8 +15,10 @@ use streetmap_web::End;
 
 /// The fault of words that cannot be had: one of them is no UTF-8, or memory is refused.
 pub(crate) fn of_words(error: &Error) -> ProgramFault
-    ensures memory { error_kind error.now ≡ ErrorKind.OutOfMemory → result ≡ ProgramFault.Memory }
-    ensures other { error_kind error.now ≢ ErrorKind.OutOfMemory → result ≡ ProgramFault.Usage }
+    ensures memory { error_kind error.now ≡ ErrorKind.OutOfMemory
+        → result ≡ ProgramFault.Memory }
+    ensures other { error_kind error.now ≢ ErrorKind.OutOfMemory
+        → result ≡ ProgramFault.Usage }
 {
     if error.kind() == ErrorKind::OutOfMemory {
         ProgramFault::Memory
@@ -39,7 +41,8 @@ pub(crate) fn of_text(error: &Error) -> ProgramFault
 
 /// The fault of a journal that cannot be opened: memory is refused, or the device fails.
 pub(crate) fn of_journal(error: &Error) -> ProgramFault
-    ensures memory { error_kind error.now ≡ ErrorKind.OutOfMemory → result ≡ ProgramFault.Memory }
+    ensures memory { error_kind error.now ≡ ErrorKind.OutOfMemory
+        → result ≡ ProgramFault.Memory }
     ensures other { error_kind error.now ≢ ErrorKind.OutOfMemory →
         result ≡ ProgramFault.NoJournal }
 {

@@ -6,8 +6,8 @@ use Rattle.sqlite_rules.specs.Lists.{Has}
 use Rattle.streetmap_batch.specs.Text.{Text}
 use Rattle.streetmap_ledger.specs.State.{AcceptedBatch}
 use Rattle.streetmap_rows.specs.Rows.{batch_cells}
-use Rattle.streetmap_checking.specs.Good.{AreRowsOf, AreFormatRows, AreFeatureRows, AreOwnerRows, IsAccepted, AreSerials, AreBatchRows, serials_of}
-use Rattle.streetmap_checking.specs.Held.{HoldsFormat, known}
+use Rattle.streetmap_checking.specs.Good.{AreEntryRows, AreFormatRows, AreFeatureRows, AreOwnerRows, IsAccepted, AreSerials, AreBatchRows, serials_of}
+use Rattle.streetmap_checking.specs.Held.{HoldsFormatRows, known}
 use Rattle.streetmap_checking.specs.Telling.{Known, SeesFeatures, SeesAllFeatures, NoFeatures, NoFeaturesOfAll}
 use Rattle.streetmap_checking.specs.Looking.{known_of}
 use Rattle.streetmap_checking.specs.declared.collections.Head.{Head}
@@ -16,11 +16,11 @@ use Rattle.streetmap_checking.proofs.RowCells.{serial_of_cells}
 use Rattle.streetmap_reading.proofs.Rests.{map_append}
 use Rattle.std.proofs.lemmas.List.{take_more}
 
-pub format_found : (start now : FormatRows) (rows : List Row) → HoldsFormat start now rows → (now.found ≡ 0 → ⊥) → AreFormatRows rows
+pub format_found : (start now : FormatRows) (rows : List Row) → HoldsFormatRows start now rows → (now.found ≡ 0 → ⊥) → AreFormatRows rows
 format_found start now rows (inl h) some = absurd (some h.1)
 format_found start now rows (inr h) some = h.0
 
-pub format_lost : (start now : FormatRows) (rows : List Row) → HoldsFormat start now rows → now.found ≡ 0 → AreFormatRows rows → ⊥
+pub format_lost : (start now : FormatRows) (rows : List Row) → HoldsFormatRows start now rows → now.found ≡ 0 → AreFormatRows rows → ⊥
 format_lost start now rows (inl h) none good = absurd (let e = sym h.0 ∙ good in cc)
 format_lost start now rows (inr h) none good = absurd (omega (arith, h.1, none))
 
@@ -50,7 +50,7 @@ same_serials (d ∷ es) (f ∷ fs) e =
     let later = same_serials es fs tail in
     λ i. first i ∷ later i
 
-pub no_serials : (rows : List Row) (are : AreRowsOf batch_cells IsAccepted rows) (serials : List ℕ) → serials ≡ serials_of are.entries → (AreSerials serials → ⊥) → AreBatchRows rows → ⊥
+pub no_serials : (rows : List Row) (are : AreEntryRows batch_cells IsAccepted rows) (serials : List ℕ) → serials ≡ serials_of are.entries → (AreSerials serials → ⊥) → AreBatchRows rows → ⊥
 no_serials rows are serials is other good = other (subst AreSerials (same_serials good.0.entries are.entries (sym good.0.are ∙ are.are) ∙ sym is) good.1)
 
 map_length : {A B : Type 0} (f : A → B) (xs : List A) → length (map f xs) ≡ length xs

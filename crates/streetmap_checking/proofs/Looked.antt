@@ -6,9 +6,9 @@ use Rattle.sqlite.specs.State.{State as Seen, IsUnchanged}
 use Rattle.sqlite.proofs.Callers.{unchanged_then}
 use Rattle.streetmap_rows.specs.declared.fault.ReadFault.{ReadFault}
 use Rattle.streetmap_rows.specs.declared.fault.ReadFault.TheVariants.{Memory, Store, Unread}
-use Rattle.streetmap_checking.specs.Seeing.{IsSimpleQuery, Sees}
+use Rattle.streetmap_checking.specs.Seeing.{IsSimpleQuery, QueryShows}
 use Rattle.streetmap_checking.specs.Folding.{Refuses, StopsQuery}
-use Rattle.streetmap_checking.specs.Telling.{IsNotShown, is_refused, begins_badly, not_good, TellsWhy, LooksOver, Known, SeesFeatures, SeesAllFeatures, SeesHeads, SeesOwners, SeesBatches, NoFeatures, NoFeaturesOfAll}
+use Rattle.streetmap_checking.specs.Telling.{IsNotShown, is_refused, begins_badly, not_good, TellsWhy, LooksOver, Known, SeesFeatures, SeesAllFeatures, SeesCollections, SeesOwners, SeesBatches, NoFeatures, NoFeaturesOfAll}
 use Rattle.streetmap_checking.specs.Good.{AreFeatureRows}
 use Rattle.streetmap_checking.specs.Statements.{select_features, select_owners, select_batches}
 use Rattle.streetmap_rows.specs.Statements.{select_collections}
@@ -56,8 +56,8 @@ handed Is why a c r fault is h = subst (LooksOver Is why a c) (sym is) h
 
 -- a fold that is the whole look
 pub looked : {F : Type 0} (Holds : F → F → List Row → Type 0) (IsGood : F → List Row → Type 0) (sql : List ℕ) (params : Row) (start after : F) (Good : List Row → Type 0) (Is : Type 0) (old new : Seen) (r : Result (Unit {0}) ReadFault)
-    → ((rows : List Row) → Good rows → IsGood start rows) → ((rows : List Row) → Sees sql params old rows → Holds start after rows → Is)
-    → MatchResult r (λ _. ((rows : List Row) × Sees sql params old rows × Holds start after rows) × IsUnchanged old new) (StopsQuery Holds IsGood sql params start old new) → LooksOver (λ _. Is) (IsNotShown sql params Good old) old new r
+    → ((rows : List Row) → Good rows → IsGood start rows) → ((rows : List Row) → QueryShows sql params old rows → Holds start after rows → Is)
+    → MatchResult r (λ _. ((rows : List Row) × QueryShows sql params old rows × Holds start after rows) × IsUnchanged old new) (StopsQuery Holds IsGood sql params start old new) → LooksOver (λ _. Is) (IsNotShown sql params Good old) old new r
 looked Holds IsGood sql params start after Good Is old new (Ok u) good is h = (is h.0.0 h.0.1 h.0.2, h.1)
 looked Holds IsGood sql params start after Good Is old new (Err fault) good is h = stopped Holds IsGood sql params start Good good old new fault h
 
@@ -83,7 +83,7 @@ stopped_then why old new (Store e) same h =
 pub no_features_all_on : (heads : List Known) (a b : Seen) → IsUnchanged a b → b.step_limit ≡ a.step_limit → NoFeaturesOfAll heads b → NoFeaturesOfAll heads a
 no_features_all_on heads a b same limit h = (h.0, h.1, no_features_on h.0 a b same limit h.2)
 
-pub heads_on : (heads : List Known) (a b : Seen) → IsUnchanged a b → SeesHeads heads b → SeesHeads heads a
+pub heads_on : (heads : List Known) (a b : Seen) → IsUnchanged a b → SeesCollections heads b → SeesCollections heads a
 heads_on heads a b same h = (h.0, sees_on select_collections [] collections_simple a b h.0 same h.1, h.2, h.3)
 
 pub owners_on : (heads : List Known) (a b : Seen) → IsUnchanged a b → SeesOwners heads b → SeesOwners heads a

@@ -27,8 +27,8 @@ use Rattle.streetmap_rows.specs.Rows.{collection_cells, batch_cells}
 use Rattle.streetmap_rows.specs.Statements.{select_collections}
 use Rattle.streetmap_rows.proofs.Ordered.{find_has, mapped_has}
 use Rattle.streetmap_checking.specs.Statements.{select_formats, select_features, select_owners, select_batches}
-use Rattle.streetmap_checking.specs.Good.{CollectionHead, head_cells, IsHead, feature_view, AreFormatRows, AreCollectionRows, AreFeatureRows, AreOwnerRows, AreBatchRows, serials_of}
-use Rattle.streetmap_checking.specs.Telling.{Known, IsNotShown, TellsWhy, SeesHeads, SeesAllFeatures}
+use Rattle.streetmap_checking.specs.Good.{CollectionHead, head_cells, IsCollectionHead, feature_view, AreFormatRows, AreCollectionRows, AreFeatureRows, AreOwnerRows, AreBatchRows, serials_of}
+use Rattle.streetmap_checking.specs.Telling.{Known, IsNotShown, TellsWhy, SeesCollections, SeesAllFeatures}
 use Rattle.streetmap_checking.specs.Checking.{ShowsTotals, IsDamaged, by_format, by_collections, by_features, by_owners, by_batches, AreTotals, feature_count}
 use Rattle.streetmap_checking.specs.declared.checking.Totals.{Totals}
 use Rattle.streetmap_checking.proofs.Only.{only_of, only_so, sees_good, not_none}
@@ -123,7 +123,7 @@ module _ (old : Seen) (s : State) (rests : Rests old s) where
     fine = all_from _ (map headed (entries s.collections)) (λ x h.
         let e = mapped_has headed (entries s.collections) x h in
         let it = well.made e.0.0 e.0.1 (found_at e.0 e.1) in
-        subst (λ (y : Text × CollectionHead). IsHead y.0 y.1) (sym e.2) (record { named = it.named; titled = it.titled; timed = it.timed }));
+        subst (λ (y : Text × CollectionHead). IsCollectionHead y.0 y.1) (sym e.2) (record { named = it.named; titled = it.titled; timed = it.timed }));
   }
 
   good_features : (name : Text) (c : Collection) → get s.collections name ≡ Some c → AreFeatureRows c.time (map (λ e. feature_view e.0 e.1) (entries c.features))
@@ -158,7 +158,7 @@ module _ (old : Seen) (s : State) (rests : Rests old s) where
 
   -- ---- none is damaged
 
-  shows_heads : (heads : List Known) → SeesHeads heads old → heads ≡ known_in s
+  shows_heads : (heads : List Known) → SeesCollections heads old → heads ≡ known_in s
   shows_heads heads h =
       let is = sees_good select_collections [] old _ (only_of select_collections [] old.now _ (collections_at old.now s rests.kept)) rests.unlimited h.0 h.1 in
       h.3 ∙ same_heads h.2.entries (entries s.collections) (sym h.2.are ∙ is)

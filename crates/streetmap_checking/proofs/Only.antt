@@ -17,8 +17,8 @@ use Rattle.streetmap_rows.specs.Failing.{IsOfStore}
 use Rattle.streetmap_rows.specs.Queries.{program}
 use Rattle.streetmap_rows.proofs.OfStore.{failure_is}
 use Rattle.streetmap_rows.proofs.Resolving.{Means, command_is, is_plain, is_whole, unlisted}
-use Rattle.streetmap_reading.specs.Candidates.{IsWhole, ShowsOf}
-use Rattle.streetmap_checking.specs.Seeing.{Sees}
+use Rattle.streetmap_reading.specs.Candidates.{IsOneStatement, ShowsOf}
+use Rattle.streetmap_checking.specs.Seeing.{QueryShows}
 use Rattle.streetmap_checking.specs.Telling.{IsNotShown, is_refused, begins_badly, not_good}
 
 -- the text is a query of this database that no rule refuses, and what it may show is so
@@ -28,7 +28,7 @@ pub record OnlyShows (sql : List ℕ) (params : Row) (db : Database) (Good : Lis
   pub program : Program
   pub names : List (List ℕ)
   pub is : command_of (understood db.schema sql) ≡ Select program names
-  pub whole : IsWhole sql params (understood db.schema sql)
+  pub whole : IsOneStatement sql params (understood db.schema sql)
   pub starts : (given : List Row) → ReadsFirst (Select program names) db params given → (tail : List Row) × Good (given ++ tail)
   pub answers : (given : List Row) → Reads (Select program names) db params given → Good given
   pub never : (e : Error) → RefusesQuery None db program params e → ⊥
@@ -56,7 +56,7 @@ module _ (sql : List ℕ) (params : Row) (old : Seen) (Good : List Row → Type 
   of_store e (inl (inl ((inl missing), same))) = absurd (subst IsPlain missing.1 shows.plain)
   of_store e (inl (inl ((inr other), same))) =
       let bare = subst IsPlain other.1 shows.plain in
-      let fits = subst (IsWhole sql params) other.1 shows.whole in
+      let fits = subst (IsOneStatement sql params) other.1 shows.whole in
       absurd (elim other.2 [ inl cut ↦ cut.0 fits.0 | inr more ↦ elim more [ inl few ↦ few.0 fits.1 | inr timeless ↦ timeless.0 bare.1 ] ])
   of_store e (inl (inr failed)) = failure_is e failed.0 failed.1
   of_store e (inr h) =
@@ -71,7 +71,7 @@ module _ (sql : List ℕ) (params : Row) (old : Seen) (Good : List Row → Type 
       let three = subst (λ q. RefusesQuery old.step_limit old.now shows.program q e) full two in
       absurd (shows.never e (subst (λ l. RefusesQuery l old.now shows.program params e) limit three))
 
-  pub sees_good : (rows : List Row) → Sees sql params old rows → Good rows
+  pub sees_good : (rows : List Row) → QueryShows sql params old rows → Good rows
   sees_good rows h = shows.answers rows (reads_as sql params old old old.now.schema refl (Select shows.program shows.names) shows.is shows.plain shows.unlisted rows h)
 
   -- so it shows good rows

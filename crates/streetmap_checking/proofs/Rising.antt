@@ -8,8 +8,8 @@ use Rattle.std.specs.Cmp.Lexicographic.{nat_list_cmp_total}
 use Rattle.sqlite.specs.Order.{Row}
 use Rattle.streetmap_batch.specs.Text.{Text, text_cmp}
 use Rattle.streetmap_reading.proofs.Rests.{map_append}
-use Rattle.streetmap_checking.specs.Good.{AreRowsOf}
-use Rattle.streetmap_checking.specs.Held.{last_key, Follows}
+use Rattle.streetmap_checking.specs.Good.{AreEntryRows}
+use Rattle.streetmap_checking.specs.Held.{last_key, StandsBehind}
 
 both : (a b : Bool) → T a → T b → T (a && b)
 both true b p q = q
@@ -45,7 +45,7 @@ module _ {V : Type 0} where
       (less_below a b es less (second (is_lt (text_cmp b e.0)) (below_all text_cmp b es) h))
 
   -- a key behind the last is put at the end
-  pub rising_end : (es : List (Text × V)) (e : Text × V) → T (is_sorted text_cmp es) → Follows (last_key es) e.0 → T (is_sorted text_cmp (es ++ e ∷ []))
+  pub rising_end : (es : List (Text × V)) (e : Text × V) → T (is_sorted text_cmp es) → StandsBehind (last_key es) e.0 → T (is_sorted text_cmp (es ++ e ∷ []))
   rising_end [] e up less = tt
   rising_end (d ∷ []) e up less = both (below_all text_cmp d.0 (e ∷ [])) true (both (is_lt (text_cmp d.0 e.0)) true (is_less _ less) tt) tt
   rising_end (d ∷ f ∷ es) e up less =
@@ -55,7 +55,7 @@ module _ {V : Type 0} where
       (both (is_lt (text_cmp d.0 f.0)) (below_all text_cmp d.0 (es ++ e ∷ [])) low (less_below d.0 f.0 (es ++ e ∷ []) (less_is _ low) (first (below_all text_cmp f.0 (es ++ e ∷ [])) (is_sorted text_cmp (es ++ e ∷ [])) later))) later
 
   -- a key stands behind the last before it
-  pub rising_at : (es : List (Text × V)) (e : Text × V) (fs : List (Text × V)) → T (is_sorted text_cmp (es ++ e ∷ fs)) → Follows (last_key es) e.0
+  pub rising_at : (es : List (Text × V)) (e : Text × V) (fs : List (Text × V)) → T (is_sorted text_cmp (es ++ e ∷ fs)) → StandsBehind (last_key es) e.0
   rising_at [] e fs up = tt
   rising_at (d ∷ []) e fs up = less_is _ (first (is_lt (text_cmp d.0 e.0)) (below_all text_cmp d.0 fs) (first (below_all text_cmp d.0 (e ∷ fs)) (is_sorted text_cmp (e ∷ fs)) up))
   rising_at (d ∷ f ∷ es) e fs up = rising_at (f ∷ es) e fs (second (below_all text_cmp d.0 (f ∷ es ++ e ∷ fs)) (is_sorted text_cmp (f ∷ es ++ e ∷ fs)) up)
@@ -84,11 +84,11 @@ stands_at f (r ∷ rows) row later (x ∷ xs) e =
     record { before = x ∷ it.before; at = it.at; behind = it.behind; is = ap (λ l. x ∷ l) it.is; front = (let first : r ≡ f x = cc in λ i. first i ∷ it.front i); same = it.same }
 
 module _ {V : Type 0} (cells : Text → V → Row) (Fine : Text → V → Type 0) where
-  pub no_rows : AreRowsOf cells Fine []
+  pub no_rows : AreEntryRows cells Fine []
   no_rows = record { entries = []; are = refl; rising = tt; fine = tt }
 
   -- one row more
-  unfoldable pub grows : (rows : List Row) (row : Row) (are : AreRowsOf cells Fine rows) (key : Text) (value : V) → row ≡ cells key value → Fine key value → Follows (last_key are.entries) key → AreRowsOf cells Fine (rows ++ row ∷ [])
+  unfoldable pub grows : (rows : List Row) (row : Row) (are : AreEntryRows cells Fine rows) (key : Text) (value : V) → row ≡ cells key value → Fine key value → StandsBehind (last_key are.entries) key → AreEntryRows cells Fine (rows ++ row ∷ [])
   grows rows row are key value is fine less = record {
     entries = are.entries ++ (key, value) ∷ [];
     are = (λ i. are.are i ++ is i ∷ []) ∙ sym (map_append (λ (e : Text × V). cells e.0 e.1) are.entries ((key, value) ∷ []));
@@ -112,9 +112,9 @@ module _ {V : Type 0} (cells : Text → V → Row) (Fine : Text → V → Type 0
       pub value : V
       pub is : row ≡ cells key value
       pub fine : Fine key value
-      pub less : Follows last key
+      pub less : StandsBehind last key
 
-    pub next_of : (rows : List Row) (row : Row) (later : List Row) (are : AreRowsOf cells Fine rows) → AreRowsOf cells Fine ((rows ++ row ∷ []) ++ later) → IsNext (last_key are.entries) row
+    pub next_of : (rows : List Row) (row : Row) (later : List Row) (are : AreEntryRows cells Fine rows) → AreEntryRows cells Fine ((rows ++ row ∷ []) ++ later) → IsNext (last_key are.entries) row
     next_of rows row later are more =
         let it = stands_at (λ (e : Text × V). cells e.0 e.1) rows row later more.entries (sym (append_assoc rows (row ∷ []) later) ∙ more.are) in
         let last = same_last it.before are.entries (sym it.front ∙ are.are) in
@@ -123,5 +123,5 @@ module _ {V : Type 0} (cells : Text → V → Row) (Fine : Text → V → Type 0
           value = it.at.1;
           is = it.same;
           fine = all_at (λ (e : Text × V). Fine e.0 e.1) it.before it.at it.behind (subst (AllByRecursion (λ (e : Text × V). Fine e.0 e.1)) it.is more.fine);
-          less = subst (λ l. Follows l it.at.0) last (rising_at it.before it.at it.behind (subst (λ l. T (is_sorted text_cmp l)) it.is more.rising));
+          less = subst (λ l. StandsBehind l it.at.0) last (rising_at it.before it.at it.behind (subst (λ l. T (is_sorted text_cmp l)) it.is more.rising));
         }

@@ -25,7 +25,7 @@ use Rattle.streetmap_rows.proofs.Unique.{one_text_one_feature, untimed_is}
 use Rattle.streetmap_reading.proofs.ShownOutlines.{collections_at}
 use Rattle.streetmap_checking.specs.Checking.{ShowsState}
 use Rattle.streetmap_checking.specs.Good.{feature_view}
-use Rattle.streetmap_checking.specs.Seeing.{Sees}
+use Rattle.streetmap_checking.specs.Seeing.{QueryShows}
 use Rattle.streetmap_checking.specs.Statements.{select_features, select_batches}
 use Rattle.streetmap_checking.proofs.Only.{only_of, sees_good}
 use Rattle.streetmap_checking.proofs.Shown.{features_at, batches_at}
@@ -103,7 +103,7 @@ module _ (seen : Seen) (s t : State) (well : IsState s) (shows : ShowsState s se
   same_features x y p q name time =
       let at = entry_at t.collections y q in
       let rows = sees_good select_features (Words y.0 ∷ []) seen _ (only_of select_features (Words y.0 ∷ []) seen.now _ (features_at seen.now t rests.kept y.0 y.1 at)) rests.unlimited _
-      (subst (λ n. Sees select_features (Words n ∷ []) seen (map (λ f. feature_view f.0 f.1) (entries x.1.features))) name (shows.features x p)) in
+      (subst (λ n. QueryShows select_features (Words n ∷ []) seen (map (λ f. feature_view f.0 f.1) (entries x.1.features))) name (shows.features x p)) in
       same_entries x.1.features y.1.features
       (same_list (λ e. feature_view e.0 e.1) (entries x.1.features) (entries y.1.features)
       (λ f g m n cells.

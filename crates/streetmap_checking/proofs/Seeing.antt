@@ -15,7 +15,7 @@ use Rattle.sqlite_resolve.specs.declared.error.CompileError.{CompileError}
 use Rattle.streetmap_rows.specs.Failing.{IsOfStore}
 use Rattle.streetmap_rows.proofs.OfStore.{failure_is}
 use Rattle.streetmap_tables.specs.Adopting.{IsAsItWas}
-use Rattle.streetmap_checking.specs.Seeing.{IsSimpleQuery, Sees, SeesFirst, IsUnseen}
+use Rattle.streetmap_checking.specs.Seeing.{IsSimpleQuery, QueryShows, QueryBegins, QueryIsRefused}
 
 -- unchanged is as it was
 pub unchanged_was : (old new : Seen) → IsUnchanged old new → IsAsItWas old new
@@ -41,7 +41,7 @@ module _ (sql : List ℕ) (params : Row) (simple : IsSimpleQuery sql) where
     source : (db : Database) → IsSourceOf (reads_listing mid.now.schema sql) mid.now db → IsSourceOf (reads_listing old.now.schema sql) old.now db
     source db h = subst (λ (d : Database). IsSourceOf (reads_listing d.schema sql) d db) same h
 
-    pub shown_there : (rows : List Row) → Shown sql params mid end rows → IsTrue old.is_open → Sees sql params old rows
+    pub shown_there : (rows : List Row) → Shown sql params mid end rows → IsTrue old.is_open → QueryShows sql params old rows
     unfolding Shown here
     shown_there rows h live =
         let none = (simple mid.now.schema h.0 h.1.is).0 in
@@ -49,12 +49,12 @@ module _ (sql : List ℕ) (params : Row) (simple : IsSimpleQuery sql) where
         let was = subst (ShowsRows mid end sql h.0 full rows) none h.2 in
         (h.0, here h.0 h.1, subst (ShowsRows old old sql h.0 full rows) (sym none) (was.0, source was.0 was.1, was.2, still live))
 
-    pub begins_there : (rows : List Row) → SeesFirst sql params mid rows → SeesFirst sql params old rows
+    pub begins_there : (rows : List Row) → QueryBegins sql params mid rows → QueryBegins sql params old rows
     unfolding Begins here
     begins_there rows h = (h.0, here h.0 h.1, h.2, h.3, source h.3 h.4, h.5)
 
     module _ (limit : mid.step_limit ≡ old.step_limit) (e : Error) where
-      pub fails_there : FailsToQuery sql params mid end e → (IsTrue mid.is_open → IsTrue old.is_open) → (IsOfStore e → ⊥) → IsUnseen sql params old
+      pub fails_there : FailsToQuery sql params mid end e → (IsTrue mid.is_open → IsTrue old.is_open) → (IsOfStore e → ⊥) → QueryIsRefused sql params old
       unfolding FailsToQuery IsNotRun here
       fails_there (inl (inl none)) live other = (e, other, inl (inl (rw same at none.0, still (live none.1.0.was_open))))
       fails_there (inl (inr failed)) live other = absurd (other (failure_is e failed.0 failed.1))
@@ -74,10 +74,10 @@ module _ (sql : List ℕ) (params : Row) (simple : IsSimpleQuery sql) where
       unchanged_was old new was.3
 
   -- what a query showed of an open connection that it left
-  pub seen : (old new : Seen) (rows : List Row) → IsTrue old.is_open → Shown sql params old new rows → Sees sql params old rows
+  pub seen : (old new : Seen) (rows : List Row) → IsTrue old.is_open → Shown sql params old new rows → QueryShows sql params old rows
   seen old new rows live h = shown_there old new old refl rows h live
 
-  pub unseen : (old new : Seen) (e : Error) → FailsToQuery sql params old new e → (IsOfStore e → ⊥) → IsUnseen sql params old
+  pub unseen : (old new : Seen) (e : Error) → FailsToQuery sql params old new e → (IsOfStore e → ⊥) → QueryIsRefused sql params old
   unseen old new e h other = fails_there old new old refl refl e h (λ live. live) other
 
   -- a query that is simple commits nothing

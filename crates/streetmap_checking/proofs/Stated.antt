@@ -18,8 +18,8 @@ use Rattle.streetmap_rows.specs.Rows.{collection_cells, batch_cells}
 use Rattle.streetmap_rows.specs.Statements.{select_collections}
 use Rattle.streetmap_rows.proofs.Ordered.{has_mapped}
 use Rattle.streetmap_checking.specs.Statements.{select_formats, select_features, select_batches}
-use Rattle.streetmap_checking.specs.Seeing.{Sees}
-use Rattle.streetmap_checking.specs.Good.{CollectionHead, head_cells, IsHead, feature_view, AreOwnerRows, AreSerials, IsAccepted, serials_of}
+use Rattle.streetmap_checking.specs.Seeing.{QueryShows}
+use Rattle.streetmap_checking.specs.Good.{CollectionHead, head_cells, IsCollectionHead, feature_view, AreOwnerRows, AreSerials, IsAccepted, serials_of}
 use Rattle.streetmap_checking.specs.Telling.{Known, SeesAllFeatures}
 use Rattle.streetmap_checking.specs.Checking.{ShowsTotals, ShowsState, IsOfState, AreTotals, feature_count}
 use Rattle.streetmap_checking.specs.declared.checking.Totals.{Totals}
@@ -95,17 +95,17 @@ module _ (seen : Seen) where
   made_count (e ∷ hs) n h = omega (arith, h.4, h.2.3, len_of h.2.2.entries h.2.2.rising, made_count hs h.1 h.3)
 
   abbrev SeesOf : Text × Collection → Type 0
-  SeesOf e = Sees select_features (Words e.0 ∷ []) seen (map (λ f. feature_view f.0 f.1) (entries e.1.features))
+  SeesOf e = QueryShows select_features (Words e.0 ∷ []) seen (map (λ f. feature_view f.0 f.1) (entries e.1.features))
 
   made_seen : (hs : List (Text × CollectionHead)) (n : ℕ) (h : AllSeen hs n) (e : Text × Collection) → Has (made hs n h) e → SeesOf e
   unfolding made
   made_seen [] n h e there = absurd there
   made_seen (d ∷ hs) n h e (inl is) =
       let rows = h.2.2.are ∙ ap (map (λ (f : Text × FeatureValue). feature_view f.0 f.1)) (sym (entries-from_sorted text_cmp h.2.2.entries h.2.2.rising)) in
-      subst SeesOf (sym is) (subst (Sees select_features (Words d.0 ∷ []) seen) rows h.2.1)
+      subst SeesOf (sym is) (subst (QueryShows select_features (Words d.0 ∷ []) seen) rows h.2.1)
   made_seen (d ∷ hs) n h e (inr later) = made_seen hs h.1 h.3 e later
 
-  made_fine : (hs : List (Text × CollectionHead)) (n : ℕ) (h : AllSeen hs n) → AllByRecursion (λ e. IsHead e.0 e.1) hs → (e : Text × Collection) → Has (made hs n h) e → IsCollection e.0 e.1
+  made_fine : (hs : List (Text × CollectionHead)) (n : ℕ) (h : AllSeen hs n) → AllByRecursion (λ e. IsCollectionHead e.0 e.1) hs → (e : Text × Collection) → Has (made hs n h) e → IsCollection e.0 e.1
   unfolding made
   made_fine [] n h fine e there = absurd there
   made_fine (d ∷ hs) n h fine e (inl is) = subst (λ (x : Text × Collection). IsCollection x.0 x.1) (sym is) (record {
@@ -183,11 +183,11 @@ module _ (seen : Seen) where
     shown : ShowsState s seen
     unfolding cs hs ks
     shown = record {
-      format = subst (Sees select_formats [] seen) shows.format.2 shows.format.1;
-      collections = subst (Sees select_collections [] seen) (shows.collections.2.are ∙ sym (made_cells hs totals.features all) ∙ ap (map (λ (e : Text × Collection). collection_cells e.0 e.1)) (sym cs_are)) shows.collections.1;
+      format = subst (QueryShows select_formats [] seen) shows.format.2 shows.format.1;
+      collections = subst (QueryShows select_collections [] seen) (shows.collections.2.are ∙ sym (made_cells hs totals.features all) ∙ ap (map (λ (e : Text × Collection). collection_cells e.0 e.1)) (sym cs_are)) shows.collections.1;
       features = λ e h. made_seen hs totals.features all e (subst (λ l. Has l e) cs_are h);
       owners = (shows.owners.0, shows.owners.1, subst (λ l. AreOwnerRows l shows.owners.0) names shows.owners.2);
-      batches = subst (Sees select_batches [] seen) (shows.batches.2.0.are ∙ ap (map (λ (e : Text × AcceptedBatch). batch_cells e.0 e.1)) (sym ks_are)) shows.batches.1;
+      batches = subst (QueryShows select_batches [] seen) (shows.batches.2.0.are ∙ ap (map (λ (e : Text × AcceptedBatch). batch_cells e.0 e.1)) (sym ks_are)) shows.batches.1;
     }
       where
         names : map (λ (k : Known). k.0) shows.heads ≡ map (λ (e : Text × Collection). e.0) (entries s.collections)

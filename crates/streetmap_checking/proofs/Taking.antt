@@ -15,8 +15,8 @@ use Rattle.streetmap_rows.specs.declared.fault.ReadFault.{ReadFault}
 use Rattle.streetmap_rows.specs.Rows.{feature_text, batch_cells}
 use Rattle.streetmap_checking.specs.Folding.{Refuses}
 use Rattle.streetmap_batch.specs.Names.{is_key}
-use Rattle.streetmap_checking.specs.Good.{AreRowsOf, feature_view, head_cells, IsHead, HasBatch, IsAccepted, AreBatchRows, serials_of}
-use Rattle.streetmap_checking.specs.Held.{last_key, Follows}
+use Rattle.streetmap_checking.specs.Good.{AreEntryRows, feature_view, head_cells, IsCollectionHead, HasBatch, IsAccepted, AreBatchRows, serials_of}
+use Rattle.streetmap_checking.specs.Held.{last_key, StandsBehind}
 use Rattle.streetmap_checking.specs.declared.collections.Head.{Head}
 use Rattle.streetmap_checking.proofs.Refusing.{refuses_for, id_text, key_text, property_text}
 use Rattle.streetmap_checking.proofs.Rising.{next_of}
@@ -28,10 +28,10 @@ module _ {V : Type 0} (cells : Text → V → Row) (Fine : Text → V → Type 0
   abbrev pub IsNoRow : Row → Type 0
   IsNoRow row = (key : Text) (value : V) → row ≡ cells key value → Fine key value → ⊥
 
-  module _ (one : (p q : Text) (v w : V) → cells p v ≡ cells q w → p ≡ q) (rows : List Row) (row : Row) (are : AreRowsOf cells Fine rows) where
+  module _ (one : (p q : Text) (v w : V) → cells p v ≡ cells q w → p ≡ q) (rows : List Row) (row : Row) (are : AreEntryRows cells Fine rows) where
     -- no rows of entries begin with these and it
     abbrev pub AreNone : Type 0
-    AreNone = (later : List Row) → AreRowsOf cells Fine ((rows ++ row ∷ []) ++ later) → ⊥
+    AreNone = (later : List Row) → AreEntryRows cells Fine ((rows ++ row ∷ []) ++ later) → ⊥
 
     pub not_taken : (fault : ReadFault) → Refuses (IsNoRow row) fault → Refuses AreNone fault
     not_taken fault h = refuses_for (IsNoRow row) AreNone fault none h
@@ -39,15 +39,15 @@ module _ {V : Type 0} (cells : Text → V → Row) (Fine : Text → V → Type 0
         none : IsNoRow row → AreNone
         none unlike later good = let n = next_of cells Fine one rows row later are good in unlike n.key n.value n.is n.fine
 
-    pub not_behind : (key : Text) (value : V) → row ≡ cells key value → (Follows (last_key are.entries) key → ⊥) → AreNone
+    pub not_behind : (key : Text) (value : V) → row ≡ cells key value → (StandsBehind (last_key are.entries) key → ⊥) → AreNone
     not_behind key value is other later good =
         let n = next_of cells Fine one rows row later are good in
-        other (subst (Follows (last_key are.entries)) (one n.key key n.value value (sym n.is ∙ is)) n.less)
+        other (subst (StandsBehind (last_key are.entries)) (one n.key key n.value value (sym n.is ∙ is)) n.less)
 
 -- ---- collections
 
 abbrev NoHead : Row → Type 0
-NoHead = IsNoRow head_cells IsHead
+NoHead = IsNoRow head_cells IsCollectionHead
 
 pub no_id : (row : Row) (fault : ReadFault) → Refuses (0 < length row → (t : Text) → column row 0 ≡ Words t → IsUtf8 t → ⊥) fault → Refuses (NoHead row) fault
 no_id row fault h = refuses_for (0 < length row → (t : Text) → column row 0 ≡ Words t → IsUtf8 t → ⊥) (NoHead row) fault (λ none name h is fine. none (within row _ 0 is (omega arith)) name (ap (λ (r : Row). column r 0) is) (id_text name fine.named)) h
@@ -103,10 +103,10 @@ batch_of row key serial seven first has last keyed = (
 abbrev NoBatches : List Row → Row → Type 0
 NoBatches rows row = (later : List Row) → AreBatchRows ((rows ++ row ∷ []) ++ later) → ⊥
 
-pub no_batches : (rows : List Row) (row : Row) → AreRowsOf batch_cells IsAccepted rows → (fault : ReadFault) → Refuses (NoBatch row) fault → Refuses (NoBatches rows row) fault
+pub no_batches : (rows : List Row) (row : Row) → AreEntryRows batch_cells IsAccepted rows → (fault : ReadFault) → Refuses (NoBatch row) fault → Refuses (NoBatches rows row) fault
 no_batches rows row are fault h = refuses_for (AreNone batch_cells IsAccepted key_of_cells rows row are) (NoBatches rows row) fault (λ none later good. none later good.0) (not_taken batch_cells IsAccepted key_of_cells rows row are fault h)
 
-pub batch_not_behind : (rows : List Row) (row : Row) (are : AreRowsOf batch_cells IsAccepted rows) (key : Text) (k : AcceptedBatch) → row ≡ batch_cells key k → (Follows (last_key are.entries) key → ⊥) → NoBatches rows row
+pub batch_not_behind : (rows : List Row) (row : Row) (are : AreEntryRows batch_cells IsAccepted rows) (key : Text) (k : AcceptedBatch) → row ≡ batch_cells key k → (StandsBehind (last_key are.entries) key → ⊥) → NoBatches rows row
 batch_not_behind rows row are key k is other later good = not_behind batch_cells IsAccepted key_of_cells rows row are key k is other later good.0
 
 pub serials_more : (es : List (Text × AcceptedBatch)) (old new : List ℕ) (key : Text) (k : AcceptedBatch) (serial : ℕ) → new ≡ old ++ serial ∷ [] → old ≡ serials_of es → serial ≡ k.serial → new ≡ serials_of (es ++ (key, k) ∷ [])

@@ -9,7 +9,7 @@ use Rattle.streetmap_rows.specs.Rows.{collection_cells, batch_cells}
 use Rattle.streetmap_rows.specs.Statements.{select_collections}
 use Rattle.streetmap_checking.specs.Statements.{select_formats, select_features, select_owners}
 use Rattle.streetmap_checking.specs.Statements.{select_batches}
-use Rattle.streetmap_checking.specs.Seeing.{Sees}
+use Rattle.streetmap_checking.specs.Seeing.{QueryShows}
 use Rattle.streetmap_checking.specs.Good.{feature_view, AreOwnerRows}
 use Rattle.std.specs.FinMap.{len, entries}
 use Rattle.sqlite.specs.State.{State as Seen}
@@ -17,8 +17,8 @@ use Rattle.streetmap_batch.specs.Text.{Text}
 use Rattle.streetmap_ledger.specs.State.{State, Collection}
 use Rattle.streetmap_rows.specs.Failing.{IsOfStore, HasReason}
 use Rattle.streetmap_rows.specs.Keeping.{Rests}
-use Rattle.streetmap_checking.specs.Telling.{Known, SeesFormat, SeesHeads, SeesAllFeatures}
-use Rattle.streetmap_checking.specs.Telling.{SeesOwners, SeesBatches, NoFormat, NoHeads}
+use Rattle.streetmap_checking.specs.Telling.{Known, SeesFormat, SeesCollections, SeesAllFeatures}
+use Rattle.streetmap_checking.specs.Telling.{SeesOwners, SeesBatches, NoFormat, NoCollections}
 use Rattle.streetmap_checking.specs.Telling.{NoFeaturesOfAll, NoOwners, NoBatches}
 use Rattle.streetmap_checking.specs.declared.checking.Totals.{Totals}
 use Rattle.streetmap_checking.specs.declared.checking.CheckFault.{CheckFault}
@@ -29,7 +29,7 @@ use Rattle.streetmap_checking.specs.declared.checking.CheckFault.TheVariants.{Me
 pub record ShowsTotals (totals : Totals) (seen : Seen) : Type 0 where
   pub format : SeesFormat seen
   pub heads : List Known
-  pub collections : SeesHeads heads seen
+  pub collections : SeesCollections heads seen
   pub counted : totals.collections ≡ length heads
   pub features : SeesAllFeatures heads totals.features seen
   pub owners : SeesOwners heads seen
@@ -39,10 +39,11 @@ pub record ShowsTotals (totals : Totals) (seen : Seen) : Type 0 where
 -- collections that features name, or the batches
 pub data IsDamaged (seen : Seen) : Type 0 where
   by_format : NoFormat seen → IsDamaged seen
-  by_collections : NoHeads seen → IsDamaged seen
-  by_features : (heads : List Known) → SeesHeads heads seen → NoFeaturesOfAll heads seen
+  by_collections : NoCollections seen → IsDamaged seen
+  by_features : (heads : List Known) → SeesCollections heads seen → NoFeaturesOfAll heads seen
       → IsDamaged seen
-  by_owners : (heads : List Known) → SeesHeads heads seen → NoOwners heads seen → IsDamaged seen
+  by_owners : (heads : List Known) → SeesCollections heads seen → NoOwners heads seen
+      → IsDamaged seen
   by_batches : NoBatches seen → IsDamaged seen
 
 -- how many features there are in these collections
@@ -60,15 +61,15 @@ pub record AreTotals (s : State) (totals : Totals) : Type 0 where
 -- byte order of ids, of each its features in byte order of ids, and its batches in byte order of
 -- keys; and each row of a feature names a collection of it.
 pub record ShowsState (s : State) (seen : Seen) : Type 0 where
-  pub format : Sees select_formats [] seen ((Words (codes "format") ∷ Int (pos 2) ∷ []) ∷ [])
-  pub collections : Sees select_collections [] seen
+  pub format : QueryShows select_formats [] seen ((Words (codes "format") ∷ Int (pos 2) ∷ []) ∷ [])
+  pub collections : QueryShows select_collections [] seen
       (map (λ e. collection_cells e.0 e.1) (entries s.collections))
   pub features : (e : Text × Collection) → Has (entries s.collections) e
-      → Sees select_features (Words e.0 ∷ []) seen
+      → QueryShows select_features (Words e.0 ∷ []) seen
       (map (λ f. feature_view f.0 f.1) (entries e.1.features))
-  pub owners : (rows : List Row) × Sees select_owners [] seen rows
+  pub owners : (rows : List Row) × QueryShows select_owners [] seen rows
       × AreOwnerRows (map (λ e. e.0) (entries s.collections)) rows
-  pub batches : Sees select_batches [] seen (map (λ e. batch_cells e.0 e.1) (entries s.keys))
+  pub batches : QueryShows select_batches [] seen (map (λ e. batch_cells e.0 e.1) (entries s.keys))
 
 -- the totals are the numbers of a well-formed state whose rows are shown
 pub record IsOfState (totals : Totals) (seen : Seen) : Type 0 where

@@ -9,7 +9,7 @@ use Rattle.streetmap_rows.specs.Failing.{IsOfStore, SparesDisk, HasReason}
 use Rattle.streetmap_rows.specs.declared.fault.ReadFault.{ReadFault}
 use Rattle.streetmap_rows.specs.declared.fault.ReadFault.TheVariants.{Memory, Store, Unread}
 use Rattle.streetmap_tables.specs.Adopting.{IsAsItWas}
-use Rattle.streetmap_checking.specs.Seeing.{IsSimpleQuery, Sees, SeesFirst, IsUnseen}
+use Rattle.streetmap_checking.specs.Seeing.{IsSimpleQuery, QueryShows, QueryBegins, QueryIsRefused}
 
 -- it gave up for memory, or for the store with no word of the disk, or for this reason
 abbrev pub Refuses : Type 0 → ReadFault → Type 0
@@ -32,16 +32,16 @@ module _ {F : Type 0} (Holds : F → F → List Row → Type 0) (IsGood : F → 
   -- why rows of a query were not all taken
   abbrev pub StopsQuery : List ℕ → Row → F → Seen → Seen → ReadFault → Type 0
   StopsQuery sql params start old new Memory = IsUnchanged old new
-  StopsQuery sql params start old new Unread = ((rows : List Row) × SeesFirst sql params old rows
+  StopsQuery sql params start old new Unread = ((rows : List Row) × QueryBegins sql params old rows
       × AreWrong start rows) × IsUnchanged old new
   StopsQuery sql params start old new (Store e) =
-      ((¬ (IsOfStore e)) → IsUnseen sql params old) × IsAsItWas old new × HasReason old new e
+      ((¬ (IsOfStore e)) → QueryIsRefused sql params old) × IsAsItWas old new × HasReason old new e
 
   -- all rows that the query shows were taken
   abbrev pub ChecksAll : List ℕ → Row → Seen → Seen → F → F → Result (Unit {0}) ReadFault → Type 0
   ChecksAll sql params old new before after result =
       IsSimpleQuery sql → Holds before before []
-      → MatchResult result (λ _. ((rows : List Row) × Sees sql params old rows
+      → MatchResult result (λ _. ((rows : List Row) × QueryShows sql params old rows
       × Holds before after rows) × IsUnchanged old new) (StopsQuery sql params before old new)
 
   module _ {S : Type 0} (g : Ghosts S) where
@@ -49,7 +49,7 @@ module _ {F : Type 0} (Holds : F → F → List Row → Type 0) (IsGood : F → 
     abbrev pub CheckedNext : List ℕ → Row → F → List Row → Held S → Held S → F → Bool → Type 0
     CheckedNext sql params start done old new fold true = (row : Row)
         × HasGiven g sql params new (done ++ row ∷ []) × Holds start fold (done ++ row ∷ [])
-    CheckedNext sql params start done old new fold false = Sees sql params (state g old) done
+    CheckedNext sql params start done old new fold false = QueryShows sql params (state g old) done
         × Holds start fold done
 
     -- after some of the rows were taken
@@ -66,6 +66,6 @@ module _ {F : Type 0} (Holds : F → F → List Row → Type 0) (IsGood : F → 
     ChecksRest old new before after result =
         (sql : List ℕ) (params : Row) (start : F) → IsSimpleQuery sql → HasGiven g sql params old []
         → Holds start before []
-        → MatchResult result (λ _. ((rows : List Row) × Sees sql params (state g old) rows
+        → MatchResult result (λ _. ((rows : List Row) × QueryShows sql params (state g old) rows
         × Holds start after rows) × IsUnchanged (state g old) (state g new))
         (StopsQuery sql params start (state g old) (state g new))

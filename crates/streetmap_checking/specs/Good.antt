@@ -20,7 +20,7 @@ use Rattle.streetmap_ledger.specs.WellFormed.{IsPlaced, AreCounts}
 use Rattle.streetmap_rows.specs.Rows.{feature_cells, batch_cells}
 
 -- the rows of entries in byte order of their keys, each of which is fine
-pub record AreRowsOf {V : Type 0} (cells : Text → V → Row) (Fine : Text → V
+pub record AreEntryRows {V : Type 0} (cells : Text → V → Row) (Fine : Text → V
     → Type 0) (rows : List Row) : Type 0 where
   pub entries : List (Text × V)
   pub are : rows ≡ map (λ e. cells e.0 e.1) entries
@@ -44,13 +44,13 @@ abbrev pub head_cells : Text → CollectionHead → Row
 head_cells name h = Words name ∷ Words h.title ∷ or_null Words h.time ∷ []
 
 -- its id, title and time property are as the rules ask
-pub record IsHead (name : Text) (h : CollectionHead) : Type 0 where
+pub record IsCollectionHead (name : Text) (h : CollectionHead) : Type 0 where
   pub named : IsTrue (is_collection_id name)
   pub titled : IsTitle h.title
   pub timed : IsTimePropertyIf h.time
 
 abbrev pub AreCollectionRows : List Row → Type 0
-AreCollectionRows = AreRowsOf head_cells IsHead
+AreCollectionRows = AreEntryRows head_cells IsCollectionHead
 
 -- ---- features
 
@@ -78,7 +78,7 @@ HasSeconds o row = (column row 6 ≡ or_null Int (option_map (λ (s : ℤ × ℤ
 -- each stands under its id, with the time that this property tells, and beside it are its extent
 -- and its seconds
 abbrev pub AreFeatureRows : Option Text → List Row → Type 0
-AreFeatureRows property = AreRowsOf feature_view (IsPlaced property)
+AreFeatureRows property = AreEntryRows feature_view (IsPlaced property)
 
 -- each names one of these collections
 abbrev pub AreOwnerRows : List Text → List Row → Type 0
@@ -112,5 +112,5 @@ abbrev pub serials_of : List (Text × AcceptedBatch) → List ℕ
 serials_of es = map (λ e. e.1.serial) es
 
 abbrev pub AreBatchRows : List Row → Type 0
-AreBatchRows rows = (are : AreRowsOf batch_cells IsAccepted rows)
+AreBatchRows rows = (are : AreEntryRows batch_cells IsAccepted rows)
     × AreSerials (serials_of are.entries)

@@ -6,7 +6,7 @@ use Rattle.std.specs.declared.cmp.Ordering.TheVariants.{Less}
 use Rattle.sqlite.specs.Order.{Row}
 use Rattle.streetmap_batch.specs.Text.{Text, text_cmp}
 use Rattle.streetmap_rows.specs.Rows.{batch_cells}
-use Rattle.streetmap_checking.specs.Good.{AreRowsOf, AreFormatRows, AreCollectionRows}
+use Rattle.streetmap_checking.specs.Good.{AreEntryRows, AreFormatRows, AreCollectionRows}
 use Rattle.streetmap_checking.specs.Good.{AreFeatureRows, AreOwnerRows, IsAccepted, AreBatchRows}
 use Rattle.streetmap_checking.specs.Good.{serials_of}
 use Rattle.streetmap_checking.specs.declared.formats.FormatRows.{FormatRows}
@@ -22,14 +22,14 @@ last_key (e ∷ []) = Some e.0
 last_key (e ∷ f ∷ es) = last_key (f ∷ es)
 
 -- a key stands behind the last
-abbrev pub Follows : Option Text → Text → Type 0
-Follows None key = Unit {0}
-Follows (Some last) key = text_cmp last key ≡ Less
+abbrev pub StandsBehind : Option Text → Text → Type 0
+StandsBehind None key = Unit {0}
+StandsBehind (Some last) key = text_cmp last key ≡ Less
 
 -- ---- the format
 
-abbrev pub HoldsFormat : FormatRows → FormatRows → List Row → Type 0
-HoldsFormat start now rows = ((rows ≡ []) × (now.found ≡ 0))
+abbrev pub HoldsFormatRows : FormatRows → FormatRows → List Row → Type 0
+HoldsFormatRows start now rows = ((rows ≡ []) × (now.found ≡ 0))
     ⊎ (AreFormatRows rows × (now.found ≡ 1))
 
 abbrev pub IsGoodFormat : FormatRows → List Row → Type 0
@@ -40,19 +40,19 @@ IsGoodFormat start rows = AreFormatRows rows
 abbrev pub known : List Head → List (Text × Option Text)
 known heads = map (λ h. (string_bytes h.id, option_map string_bytes h.time)) heads
 
-abbrev pub HoldsCollections : Vec Head Global → Vec Head Global → List Row → Type 0
-HoldsCollections start now rows = (are : AreCollectionRows rows)
+abbrev pub HoldsCollectionRows : Vec Head Global → Vec Head Global → List Row → Type 0
+HoldsCollectionRows start now rows = (are : AreCollectionRows rows)
     × (known now.items ≡ map (λ e. (e.0, e.1.time)) are.entries)
 
-abbrev pub IsGoodHeads : Vec Head Global → List Row → Type 0
-IsGoodHeads start rows = AreCollectionRows rows
+abbrev pub IsGoodCollections : Vec Head Global → List Row → Type 0
+IsGoodCollections start rows = AreCollectionRows rows
 
 -- ---- features of a collection: the last id, and how many they are
 
 abbrev pub property_of : FeatureRows → Option Text
 property_of f = option_map string_bytes f.head.time
 
-pub record HoldsFeatures (start now : FeatureRows) (rows : List Row) : Type 0 where
+pub record HoldsFeatureRows (start now : FeatureRows) (rows : List Row) : Type 0 where
   pub head : now.head ≡ start.head
   pub are : AreFeatureRows (property_of start) rows
   pub last : option_map string_bytes now.last ≡ last_key are.entries
@@ -66,16 +66,16 @@ IsGoodFeatures start rows = AreFeatureRows (property_of start) rows
 abbrev pub names_of : OwnerRows → List Text
 names_of o = map (λ h. string_bytes h.id) o.heads.items
 
-abbrev pub HoldsOwners : OwnerRows → OwnerRows → List Row → Type 0
-HoldsOwners start now rows = (now ≡ start) × AreOwnerRows (names_of start) rows
+abbrev pub HoldsOwnerRows : OwnerRows → OwnerRows → List Row → Type 0
+HoldsOwnerRows start now rows = (now ≡ start) × AreOwnerRows (names_of start) rows
 
 abbrev pub IsGoodOwners : OwnerRows → List Row → Type 0
 IsGoodOwners start rows = AreOwnerRows (names_of start) rows
 
 -- ---- batches: the last key, and the serials
 
-pub record HoldsBatches (start now : BatchRows) (rows : List Row) : Type 0 where
-  pub are : AreRowsOf batch_cells IsAccepted rows
+pub record HoldsBatchRows (start now : BatchRows) (rows : List Row) : Type 0 where
+  pub are : AreEntryRows batch_cells IsAccepted rows
   pub last : option_map string_bytes now.last ≡ last_key are.entries
   pub serials : now.serials.items ≡ serials_of are.entries
 

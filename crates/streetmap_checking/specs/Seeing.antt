@@ -14,13 +14,14 @@ IsSimpleQuery sql = (schema : Schema) (c : Compiled) → understood schema sql �
     → (c.returning ≡ None) × (c.formats ≡ [])
 
 -- a query shows these rows of a connection, which it leaves as it is
-abbrev pub Sees : List ℕ → Row → Seen → List Row → Type 0
-Sees sql params seen rows = Shown sql params seen seen rows
+abbrev pub QueryShows : List ℕ → Row → Seen → List Row → Type 0
+QueryShows sql params seen rows = Shown sql params seen seen rows
 
 -- what a query shows of a connection begins with these rows
-abbrev pub SeesFirst : List ℕ → Row → Seen → List Row → Type 0
-SeesFirst sql params seen rows = Begins sql params seen rows
+abbrev pub QueryBegins : List ℕ → Row → Seen → List Row → Type 0
+QueryBegins sql params seen rows = Begins sql params seen rows
 
 -- a query is refused, and not since the store failed
-abbrev pub IsUnseen : List ℕ → Row → Seen → Type 0
-IsUnseen sql params seen = (e : Error) × (¬ (IsOfStore e)) × FailsToQuery sql params seen seen e
+abbrev pub QueryIsRefused : List ℕ → Row → Seen → Type 0
+QueryIsRefused sql params seen =
+    (e : Error) × (¬ (IsOfStore e)) × FailsToQuery sql params seen seen e

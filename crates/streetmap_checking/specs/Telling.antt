@@ -13,7 +13,7 @@ use Rattle.streetmap_rows.specs.declared.fault.ReadFault.TheVariants.{Memory, St
 use Rattle.streetmap_tables.specs.Adopting.{IsAsItWas}
 use Rattle.streetmap_checking.specs.Statements.{select_formats, select_features, select_owners}
 use Rattle.streetmap_checking.specs.Statements.{select_batches}
-use Rattle.streetmap_checking.specs.Seeing.{Sees, SeesFirst, IsUnseen}
+use Rattle.streetmap_checking.specs.Seeing.{QueryShows, QueryBegins, QueryIsRefused}
 use Rattle.streetmap_checking.specs.Good.{AreFormatRows, AreCollectionRows, AreFeatureRows}
 use Rattle.streetmap_checking.specs.Good.{AreOwnerRows, AreBatchRows}
 
@@ -21,10 +21,10 @@ use Rattle.streetmap_checking.specs.Good.{AreOwnerRows, AreBatchRows}
 -- first; or those that it shows are not good
 pub data IsNotShown (sql : List ℕ) (params : Row) (Good : List Row → Type 0) (seen : Seen) :
     Type 0 where
-  is_refused : IsUnseen sql params seen → IsNotShown sql params Good seen
-  begins_badly : (rows : List Row) → SeesFirst sql params seen rows
+  is_refused : QueryIsRefused sql params seen → IsNotShown sql params Good seen
+  begins_badly : (rows : List Row) → QueryBegins sql params seen rows
       → ((later : List Row) → Good (rows ++ later) → ⊥) → IsNotShown sql params Good seen
-  not_good : (rows : List Row) → Sees sql params seen rows → (Good rows → ⊥)
+  not_good : (rows : List Row) → QueryShows sql params seen rows → (Good rows → ⊥)
       → IsNotShown sql params Good seen
 
 -- a look tells why not, or the store failed, or memory was refused
@@ -44,21 +44,21 @@ LooksOver Is why old new (Err fault) = TellsWhy why old new fault
 
 -- the row of the format is shown, and no other
 abbrev pub SeesFormat : Seen → Type 0
-SeesFormat seen = (rows : List Row) × Sees select_formats [] seen rows × AreFormatRows rows
+SeesFormat seen = (rows : List Row) × QueryShows select_formats [] seen rows × AreFormatRows rows
 
 -- a collection by its id and its time property
 abbrev pub Known : Type 0
 Known = Text × Option Text
 
 -- these collections are shown
-abbrev pub SeesHeads : List Known → Seen → Type 0
-SeesHeads heads seen = (rows : List Row) × Sees select_collections [] seen rows
+abbrev pub SeesCollections : List Known → Seen → Type 0
+SeesCollections heads seen = (rows : List Row) × QueryShows select_collections [] seen rows
     × (are : AreCollectionRows rows) × (heads ≡ map (λ e. (e.0, e.1.time)) are.entries)
 
 -- so many features of a collection are shown
 abbrev pub SeesFeatures : Known → ℕ → Seen → Type 0
 SeesFeatures head count seen = (rows : List Row)
-    × Sees select_features (Words head.0 ∷ []) seen rows × (are : AreFeatureRows head.1 rows)
+    × QueryShows select_features (Words head.0 ∷ []) seen rows × (are : AreFeatureRows head.1 rows)
     × (count ≡ length are.entries)
 
 -- so many of all these collections
@@ -69,12 +69,12 @@ SeesAllFeatures (head ∷ heads) count seen = (first : ℕ) × (others : ℕ)
 
 -- each feature names one of these collections
 abbrev pub SeesOwners : List Known → Seen → Type 0
-SeesOwners heads seen = (rows : List Row) × Sees select_owners [] seen rows
+SeesOwners heads seen = (rows : List Row) × QueryShows select_owners [] seen rows
     × AreOwnerRows (map (λ h. h.0) heads) rows
 
 -- so many batches are shown
 abbrev pub SeesBatches : ℕ → Seen → Type 0
-SeesBatches count seen = (rows : List Row) × Sees select_batches [] seen rows
+SeesBatches count seen = (rows : List Row) × QueryShows select_batches [] seen rows
     × (are : AreBatchRows rows) × (count ≡ length are.0.entries)
 
 -- ---- why a look tells nothing
@@ -82,8 +82,8 @@ SeesBatches count seen = (rows : List Row) × Sees select_batches [] seen rows
 abbrev pub NoFormat : Seen → Type 0
 NoFormat = IsNotShown select_formats [] AreFormatRows
 
-abbrev pub NoHeads : Seen → Type 0
-NoHeads = IsNotShown select_collections [] AreCollectionRows
+abbrev pub NoCollections : Seen → Type 0
+NoCollections = IsNotShown select_collections [] AreCollectionRows
 
 abbrev pub NoFeatures : Known → Seen → Type 0
 NoFeatures head = IsNotShown select_features (Words head.0 ∷ []) (AreFeatureRows head.1)

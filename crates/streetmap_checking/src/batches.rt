@@ -1,5 +1,5 @@
 //! The rows of accepted batches.
-ghost use Rattle.std.specs.Prelude.{◌≡◌, ◌≤◌, ◌<◌, ◌↔◌, ℕ, pos, length, IsTrue, IfOk, MatchOption};
+ghost use Rattle.std.specs.Prelude.{◌≡◌, ◌<◌, ◌↔◌, ℕ, pos, length, IsTrue, IfOk, MatchOption};
 ghost use Rattle.std.specs.Prelude.{MatchResult, string_bytes};
 ghost use Rattle.sqlite.specs.Order.{column};
 ghost use Rattle.sqlite.specs.declared.types.Value.TheVariants.{Int};
@@ -39,8 +39,9 @@ struct KeptBatch {
 
 /// The number in a cell, where it is one from 0.
 fn number_at(row: &Row, at: usize) -> Option<u64>
-    ensures { MatchOption result (at < length row.now → (n : ℕ) → column row.now at ≡ Int (pos n)
-        → ⊥) (λ n. (at < length row.now) × (column row.now at ≡ Int (pos n))) }
+    ensures { MatchOption result
+        (at < length row.now → (n : ℕ) → column row.now at ≡ Int (pos n) → ⊥)
+        (λ n. (at < length row.now) × (column row.now at ≡ Int (pos n))) }
 {
     match row.get_ref(at) {
         Ok(ValueRef::Int(number)) => u64::try_from(number).ok(),
@@ -86,9 +87,9 @@ fn batch_in(row: &Row) -> Result<KeptBatch, ReadFault>
 }
 
 impl RowCheck for BatchRows {
-    ghost use Rattle.streetmap_checking.specs.Held.{HoldsBatches, IsGoodBatches};
+    ghost use Rattle.streetmap_checking.specs.Held.{HoldsBatchRows, IsGoodBatches};
 
-    ghost holds = { HoldsBatches };
+    ghost holds = { HoldsBatchRows };
 
     ghost is_good = { IsGoodBatches };
 

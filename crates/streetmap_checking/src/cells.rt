@@ -1,15 +1,14 @@
 //! What stands in the cells of a row, whatever it is.
 ghost use Rattle.std.specs.Prelude.{◌≡◌, ◌↔◌, ◌<◌, ◌+◌, suc, Option, None, Some, length};
-ghost use Rattle.std.specs.Prelude.{MatchOption, MatchResult, IfSome, IsTrue, IsUtf8, option_map};
+ghost use Rattle.std.specs.Prelude.{MatchResult, IfSome, IsTrue, IsUtf8, option_map};
 ghost use Rattle.std.specs.Prelude.{string_bytes};
 ghost use Rattle.std.specs.Option.{option_copied};
-ghost use Rattle.std.specs.declared.cmp.Ordering.TheVariants.{Less};
 ghost use Rattle.sqlite.specs.Order.{column};
 ghost use Rattle.sqlite.specs.Values.{or_null};
 ghost use Rattle.sqlite.specs.declared.types.Value.TheVariants.{Int, Text as Words};
 ghost use Rattle.streetmap_batch.specs.Text.{Text};
 ghost use Rattle.streetmap_checking.specs.Folding.{Refuses};
-ghost use Rattle.streetmap_checking.specs.Held.{Follows};
+ghost use Rattle.streetmap_checking.specs.Held.{StandsBehind};
 
 use sqlite::types::ValueRef;
 use sqlite::{Error, ErrorCode, Row};
@@ -35,7 +34,8 @@ pub fn has_text(row: &Row, at: usize) -> bool
 
 /// Whether a cell has this number; or, where there is none, is NULL.
 pub fn is_number(row: &Row, at: usize, number: Option<i64>) -> bool
-    ensures { IsTrue result ↔ (at < length row.now) × (column row.now at ≡ or_null Int number) }
+    ensures { IsTrue result ↔ (at < length row.now)
+        × (column row.now at ≡ or_null Int number) }
 {
     match (row.get_ref(at), number) {
         (Ok(ValueRef::Int(found)), Some(number)) => found == number,
@@ -65,7 +65,7 @@ pub fn text_if_at(row: &Row, at: usize) -> Result<Option<String>, ReadFault>
 
 /// Whether a key stands behind the last in byte order.
 pub fn follows(last: Option<&str>, key: &str) -> bool
-    ensures { IsTrue result ↔ Follows (option_copied last.entry) key.now }
+    ensures { IsTrue result ↔ StandsBehind (option_copied last.entry) key.now }
 {
     match last {
         Some(last) => last.as_bytes().cmp(key.as_bytes()).is_lt(),

@@ -4,7 +4,7 @@ ghost use Rattle.std.specs.Option.{option_copied};
 ghost use Rattle.streetmap_batch.specs.Text.{Text};
 ghost use Rattle.streetmap_batch.specs.BatchFacts.{IsTimePropertyIf};
 ghost use Rattle.streetmap_checking.specs.Folding.{Refuses};
-ghost use Rattle.streetmap_checking.specs.Good.{CollectionHead, head_cells, IsHead};
+ghost use Rattle.streetmap_checking.specs.Good.{CollectionHead, head_cells, IsCollectionHead};
 ghost use Rattle.streetmap_checking.specs.Held.{last_key, known};
 ghost use Rattle.streetmap_checking.specs.Looking.{known_of};
 
@@ -58,10 +58,10 @@ fn head_in(row: &Row) -> Result<Head, ReadFault>
     ensures { MatchResult result (λ head. (title : Text)
         × (row.now ≡ head_cells (string_bytes head.id)
         (record { title = title; time = option_map string_bytes head.time }))
-        × IsHead (string_bytes head.id)
+        × IsCollectionHead (string_bytes head.id)
         (record { title = title; time = option_map string_bytes head.time }))
-        (Refuses ((name : Text) (h : CollectionHead) → row.now ≡ head_cells name h → IsHead name h
-        → ⊥)) }
+        (Refuses ((name : Text) (h : CollectionHead) → row.now ≡ head_cells name h
+        → IsCollectionHead name h → ⊥)) }
 {
     if row.column_count() != 3 {
         return Err(ReadFault::Unread);
@@ -87,11 +87,11 @@ fn last_id(heads: &[Head]) -> Option<&str>
 }
 
 impl RowCheck for Vec<Head> {
-    ghost use Rattle.streetmap_checking.specs.Held.{HoldsCollections, IsGoodHeads};
+    ghost use Rattle.streetmap_checking.specs.Held.{HoldsCollectionRows, IsGoodCollections};
 
-    ghost holds = { HoldsCollections };
+    ghost holds = { HoldsCollectionRows };
 
-    ghost is_good = { IsGoodHeads };
+    ghost is_good = { IsGoodCollections };
 
     fn take(&mut self, row: &Row) -> Result<(), ReadFault> {
         let head = head_in(row)?;

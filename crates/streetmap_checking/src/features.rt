@@ -70,8 +70,8 @@ fn text_of(alloc: Global, feature: &Feature) -> Result<String, AllocError>
 
 /// Whether the bounds in a row of eight cells are those of an extent, or NULLs where there is none.
 fn has_extent(row: &Row, extent: Option<GridBox>) -> bool
-    ensures { length row.now ≡ 8 → (IsTrue result ↔ HasExtentCells (option_map box_value extent)
-        row.now) }
+    ensures { length row.now ≡ 8
+        → (IsTrue result ↔ HasExtentCells (option_map box_value extent) row.now) }
 {
     match extent {
         Some(extent) => {
@@ -113,7 +113,8 @@ fn has_texts(row: &Row, id: &str, body: &str) -> bool
 /// Whether the cells of a row of eight are those of a feature, by its text.
 #[tactic(auto, unfolding(streetmap_rows::specs::Rows::extent_in, streetmap_rows::specs::Rows::seconds_in))]
 fn has_cells(row: &Row, feature: &Feature, body: &str) -> bool
-    ensures { length row.now ≡ 8 → (IsTrue result ↔ HasTextCells feature.now.id body.now row.now
+    ensures { length row.now ≡ 8
+        → (IsTrue result ↔ HasTextCells feature.now.id body.now row.now
         × HasExtentCells (extent_in feature.now) row.now
         × HasSeconds (seconds_in feature.now) row.now) }
 {
@@ -153,9 +154,9 @@ fn feature_in(alloc: Global, row: &Row, head: &Head) -> Result<Feature, ReadFaul
 }
 
 impl RowCheck for FeatureRows {
-    ghost use Rattle.streetmap_checking.specs.Held.{HoldsFeatures, IsGoodFeatures};
+    ghost use Rattle.streetmap_checking.specs.Held.{HoldsFeatureRows, IsGoodFeatures};
 
-    ghost holds = { HoldsFeatures };
+    ghost holds = { HoldsFeatureRows };
 
     ghost is_good = { IsGoodFeatures };
 

@@ -21,9 +21,9 @@ fn is_format(row: &Row) -> bool
 }
 
 impl RowCheck for FormatRows {
-    ghost use Rattle.streetmap_checking.specs.Held.{HoldsFormat, IsGoodFormat};
+    ghost use Rattle.streetmap_checking.specs.Held.{HoldsFormatRows, IsGoodFormat};
 
-    ghost holds = { HoldsFormat };
+    ghost holds = { HoldsFormatRows };
 
     ghost is_good = { IsGoodFormat };
 

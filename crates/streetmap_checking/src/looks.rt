@@ -4,9 +4,11 @@ ghost use Rattle.sqlite.specs.Held.{state};
 ghost use Rattle.sqlite.specs.State.{HasCleanDisk, Survives};
 ghost use Rattle.streetmap_checking.specs.Held.{known};
 ghost use Rattle.streetmap_checking.specs.Looking.{known_of};
-ghost use Rattle.streetmap_checking.specs.Telling.{LooksOver, SeesFormat, SeesHeads, SeesFeatures};
+ghost use Rattle.streetmap_checking.specs.Telling.{LooksOver, SeesFormat, SeesCollections};
+ghost use Rattle.streetmap_checking.specs.Telling.{SeesFeatures};
 ghost use Rattle.streetmap_checking.specs.Telling.{SeesAllFeatures, SeesOwners, SeesBatches};
-ghost use Rattle.streetmap_checking.specs.Telling.{NoFormat, NoHeads, NoFeatures, NoFeaturesOfAll};
+ghost use Rattle.streetmap_checking.specs.Telling.{NoFormat, NoCollections, NoFeatures};
+ghost use Rattle.streetmap_checking.specs.Telling.{NoFeaturesOfAll};
 ghost use Rattle.streetmap_checking.specs.Telling.{NoOwners, NoBatches};
 
 use crate::batches::{BatchRows, are_serials};
@@ -47,8 +49,8 @@ pub fn check_collections<S: Alter>(
     conn: &mut Connection<S>,
 ) -> Result<Vec<Head>, ReadFault>
     ensures looks { HasCleanDisk (state S.Store conn.new)
-        → LooksOver (λ heads. SeesHeads (known heads.items) (state S.Store conn.old))
-        (NoHeads (state S.Store conn.old)) (state S.Store conn.old) (state S.Store conn.new)
+        → LooksOver (λ heads. SeesCollections (known heads.items) (state S.Store conn.old))
+        (NoCollections (state S.Store conn.old)) (state S.Store conn.old) (state S.Store conn.new)
         result }
     ensures mode { conn.old.in_transaction ≡ false → conn.new.in_transaction ≡ false }
     ensures survives { Survives (state S.Store conn.old) (state S.Store conn.new) (λ _. ⊥) }
@@ -69,7 +71,8 @@ fn check_features<S: Alter>(
     conn: &mut Connection<S>,
     head: &Head,
 ) -> Result<u64, ReadFault>
-    ensures looks { HasCleanDisk (state S.Store conn.new) → IsTrue (state S.Store conn.old).is_open
+    ensures looks { HasCleanDisk (state S.Store conn.new)
+        → IsTrue (state S.Store conn.old).is_open
         → LooksOver (λ count. SeesFeatures (known_of head.now) count (state S.Store conn.old))
         (NoFeatures (known_of head.now) (state S.Store conn.old)) (state S.Store conn.old)
         (state S.Store conn.new) result }
@@ -99,7 +102,8 @@ pub fn check_all_features<S: Alter>(
     conn: &mut Connection<S>,
     heads: &[Head],
 ) -> Result<u64, ReadFault>
-    ensures looks { HasCleanDisk (state S.Store conn.new) → IsTrue (state S.Store conn.old).is_open
+    ensures looks { HasCleanDisk (state S.Store conn.new)
+        → IsTrue (state S.Store conn.old).is_open
         → LooksOver (λ count. SeesAllFeatures (known heads.now) count (state S.Store conn.old))
         (NoFeaturesOfAll (known heads.now) (state S.Store conn.old)) (state S.Store conn.old)
         (state S.Store conn.new) result }

@@ -33,9 +33,9 @@ fn names_one(row: &Row, heads: &[Head]) -> bool
 }
 
 impl RowCheck for OwnerRows {
-    ghost use Rattle.streetmap_checking.specs.Held.{HoldsOwners, IsGoodOwners};
+    ghost use Rattle.streetmap_checking.specs.Held.{HoldsOwnerRows, IsGoodOwners};
 
-    ghost holds = { HoldsOwners };
+    ghost holds = { HoldsOwnerRows };
 
     ghost is_good = { IsGoodOwners };
 

@@ -19,7 +19,7 @@ use Rattle.streetmap_batch.specs.Names.{is_key, is_collection_id}
 use Rattle.streetmap_batch.specs.BatchReading.{most_edits}
 use Rattle.streetmap_batch.specs.BatchValue.{BatchValue}
 use Rattle.streetmap_exchange.specs.declared.fault.ImportFault.{ImportFault}
-use Rattle.streetmap_exchange.specs.ImportFaults.{ReadsAs}
+use Rattle.streetmap_exchange.specs.ImportFaults.{IsReadBy}
 use Rattle.streetmap_exchange.specs.Imports.{◌>>=◌, unless, most_bytes, batch_of_features, as_json, as_feature, features_of, import_text, import_of}
 use Rattle.streetmap_exchange.specs.ImportMeaning.{IsImport}
 
@@ -138,9 +138,9 @@ import_again replace key collection text b h =
 
 -- ---- what is answered
 
-pub is_import : {X : Type 0} (view : X → BatchValue) (r : Result X ImportFault) (replace : Bool) (key collection : Text) (text : List ℕ) → ReadsAs view r (import_of replace key collection text) → IfOk r (λ x. IsImport replace key collection text (view x))
+pub is_import : {X : Type 0} (view : X → BatchValue) (r : Result X ImportFault) (replace : Bool) (key collection : Text) (text : List ℕ) → IsReadBy view r (import_of replace key collection text) → IfOk r (λ x. IsImport replace key collection text (view x))
 is_import view (Ok x) replace key collection text h = import_found replace key collection text (view x) h
 is_import view (Err e) replace key collection text h = tt
 
-pub is_made : {X : Type 0} (view : X → BatchValue) (r : Result X ImportFault) (replace : Bool) (key collection : Text) (text : List ℕ) → ReadsAs view r (import_of replace key collection text) → (b : BatchValue) → IsImport replace key collection text b → ReadsAs view r (Ok b)
-is_made view r replace key collection text h b imported = subst (λ (w : Result BatchValue ImportFault). ReadsAs view r w) (import_again replace key collection text b imported) h
+pub is_made : {X : Type 0} (view : X → BatchValue) (r : Result X ImportFault) (replace : Bool) (key collection : Text) (text : List ℕ) → IsReadBy view r (import_of replace key collection text) → (b : BatchValue) → IsImport replace key collection text b → IsReadBy view r (Ok b)
+is_made view r replace key collection text h b imported = subst (λ (w : Result BatchValue ImportFault). IsReadBy view r w) (import_again replace key collection text b imported) h

@@ -56,6 +56,7 @@ FailsToRead Memory read = Unit {0}
 FailsToRead e read = read ≡ Err e
 
 -- what was answered, seen by view, is what is read, unless memory ran out
-abbrev pub ReadsAs : {X Y : Type 0} → (X → Y) → Result X ImportFault → Result Y ImportFault → Type 0
-ReadsAs view (Ok x) read = read ≡ Ok (view x)
-ReadsAs view (Err e) read = FailsToRead e read
+abbrev pub IsReadBy : {X Y : Type 0} → (X → Y) → Result X ImportFault → Result Y ImportFault
+    → Type 0
+IsReadBy view (Ok x) read = read ≡ Ok (view x)
+IsReadBy view (Err e) read = FailsToRead e read

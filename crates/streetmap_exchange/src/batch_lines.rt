@@ -1,5 +1,5 @@
 //! Bytes and lines, written as often as the writer takes some of them.
-ghost use Rattle.std.specs.Prelude.{◌≡◌, OnOk, OnErr, IfErr};
+ghost use Rattle.std.specs.Prelude.{OnOk, OnErr, IfErr};
 ghost use Rattle.std.specs.Io.KnownBytes.{Appends};
 ghost use Rattle.streetmap_exchange.specs.Exports.{AppendsFirst};
 ghost use Rattle.streetmap_ledger.specs.KeptView.{keyed_batch, keyed_batches};

@@ -1,10 +1,10 @@
 //! Texts of features, read into batches.
-ghost use Rattle.std.specs.Prelude.{◌≡◌, ◌≤◌, IfOk, IsTrue, Ok, length, map, string_bytes};
+ghost use Rattle.std.specs.Prelude.{◌≤◌, IfOk, IsTrue, Ok, length, map};
 ghost use Rattle.streetmap_geojson.specs.FeatureView.{feature_value};
 ghost use Rattle.streetmap_batch.specs.BatchValue.{BatchValue};
 ghost use Rattle.streetmap_batch.specs.BatchView.{batch_value, edit_value, edit_values};
 ghost use Rattle.streetmap_batch.specs.Names.{is_key, is_collection_id};
-ghost use Rattle.streetmap_exchange.specs.ImportFaults.{ReadsAs};
+ghost use Rattle.streetmap_exchange.specs.ImportFaults.{IsReadBy};
 ghost use Rattle.streetmap_exchange.specs.ImportMeaning.{IsImport};
 ghost use Rattle.streetmap_exchange.specs.Imports.{edit_of, features_of, import_text, import_of};
 
@@ -22,7 +22,7 @@ const MAX_FEATURES: usize = 10_000;
 
 /// The features of a text.
 fn read_features(alloc: Global, text: &[u8]) -> Result<Vec<Feature>, ImportFault>
-    ensures { ReadsAs (λ fs. map feature_value fs.items) result (features_of text.now) }
+    ensures { IsReadBy (λ fs. map feature_value fs.items) result (features_of text.now) }
 {
     let value = match read_json(alloc, text) {
         Ok(value) => value,
@@ -45,7 +45,7 @@ fn make_edit(
     feature: Feature,
 ) -> Result<Edit, ImportFault>
     requires { IsTrue (is_collection_id collection.now) }
-    ensures { ReadsAs edit_value result
+    ensures { IsReadBy edit_value result
         (Ok (edit_of replace collection.now (feature_value feature))) }
 {
     let made = if replace {
@@ -68,7 +68,7 @@ fn make_edits<P: Progress>(
     progress: &mut P,
 ) -> Result<Vec<Edit>, ImportFault>
     requires { IsTrue (is_collection_id collection.now) }
-    ensures { ReadsAs (λ edits. edit_values edits.items) result
+    ensures { IsReadBy (λ edits. edit_values edits.items) result
         (Ok (map (edit_of replace collection.now) (map feature_value features.items))) }
 {
     let mut edits = Vec::with_capacity(alloc, features.len())?;
@@ -83,7 +83,7 @@ fn make_edits<P: Progress>(
 fn make_batch(alloc: Global, key: &str, edits: Vec<Edit>) -> Result<Batch, ImportFault>
     requires keyed { IsTrue (is_key key.now) }
     requires few { length edits.items ≤ 10000 }
-    ensures { ReadsAs batch_value result
+    ensures { IsReadBy batch_value result
         (Ok (record { key = key.now; edits = edit_values edits.items })) }
 {
     match Batch::new(String::from_str(alloc, key)?, edits) {
@@ -103,7 +103,7 @@ fn read_text<P: Progress>(
 ) -> Result<Batch, ImportFault>
     requires keyed { IsTrue (is_key key.now) }
     requires placed { IsTrue (is_collection_id collection.now) }
-    ensures { ReadsAs batch_value result (import_text replace key.now collection.now text.now) }
+    ensures { IsReadBy batch_value result (import_text replace key.now collection.now text.now) }
 {
     let features = read_features(alloc, text)?;
     if features.len() > MAX_FEATURES {
@@ -123,7 +123,7 @@ fn read_import<P: Progress>(
     replace: bool,
     progress: &mut P,
 ) -> Result<Batch, ImportFault>
-    ensures { ReadsAs batch_value result (import_of replace key.now collection.now text.now) }
+    ensures { IsReadBy batch_value result (import_of replace key.now collection.now text.now) }
 {
     if !is_key(key) {
         return Err(ImportFault::BadKey);
@@ -161,9 +161,10 @@ pub fn import_batch<P: Progress>(
         IsImport replace key.now collection.now text.now (batch_value b)) }
     // What a text is imported by is made, unless memory runs out.
     ensures only { (b : BatchValue) → IsImport replace key.now collection.now text.now b
-        → ReadsAs batch_value result (Ok b) }
+        → IsReadBy batch_value result (Ok b) }
     // Which refusal it is, and where.
-    ensures exact { ReadsAs batch_value result (import_of replace key.now collection.now text.now) }
+    ensures exact { IsReadBy batch_value result
+        (import_of replace key.now collection.now text.now) }
 {
     read_import(alloc, text, key, collection, replace, progress)
 }

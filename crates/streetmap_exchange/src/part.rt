@@ -133,8 +133,10 @@ pub(crate) fn write_part<W: Write>(
 
 /// Writes what stands behind the features, and lets the reader of the text see it.
 pub(crate) fn write_end<W: Write>(writer: &mut W) -> Result<(), ExportFault>
-    ensures ok { OnOk result (Appends (W.contents writer.old) (W.contents writer.new) (codes "],\"type\":\"FeatureCollection\"}\n")) }
-    ensures err { OnErr result (AppendsFirst (W.contents writer.old) (W.contents writer.new) (codes "],\"type\":\"FeatureCollection\"}\n")) }
+    ensures ok { OnOk result (Appends (W.contents writer.old) (W.contents writer.new)
+        (codes "],\"type\":\"FeatureCollection\"}\n")) }
+    ensures err { OnErr result (AppendsFirst (W.contents writer.old) (W.contents writer.new)
+        (codes "],\"type\":\"FeatureCollection\"}\n")) }
     ensures less { result ≡ Err ExportFault.WriteFailed →
         AppendsLess (W.contents writer.old) (W.contents writer.new)
         (codes "],\"type\":\"FeatureCollection\"}\n") }

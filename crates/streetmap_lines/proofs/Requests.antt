@@ -7,7 +7,7 @@ use Rattle.std.specs.List.{position_or_len, list_any}
 use Rattle.std.specs.Cmp.Lexicographic.{same_text}
 use Rattle.std.specs.Str.{bytes_eq}
 use Rattle.streetmap_batch.specs.Text.{Text}
-use Rattle.streetmap_lines.specs.Request.{LineRequest, batch, page, feature, split_space, HasNoSpace, Asks, queried, page_asked, page_request_of, request_by, request_of}
+use Rattle.streetmap_lines.specs.Request.{LineRequest, batch, page, feature, split_space, HasNoSpace, SpellsRequest, queried, page_asked, page_request_of, request_by, request_of}
 
 -- the same cut, from byte to byte
 abbrev pub with_front : ℕ → Option (Text × Text) → Option (Text × Text)
@@ -96,59 +96,59 @@ cut-no_space (b ∷ bs) n =
 -- ---- requests
 
 queried-is : (text collection query : Text) (o : Option (Text × Text)) (r : LineRequest)
-    → text ≡ collection ++ 32 ∷ query → HasNoSpace collection → cut query ≡ o → queried collection query o ≡ Some r → Asks (codes "page " ++ text) r
+    → text ≡ collection ++ 32 ∷ query → HasNoSpace collection → cut query ≡ o → queried collection query o ≡ Some r → SpellsRequest (codes "page " ++ text) r
 queried-is text collection query None r e n k h =
     let same : page collection (Some query) ≡ r = cc in
-    subst (Asks (codes "page " ++ text)) same (ap (λ l. codes "page " ++ l) e, n, cut-none query k)
+    subst (SpellsRequest (codes "page " ++ text)) same (ap (λ l. codes "page " ++ l) e, n, cut-none query k)
 queried-is text collection query (Some p) r e n k h = cc
 
-page-is : (text : Text) (o : Option (Text × Text)) (r : LineRequest) → cut text ≡ o → page_asked text o ≡ Some r → Asks (codes "page " ++ text) r
+page-is : (text : Text) (o : Option (Text × Text)) (r : LineRequest) → cut text ≡ o → page_asked text o ≡ Some r → SpellsRequest (codes "page " ++ text) r
 page-is text None r k h =
     let same : page text None ≡ r = cc in
-    subst (Asks (codes "page " ++ text)) same (refl, cut-none text k)
+    subst (SpellsRequest (codes "page " ++ text)) same (refl, cut-none text k)
 page-is text (Some p) r k h =
     let both = cut-found text p k in
     queried-is text p.0 p.1 (split_space p.1) r both.0 both.1 (sym (split-cut p.1)) h
 
-feature-is : (text : Text) (o : Option (Text × Text)) (r : LineRequest) → cut text ≡ o → option_map (λ p. feature p.0 p.1) o ≡ Some r → Asks (codes "feature " ++ text) r
+feature-is : (text : Text) (o : Option (Text × Text)) (r : LineRequest) → cut text ≡ o → option_map (λ p. feature p.0 p.1) o ≡ Some r → SpellsRequest (codes "feature " ++ text) r
 feature-is text None r k h = cc
 feature-is text (Some p) r k h =
     let both = cut-found text p k in
     let same : feature p.0 p.1 ≡ r = cc in
-    subst (Asks (codes "feature " ++ text)) same (ap (λ l. codes "feature " ++ l) both.0, both.1)
+    subst (SpellsRequest (codes "feature " ++ text)) same (ap (λ l. codes "feature " ++ l) both.0, both.1)
 
 word-is : (u v w : Bool) (word text : Text) (r : LineRequest)
     → u ≡ bytes_eq word (codes "batch") → v ≡ bytes_eq word (codes "page") → w ≡ bytes_eq word (codes "feature")
     → cond u (Some (batch text)) (cond v (page_request_of text) (cond w (option_map (λ p. feature p.0 p.1) (split_space text)) None)) ≡ Some r
-    → Asks (word ++ 32 ∷ text) r
+    → SpellsRequest (word ++ 32 ∷ text) r
 word-is true v w word text r d e f h =
     let same : batch text ≡ r = cc in
-    let P : Text → Type 0 = λ t. Asks (t ++ 32 ∷ text) r in
-    subst P (sym (same_text word (codes "batch") d)) (subst (Asks (codes "batch " ++ text)) same refl)
+    let P : Text → Type 0 = λ t. SpellsRequest (t ++ 32 ∷ text) r in
+    subst P (sym (same_text word (codes "batch") d)) (subst (SpellsRequest (codes "batch " ++ text)) same refl)
 word-is false true w word text r d e f h =
-    let P : Text → Type 0 = λ t. Asks (t ++ 32 ∷ text) r in
+    let P : Text → Type 0 = λ t. SpellsRequest (t ++ 32 ∷ text) r in
     subst P (sym (same_text word (codes "page") e)) (page-is text (split_space text) r (sym (split-cut text)) h)
 word-is false false true word text r d e f h =
-    let P : Text → Type 0 = λ t. Asks (t ++ 32 ∷ text) r in
+    let P : Text → Type 0 = λ t. SpellsRequest (t ++ 32 ∷ text) r in
     subst P (sym (same_text word (codes "feature") f)) (feature-is text (split_space text) r (sym (split-cut text)) h)
 word-is false false false word text r d e f h = cc
 
-request-is : (line : Text) (o : Option (Text × Text)) (r : LineRequest) → cut line ≡ o → option_and_then (λ p. request_by p.0 p.1) o ≡ Some r → Asks line r
+request-is : (line : Text) (o : Option (Text × Text)) (r : LineRequest) → cut line ≡ o → option_and_then (λ p. request_by p.0 p.1) o ≡ Some r → SpellsRequest line r
 unfolding request_by
 request-is line None r k h = cc
 request-is line (Some p) r k h =
     let both = cut-found line p k in
-    let P : Text → Type 0 = λ t. Asks t r in
+    let P : Text → Type 0 = λ t. SpellsRequest t r in
     subst P (sym both.0) (word-is (bytes_eq p.0 (codes "batch")) (bytes_eq p.0 (codes "page")) (bytes_eq p.0 (codes "feature")) p.0 p.1 r refl refl refl h)
 
 -- what is read from a line is what it asks for
-pub request_of-found : (line : Text) (r : LineRequest) → request_of line ≡ Some r → Asks line r
+pub request_of-found : (line : Text) (r : LineRequest) → request_of line ≡ Some r → SpellsRequest line r
 request_of-found line r h = request-is line (split_space line) r (sym (split-cut line)) h
 
 by-word : (word text : Text) → HasNoSpace word → request_of (word ++ 32 ∷ text) ≡ request_by word text
 by-word word text n = ap (option_and_then (λ p. request_by p.0 p.1)) (split-cut (word ++ 32 ∷ text) ∙ cut-at_space word text n)
 
-asked-is : (r : LineRequest) (line : Text) → Asks line r → request_of line ≡ Some r
+asked-is : (r : LineRequest) (line : Text) → SpellsRequest line r → request_of line ≡ Some r
 unfolding request_by
 asked-is (batch text) line a = ap request_of a ∙ by-word (codes "batch") text refl
 asked-is (page collection None) line a =
@@ -162,5 +162,5 @@ asked-is (feature collection id) line a =
     ∙ ap (option_map (λ p. feature p.0 p.1)) (split-cut (collection ++ 32 ∷ id) ∙ cut-at_space collection id a.1)
 
 -- what a line asks for is read from it
-pub request_of-only : (line : Text) (r : LineRequest) → Asks line r → request_of line ≡ Some r
+pub request_of-only : (line : Text) (r : LineRequest) → SpellsRequest line r → request_of line ≡ Some r
 request_of-only line r a = asked-is r line a

@@ -14,17 +14,19 @@ abbrev pub HasNoSpace : Text → Type 0
 HasNoSpace text = list_any (λ b. b == 32) text ≡ false
 
 -- how a request is spelled: its word, and its texts behind one space each
-abbrev pub Asks : Text → LineRequest → Type 0
-Asks line (batch text) = line ≡ codes "batch " ++ text
-Asks line (page collection None) = (line ≡ codes "page " ++ collection) × HasNoSpace collection
-Asks line (page collection (Some query)) = (line ≡ codes "page " ++ (collection ++ 32 ∷ query))
+abbrev pub SpellsRequest : Text → LineRequest → Type 0
+SpellsRequest line (batch text) = line ≡ codes "batch " ++ text
+SpellsRequest line (page collection None) =
+    (line ≡ codes "page " ++ collection) × HasNoSpace collection
+SpellsRequest line (page collection (Some query)) =
+    (line ≡ codes "page " ++ (collection ++ 32 ∷ query))
     × HasNoSpace collection × HasNoSpace query
-Asks line (feature collection id) = (line ≡ codes "feature " ++ (collection ++ 32 ∷ id))
+SpellsRequest line (feature collection id) = (line ≡ codes "feature " ++ (collection ++ 32 ∷ id))
     × HasNoSpace collection
 
 -- a line is text in UTF-8 that asks for a request
 abbrev pub AsksFor : List ℕ → LineRequest → Type 0
-AsksFor line request = IsUtf8 line × Asks line request
+AsksFor line request = IsUtf8 line × SpellsRequest line request
 
 -- ---- the request of a text, where there is one
 

@@ -1,12 +1,11 @@
 //! Lines, answered over a ledger in memory.
-ghost use Rattle.std.specs.Prelude.{◌≡◌, ◌≢◌, ◌≤◌, ◌+◌, ◌++◌, IfOk, Ok, None, option_map};
+ghost use Rattle.std.specs.Prelude.{◌≡◌, ◌≢◌, ◌≤◌, ◌+◌, IfOk, Ok, None, option_map};
 ghost use Rattle.std.specs.Prelude.{string_bytes, string_len, string_capacity, []};
 ghost use Rattle.std.specs.Option.{option_copied};
 ghost use Rattle.serde_json.specs.Written.{compact_text};
 ghost use Rattle.streetmap_query.specs.Query.{query_of};
 ghost use Rattle.streetmap_batch.specs.BatchReading.{batch_of};
 ghost use Rattle.streetmap_batch.specs.BatchView.{batch_value};
-ghost use Rattle.streetmap_batch.specs.Text.{Text};
 ghost use Rattle.streetmap_ledger.specs.State.{State};
 ghost use Rattle.streetmap_memory.specs.Plain.{IsPlain as IsPlainState};
 ghost use Rattle.streetmap_ledger.specs.Pages.{feature_in};

@@ -64,7 +64,8 @@ impl LinesFault {
 
     /// The fault of a write that failed.
     pub(crate) fn of_write(error: &Error) -> LinesFault
-        ensures memory { error_kind error.now ≡ ErrorKind.OutOfMemory → result ≡ LinesFault.Memory }
+        ensures memory { error_kind error.now ≡ ErrorKind.OutOfMemory
+            → result ≡ LinesFault.Memory }
         ensures other { error_kind error.now ≢ ErrorKind.OutOfMemory
             → result ≡ LinesFault.WriteFailed }
         ensures fault { IsWriteFault result }

@@ -83,7 +83,8 @@ fn write_line<W: Write>(writer: &mut W, line: &[u8]) -> Result<(), Stop>
 
 /// The text of a batch, and a line feed.
 fn batch_line(alloc: Global, batch: &Batch) -> Result<String, AllocError>
-    ensures { IfOk result (λ t. string_bytes t ≡ batch_text (batch_value batch.now) ++ 10 ∷ []) }
+    ensures { IfOk result (λ t. string_bytes t
+        ≡ batch_text (batch_value batch.now) ++ 10 ∷ []) }
 {
     let mut text = batch.text(alloc)?;
     text.push_str("\n")?;

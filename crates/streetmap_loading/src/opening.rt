@@ -79,7 +79,8 @@ fn open_edit(
 /// An opening, which has no place in a text.
 fn place_opening(alloc: Global, edit: Edit) -> Result<PlacedEdit, AllocError>
     requires { IsOpening (edit_value edit) }
-    ensures { IfOk result (λ p. placed_value p ≡ record { place = None; edit = edit_value edit }) }
+    ensures { IfOk result (λ p. placed_value p
+        ≡ record { place = None; edit = edit_value edit }) }
 {
     edit.facts();
     match PlacedEdit::new(alloc, None, edit)? {

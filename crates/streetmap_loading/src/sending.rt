@@ -1,5 +1,5 @@
 //! A load under way.
-ghost use Rattle.std.specs.Prelude.{◌≡◌, ◌<◌, ◌≤◌, ◌+◌, ◌^◌, ◌++◌, ◌∷◌, [], ℕ, List, OnOk};
+ghost use Rattle.std.specs.Prelude.{◌≡◌, ◌<◌, ◌≤◌, ◌+◌, ◌^◌, ◌∷◌, [], ℕ, List, OnOk};
 ghost use Rattle.std.specs.Prelude.{Ok, Err, IfOk, IsTrue, length, string_bytes, None, Some};
 ghost use Rattle.streetmap_batch.specs.BatchView.{batch_value};
 ghost use Rattle.streetmap_batch.specs.Names.{is_key};

@@ -1,5 +1,5 @@
 //! Edits of the features of a text, one a line.
-ghost use Rattle.std.specs.Prelude.{◌≡◌, Option, List};
+ghost use Rattle.std.specs.Prelude.{◌≡◌, Option};
 ghost use Rattle.streetmap_loading.specs.Texts.{without_mark, without_separator, text_on};
 ghost use Rattle.streetmap_loading.specs.Texts.{without_return};
 ghost use Rattle.streetmap_loading.specs.Texts.{is_skipped, items_left};

@@ -1,5 +1,5 @@
 //! All edits of a source, sent.
-ghost use Rattle.std.specs.Prelude.{◌≡◌, ◌≤◌, IsTrue, length, string_bytes};
+ghost use Rattle.std.specs.Prelude.{◌≤◌, IsTrue, length, string_bytes};
 ghost use Rattle.streetmap_batch.specs.Names.{is_key};
 ghost use Rattle.streetmap_loading.specs.Loads.{Loads};
 

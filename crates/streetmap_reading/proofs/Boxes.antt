@@ -1,16 +1,15 @@
 -- Bounds of positions.
-use Rattle.std.proofs.Common.{◌≡◌, ◌⊎◌, ℤ, List, [], ◌∷◌, ◌++◌, Option, None, Some, refl, sym, ap, subst, ◌∙◌, inl, inr, arith, append-nil}
+use Rattle.std.proofs.Common.{◌≡◌, ℤ, List, [], ◌∷◌, ◌++◌, Option, None, Some, refl, sym, ap, subst, ◌∙◌, inl, inr, arith, append-nil}
 use Rattle.std.specs.Prelude.{unwrap_or, IfSome}
 use Rattle.std.specs.Option.{option_map, option_map_or}
 use Rattle.std.specs.List.{AllByRecursion, flat_map}
 use Rattle.std.proofs.lemmas.Int.{ints}
-use Rattle.std.proofs.lemmas.List.Elements.{All-append, All-weaker, recursion_from_All}
+use Rattle.std.proofs.lemmas.List.Elements.{recursion_from_All}
 use Rattle.streetmap_grid.specs.declared.grid_box.GridBox.{GridBox}
-use Rattle.streetmap_grid.specs.Values.{PositionValue, BoxValue, SimpleValue, GeometryValue, point, multi_point, line_string, multi_line_string, polygon, multi_polygon, simple, collection}
+use Rattle.streetmap_grid.specs.Values.{PositionValue, SimpleValue, GeometryValue, point, multi_point, line_string, multi_line_string, polygon, multi_polygon, simple, collection}
 use Rattle.streetmap_grid.specs.Views.{box_value}
 use Rattle.streetmap_grid.specs.Some.{SomeOf}
 use Rattle.streetmap_grid.specs.Range.{IsBound}
-use Rattle.streetmap_grid.specs.Meeting.{Holds}
 use Rattle.streetmap_grid.specs.WellFormed.{IsInGrid, IsBox, IsLine, IsRing, IsPolygon, IsSimple, IsGeometry}
 use Rattle.streetmap_grid.specs.Extent.{IsExtent, polygon_vertices, simple_vertices, vertices, extent_of, positions_extent}
 use Rattle.streetmap_grid.specs.Bounds.{AreBounds}

@@ -1,5 +1,5 @@
 -- From statements to pages.
-use Rattle.std.proofs.Common.{MatchOption, ℕ, ◌+◌, arith, length-append, ◌++◌, ◌≡◌, inl, inr, List, [], ◌∷◌, map, length, true, false, cond, Option, Some, None, option_map, Result, refl, sym, ap, subst, ◌∙◌}
+use Rattle.std.proofs.Common.{Ok, Err, MatchResult, MatchOption, ℕ, ◌+◌, arith, length-append, ◌++◌, ◌≡◌, inl, inr, List, [], ◌∷◌, map, length, true, false, cond, Option, Some, None, option_map, Result, refl, sym, ap, subst, ◌∙◌}
 use Rattle.std.specs.FinMap.{get}
 use Rattle.std.specs.List.{AllByRecursion}
 use Rattle.std.specs.Option.{option_to_list}
@@ -18,24 +18,36 @@ use Rattle.streetmap_query.specs.declared.queries.Query.{Query}
 use Rattle.streetmap_batch.specs.Text.{Text}
 use Rattle.streetmap_ledger.specs.State.{State, Collection}
 use Rattle.streetmap_ledger.specs.Pages.{selects, selected, is_candidate, candidates, page_of, page_over}
-use Rattle.streetmap_ledger.specs.declared.fold.PageFold.{PageFold}
+use Rattle.streetmap_ledger.specs.Folds.{Holds}
 use Rattle.streetmap_ledger.proofs.Examining.{selected_are_candidates, same_page}
 use Rattle.streetmap_rows.specs.Keeping.{Keeps}
 use Rattle.streetmap_rows.specs.declared.fault.ReadFault.{ReadFault}
 use Rattle.streetmap_reading.specs.Candidates.{candidate_row, ShowsOf}
 use Rattle.streetmap_rows.specs.Stored.{IsStored}
-use Rattle.streetmap_reading.specs.Taking.{TakesAll}
+use Rattle.streetmap_reading.specs.declared.candidates.PageRows.{PageRows}
+use Rattle.streetmap_reading.specs.Taking.{Stopped}
+use Rattle.streetmap_reading.specs.Folding.{TakesAll}
+use Rattle.streetmap_reading.specs.Held.{property_of, IsCandidate, HoldsPage}
 use Rattle.streetmap_reading.specs.Choosing.{chosen_of, TakesChosen}
 use Rattle.streetmap_reading.specs.Looking.{Stays}
 use Rattle.streetmap_rows.specs.Views.{collection_view}
 use Rattle.streetmap_reading.proofs.Shown.{chosen_stored}
+use Rattle.streetmap_reading.proofs.Taken.{candidates_fine, page_begun}
 
 -- the rows of the chosen features are taken
-pub takes_by : (sql : List ℕ) (params : Row) (box : Option BoxValue) (interval : Option IntervalValue) (name : Text) (property : Option Text) (old new : Seen) (before after : PageFold) (r : Result (Unit {0}) ReadFault)
-    → TakesAll sql params property old new before after r → ((s : State) (c : Collection) → Keeps s old.now → get s.collections name ≡ Some c → ShowsOf sql params old.now (map candidate_row (chosen_of box interval c)))
-    → TakesChosen box interval name property old new before after r
-takes_by sql params box interval name property old new before after r all shows q s c limit keeps collected same held =
-    all q (chosen_of box interval c) limit (shows s c keeps collected) (subst (λ p. AllByRecursion (IsStored p) (chosen_of box interval c)) same (chosen_stored s old.now keeps name c collected box interval)) held
+pub takes_by : (sql : List ℕ) (params : Row) (box : Option BoxValue) (interval : Option IntervalValue) (name : Text) (old new : Seen) (before after : PageRows) (r : Result (Unit {0}) ReadFault)
+    → TakesAll HoldsPage IsCandidate sql params old new before after r → ((s : State) (c : Collection) → Keeps s old.now → get s.collections name ≡ Some c → ShowsOf sql params old.now (map candidate_row (chosen_of box interval c)))
+    → TakesChosen (chosen_of box interval) name old new before after r
+takes_by sql params box interval name old new before after r all shows q s c limit keeps collected same held =
+    let fs = chosen_of box interval c in
+    let stored : AllByRecursion (IsStored (property_of before)) fs = subst (λ p. AllByRecursion (IsStored p) fs) same (chosen_stored s old.now keeps name c collected box interval) in
+    result_map r (λ h. h.page q fs held refl stored) (all _ limit (shows s c keeps collected) (candidates_fine before fs stored) (page_begun before))
+  where
+    result_map : (r : Result (Unit {0}) ReadFault) → (HoldsPage before after (map candidate_row (chosen_of box interval c)) → Holds q after.fold (chosen_of box interval c))
+        → MatchResult r (λ _. HoldsPage before after (map candidate_row (chosen_of box interval c)) × IsUnchanged old new) (Stopped old new)
+        → MatchResult r (λ _. Holds q after.fold (chosen_of box interval c) × IsUnchanged old new) (Stopped old new)
+    result_map (Ok u) f h = (f h.0, h.1)
+    result_map (Err fault) f h = h
 
 -- a query of the database of a state commits nothing
 pub stays_by : (sql : List ℕ) (params : Row) (old new : Seen) → Survives old new (CommitsShowing sql params old) → ((s : State) → Keeps s old.now → IsPlain (understood old.now.schema sql)) → Stays old new

@@ -1,7 +1,7 @@
 -- One row more.
-use Rattle.std.proofs.Common.{◌≡◌, List, [], ◌∷◌, ◌++◌, map, Option, Some, None, option_map, sym, ap, subst, ◌∙◌}
+use Rattle.std.proofs.Common.{refl, ◌≡◌, List, [], ◌∷◌, ◌++◌, map, Option, Some, None, option_map, sym, ap, subst, ◌∙◌}
 use Rattle.std.specs.List.{AllByRecursion}
-use Rattle.std.specs.Option.{option_map_or}
+use Rattle.std.specs.Option.{option_copied, option_map_or}
 use Rattle.std.specs.FinMap.{values, entries, empty}
 use Rattle.std.proofs.lemmas.List.{flat_map_more}
 use Rattle.sqlite.specs.Order.{Row}
@@ -17,15 +17,20 @@ use Rattle.streetmap_ledger.specs.Outlines.{FeatureOutlineValue, feature_outline
 use Rattle.streetmap_ledger.specs.Summaries.{SummaryValue, feature_vertices, all_vertices, extent_if}
 use Rattle.streetmap_ledger.specs.SummaryView.{summary_value, summary_values}
 use Rattle.streetmap_ledger.specs.declared.summary.Summary.{Summary}
+use Rattle.streetmap_query.specs.QueryValue.{QueryValue}
+use Rattle.streetmap_ledger.specs.Folds.{Holds}
 use Rattle.streetmap_rows.specs.Rows.{collection_cells}
+use Rattle.streetmap_rows.specs.Stored.{IsStored}
 use Rattle.streetmap_rows.specs.Stands.{IsReadable}
 use Rattle.streetmap_rows.specs.Views.{collection_view}
 use Rattle.streetmap_reading.proofs.Rests.{map_append}
-use Rattle.streetmap_reading.specs.Held.{head_of}
-use Rattle.streetmap_reading.specs.Telling.{features_in, IsExtentIn, IsTold}
+use Rattle.streetmap_reading.specs.Candidates.{candidate_row}
+use Rattle.streetmap_reading.specs.declared.candidates.PageRows.{PageRows}
+use Rattle.streetmap_reading.specs.Held.{head_of, property_of, IsCandidate, HoldsPage}
+use Rattle.streetmap_reading.specs.Telling.{features_in, IsExtentIn, CompletesHead}
 use Rattle.streetmap_reading.specs.Views.{extent_row, feature_extent}
 use Rattle.streetmap_reading.proofs.Boxes.{feature_bounds}
-use Rattle.streetmap_reading.proofs.Lists.{ends_with, all_before}
+use Rattle.streetmap_reading.proofs.Lists.{ends_with, all_before, none_mapped}
 
 -- a list with one value more, where the rows end with the row of that value
 pub one_more : {A B : Type 0} (value : A → B) (row_of : B → Row) (Fine : B → Type 0) (items next : List A) (item : A) (rows : List Row) (row : Row) → next ≡ items ++ item ∷ []
@@ -51,7 +56,7 @@ wider_bounds rows row old extent new held reads both fs is fine =
 
 -- ---- what is told of a collection
 
-pub extended : (s : State) (h : Summary) (key : Text) (e : Option GridBox) → key ≡ (summary_value h).id → IsExtentIn key s e → IsTold h s (record { id = h.id; title = h.title; time = h.time; extent = e })
+pub extended : (s : State) (h : Summary) (key : Text) (e : Option GridBox) → key ≡ (summary_value h).id → IsExtentIn key s e → CompletesHead h s (record { id = h.id; title = h.title; time = h.time; extent = e })
 extended s h key e is extent name c there head =
     let id : (summary_value h).id ≡ name = ap (λ (v : SummaryValue). v.id) head in
     let title : (summary_value h).title ≡ c.title = ap (λ (v : SummaryValue). v.title) head in
@@ -75,3 +80,32 @@ one_head_more items next item rows row more held reads es is fine =
     let front : summary_values items ≡ map (λ e. head_of e.0 e.1) end.before = held end.before end.rest all.0 in
     let last : summary_value item ≡ head_of end.last.0 end.last.1 = reads end.last.0 end.last.1 end.same all.1 in
     ap summary_values more ∙ map_append summary_value items (item ∷ []) ∙ (λ i. front i ++ last i ∷ []) ∙ sym (map_append (λ (e : Text × Collection). head_of e.0 e.1) end.before (end.last ∷ [])) ∙ ap (map (λ (e : Text × Collection). head_of e.0 e.1)) (sym end.is)
+
+-- ---- a page
+
+-- what reads under the time property of the page as it was begun reads so under that of the page
+pub read_so : (start now : PageRows) (rows : List Row) → HoldsPage start now rows → (f : FeatureValue) → IsStored (property_of start) f → IsStored (property_of now) f
+read_so start now rows held f fine = subst (λ p. IsStored (option_copied p) f) (sym held.property) fine
+
+-- a page with one candidate more
+pub page_more : (start before after : PageRows) (feature : FeatureValue) (rows : List Row) (row : Row) → HoldsPage start before rows → after.property ≡ before.property
+    → ((f : FeatureValue) → row ≡ candidate_row f → IsStored (property_of before) f → feature ≡ f)
+    → ((q : QueryValue) (fs : List FeatureValue) → Holds q before.fold fs → Holds q after.fold (fs ++ feature ∷ []))
+    → HoldsPage start after (rows ++ row ∷ [])
+page_more start before after feature rows row held same reads takes = record {
+  property = same ∙ held.property;
+  page = λ q fs begun is fine.
+      let end = ends_with candidate_row rows row fs is in
+      let all = all_before (IsStored (property_of start)) end.before end.last (subst (AllByRecursion (IsStored (property_of start))) end.is fine) in
+      let last : feature ≡ end.last = reads end.last end.same (read_so start before rows held end.last all.1) in
+      subst (Holds q after.fold) ((λ i. end.before ++ last i ∷ []) ∙ sym end.is) (takes q end.before (held.page q end.before begun end.rest all.0));
+}
+
+-- a page as it was begun
+pub page_begun : (page : PageRows) → HoldsPage page page []
+page_begun page = record { property = refl; page = λ q fs begun is fine. subst (Holds q page.fold) (sym (none_mapped candidate_row fs is)) begun }
+
+-- rows of features that read under the page's time property are candidates
+pub candidates_fine : (page : PageRows) (fs : List FeatureValue) → AllByRecursion (IsStored (property_of page)) fs → AllByRecursion (IsCandidate page) (map candidate_row fs)
+candidates_fine page [] h = tt
+candidates_fine page (f ∷ fs) h = (record { feature = f; fine = h.0; is = refl }, candidates_fine page fs h.1)

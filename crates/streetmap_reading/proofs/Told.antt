@@ -11,7 +11,7 @@ use Rattle.sqlite.proofs.Callers.{IsPlain, command_of}
 use Rattle.streetmap_rows.specs.Failing.{IsOfStore, HasReason}
 use Rattle.streetmap_rows.proofs.Reasons.{queried}
 use Rattle.streetmap_rows.proofs.OfStore.{failure_is}
-use Rattle.streetmap_reading.specs.Candidates.{IsWhole, ShowsOf}
+use Rattle.streetmap_reading.specs.Candidates.{IsOneStatement, ShowsOf}
 
 module _ (sql : List ℕ) (params : Row) (old new : Seen) (rows : List Row) (shows : ShowsOf sql params old.now rows) (limit : old.step_limit ≡ None) where
   by : (e : Error) → FailsToQuery sql params old new e → IsOfStore e × KeepsCommit old new
@@ -19,7 +19,7 @@ module _ (sql : List ℕ) (params : Row) (old new : Seen) (rows : List Row) (sho
   by e (inl (inl ((inl missing), same))) = absurd (subst IsPlain missing.1 shows.plain)
   by e (inl (inl ((inr other), same))) =
       let bare = subst IsPlain other.1 shows.plain in
-      let fits = subst (IsWhole sql params) other.1 shows.whole in
+      let fits = subst (IsOneStatement sql params) other.1 shows.whole in
       absurd (elim other.2 [ inl cut ↦ cut.0 fits.0 | inr more ↦ elim more [ inl few ↦ few.0 fits.1 | inr timeless ↦ timeless.0 bare.1 ] ])
   by e (inl (inr failed)) = (failure_is e failed.0 failed.1, record { was_open = failed.3.was_open; committed = λ o. (failed.3.undone o).1 })
   by e (inr h) =

@@ -19,7 +19,7 @@ use Rattle.streetmap_reading.specs.Taking.{Stopped}
 use Rattle.streetmap_reading.proofs.Rests.{map_append, survives_still, clean_before, stopped_on}
 use Rattle.streetmap_reading.proofs.Pages.{survives_both}
 use Rattle.streetmap_reading.specs.Held.{head_of}
-use Rattle.streetmap_reading.specs.Telling.{IsTold}
+use Rattle.streetmap_reading.specs.Telling.{CompletesHead}
 use Rattle.streetmap_reading.proofs.ShownOutlines.{found_each}
 
 -- what is told, and what is left to tell of, are all collections
@@ -47,7 +47,7 @@ begins old heads left told same none = record {
 }
 
 -- one collection more is told
-telling_on : (s : State) (h : Summary) (left told : List Summary) (summary : Summary) → IsTelling s (h ∷ left) told → IsTold h s summary → IsTelling s left (told ++ summary ∷ [])
+telling_on : (s : State) (h : Summary) (left told : List Summary) (summary : Summary) → IsTelling s (h ∷ left) told → CompletesHead h s summary → IsTelling s left (told ++ summary ∷ [])
 telling_on s h left told summary t new = go t.rest t.whole t.heads t.there
   where
     go : (rest : List (Text × Collection)) → summary_values told ++ map (λ e. summary_of e.0 e.1) rest ≡ summaries_in s → summary_value h ∷ summary_values left ≡ map (λ e. head_of e.0 e.1) rest → AllByRecursion (λ e. get s.collections e.0 ≡ Some e.1) rest
@@ -76,7 +76,7 @@ module _ (old mid new : Seen) (heads : List Summary) (h : Summary) (left told : 
 
 -- the state of the loop, with one look more
 pub goes_on : (old mid new : Seen) (heads : List Summary) (h : Summary) (left told next : List Summary) (summary : Summary) → SoFar old mid heads (h ∷ left) told → Survives mid new (λ _. Unit {0}) → Stays mid new
-    → (HasCleanDisk new → (s : State) → mid.step_limit ≡ None → Keeps s mid.now → IsTold h s summary × IsUnchanged mid new) → next ≡ told ++ summary ∷ [] → SoFar old new heads left next
+    → (HasCleanDisk new → (s : State) → mid.step_limit ≡ None → Keeps s mid.now → CompletesHead h s summary × IsUnchanged mid new) → next ≡ told ++ summary ∷ [] → SoFar old new heads left next
 goes_on old mid new heads h left told next summary so survives stays shows more = record {
   survives = survives_both old mid new so.survives survives;
   stays = λ clean s limit keeps trees leaves. so.stays (early old mid new heads h left told so survives s limit keeps clean) s limit keeps trees (stays clean s (limited old mid new heads h left told so survives s limit keeps clean) (kept old mid new heads h left told so survives s limit keeps clean) trees leaves);

@@ -1,5 +1,5 @@
 -- The rows that a page reads.
-use Rattle.std.specs.Prelude.{◌≡◌, ◌≤◌, ℕ, List, [], ◌∷◌, ◌++◌, length, Option, None, Ok, Err}
+use Rattle.std.specs.Prelude.{◌≡◌, ◌≤◌, ℕ, List, [], ◌∷◌, ◌++◌, length, None, Ok, Err}
 use Rattle.std.specs.Prelude.{Result, false, ℤ, option_map}
 use Rattle.sqlite.specs.declared.types.Value.TheVariants.{Int, Text as Words}
 use Rattle.sqlite.specs.declared.error.Error.{Error}
@@ -14,12 +14,6 @@ use Rattle.sqlite_schema.specs.declared.program.Program.{Program}
 use Rattle.sqlite_resolve.specs.declared.compiled.Compiled.{Compiled}
 use Rattle.sqlite_resolve.specs.declared.error.CompileError.{CompileError}
 use Rattle.streetmap_geojson.specs.FeatureValue.{FeatureValue}
-use Rattle.serde_json.specs.Data.{Data}
-use Rattle.streetmap_geojson.specs.JsonText.{json_of}
-use Rattle.streetmap_geojson.specs.FeatureMeaning.{ReadsAs}
-use Rattle.streetmap_geojson.specs.FeatureInvariant.{IsFeature}
-use Rattle.streetmap_geojson.specs.Times.{time_of}
-use Rattle.streetmap_batch.specs.Text.{Text}
 use Rattle.streetmap_rows.specs.Rows.{feature_text, seconds_in}
 
 -- a candidate is shown by its text
@@ -32,9 +26,9 @@ dated_row f = Words (feature_text f)
     ∷ or_null Int (option_map (λ (s : ℤ × ℤ). s.0) (seconds_in f)) ∷ []
 
 -- the text is one statement, and has so many parameters
-abbrev pub IsWhole : List ℕ → Row → Result Compiled CompileError → Type 0
-IsWhole sql params (Ok c) = (length sql ≤ c.tail) × (length params ≡ length c.names)
-IsWhole sql params (Err e) = ⊥
+abbrev pub IsOneStatement : List ℕ → Row → Result Compiled CompileError → Type 0
+IsOneStatement sql params (Ok c) = (length sql ≤ c.tail) × (length params ≡ length c.names)
+IsOneStatement sql params (Err e) = ⊥
 
 -- the text is a query of this database that shows these rows, and that no rule refuses
 pub record ShowsOf (sql : List ℕ) (params : Row) (db : Database) (rows : List Row) : Type 0 where
@@ -43,7 +37,7 @@ pub record ShowsOf (sql : List ℕ) (params : Row) (db : Database) (rows : List 
   pub program : Program
   pub names : List (List ℕ)
   pub is : command_of (understood db.schema sql) ≡ Select program names
-  pub whole : IsWhole sql params (understood db.schema sql)
+  pub whole : IsOneStatement sql params (understood db.schema sql)
   pub starts : (given : List Row) → ReadsFirst (Select program names) db params given
       → (tail : List Row) × (given ++ tail ≡ rows)
   pub answers : (given : List Row) → Reads (Select program names) db params given → given ≡ rows

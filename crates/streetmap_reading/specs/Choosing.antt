@@ -10,11 +10,12 @@ use Rattle.streetmap_geojson.specs.FeatureValue.{FeatureValue}
 use Rattle.streetmap_query.specs.QueryValue.{QueryValue}
 use Rattle.streetmap_batch.specs.Text.{Text}
 use Rattle.streetmap_ledger.specs.State.{State, Collection}
-use Rattle.streetmap_ledger.specs.Pages.{passes, extent_overlaps}
+use Rattle.streetmap_ledger.specs.Pages.{passes, extent_overlaps, interval_asked}
 use Rattle.streetmap_ledger.specs.Folds.{Holds}
-use Rattle.streetmap_ledger.specs.declared.fold.PageFold.{PageFold}
 use Rattle.streetmap_rows.specs.Keeping.{Keeps}
 use Rattle.streetmap_rows.specs.declared.fault.ReadFault.{ReadFault}
+use Rattle.streetmap_reading.specs.declared.candidates.PageRows.{PageRows}
+use Rattle.streetmap_reading.specs.Held.{property_of}
 use Rattle.streetmap_reading.specs.Taking.{Stopped}
 
 -- the extent overlaps the box, and the seconds those of the interval, as far as they are asked
@@ -26,11 +27,16 @@ is_chosen box interval f = passes extent_overlaps f.geometry box
 abbrev pub chosen_of : Option BoxValue → Option IntervalValue → Collection → List FeatureValue
 chosen_of box interval c = filter (is_chosen box interval) (values c.features)
 
--- the chosen features of a collection that is there were taken, in order of ids
-abbrev pub TakesChosen : Option BoxValue → Option IntervalValue → Text → Option Text → Seen → Seen
-    → PageFold → PageFold → Result (Unit {0}) ReadFault → Type 0
-TakesChosen box interval name property old new before after result =
+-- those that the box and the interval of a query choose
+abbrev pub candidates_of : QueryValue → Collection → List FeatureValue
+candidates_of q = chosen_of q.bbox (interval_asked q)
+
+-- of a collection that is there, with the page's time property, the chosen features were taken into
+-- the page, in order of ids
+abbrev pub TakesChosen : (Collection → List FeatureValue) → Text → Seen → Seen → PageRows
+    → PageRows → Result (Unit {0}) ReadFault → Type 0
+TakesChosen chosen name old new before after result =
     (q : QueryValue) (s : State) (c : Collection) → old.step_limit ≡ None → Keeps s old.now
-    → get s.collections name ≡ Some c → c.time ≡ property → Holds q before []
-    → MatchResult result (λ _. Holds q after (chosen_of box interval c)
-    × IsUnchanged old new) (Stopped old new)
+    → get s.collections name ≡ Some c → c.time ≡ property_of before → Holds q before.fold []
+    → MatchResult result (λ _. Holds q after.fold (chosen c) × IsUnchanged old new)
+    (Stopped old new)

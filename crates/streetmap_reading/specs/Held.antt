@@ -1,6 +1,7 @@
 -- What folds hold of the rows that they took.
-use Rattle.std.specs.Prelude.{◌≡◌, List, map, Option, None, Vec}
+use Rattle.std.specs.Prelude.{◌≡◌, List, [], map, Option, None, Vec}
 use Rattle.std.specs.List.{AllByRecursion}
+use Rattle.std.specs.Option.{option_copied}
 use Rattle.std.specs.declared.alloc.Global.{Global}
 use Rattle.sqlite.specs.Order.{Row}
 use Rattle.streetmap_grid.specs.declared.grid_box.GridBox.{GridBox}
@@ -15,8 +16,13 @@ use Rattle.streetmap_ledger.specs.Summaries.{SummaryValue, all_vertices}
 use Rattle.streetmap_ledger.specs.SummaryView.{summary_values}
 use Rattle.streetmap_ledger.specs.declared.outline.FeatureOutline.{FeatureOutline}
 use Rattle.streetmap_ledger.specs.declared.summary.Summary.{Summary}
+use Rattle.streetmap_query.specs.QueryValue.{QueryValue}
+use Rattle.streetmap_ledger.specs.Folds.{Holds}
 use Rattle.streetmap_rows.specs.Rows.{collection_cells}
+use Rattle.streetmap_rows.specs.Stored.{IsStored}
 use Rattle.streetmap_rows.specs.Stands.{IsReadable}
+use Rattle.streetmap_reading.specs.declared.candidates.PageRows.{PageRows}
+use Rattle.streetmap_reading.specs.Candidates.{candidate_row}
 use Rattle.streetmap_reading.specs.Views.{outline_row, extent_row, feature_extent, IsOutline}
 
 -- the outlines that the rows are of
@@ -39,3 +45,20 @@ abbrev pub HoldsHeads : Vec Summary Global → List Row → Type 0
 HoldsHeads ss rows = (es : List (Text × Collection)) → rows ≡ map (λ e. collection_cells e.0 e.1) es
     → AllByRecursion (λ e. IsReadable e.0 e.1) es
     → summary_values ss.items ≡ map (λ e. head_of e.0 e.1) es
+
+-- the time property by which a page's rows are read
+abbrev pub property_of : PageRows → Option Text
+property_of page = option_copied page.property
+
+-- the row shows the text of a feature that is read under the page's time property
+pub record IsCandidate (page : PageRows) (row : Row) : Type 0 where
+  pub feature : FeatureValue
+  pub fine : IsStored (property_of page) feature
+  pub is : row ≡ candidate_row feature
+
+-- the page, where it held none as it was begun, of the features whose texts the rows show
+pub record HoldsPage (start now : PageRows) (rows : List Row) : Type 0 where
+  pub property : now.property ≡ start.property
+  pub page : (q : QueryValue) (fs : List FeatureValue) → Holds q start.fold []
+      → rows ≡ map candidate_row fs → AllByRecursion (IsStored (property_of start)) fs
+      → Holds q now.fold fs

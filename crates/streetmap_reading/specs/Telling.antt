@@ -50,8 +50,8 @@ IsExtentIn name s extent = option_map box_value extent
     ≡ extent_if (all_vertices (values (features_in s name)))
 
 -- what is told of it, from what is told before its extent is known
-abbrev pub IsTold : Summary → State → Summary → Type 0
-IsTold head s summary = (name : Text) (c : Collection) → get s.collections name ≡ Some c
+abbrev pub CompletesHead : Summary → State → Summary → Type 0
+CompletesHead head s summary = (name : Text) (c : Collection) → get s.collections name ≡ Some c
     → summary_value head ≡ head_of name c → summary_value summary ≡ summary_of name c
 
 -- ---- of all collections

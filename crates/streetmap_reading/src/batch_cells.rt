@@ -17,8 +17,8 @@ use streetmap_rows::{ReadFault, unread};
 
 /// The key in the first cell.
 fn key_in(row: &Row) -> Result<String, ReadFault>
-    ensures { (key : Text) → 0 < length row.now → column row.now 0 ≡ Words key → IsUtf8 key →
-        MatchResult result (λ found. string_bytes found ≡ key) IsForMemory }
+    ensures { (key : Text) → 0 < length row.now → column row.now 0 ≡ Words key → IsUtf8 key
+        → MatchResult result (λ found. string_bytes found ≡ key) IsForMemory }
 {
     row.get::<String>(0).map_err(|error| unread(error))
 }
@@ -36,7 +36,8 @@ fn bytes_at(alloc: Global, row: &Row, at: usize) -> Result<Vec<u8>, ReadFault>
 
 /// The number in a cell, which is one from 0.
 fn number_at(row: &Row, at: usize) -> Result<u64, ReadFault>
-    ensures { (n : ℕ) → at < length row.now → column row.now at ≡ Int (pos n) → result ≡ Ok n }
+    ensures { (n : ℕ) → at < length row.now → column row.now at ≡ Int (pos n)
+        → result ≡ Ok n }
 {
     match row.get_ref(at) {
         Ok(ValueRef::Int(number)) if number >= 0 => Ok(number as u64),
@@ -59,7 +60,8 @@ fn counts_in(row: &Row) -> Result<Counts, ReadFault>
 
 /// The batch of a row. It gives up for memory alone, where the row is a batch's.
 pub fn batch_in(alloc: Global, row: &Row) -> Result<KeptBatch, ReadFault>
-    ensures { (key : Text) (kept : AcceptedBatch) → row.now ≡ batch_cells key kept → IsUtf8 key →
+    ensures { (key : Text) (kept : AcceptedBatch) → row.now ≡ batch_cells key kept
+        → IsUtf8 key →
         MatchResult result (λ batch. keyed_batch batch ≡ (key, kept)) IsForMemory }
 {
     let key = key_in(row)?;

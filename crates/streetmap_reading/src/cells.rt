@@ -51,7 +51,8 @@ fn box_of(
     east: Option<i64>,
     north: Option<i64>,
 ) -> Result<Option<GridBox>, ReadFault>
-    ensures { (b : Option BoxValue) → IfSome b IsBox → west ≡ option_map (λ (g : BoxValue). g.x0) b
+    ensures { (b : Option BoxValue) → IfSome b IsBox
+        → west ≡ option_map (λ (g : BoxValue). g.x0) b
         → south ≡ option_map (λ (g : BoxValue). g.y0) b
         → east ≡ option_map (λ (g : BoxValue). g.x1) b
         → north ≡ option_map (λ (g : BoxValue). g.y1) b

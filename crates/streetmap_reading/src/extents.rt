@@ -41,9 +41,9 @@ impl RowFold for Option<GridBox> {
     ghost use Rattle.streetmap_reading.specs.Held.{HoldsBounds};
     ghost use Rattle.streetmap_reading.specs.Views.{IsExtentRow};
 
-    ghost holds = { HoldsBounds };
+    ghost holds = { λ _. HoldsBounds };
 
-    ghost is_readable = { IsExtentRow };
+    ghost is_readable = { λ _. IsExtentRow };
 
     fn take(&mut self, row: &Row) -> Result<(), ReadFault> {
         let extent = extent_in(row)?;

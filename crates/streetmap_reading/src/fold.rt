@@ -12,11 +12,11 @@ use streetmap_rows::ReadFault;
 
 /// What takes rows one after the other, and holds what they say.
 pub trait RowFold {
-    /// It holds what these rows say, and nothing else.
-    ghost holds: { Self → List Cells → Type 0 };
+    /// Begun as the first, it holds what these rows say, and nothing else.
+    ghost holds: { Self → Self → List Cells → Type 0 };
 
-    /// The row is one that it can take.
-    ghost is_readable: { Cells → Type 0 };
+    /// The row is one that it can take, begun so.
+    ghost is_readable: { Self → Cells → Type 0 };
 
     /// Takes the row that comes next.
     fn take(&mut self, row: &Row) -> Result<(), ReadFault>

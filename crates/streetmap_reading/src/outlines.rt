@@ -36,9 +36,9 @@ impl RowFold for Vec<FeatureOutline> {
     ghost use Rattle.streetmap_reading.specs.Held.{HoldsOutlines};
     ghost use Rattle.streetmap_reading.specs.Views.{IsOutlineRow};
 
-    ghost holds = { HoldsOutlines };
+    ghost holds = { λ _. HoldsOutlines };
 
-    ghost is_readable = { IsOutlineRow };
+    ghost is_readable = { λ _. IsOutlineRow };
 
     fn take(&mut self, row: &Row) -> Result<(), ReadFault> {
         let outline = outline_in(row)?;

@@ -1,27 +1,21 @@
 //! Pages, through the stored extents and seconds.
-ghost use Rattle.std.specs.Prelude.{◌≡◌, ◌≤◌, [], ◌∷◌, Option, None, Some, Ok, false, IfOk};
+ghost use Rattle.std.specs.Prelude.{◌≡◌, Option, None, Some, Ok, false};
 ghost use Rattle.std.specs.Prelude.{MatchResult, option_map, string_bytes};
 ghost use Rattle.std.specs.Option.{option_copied};
-ghost use Rattle.std.specs.FinMap.{get};
 ghost use Rattle.sqlite.specs.Held.{state};
 ghost use Rattle.sqlite.specs.State.{HasCleanDisk, Survives};
-ghost use Rattle.sqlite.specs.declared.types.Value.TheVariants.{Int, Text as Words};
-ghost use Rattle.streetmap_grid.specs.Values.{BoxValue};
 ghost use Rattle.streetmap_grid.specs.Views.{box_value};
-ghost use Rattle.streetmap_moment.specs.IntervalValue.{IntervalValue};
 ghost use Rattle.streetmap_moment.specs.Views.{interval_value};
 ghost use Rattle.streetmap_query.specs.Views.{query_value};
 ghost use Rattle.streetmap_ledger.specs.State.{Collection};
-ghost use Rattle.streetmap_ledger.specs.Pages.{interval_asked};
 ghost use Rattle.streetmap_rows.specs.Stands.{IsReadable};
-ghost use Rattle.streetmap_rows.specs.Statements.{select_all, select_in_box, select_in_time};
-ghost use Rattle.streetmap_rows.specs.Statements.{select_in_both, select_collection};
-ghost use Rattle.streetmap_reading.specs.Choosing.{TakesChosen};
+ghost use Rattle.streetmap_reading.specs.Choosing.{TakesChosen, chosen_of, candidates_of};
 ghost use Rattle.streetmap_reading.specs.Looking.{LooksInto, Stays, IsCollectionRow, IsPageOf};
 ghost use Rattle.streetmap_reading.specs.Looking.{IsPageUnder};
 ghost use Rattle.streetmap_rows.specs.Views.{collection_view};
 
-use crate::candidates::take_rows;
+use crate::candidates::PageRows;
+use crate::fold::fold_rows;
 use sqlite::{Alter, Connection, Row, params};
 use std::alloc::Global;
 use streetmap_grid::GridBox;
@@ -32,148 +26,117 @@ use streetmap_rows::{ReadFault, time_in, unread};
 
 /// Takes all features of a collection.
 fn take_all<S: Alter>(
-    alloc: Global,
     conn: &mut Connection<S>,
     collection: &str,
-    property: Option<&str>,
-    fold: &mut PageFold<'_>,
+    page: &mut PageRows<'_>,
 ) -> Result<(), ReadFault>
     ensures takes { HasCleanDisk (state S.Store conn.new)
-        → TakesChosen None None collection.now (option_copied property.entry)
-        (state S.Store conn.old) (state S.Store conn.new) fold.old fold.new result }
+        → TakesChosen (chosen_of None None) collection.now (state S.Store conn.old)
+        (state S.Store conn.new) page.old page.new result }
     ensures mode { conn.old.in_transaction ≡ false → conn.new.in_transaction ≡ false }
     ensures survives { Survives (state S.Store conn.old) (state S.Store conn.new) (λ _. Unit {0}) }
     ensures stays { Stays (state S.Store conn.old) (state S.Store conn.new) }
 {
-    take_rows(
-        alloc,
+    fold_rows(
         conn,
         "SELECT body FROM streetmap_features WHERE collection = ?1 ORDER BY id",
         params![collection],
-        property,
-        fold,
+        page,
     )
 }
 
 /// Takes the features of a collection whose extents overlap a box.
 fn take_in_box<S: Alter>(
-    alloc: Global,
     conn: &mut Connection<S>,
     collection: &str,
     area: &GridBox,
-    property: Option<&str>,
-    fold: &mut PageFold<'_>,
+    page: &mut PageRows<'_>,
 ) -> Result<(), ReadFault>
     ensures takes { HasCleanDisk (state S.Store conn.new)
-        → TakesChosen (Some (box_value area.now)) None collection.now (option_copied property.entry)
-        (state S.Store conn.old) (state S.Store conn.new) fold.old fold.new result }
+        → TakesChosen (chosen_of (Some (box_value area.now)) None) collection.now
+        (state S.Store conn.old) (state S.Store conn.new) page.old page.new result }
     ensures mode { conn.old.in_transaction ≡ false → conn.new.in_transaction ≡ false }
     ensures survives { Survives (state S.Store conn.old) (state S.Store conn.new) (λ _. Unit {0}) }
     ensures stays { Stays (state S.Store conn.old) (state S.Store conn.new) }
 {
-    take_rows(
-        alloc,
+    fold_rows(
         conn,
         "SELECT body FROM streetmap_features WHERE collection = ?1 AND x0 <= ?2 AND x1 >= ?3 AND y0 <= ?4 AND y1 >= ?5 ORDER BY id",
         params![collection, area.x1, area.x0, area.y1, area.y0],
-        property,
-        fold,
+        page,
     )
 }
 
 /// Takes the features of a collection whose seconds overlap those of an interval.
 fn take_in_time<S: Alter>(
-    alloc: Global,
     conn: &mut Connection<S>,
     collection: &str,
     interval: &Interval,
-    property: Option<&str>,
-    fold: &mut PageFold<'_>,
+    page: &mut PageRows<'_>,
 ) -> Result<(), ReadFault>
     ensures takes { HasCleanDisk (state S.Store conn.new)
-        → TakesChosen None (Some (interval_value interval.now)) collection.now
-        (option_copied property.entry) (state S.Store conn.old) (state S.Store conn.new) fold.old
-        fold.new result }
+        → TakesChosen (chosen_of None (Some (interval_value interval.now))) collection.now
+        (state S.Store conn.old) (state S.Store conn.new) page.old page.new result }
     ensures mode { conn.old.in_transaction ≡ false → conn.new.in_transaction ≡ false }
     ensures survives { Survives (state S.Store conn.old) (state S.Store conn.new) (λ _. Unit {0}) }
     ensures stays { Stays (state S.Store conn.old) (state S.Store conn.new) }
 {
     let (start, end) = interval.seconds();
-    take_rows(
-        alloc,
+    fold_rows(
         conn,
         "SELECT body FROM streetmap_features WHERE collection = ?1 AND s0 <= ?2 AND s1 >= ?3 ORDER BY id",
         params![collection, end, start],
-        property,
-        fold,
+        page,
     )
 }
 
 /// Takes the features of a collection whose extents overlap a box, and whose seconds overlap those
 /// of an interval.
 fn take_in_both<S: Alter>(
-    alloc: Global,
     conn: &mut Connection<S>,
     collection: &str,
     area: &GridBox,
     interval: &Interval,
-    property: Option<&str>,
-    fold: &mut PageFold<'_>,
+    page: &mut PageRows<'_>,
 ) -> Result<(), ReadFault>
     ensures takes { HasCleanDisk (state S.Store conn.new)
-        → TakesChosen (Some (box_value area.now)) (Some (interval_value interval.now))
-        collection.now (option_copied property.entry) (state S.Store conn.old)
-        (state S.Store conn.new) fold.old fold.new result }
+        → TakesChosen (chosen_of (Some (box_value area.now)) (Some (interval_value interval.now)))
+        collection.now (state S.Store conn.old) (state S.Store conn.new) page.old page.new result }
     ensures mode { conn.old.in_transaction ≡ false → conn.new.in_transaction ≡ false }
     ensures survives { Survives (state S.Store conn.old) (state S.Store conn.new) (λ _. Unit {0}) }
     ensures stays { Stays (state S.Store conn.old) (state S.Store conn.new) }
 {
     let (start, end) = interval.seconds();
-    take_rows(
-        alloc,
+    fold_rows(
         conn,
         "SELECT body FROM streetmap_features WHERE collection = ?1 AND x0 <= ?2 AND x1 >= ?3 AND y0 <= ?4 AND y1 >= ?5 AND s0 <= ?6 AND s1 >= ?7 ORDER BY id",
         params![collection, area.x1, area.x0, area.y1, area.y0, end, start],
-        property,
-        fold,
+        page,
     )
 }
 
 /// Takes the candidates of a query.
 fn take_candidates<S: Alter>(
-    alloc: Global,
     conn: &mut Connection<S>,
     collection: &str,
     query: &Query,
-    property: Option<&str>,
-    fold: &mut PageFold<'_>,
+    page: &mut PageRows<'_>,
 ) -> Result<(), ReadFault>
     ensures takes { HasCleanDisk (state S.Store conn.new)
-        → TakesChosen (query_value query.now).bbox (interval_asked (query_value query.now))
-        collection.now (option_copied property.entry) (state S.Store conn.old)
-        (state S.Store conn.new) fold.old fold.new result }
+        → TakesChosen (candidates_of (query_value query.now)) collection.now
+        (state S.Store conn.old) (state S.Store conn.new) page.old page.new result }
     ensures mode { conn.old.in_transaction ≡ false → conn.new.in_transaction ≡ false }
     ensures survives { Survives (state S.Store conn.old) (state S.Store conn.new) (λ _. Unit {0}) }
     ensures stays { Stays (state S.Store conn.old) (state S.Store conn.new) }
 {
     match &query.bbox {
         None => match &query.datetime {
-            None => take_all(alloc, conn, collection, property, fold),
-            Some(datetime) => {
-                take_in_time(alloc, conn, collection, &datetime.interval, property, fold)
-            }
+            None => take_all(conn, collection, page),
+            Some(datetime) => take_in_time(conn, collection, &datetime.interval, page),
         },
         Some(area) => match &query.datetime {
-            None => take_in_box(alloc, conn, collection, area, property, fold),
-            Some(datetime) => take_in_both(
-                alloc,
-                conn,
-                collection,
-                area,
-                &datetime.interval,
-                property,
-                fold,
-            ),
+            None => take_in_box(conn, collection, area, page),
+            Some(datetime) => take_in_both(conn, collection, area, &datetime.interval, page),
         },
     }
 }
@@ -226,9 +189,14 @@ fn page_under<S: Alter>(
     ensures survives { Survives (state S.Store conn.old) (state S.Store conn.new) (λ _. Unit {0}) }
     ensures stays { Stays (state S.Store conn.old) (state S.Store conn.new) }
 {
-    let mut fold = PageFold::new(alloc, query);
-    take_candidates(alloc, conn, collection, query, property, &mut fold)?;
-    match fold.end(alloc) {
+    let fold = PageFold::new(alloc, query);
+    let mut page = PageRows {
+        alloc,
+        property,
+        fold,
+    };
+    take_candidates(conn, collection, query, &mut page)?;
+    match page.fold.end(alloc) {
         Ok(page) => Ok(page),
         Err(_) => Err(ReadFault::Memory),
     }

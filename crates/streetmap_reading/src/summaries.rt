@@ -11,7 +11,8 @@ ghost use Rattle.streetmap_rows.specs.Stands.{IsReadable};
 ghost use Rattle.streetmap_rows.specs.Views.{collection_view};
 ghost use Rattle.streetmap_reading.specs.Folding.{IsForMemory};
 ghost use Rattle.streetmap_reading.specs.Held.{head_of};
-ghost use Rattle.streetmap_reading.specs.Telling.{IsSummaryOf, AreSummaries, IsTold, AreHeads};
+ghost use Rattle.streetmap_reading.specs.Telling.{IsSummaryOf, AreSummaries, AreHeads};
+ghost use Rattle.streetmap_reading.specs.Telling.{CompletesHead};
 ghost use Rattle.streetmap_reading.specs.Telling.{TellsAll};
 
 use crate::cells::{text_at, text_if_at};
@@ -59,9 +60,9 @@ impl RowFold for Vec<Summary> {
     ghost use Rattle.streetmap_reading.specs.Held.{HoldsHeads};
     ghost use Rattle.streetmap_reading.specs.Views.{IsHeadRow};
 
-    ghost holds = { HoldsHeads };
+    ghost holds = { λ _. HoldsHeads };
 
-    ghost is_readable = { IsHeadRow };
+    ghost is_readable = { λ _. IsHeadRow };
 
     fn take(&mut self, row: &Row) -> Result<(), ReadFault> {
         let head = head_in(row)?;
@@ -73,7 +74,7 @@ impl RowFold for Vec<Summary> {
 /// What is told of a collection, with its extent.
 fn with_extent<S: Alter>(conn: &mut Connection<S>, head: Summary) -> Result<Summary, ReadFault>
     ensures shows { HasCleanDisk (state S.Store conn.new)
-        → LooksInto (IsTold head) (state S.Store conn.old) (state S.Store conn.new) result }
+        → LooksInto (CompletesHead head) (state S.Store conn.old) (state S.Store conn.new) result }
     ensures mode { conn.old.in_transaction ≡ false → conn.new.in_transaction ≡ false }
     ensures survives { Survives (state S.Store conn.old) (state S.Store conn.new) (λ _. Unit {0}) }
     ensures stays { Stays (state S.Store conn.old) (state S.Store conn.new) }

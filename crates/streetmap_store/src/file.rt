@@ -34,7 +34,8 @@ fn connect<S: Start>(
     ensures opened { IfOk result (IsJustOpenedOn (image_at S.Start)) }
     ensures refused { IfErr result (λ refused. IsCleanRest refused.1
         → FailsToConnect (image_at S.Start) refused.0 refused.1) }
-    ensures unopened { IfErr result (λ refused. refused.1 ≡ Left.Nothing → IsUnopened refused.0) }
+    ensures unopened { IfErr result (λ refused. refused.1 ≡ Left.Nothing
+        → IsUnopened refused.0) }
 {
     match Connection::open_from(rt, path, false, start) {
         Ok(conn) => Ok(conn),
@@ -115,7 +116,8 @@ pub fn open<S: Start>(
         → HoldsState (image_at S.Start) s → OpenBlamesNoFile refused.0) }
     ensures ours_old { IfErr result (λ refused. IsCleanRest refused.1 → (s : State)
         → HoldsOldState (image_at S.Start) s → OpenBlamesNoFile refused.0) }
-    ensures unopened { IfErr result (λ refused. refused.1 ≡ Left.Nothing → OpensNothing refused.0) }
+    ensures unopened { IfErr result (λ refused. refused.1 ≡ Left.Nothing
+        → OpensNothing refused.0) }
     ensures stays { IfErr result (λ refused. IsCleanRest refused.1
         → StaysAsItWas (image_at S.Start) refused.1) }
 {

@@ -76,7 +76,8 @@ fn fault_of(stop: Stop) -> Fault
 fn shut_for(shut: &mut Option<Shut>, stop: Stop) -> Fault
     ensures value { result ≡ fault_by stop }
     ensures after { shut.new ≡ shut_by stop shut.old }
-    ensures named { IsToldByStore stop → IsTrue (is_named shut.old) → IsTrue (is_named shut.new) }
+    ensures named { IsToldByStore stop → IsTrue (is_named shut.old)
+        → IsTrue (is_named shut.new) }
 {
     if let Stop::Closed(cause) = stop {
         *shut = Some(cause);
@@ -93,8 +94,8 @@ fn give_up<S: Alter>(conn: &mut Connection<S>, shut: &mut Option<Shut>, fault: R
         → ShutsBy {T = Unit {0}} (Err result) None (option_map cause_in shut.new) }
     ensures ends { HasCleanDisk (state S.Store conn.new)
         → EndsLook fault (state S.Store conn.old) (state S.Store conn.new) result }
-    ensures reason { HasCleanDisk (state S.Store conn.new) → shut.old ≡ None → (first : Held S) →
-        GaveUp (state S.Store first) (state S.Store conn.old) fault →
+    ensures reason { HasCleanDisk (state S.Store conn.new) → shut.old ≡ None
+        → (first : Held S) → GaveUp (state S.Store first) (state S.Store conn.old) fault →
         HasShut (state S.Store first) (state S.Store conn.new) shut.new }
     ensures committed { HasCleanDisk (state S.Store conn.new) →
         LeavesCommitted fault (state S.Store conn.old) (state S.Store conn.new) }

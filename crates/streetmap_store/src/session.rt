@@ -1,5 +1,5 @@
 //! Batches over tables, and what a stop leaves of them.
-ghost use Rattle.std.specs.Prelude.{◌≡◌, ◌<◌, ◌≤◌, ◌+◌, ℕ, IsOk, Some, IsNone, IsSome, length};
+ghost use Rattle.std.specs.Prelude.{◌≡◌, ◌<◌, ◌≤◌, ◌+◌, IsOk, Some, IsNone, IsSome, length};
 ghost use Rattle.std.specs.Prelude.{take, map};
 ghost use Rattle.std.specs.Option.{option_map};
 ghost use Rattle.sqlite.specs.Held.{state};

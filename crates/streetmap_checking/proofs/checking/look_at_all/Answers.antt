@@ -9,7 +9,7 @@ use Rattle.streetmap_checking.specs.Checking.{IsDamaged, by_format, by_collectio
 use Rattle.streetmap_checking.specs.Good.{AreCollectionRows, AreOwnerRows, AreBatchRows}
 use Rattle.streetmap_checking.specs.Held.{known}
 use Rattle.streetmap_checking.specs.Statements.{select_owners, select_batches}
-use Rattle.streetmap_checking.specs.Telling.{TellsWhy, SeesAllFeatures, Known, NoFormat, NoHeads, NoFeaturesOfAll, NoOwners, NoBatches}
+use Rattle.streetmap_checking.specs.Telling.{TellsWhy, SeesAllFeatures, Known, NoFormat, NoCollections, NoFeaturesOfAll, NoOwners, NoBatches}
 use Rattle.streetmap_checking.proofs.Looked.{none_on, fault_on, why_for, handed, no_features_all_on, all_features_on, heads_on, owners_on, batches_on}
 use Rattle.streetmap_checking.proofs.Found.{as_many_known}
 use Rattle.streetmap_checking.proofs.Simple.{collections_simple, owners_simple, batches_simple}
@@ -29,7 +29,7 @@ returns-in_err-heads-clause-looks g c clean =
     let same = (c.in_ok-check_format.ensures.looks (clean_before one two _ c.check_collections.ensures.survives clean)).1 in
     let limit = c.check_format.ensures.survives.limit in
     handed _ _ old two _ _ (is_handed _ _ c.from_residual-in_err-heads.ensures.1)
-    (fault_on (IsDamaged old) (NoHeads one) old one two c.in_err-heads.field-0.0 same c.check_format.ensures.survives.counts c.check_collections.ensures.survives.counts (λ none. by_collections (none_on select_collections [] collections_simple AreCollectionRows old one same limit none)) (c.in_err-heads.ensures.looks clean))
+    (fault_on (IsDamaged old) (NoCollections one) old one two c.in_err-heads.field-0.0 same c.check_format.ensures.survives.counts c.check_collections.ensures.survives.counts (λ none. by_collections (none_on select_collections [] collections_simple AreCollectionRows old one same limit none)) (c.in_err-heads.ensures.looks clean))
 
 pub returns-in_err-features-clause-looks : goal.returns-in_err-features-clause-looks
 returns-in_err-features-clause-looks g c clean =

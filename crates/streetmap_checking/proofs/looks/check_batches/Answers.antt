@@ -3,7 +3,7 @@ use Rattle.std.proofs.lemmas.Result.{err_from_is_err_and}
 use Rattle.sqlite.specs.Held.{state}
 use Rattle.streetmap_tables.proofs.Stopping.{is_handed}
 use Rattle.streetmap_checking.specs.Good.{AreBatchRows, AreSerials}
-use Rattle.streetmap_checking.specs.Held.{HoldsBatches, IsGoodBatches}
+use Rattle.streetmap_checking.specs.Held.{HoldsBatchRows, IsGoodBatches}
 use Rattle.streetmap_checking.specs.Statements.{select_batches}
 use Rattle.streetmap_checking.specs.Telling.{not_good}
 use Rattle.streetmap_checking.proofs.Found.{no_serials, as_many}
@@ -16,7 +16,7 @@ returns-in_err-fold_rows-clause-looks g c clean =
     let old = state g.S.Store c.args.conn.now in
     let new = state g.S.Store c.fold_rows.new.conn in
     handed _ _ old new _ _ (is_handed _ _ c.from_residual.ensures.1)
-    (stopped HoldsBatches IsGoodBatches select_batches [] (record { last = None; serials = c.new-serials.result }) AreBatchRows (λ rows good. good) old new c.in_err-fold_rows.field-0.0 (c.in_err-fold_rows.ensures.takes clean batches_simple (record { are = record { entries = []; are = refl; rising = tt; fine = tt }; last = refl; serials = c.new-serials.ensures.items })))
+    (stopped HoldsBatchRows IsGoodBatches select_batches [] (record { last = None; serials = c.new-serials.result }) AreBatchRows (λ rows good. good) old new c.in_err-fold_rows.field-0.0 (c.in_err-fold_rows.ensures.takes clean batches_simple (record { are = record { entries = []; are = refl; rising = tt; fine = tt }; last = refl; serials = c.new-serials.ensures.items })))
 
 pub returns-in_err-are-clause-looks : goal.returns-in_err-are-clause-looks
 returns-in_err-are-clause-looks g c clean =

@@ -3,7 +3,7 @@ use Rattle.sqlite.specs.Held.{state}
 use Rattle.streetmap_tables.proofs.Stopping.{is_handed}
 use Rattle.streetmap_rows.specs.Statements.{select_collections}
 use Rattle.streetmap_checking.specs.Good.{AreCollectionRows}
-use Rattle.streetmap_checking.specs.Held.{HoldsCollections, IsGoodHeads, known}
+use Rattle.streetmap_checking.specs.Held.{HoldsCollectionRows, IsGoodCollections, known}
 use Rattle.streetmap_checking.proofs.Looked.{stopped, handed}
 use Rattle.streetmap_checking.proofs.Simple.{collections_simple}
 use Rattle.streetmap_checking.proofs.looks.check_collections.Goals as goal
@@ -13,7 +13,7 @@ returns-in_err-fold_rows-clause-looks g c clean =
     let old = state g.S.Store c.args.conn.now in
     let new = state g.S.Store c.fold_rows.new.conn in
     handed _ _ old new _ _ (is_handed _ _ c.from_residual.ensures.1)
-    (stopped HoldsCollections IsGoodHeads select_collections [] c.new-heads.result AreCollectionRows (λ rows good. good) old new c.in_err-fold_rows.field-0.0 (c.in_err-fold_rows.ensures.takes clean collections_simple (record { entries = []; are = refl; rising = tt; fine = tt }, ap known c.new-heads.ensures.items)))
+    (stopped HoldsCollectionRows IsGoodCollections select_collections [] c.new-heads.result AreCollectionRows (λ rows good. good) old new c.in_err-fold_rows.field-0.0 (c.in_err-fold_rows.ensures.takes clean collections_simple (record { entries = []; are = refl; rising = tt; fine = tt }, ap known c.new-heads.ensures.items)))
 
 pub returns-clause-looks : goal.returns-clause-looks
 returns-clause-looks g c clean =

@@ -5,7 +5,7 @@ use Rattle.sqlite.proofs.StateLemmas.{unchanged}
 use Rattle.std.proofs.lemmas.Result.{err_from_is_err_and}
 use Rattle.streetmap_tables.proofs.Stopping.{is_handed}
 use Rattle.streetmap_checking.specs.Good.{AreFeatureRows}
-use Rattle.streetmap_checking.specs.Held.{HoldsFeatures, IsGoodFeatures}
+use Rattle.streetmap_checking.specs.Held.{HoldsFeatureRows, IsGoodFeatures}
 use Rattle.streetmap_checking.specs.Looking.{known_of}
 use Rattle.streetmap_checking.specs.Statements.{select_features}
 use Rattle.streetmap_checking.specs.Telling.{Known}
@@ -22,7 +22,7 @@ returns-in_err-fold_rows-clause-looks g c clean live =
     let same = ap (λ (k : Known). k.1) c.in_ok-copy.ensures in
     let took = rw (c.params-to_sql.ensures, name) at (c.in_err-fold_rows.ensures.takes clean) in
     handed _ _ old new _ _ (is_handed _ _ c.from_residual-in_err-fold_rows.ensures.1)
-    (stopped HoldsFeatures IsGoodFeatures select_features (Words (known_of c.args.head.now).0 ∷ []) (record { alloc = c.args.alloc; head = c.in_ok-copy.copy; last = None; count = 0 }) (AreFeatureRows (known_of c.args.head.now).1) (λ rows good. subst (λ p. AreFeatureRows p rows) (sym same) good) old new c.in_err-fold_rows.field-0.0
+    (stopped HoldsFeatureRows IsGoodFeatures select_features (Words (known_of c.args.head.now).0 ∷ []) (record { alloc = c.args.alloc; head = c.in_ok-copy.copy; last = None; count = 0 }) (AreFeatureRows (known_of c.args.head.now).1) (λ rows good. subst (λ p. AreFeatureRows p rows) (sym same) good) old new c.in_err-fold_rows.field-0.0
     (took features_simple (record { head = refl; are = record { entries = []; are = refl; rising = tt; fine = tt }; last = refl; counted = refl })))
 
 pub returns-clause-looks : goal.returns-clause-looks

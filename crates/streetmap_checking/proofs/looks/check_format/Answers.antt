@@ -2,7 +2,7 @@ use Rattle.std.proofs.Common.{[], inl, refl, rules, arith}
 use Rattle.sqlite.specs.Held.{state}
 use Rattle.streetmap_tables.proofs.Stopping.{is_handed}
 use Rattle.streetmap_checking.specs.Good.{AreFormatRows}
-use Rattle.streetmap_checking.specs.Held.{HoldsFormat, IsGoodFormat}
+use Rattle.streetmap_checking.specs.Held.{HoldsFormatRows, IsGoodFormat}
 use Rattle.streetmap_checking.specs.Statements.{select_formats}
 use Rattle.streetmap_checking.specs.Telling.{not_good}
 use Rattle.streetmap_checking.proofs.Found.{format_found, format_lost}
@@ -14,7 +14,7 @@ pub returns-in_err-fold_rows-clause-looks : goal.returns-in_err-fold_rows-clause
 returns-in_err-fold_rows-clause-looks g c clean =
     let old = state g.S.Store c.args.conn.now in
     let new = state g.S.Store c.fold_rows.new.conn in
-    handed _ _ old new _ _ (is_handed _ _ c.from_residual.ensures.1) (stopped HoldsFormat IsGoodFormat select_formats [] (record { found = 0 }) AreFormatRows (λ rows good. good) old new c.in_err-fold_rows.field-0.0 (c.in_err-fold_rows.ensures.takes clean formats_simple (inl (refl, refl))))
+    handed _ _ old new _ _ (is_handed _ _ c.from_residual.ensures.1) (stopped HoldsFormatRows IsGoodFormat select_formats [] (record { found = 0 }) AreFormatRows (λ rows good. good) old new c.in_err-fold_rows.field-0.0 (c.in_err-fold_rows.ensures.takes clean formats_simple (inl (refl, refl))))
 
 pub returns-then-rows-eq0-clause-looks : goal.returns-then-rows-eq0-clause-looks
 returns-then-rows-eq0-clause-looks g c clean =

@@ -1,7 +1,7 @@
 use Rattle.std.proofs.Common.{[], refl, map}
 use Rattle.sqlite.specs.Held.{state}
 use Rattle.streetmap_checking.specs.Good.{AreOwnerRows}
-use Rattle.streetmap_checking.specs.Held.{HoldsOwners, IsGoodOwners, known}
+use Rattle.streetmap_checking.specs.Held.{HoldsOwnerRows, IsGoodOwners, known}
 use Rattle.streetmap_checking.specs.Statements.{select_owners}
 use Rattle.streetmap_checking.specs.Telling.{Known, SeesOwners}
 use Rattle.streetmap_checking.proofs.Found.{owners_of, of_owners}
@@ -13,7 +13,7 @@ pub returns-clause-looks : goal.returns-clause-looks
 returns-clause-looks g c clean =
     let heads = c.args.heads.items in
     let old = state g.S.Store c.args.conn.now in
-    looked HoldsOwners IsGoodOwners select_owners [] _ _ (AreOwnerRows (map (λ (k : Known). k.0) (known heads))) (SeesOwners (known heads) old) old (state g.S.Store c.fold_rows.new.conn) c.fold_rows.result (λ rows good. of_owners heads rows good) (λ rows sees held. (rows, sees, owners_of heads rows held.1))
+    looked HoldsOwnerRows IsGoodOwners select_owners [] _ _ (AreOwnerRows (map (λ (k : Known). k.0) (known heads))) (SeesOwners (known heads) old) old (state g.S.Store c.fold_rows.new.conn) c.fold_rows.result (λ rows good. of_owners heads rows good) (λ rows sees held. (rows, sees, owners_of heads rows held.1))
     (c.fold_rows.ensures.takes clean owners_simple (refl, tt))
 
 pub returns-clause-survives : goal.returns-clause-survives

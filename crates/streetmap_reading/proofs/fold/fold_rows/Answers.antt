@@ -21,6 +21,6 @@ returns-in-Ok-clause-takes g c clean = λ rows limit shows readable held.
     let new = state g.S.Store c.take_rest.new.rows.conn.now in
     let late : HasCleanDisk new = search rules in
     let begun = begun_plain g.S.Store c.args.sql.now (bound c.args.params.now) c.args.conn.now c.in-Ok.rows.conn.now shows.plain (c.in-Ok.ensures.begun (clean_before _ _ _ c.take_rest.ensures.survives late)) in
-    let took = c.take_rest.ensures.takes late c.args.sql.now (bound c.args.params.now) rows (c.in-Ok.ensures.survives.limit ∙ limit) (shows_still old mid _ _ rows rows begun.1 refl shows) readable begun.0 held in
-    let done : MatchResult c.take_rest.result (λ _. g.F.RowFold.holds c.take_rest.new.fold rows × IsUnchanged old new) (Stopped old new) = taken_on old mid new (g.F.RowFold.holds c.take_rest.new.fold rows) c.take_rest.result begun.1 c.in-Ok.ensures.survives.counts took in
+    let took = c.take_rest.ensures.takes late c.args.sql.now (bound c.args.params.now) c.args.fold.now rows (c.in-Ok.ensures.survives.limit ∙ limit) (shows_still old mid _ _ rows rows begun.1 refl shows) readable begun.0 held in
+    let done : MatchResult c.take_rest.result (λ _. g.F.RowFold.holds c.args.fold.now c.take_rest.new.fold rows × IsUnchanged old new) (Stopped old new) = taken_on old mid new (g.F.RowFold.holds c.args.fold.now c.take_rest.new.fold rows) c.take_rest.result begun.1 c.in-Ok.ensures.survives.counts took in
     search rules

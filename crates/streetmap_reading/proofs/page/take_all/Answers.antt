@@ -1,5 +1,4 @@
 use Rattle.std.proofs.Common.{None}
-use Rattle.std.specs.Option.{option_copied}
 use Rattle.streetmap_rows.specs.Statements.{select_all}
 use Rattle.streetmap_reading.proofs.Shown.{all_at, select_all_plain}
 use Rattle.streetmap_reading.proofs.Pages.{takes_by, stays_by, survives_any}
@@ -7,11 +6,11 @@ use Rattle.streetmap_reading.proofs.page.take_all.Goals as goal
 
 pub returns-clause-takes : goal.returns-clause-takes
 returns-clause-takes g c clean =
-    let all = rw c.params-to_sql.ensures at (c.take_rows.ensures.takes clean) in
-    takes_by select_all _ None None c.args.collection.now (option_copied c.args.property) _ _ c.args.fold.now _ _ all (λ s d keeps there. all_at _ s keeps c.args.collection.now d there)
+    let all = rw c.params-to_sql.ensures at (c.fold_rows.ensures.takes clean) in
+    takes_by select_all _ None None c.args.collection.now _ _ c.args.page.now _ _ all (λ s d keeps there. all_at _ s keeps c.args.collection.now d there)
 
 pub returns-clause-stays : goal.returns-clause-stays
-returns-clause-stays g c = stays_by select_all _ _ _ c.take_rows.ensures.survives (λ s keeps. select_all_plain _ s keeps)
+returns-clause-stays g c = stays_by select_all _ _ _ c.fold_rows.ensures.survives (λ s keeps. select_all_plain _ s keeps)
 
 pub returns-clause-survives : goal.returns-clause-survives
-returns-clause-survives g c = survives_any _ _ _ c.take_rows.ensures.survives
+returns-clause-survives g c = survives_any _ _ _ c.fold_rows.ensures.survives
