@@ -1,7 +1,7 @@
 //! The keeper of a file: here alone its store is named.
 use crate::exchange::read_batch;
 use crate::same::refuse_same;
-use crate::tasks::Task;
+use crate::tasks::{Task, Work};
 use crate::{fault, loading};
 use sqlite::Unknown;
 use std::fs::{exists, metadata};
@@ -83,7 +83,7 @@ pub(crate) fn serve(
 /// Reads all rows of a file; before that its kept batches are replayed, where that is asked for.
 pub(crate) fn check(rt: &HostRuntime, path: &str, replay: bool) -> Result<(), ProgramFault> {
     if replay {
-        run(rt, path, Task::Replay)?;
+        run(rt, path, Task::Work(Work::Replay))?;
     }
     run(rt, path, Task::Check)
 }
@@ -93,7 +93,7 @@ pub(crate) fn check(rt: &HostRuntime, path: &str, replay: bool) -> Result<(), Pr
 pub(crate) fn import(rt: &HostRuntime, path: &str, asked: Import<'_>) -> Result<(), ProgramFault> {
     if is_there(rt, path)? {
         let batch = read_batch(rt, asked)?;
-        run_over(rt, path, Task::Import(batch))
+        run_over(rt, path, Task::Work(Work::Import(batch)))
     } else {
         Err(ProgramFault::NoFile)
     }
@@ -112,7 +112,7 @@ pub(crate) fn load(
     if asked.print && (asked.opens || !asked.skip) {
         loading::print(rt, load, asked)
     } else if is_file {
-        run_over(rt, path, Task::Load { load, asked })
+        run_over(rt, path, Task::Work(Work::Load { load, asked }))
     } else {
         Err(ProgramFault::NoFile)
     }
@@ -122,7 +122,7 @@ pub(crate) fn load(
 pub(crate) fn apply(rt: &HostRuntime, path: &str, text: Option<&str>) -> Result<(), ProgramFault> {
     if is_there(rt, path)? {
         look_for(rt, path, text)?;
-        run_over(rt, path, Task::Apply { text })
+        run_over(rt, path, Task::Work(Work::Apply { text }))
     } else {
         Err(ProgramFault::NoFile)
     }

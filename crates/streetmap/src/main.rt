@@ -23,7 +23,7 @@ mod serving;
 mod tasks;
 mod texts;
 
-use crate::tasks::Task;
+use crate::tasks::{Task, Work};
 use std::env;
 use std::process::ExitCode;
 use streetmap_command::{Command, VERSION, read_command};
@@ -64,20 +64,21 @@ fn perform(rt: &HostRuntime, command: Command<'_>) -> Result<(), ProgramFault> {
             file,
             collection,
             progress,
-        } => files::run(
-            rt,
-            file,
-            Task::Export {
+        } => {
+            let work = Work::Export {
                 collection,
                 progress,
-            },
-        ),
+            };
+            files::run(rt, file, Task::Work(work))
+        }
         Command::Check { file, replay } => files::check(rt, file, replay),
         Command::Load { file, load } => {
             let numbers = loading::numbers_of(load)?;
             files::load(rt, file, load, numbers)
         }
-        Command::Batches { file, after } => files::run(rt, file, Task::Batches { after }),
+        Command::Batches { file, after } => {
+            files::run(rt, file, Task::Work(Work::Batches { after }))
+        }
         Command::Apply { file, text } => files::apply(rt, file, text),
     }
 }

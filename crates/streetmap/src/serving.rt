@@ -1,8 +1,9 @@
 //! What serves requests: a stream, or the clients of a port.
 use crate::fault;
 use crate::journal::{Begun, JournalFile, begin};
+use mio::net::TcpStream;
 use sqlite::Alter;
-use std::io::{BufReader, Write, writer};
+use std::io::{BufReader, writer};
 use std::net::{Ipv4Addr, TcpListener};
 use streetmap_command::{Connections, JournalAsked};
 use streetmap_connections::{Clients, Limits};
@@ -59,7 +60,15 @@ fn tell_journal(
     println!(rt; "journal {path} from {first} to {last}").map_err(|_| ProgramFault::WriteFailed)
 }
 
-/// Listens at a port, with the journal that is asked for.
+/// What connections are served by: where they come in, the places that they take, and the journal.
+#[derive(Drop)]
+struct Serving {
+    listener: TcpListener,
+    clients: Clients<TcpStream>,
+    journal: Option<Journal<JournalFile>>,
+}
+
+/// Begins the journal that is asked for, and listens at a port.
 fn listen_with_journal<K: KeepsBatches>(
     rt: &HostRuntime,
     keeper: &mut K,
@@ -75,6 +84,25 @@ fn listen_with_journal<K: KeepsBatches>(
     Ok((listener, Some(begun.journal)))
 }
 
+/// Makes ready what connections are served by.
+fn prepare<K: KeepsBatches>(
+    rt: &HostRuntime,
+    keeper: &mut K,
+    connections: Connections,
+    journal: Option<JournalAsked<'_>>,
+) -> Result<Serving, ProgramFault> {
+    if connections.warm {
+        warm(keeper)?;
+    }
+    let (listener, journal) = listen_with_journal(rt, keeper, connections.port, journal)?;
+    let clients = Clients::new(rt.alloc(), limits_of(connections.clients))?;
+    Ok(Serving {
+        listener,
+        clients,
+        journal,
+    })
+}
+
 /// Serves connections: many clients at once, or one client after the other.
 pub(crate) fn serve<S: Alter + Drop>(
     rt: &HostRuntime,
@@ -84,21 +112,22 @@ pub(crate) fn serve<S: Alter + Drop>(
     journal: Option<JournalAsked<'_>>,
 ) -> Result<(), ProgramFault> {
     let mut keeper = keeper;
-    if connections.warm {
-        warm(&mut keeper)?;
-    }
-    let (listener, journal) = listen_with_journal(rt, &mut keeper, connections.port, journal)?;
-    let service = KeeperService {
+    let serving = prepare(rt, &mut keeper, connections, journal)?;
+    let mut clients = serving.clients;
+    let mut service = KeeperService {
         alloc: rt.alloc(),
         keeper: JournaledKeeper {
             alloc: rt.alloc(),
             keeper,
-            journal,
+            journal: serving.journal,
         },
         base,
         log: connections.log.then(|| rt.stderr()),
     };
-    serve_clients(rt, &listener, connections, service)
+    let count = connections.count.map_or(u64::MAX, u64::from);
+    serve_clients_over_tables(rt, &serving.listener, count, &mut clients, &mut service).map_err(
+        ProgramFault::from,
+    )
 }
 
 /// What so many clients may take: one alone is served to its end before the next one.
@@ -107,18 +136,4 @@ fn limits_of(clients: u32) -> Limits {
         1 => Limits::in_turn(),
         clients => Limits::of(clients as usize),
     }
-}
-
-/// Serves so many clients by a service.
-fn serve_clients<S: Alter + Drop, W: Write + Drop>(
-    rt: &HostRuntime,
-    listener: &TcpListener,
-    connections: Connections,
-    mut service: KeeperService<JournaledKeeper<IndexedKeeper<TableKeeper<S>>, JournalFile>, W>,
-) -> Result<(), ProgramFault> {
-    let count = connections.count.map_or(u64::MAX, u64::from);
-    let mut clients = Clients::new(rt.alloc(), limits_of(connections.clients))?;
-    serve_clients_over_tables(rt, listener, count, &mut clients, &mut service).map_err(
-        ProgramFault::from,
-    )
 }

@@ -5,6 +5,7 @@ use streetmap_batch::Batch;
 use streetmap_command::{Connections, JournalAsked, LoadAsked};
 use streetmap_faults::ProgramFault;
 use streetmap_index::IndexedKeeper;
+use streetmap_ledger::KeepsBatches;
 use streetmap_loading::Load;
 use streetmap_routes::Base;
 use streetmap_store::TableKeeper;
@@ -20,31 +21,28 @@ pub(crate) enum Task<'a> {
         base: Base,
         journal: Option<JournalAsked<'a>>,
     },
+    /// All rows are read, and it is printed how many there are.
+    Check,
+    /// What can be done over any keeper.
+    Work(Work<'a>),
+}
+
+/// What is done over a keeper that has the accepted batches too.
+#[derive(Drop)]
+pub(crate) enum Work<'a> {
     /// The batch that a text was read into is applied, and its reply is printed.
     Import(Batch),
     /// A collection is written on standard output; with `progress` lines on standard error tell how
     /// far it is.
-    Export {
-        collection: &'a str,
-        progress: bool,
-    },
-    /// All rows are read, and it is printed how many there are.
-    Check,
+    Export { collection: &'a str, progress: bool },
     /// The kept batches are replayed, and compared with what the file shows.
     Replay,
     /// The features of a text are put into a collection by batches.
-    Load {
-        load: Load,
-        asked: LoadAsked<'a>,
-    },
+    Load { load: Load, asked: LoadAsked<'a> },
     /// The kept batches behind a serial are printed.
-    Batches {
-        after: u32,
-    },
+    Batches { after: u32 },
     /// The lines of a text, or of standard input, are applied.
-    Apply {
-        text: Option<&'a str>,
-    },
+    Apply { text: Option<&'a str> },
 }
 
 impl Task<'_> {
@@ -67,31 +65,32 @@ impl Task<'_> {
                 base,
                 journal,
             ),
-            Task::Import(batch) => {
-                let mut keeper = keeper;
-                exchange::apply_batch(rt, &mut keeper, &batch)
-            }
-            Task::Export {
+            Task::Check => checking::check(rt, keeper),
+            Task::Work(work) => work.run(rt, keeper),
+        }
+    }
+}
+
+impl Work<'_> {
+    /// Does it over a keeper, with an index in memory where features are asked for.
+    fn run<K: KeepsBatches + Drop>(self, rt: &HostRuntime, keeper: K) -> Result<(), ProgramFault> {
+        let mut keeper = keeper;
+        match self {
+            Work::Import(batch) => exchange::apply_batch(rt, &mut keeper, &batch),
+            Work::Export {
                 collection,
                 progress,
             } => {
                 let mut keeper = IndexedKeeper::new(rt.alloc(), keeper);
                 exchange::export_collection(rt, &mut keeper, collection, progress)
             }
-            Task::Check => checking::check(rt, keeper),
-            Task::Replay => {
+            Work::Replay => {
                 let mut keeper = IndexedKeeper::new(rt.alloc(), keeper);
                 checking::replay(rt, &mut keeper)
             }
-            Task::Load { load, asked } => loading::run(rt, keeper, load, asked),
-            Task::Batches { after } => {
-                let mut keeper = keeper;
-                batches::print(rt, &mut keeper, after)
-            }
-            Task::Apply { text } => {
-                let mut keeper = keeper;
-                batches::apply(rt, &mut keeper, text)
-            }
+            Work::Load { load, asked } => loading::run(rt, keeper, load, asked),
+            Work::Batches { after } => batches::print(rt, &mut keeper, after),
+            Work::Apply { text } => batches::apply(rt, &mut keeper, text),
         }
     }
 }
