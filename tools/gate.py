@@ -34,7 +34,7 @@ from typing import Any
 
 import toolchain
 from lanes import in_lanes_by
-from refusals import only_edited, refusal
+from refusals import is_lost_name, only_edited, refusal
 from wrong_bodies import WHOLE, Edit, Way, read_edit, round_in_copies, round_in_place, ways_of
 
 NEEDED = (
@@ -94,11 +94,13 @@ class Rounds:
         is_apart = only_edited(self.crate.name, together, ran.stdout)
         for edit in together:
             line = refusal(self.crate.name, edit, ran.stdout, is_apart)
+            name = f"{self.crate.name}/{os.path.basename(edit.path)}"
             if line:
                 self.refused[edit.path] = line
                 del self.left[edit.path]
+                if is_lost_name(line):
+                    self.rt.say(f"{name}: it is refused over a name that it takes away alone")
             elif edit.way.reads_answers_alone:
-                name = f"{self.crate.name}/{os.path.basename(edit.path)}"
                 self.rt.say(f"{name}: no written answer refuses it, as a line `{WHOLE}` would say")
 
     def check(

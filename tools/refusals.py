@@ -26,11 +26,21 @@ def is_of(message: str, path: str, function: Function) -> bool:
     return at is not None and at[1] == function.file and int(at[2]) in function.lines
 
 
-def errors_of(path: str, messages: list[str]) -> list[str]:
+def refused_answers(path: str, messages: list[str]) -> list[str]:
     """What refuses an answer of a function, by its path below the crate."""
     proofs = f"./proofs/{path.replace('::', '/')}/"
     told = [it for it in messages if it.startswith(proofs) and ": error" in it]
-    return [it for it in told if not LOST_NAME.search(it) and f"`{NO_GOAL}`" not in it]
+    return [it for it in told if f"`{NO_GOAL}`" not in it]
+
+
+def is_lost_name(message: str) -> bool:
+    """Whether an answer is refused because it names what a wrong body took away."""
+    return LOST_NAME.search(message) is not None
+
+
+def errors_of(path: str, messages: list[str]) -> list[str]:
+    """What refuses an answer of a function at what it shows, and not over a lost name."""
+    return [it for it in refused_answers(path, messages) if not is_lost_name(it)]
 
 
 def fails_itself(path: str, behind: str, messages: list[str]) -> bool:
@@ -55,13 +65,17 @@ def open_goals(messages: list[str]) -> dict[str, list[str]]:
 
 def refusal_of_copy(crate: str, edit: Edit, output: str) -> str | None:
     """The message that refuses an answer of a copy, or says that a goal of it is open, if one does.
-    Where the answers alone were read one of them has to be refused."""
+    Where the answers alone were read one of them has to be refused at what it shows. Where the
+    whole proof was, one that names what the wrong body took away counts at last: so it does in a
+    check of the wrong body alone, which reads the same proof."""
     messages = messages_of(output)
-    goals = {} if edit.way.reads_answers_alone else open_goals(messages)
     for path, status, _ in STATUS.findall(output):
         inside = path.removeprefix(f"{crate}::")
         if status != "proved" and edit.function.is_called(inside):
-            return next(iter([*errors_of(inside, messages), *goals.get(path, [])]), None)
+            found = errors_of(inside, messages)
+            if not edit.way.reads_answers_alone:
+                found += open_goals(messages).get(path, []) + refused_answers(inside, messages)
+            return next(iter(found), None)
     return None
 
 
