@@ -4,7 +4,7 @@ SHELL := /bin/bash
 PROGRAM := crates/streetmap/out/streetmap
 FILE ?= town.streetmap
 PORT ?= 8080
-# How many crates are proved side by side, each of which takes 1 to 4 GB of memory. `make build`
+# In how many processes crates are proved, each of which takes 1 to 4 GB of memory. `make build`
 # takes as many as fit where none is named.
 LANES ?=
 # With OFFLINE=1 no package is installed, and groups of tests that lack one are skipped.

@@ -1,215 +1,214 @@
 """Proves and builds the program, and reports how far it is.
 
-    python3 tools/build.py [LANES]
+    python3 tools/build.py [PROCESSES]
 
-The crates below the program are proved side by side, LANES at a time, each once those that it uses
-are proved. Then the program is proved, built and run once. What was proved stays in the crates'
-out/ folders, so that a build which was stopped goes on from there. With no change since the last
-build nothing is done. LANES is the number of processors, or less where memory is short.
+Crates are proved side by side, each once those that it uses are proved, and the program last, which
+is compiled and run once. A crate's out/ keeps what those above it read: its statements, and not
+their proofs. So a build that was stopped goes on from there, and one with no change since the last
+does nothing. PROCESSES is the number of processors, or less where memory is short.
 """
 
-import contextlib
 import hashlib
 import os
 import re
+import shutil
 import signal
 import subprocess
 import sys
 import tempfile
 import time
-from collections.abc import Iterator
 from concurrent.futures import FIRST_COMPLETED, Future, ThreadPoolExecutor, wait
 from pathlib import Path
 from types import ModuleType
-from typing import Any, TextIO
+from typing import Any
 
 import toolchain
 
 ROOT = Path(__file__).resolve().parent.parent
-CRATES = ROOT / "crates"
 PROGRAM = "streetmap"
-BUILT = CRATES / PROGRAM / "out" / PROGRAM
-LOG = BUILT.with_name("build.log")
-STAMP = BUILT.with_name("build.sum")
-# The memory that one lane may take.
-LANE_MEMORY = 4_000_000_000
+OUT = ROOT / "crates" / PROGRAM / "out"
+BUILT = OUT / PROGRAM
+LOG = OUT / "build.log"
+# What of the command rt is called here.
+NEEDED = ("crates_of", "handles_of", "run", "rtlib", "Crate")
+# The memory that one process may take.
+PROCESS_MEMORY = 4_000_000_000
+# The seconds after which a line says what is under way, where no crate was done.
+PATIENCE = 120
 START = """\
-Proving {crates} crates, {count} at a time. From nothing this takes up to an hour on four
-processors; make try serves the sample town in minutes, with no proof. The first crate is done
-after some minutes. Stopped, the build goes on from there."""
+Proving {crates} crates in {count} processes. From nothing this takes some 45 minutes on four
+processors; make try serves the sample town in minutes, with no proof. Stopped, the build goes on
+from there."""
 
 
-def uses() -> dict[str, list[str]]:
-    """The crates of crates.txt, each with those of them that it uses."""
-    found = {}
-    for line in (ROOT / "crates.txt").read_text().splitlines():
-        name, colon, used = line.partition("#")[0].partition(":")
-        if colon:
-            found[name.split()[0]] = used.split()
-    return {name: [it for it in used if it in found] for name, used in found.items()}
-
-
-def crates_of_program() -> list[str]:
-    """The program and the crates below it."""
-    used, found = uses(), [PROGRAM]
-    for name in found:
-        found += [it for it in used[name] if it not in found]
-    return sorted(found)
-
-
-def sources(crate: str) -> list[Path]:
-    """The files that a build of a crate reads."""
-    parts = [path for path in (CRATES / crate).iterdir() if path.name not in ("out", "must-fail")]
-    files = [path for part in parts for path in (part.rglob("*") if part.is_dir() else [part])]
-    return sorted(path for path in files if path.is_file())
-
-
-def sum_of_sources(crates: list[str]) -> str:
-    """A checksum of all that a build reads: the toolchain's name, the graph, and the sources."""
-    version = subprocess.run(["rt", "version"], capture_output=True, check=True).stdout
-    total = hashlib.sha256(version)
-    for path in [ROOT / "crates.txt", *(it for crate in crates for it in sources(crate))]:
-        data = path.read_bytes()
-        total.update(f"{path.relative_to(ROOT)} {len(data)}\n".encode())
-        total.update(data)
-    return total.hexdigest()
-
-
-def lanes() -> int:
+def processes() -> int:
     """As many as there are processors, or fewer where memory is short."""
     memory = re.search(r"MemAvailable:\s+(\d+) kB", Path("/proc/meminfo").read_text())
-    fit = int(memory[1]) * 1024 // LANE_MEMORY if memory else 1
+    fit = int(memory[1]) * 1024 // PROCESS_MEMORY if memory else 1
     return max(min(len(os.sched_getaffinity(0)), fit), 1)
 
 
-def minutes(since: float) -> str:
-    return f"{(time.monotonic() - since) / 60:.0f} min"
+def made_of(crate: Any) -> list[Path]:
+    """The files that a build of a crate leaves to those above it, or the program."""
+    return [BUILT] if crate.is_program else sorted(Path(crate.rlib).rglob("*"))
 
 
-@contextlib.contextmanager
-def rt(*words: str, stdin: Path = Path("/dev/null")) -> Iterator[subprocess.Popen[str]]:
-    """Runs rt in the program's folder. It ends where its `with` block does, and so does all that
-    it started."""
-    with (
-        stdin.open() as given,
-        subprocess.Popen(
-            ["rt", *words],
-            cwd=CRATES / PROGRAM,
-            stdin=given,
-            stdout=subprocess.PIPE,
-            stderr=subprocess.STDOUT,
-            text=True,
-            errors="replace",
-        ) as running,
-    ):
-        try:
-            yield running
-        finally:
-            running.terminate()
+def sum_of(crate: Any) -> str:
+    """A checksum of what a proof of a crate reads and leaves: the sources of the crate and of those
+    below it, and, by their times, what was made of each. Statements fit only what they were proved
+    over."""
+    total = hashlib.sha256(crate.stamp().encode())
+    for path in [path for it in [*crate.below(), crate] for path in made_of(it)]:
+        seen = path.stat()
+        total.update(f"{path.name} {seen.st_size} {seen.st_mtime_ns}\n".encode())
+    return total.hexdigest()
 
 
-def prove(crate: Any, jobs: int, log: TextIO) -> bool:
-    """Proves a crate and keeps what those above it read; returns whether it did."""
-    os.makedirs(f"{crate.folder}/out", exist_ok=True)
-    with tempfile.TemporaryFile("a+", errors="replace") as crate.out:
-        status = crate.build_rlib(["--jobs", str(jobs)], anew=False)
+def mark_of(crate: Any) -> Path:
+    """The file that says what a crate was built from."""
+    return Path(crate.folder, "out", "build.sum")
+
+
+def is_built(crate: Any) -> bool:
+    made, mark = made_of(crate), mark_of(crate)
+    is_there = made and all(it.exists() for it in made) and mark.exists()
+    return bool(is_there) and mark.read_text() == sum_of(crate)
+
+
+def build(crate: Any, jobs: int) -> bool:
+    """Proves a crate, by so many processes, and keeps what was made of it; returns whether it
+    did."""
+    mark_of(crate).parent.mkdir(exist_ok=True)
+    mark_of(crate).unlink(missing_ok=True)
+    with tempfile.TemporaryFile("w+", errors="replace") as crate.out:
+        status = int(crate.ci(["--jobs", str(jobs)], False))
         if status == -signal.SIGKILL:
             # Most likely for memory: once more, with less of it.
-            status = crate.build_rlib(["--jobs", "1"], anew=False)
+            status = int(crate.ci(["--jobs", "1"], False))
         crate.out.seek(0)
-        log.write(f"== {crate.name}\n{crate.out.read()}")
-        log.flush()
-    return not status
+        with LOG.open("a") as log:
+            log.write(f"== {crate.name}\n{crate.out.read()}")
+    if status == 0:
+        mark_of(crate).write_text(sum_of(crate))
+    return status == 0
 
 
-def prove_libraries(rt: ModuleType, count: int, names: list[str]) -> list[str]:
-    """Proves the crates below the program, each once those that it uses are proved, the longest
-    chain of crates first, with a line for each that is done. Returns the names of those that
-    failed, with all that stand above them."""
-    crates = [it for it in rt.rtlib.crates_below(str(ROOT)) if it.name in names]
-    held = rt.rtlib.lock(crates)
-    begun, left = time.monotonic(), {it.name: it for it in crates}
+def lines_behind(crates: list[Any]) -> dict[str, int]:
+    """The lines of the longest chain of crates that begins with each."""
+    behind: dict[str, int] = {}
+    for crate in reversed(crates):
+        above = [behind[it.name] for it in crates if crate in it.below()]
+        behind[crate.name] = crate.count(rb"\n") + max(above, default=0)
+    return behind
+
+
+def shares(chains: list[int], longest: int, free: int) -> list[int]:
+    """How many processes each crate that is ready gets of those that are free, by the lines of the
+    chains that begin with them, the longest first. What all else waits for gets two, one beyond
+    those that are free if need be, and where few are ready the first gets the rest."""
+    given: list[int] = []
+    for at, lines in enumerate(chains[:free]):
+        rest = free - sum(given)
+        spare = min(rest - len(chains[at + 1 :]), rest)
+        given.append(max(2 if lines == longest else 1, spare))
+    return given[: max(free, 0)]
+
+
+def build_all(crates: list[Any], count: int) -> list[str]:
+    """Builds crates, each once those that it uses are built, with a line for each that is done.
+    Returns the names of those that failed, with all that stand above them."""
+    begun, behind = time.monotonic(), lines_behind(crates)
+    built = {it.name for it in crates if is_built(it)}
+    left = sorted((it for it in crates if it.name not in built), key=lambda it: -behind[it.name])
     running: dict[Future[bool], tuple[str, int]] = {}
-    proved: set[str] = set()
-    behind = {it.name: sum(it in other.below() for other in crates) for it in crates}
-    with LOG.open("w") as log, ThreadPoolExecutor(count) as pool:
+    with ThreadPoolExecutor(count) as pool:
         while left or running:
-            ready = [it for it in left.values() if {dep.name for dep in it.below()} <= proved]
-            ready.sort(key=lambda it: -behind[it.name])
+            ready = [it for it in left if {dep.name for dep in it.below()} <= built]
+            under_way = [name for name, _ in running.values()]
+            # Where memory allows for few processes none is taken beyond them.
+            waiting = [*under_way, *(it.name for it in left)] if count >= 4 else []
+            longest = max((behind[it] for it in waiting), default=0)
             free = count - sum(jobs for _, jobs in running.values())
-            for at, crate in enumerate(ready[: max(free, 0)]):
-                jobs = max(free // (len(ready) - at), 1) if len(ready) <= free else 1
-                free -= jobs
-                del left[crate.name]
-                running[pool.submit(prove, crate, jobs, log)] = crate.name, jobs
+            chains = [behind[it.name] for it in ready]
+            for crate, jobs in zip(ready, shares(chains, longest, free)):
+                left.remove(crate)
+                running[pool.submit(build, crate, jobs)] = crate.name, jobs
             if not running:
                 break
-            for ended in wait(running, return_when=FIRST_COMPLETED).done:
-                name, _ = running.pop(ended)
-                if ended.result():
-                    proved.add(name)
-                    done = f"{len(proved)} of {len(crates) + 1} crates, {minutes(begun)}"
-                    print(f"{done}: {name}", flush=True)
-    for it in held:
-        os.close(it)
-    return [it.name for it in crates if it.name not in proved]
-
-
-def logged(running: subprocess.Popen[str]) -> Iterator[str]:
-    """The lines that rt prints, which are kept too."""
-    with LOG.open("a") as log:
-        for line in running.stdout or ():
-            log.write(line)
-            log.flush()
-            yield line
-
-
-def build_program() -> bool:
-    """Proves, builds and runs the program; returns whether it did."""
-    print("The program itself is proved and built, which takes some minutes.", flush=True)
-    stdin = CRATES / PROGRAM / "stdin"
-    with rt("run", "--", "lines", stdin=stdin) as running:
-        for line in logged(running):
-            if line.startswith("so far"):
-                print(line, end="", flush=True)
-        return running.wait() == 0
+            ended = wait(running, PATIENCE, FIRST_COMPLETED).done
+            found = {running.pop(it)[0]: it.result() for it in ended}
+            built.update(name for name, is_well in found.items() if is_well)
+            told = [name + ("" if is_well else " failed") for name, is_well in found.items()]
+            told = told or ["at " + ", ".join(name for name, _ in running.values())]
+            minutes = (time.monotonic() - begun) / 60
+            how_far = f"{len(built)} of {len(crates)} crates, {minutes:.0f} min"
+            print(f"{how_far}: {', '.join(told)}", flush=True)
+    return [it.name for it in crates if it.name not in built]
 
 
 def show_failure(failed: list[str]) -> None:
-    """Prints the end of what rt printed of each crate that failed, or of all where none is named."""
+    """Prints the end of what the toolchain printed of each crate that failed."""
     parts = re.split(r"(?m)^== ", LOG.read_text())
     for part in [it for it in parts if it.split("\n")[0] in failed] or parts[-1:]:
         print("".join(part.splitlines(keepends=True)[-30:]), end="")
-    print(f"The build failed. All that rt printed is in {LOG.relative_to(ROOT)}.")
+    print(f"The build failed. All that the toolchain printed is in {LOG.relative_to(ROOT)}.")
+
+
+def end_at_signals(room: str) -> None:
+    """Has Ctrl-C and an order to end stop all at once: what is under way ends with this process,
+    and its files in a folder go."""
+
+    def end(number: int, _: object) -> None:
+        print("\nStopped.", flush=True)
+        shutil.rmtree(room, ignore_errors=True)
+        os._exit(128 + number)
+
+    for number in (signal.SIGINT, signal.SIGTERM):
+        signal.signal(number, end)
+
+
+def crates_to_build(rt: ModuleType) -> list[Any]:
+    """The program's crate and those below it, the lowest first. Each is proved as by `rt ci`, but
+    that the program is compiled by LLVM alone."""
+    compile_by = rt.Crate.compile_by
+
+    def by_llvm(crate: Any, backend: str, words: list[str], to: str) -> int:
+        return int(compile_by(crate, backend, words, to)) if backend == "llvm" else 0
+
+    rt.Crate.compile_by = by_llvm
+    rt.Crate.cuts_libraries = True
+    rt.Crate.allowed = rt.handles_of(str(ROOT))
+    program = next(it for it in rt.crates_of(str(ROOT)) if it.name == PROGRAM)
+    return [*program.below(), program]
 
 
 def main() -> int:
-    crates = crates_of_program()
-    total = sum_of_sources(crates)
-    BUILT.parent.mkdir(exist_ok=True)
-    if BUILT.exists() and STAMP.exists() and STAMP.read_text() == total:
+    rt = toolchain.load(*NEEDED)
+    if rt is None:
+        # With a toolchain whose parts have other names crates are proved one after the other.
+        with (OUT.parent / "stdin").open() as given:
+            words = ["rt", "run", "--", "lines"]
+            return subprocess.run(words, cwd=OUT.parent, stdin=given, check=False).returncode
+    crates = crates_to_build(rt)
+    if all(is_built(it) for it in crates):
         return 0
-    count = int(sys.argv[1]) if len(sys.argv) > 1 else lanes()
+    rt.rtlib.guarded()
+    held = rt.rtlib.lock(crates)
+    count = int(sys.argv[1]) if len(sys.argv) > 1 else processes()
     print(START.format(crates=len(crates), count=count), flush=True)
-    # With a toolchain whose parts have other names, rt proves what is below as it runs the program.
-    rt_command = toolchain.load("rtlib")
+    OUT.mkdir(exist_ok=True)
     LOG.write_text("")
-    failed = []
-    if rt_command is not None:
-        rt_command.rtlib.guarded()
-        failed = prove_libraries(rt_command, count, [it for it in crates if it != PROGRAM])
-    if failed or not build_program():
+    with tempfile.TemporaryDirectory(prefix="streetmap-build-") as room:
+        end_at_signals(room)
+        tempfile.tempdir = room
+        failed = build_all(crates, count)
+        tempfile.tempdir = None
+    for it in held:
+        os.close(it)
+    if failed:
         show_failure(failed)
-        return 1
-    STAMP.write_text(total)
-    return 0
+    return 0 if not failed and rt.run(crates[-1], False) else 1
 
 
 if __name__ == "__main__":
-    # So that rt ends too.
-    signal.signal(signal.SIGTERM, lambda number, _: sys.exit(128 + number))
-    try:
-        sys.exit(main())
-    except KeyboardInterrupt:
-        print("\nStopped.")
-        sys.exit(130)
+    sys.exit(main())
