@@ -30,7 +30,7 @@ OUT = ROOT / "crates" / PROGRAM / "out"
 BUILT = OUT / PROGRAM
 LOG = OUT / "build.log"
 # What of the command rt is called here.
-NEEDED = ("crates_of", "handles_of", "run", "rtlib", "Crate")
+NEEDED = ("handles_of", "run", "rtlib", "Crate")
 # The memory that one process may take.
 PROCESS_MEMORY = 4_000_000_000
 # The seconds after which a line says what is under way, where no crate was done.
@@ -178,7 +178,7 @@ def crates_to_build(rt: ModuleType) -> list[Any]:
     rt.Crate.compile_by = by_llvm
     rt.Crate.cuts_libraries = True
     rt.Crate.allowed = rt.handles_of(str(ROOT))
-    program = next(it for it in rt.crates_of(str(ROOT)) if it.name == PROGRAM)
+    program = next(it for it in toolchain.crates_below(rt, str(ROOT)) if it.name == PROGRAM)
     return [*program.below(), program]
 
 

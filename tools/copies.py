@@ -20,6 +20,7 @@ from typing import Any
 import gate
 import toolchain
 from refusals import STATUS, messages_of, refusal_of_copy
+from seeds import Seeds
 from wrong_bodies import NO_GOAL, Edit, parts_of, read_edit, round_in_copies, ways_of
 
 
@@ -54,7 +55,7 @@ def look_at(rt: ModuleType, crate: Any) -> bool:
     copies, texts = round_in_copies(crate.folder, right_bodies(rt, crate))
     words = [word for it in copies for word in ("--only", it.function.path)]
     with tempfile.TemporaryDirectory(prefix="streetmap-copies-") as room:
-        kept = gate.seeded_by(rt, set())(crate, ["--jobs", "1"])
+        kept = Seeds(rt).make(crate)
         place = shutil.move(f"{kept}/seed", room) if kept else room
         ran = gate.check_of(rt, crate, texts, ["--jobs", "1", *words], place)
     bad = [it.function.path for it in copies if is_refused(crate.name, it, ran.stdout)]
@@ -70,7 +71,7 @@ def main(names: list[str]) -> int:
     os.chdir(Path(__file__).parent.parent)
     rt.Crate.cuts_libraries = True
     rt.Crate.allowed = rt.handles_of(os.getcwd())
-    crates = [it for it in rt.crates_of(os.getcwd()) if it.name in names]
+    crates = [it for it in toolchain.crates_below(rt, os.getcwd()) if it.name in names]
     return 0 if all([look_at(rt, it) for it in crates]) else 1
 
 

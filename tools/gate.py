@@ -15,10 +15,10 @@ because it calls another, or is not refused, at last without others; that check 
 `rt ci` also proves each crate twice, the second time for its wrong bodies to begin with. Here the
 built crate holds its checked proofs, and they begin with these. The proof itself is made from
 nothing, by one check, as before. With another toolchain, whose parts have other names, this is
-`rt ci` alone. `wrong_bodies.py` has the edits and their copies, `lanes.py` the order of checks.
+`rt ci` alone. `wrong_bodies.py` has the edits and their copies, `seeds.py` what they begin with,
+`lanes.py` the order of checks.
 """
 
-import json
 import os
 import shutil
 import subprocess
@@ -35,12 +35,16 @@ from typing import Any
 import toolchain
 from lanes import in_lanes_by
 from refusals import is_lost_name, only_edited, refusal
+from seeds import Seeds, must_fail_all_by, seeded_by
 from wrong_bodies import WHOLE, Edit, Way, read_edit, round_in_copies, round_in_place, ways_of
 
+# What of the command rt is called here; what a newer one has beside it, and what an older one.
 NEEDED = (
-    *("ci", "edits_alone", "edits_of", "must_fail", "checked", "unread", "REFUSED", "rtlib"),
-    *("seeded", "SEEDS", "in_lanes", "ending", "Crate"),
+    *("ci", "edits_alone", "edits_of", "must_fail", "checked", "unread", "rtlib"),
+    *("in_lanes", "say", "Crate"),
 )
+NEWER = ("REFUSED", "seeded", "SEEDS", "ending")
+OLDER = ("must_fail_all",)
 # How many wrong bodies one check tries.
 MOST_TOGETHER = 32
 
@@ -123,16 +127,16 @@ class Rounds:
         return self.refused.get(path)
 
 
-def must_fail_by(rt: ModuleType) -> Callable[..., tuple[str, str]]:
+def must_fail_by(rt: ModuleType) -> Callable[..., tuple[Any, str]]:
     """What stands for `must_fail` of `rt ci`: over kept work a wrong body is tried with others of
     its crate first. One that is not refused so is tried alone by rt's own means."""
-    alone: Callable[..., tuple[str, str]] = rt.must_fail
+    alone: Callable[..., tuple[Any, str]] = rt.must_fail
     rounds: dict[str, Rounds] = {}
     guard = threading.Lock()
 
     def must_fail(
         crate: Any, edit: str, flags: list[str], kept: str | None = None
-    ) -> tuple[str, str]:
+    ) -> tuple[Any, str]:
         if kept is None:
             return alone(crate, edit, flags)
         with guard:
@@ -142,7 +146,7 @@ def must_fail_by(rt: ModuleType) -> Callable[..., tuple[str, str]]:
         if line is None:
             return alone(crate, edit, flags, kept)
         label = f"must-fail {crate.name}/{os.path.basename(edit)}"
-        return rt.REFUSED, f"{label}: refused, as it must be: {line[:160]}"
+        return getattr(rt, "REFUSED", True), f"{label}: refused, as it must be: {line[:160]}"
 
     return must_fail
 
@@ -175,57 +179,6 @@ def compile_at_once(rt: ModuleType) -> None:
     rt.Crate.compile_by = by_both
 
 
-def take_out(rlib: Path, folder: Path) -> bool:
-    """Writes the checked modules that a built crate holds into a folder, a file each; returns
-    whether it holds them. Its list has a line for each: the name, and where its bytes stand. Those
-    whose name has a folder are parts of other crates."""
-    archive, listed = rlib / "toolchain" / "checked.a", rlib / "toolchain" / "checked.json"
-    if not archive.is_file() or not listed.is_file():
-        return False
-    held = archive.read_bytes()
-    for line in listed.read_text(encoding="utf-8").splitlines():
-        name, start, size = json.loads(line)
-        if "/" not in name:
-            (folder / f"{name}.oantt").write_bytes(held[start : start + size])
-    return True
-
-
-def seeded_by(rt: ModuleType, held: set[str]) -> Callable[..., str | None]:
-    """What stands for `seeded` of `rt ci`: wrong bodies begin with the proofs that the built crate
-    holds, and no check of the crate as it stands is made. The folders of these are noted."""
-    alone: Callable[..., str | None] = rt.seeded
-    guard = threading.Lock()
-    found: list[str] = []
-
-    def name_of_kept(crate: Any) -> str | None:
-        """The name that the prover gives to a folder of checked modules."""
-        with guard, tempfile.TemporaryDirectory(prefix="streetmap-name-") as room:
-            if not found:
-                rt.checked(crate, {}, ["--jobs", "1", "--only", ""], room)
-                found.extend(os.listdir(room)[:1])
-        return found[0] if found else None
-
-    def seeded(crate: Any, flags: list[str], start: str | None = None) -> str | None:
-        name = name_of_kept(crate)
-        if name is None:
-            return alone(crate, flags, start)
-        room = tempfile.mkdtemp(prefix=f"rt-edits-{os.getpid()}-")
-        rt.SEEDS.append(room)
-        folder = Path(room, "seed", name)
-        folder.mkdir(parents=True)
-        try:
-            holds = take_out(Path(crate.rlib), folder)
-        except (OSError, ValueError):
-            holds = False
-        if holds:
-            held.add(str(folder.parent))
-            return room
-        shutil.rmtree(room, ignore_errors=True)
-        return alone(crate, flags, start)
-
-    return seeded
-
-
 def check_of(
     rt: ModuleType, crate: Any, texts: dict[str, str], flags: list[str], kept: str | None
 ) -> Any:
@@ -249,22 +202,27 @@ def check_of(
         )
 
 
-def give_way(rt: ModuleType, held: set[str]) -> None:
-    """Has checks of wrong bodies give way to proofs, which others wait for. `rt ci` asks at the end
-    whether the crate is proved over what wrong bodies began with: so it is where this is what the
-    built crate holds, and that the files have stayed as they were `rt ci` has looked."""
-    guarded = rt.rtlib.guarded
+def give_way(rt: ModuleType, seeds: Seeds) -> None:
+    """Has checks of wrong bodies give way to proofs, which others wait for. A newer `rt ci` asks at
+    the end whether the crate is proved over what wrong bodies began with: so it is where this is
+    what the built crate holds, and that the files have stayed as they were `rt ci` has looked. An
+    older one has each check write into that folder, so each gets a copy."""
+    guarded, is_older = rt.rtlib.guarded, not toolchain.has(rt, *NEWER)
     this = threading.local()
 
     def guarded_or_nice() -> list[str]:
         return [*(["nice", "-n", "10"] if getattr(this, "gives_way", False) else []), *guarded()]
 
     def checked_so(crate: Any, texts: dict[str, str], flags: list[str], kept: str | None) -> Any:
-        if not texts and kept in held:
+        if not texts and kept in seeds.folders:
             return subprocess.CompletedProcess([], 0, "")
         this.gives_way = True
         try:
-            return check_of(rt, crate, texts, flags, kept)
+            if kept is None or kept not in seeds.folders or not is_older:
+                return check_of(rt, crate, texts, flags, kept)
+            with tempfile.TemporaryDirectory(prefix=f"rt-kept-{os.getpid()}-") as room:
+                shutil.copytree(kept, room, dirs_exist_ok=True)
+                return check_of(rt, crate, texts, flags, room)
         finally:
             this.gives_way = False
 
@@ -274,18 +232,23 @@ def give_way(rt: ModuleType, held: set[str]) -> None:
 
 def main(names: list[str]) -> int:
     rt = toolchain.load(*NEEDED)
-    if rt is None:
+    is_newer = rt is not None and toolchain.has(rt, *NEWER)
+    if rt is None or not (is_newer or toolchain.has(rt, *OLDER)):
         words = ["must-fail", *names] if names else ["ci"]
         return subprocess.run(["rt", *words], check=False).returncode
     setattr(rt, "must_fail", must_fail_by(rt))
     setattr(rt, "in_lanes", in_lanes_by(rt))
-    held: set[str] = set()
-    give_way(rt, held)
-    if not names:
-        hold_proofs(rt)
-        compile_at_once(rt)
-        setattr(rt, "seeded", seeded_by(rt, held))
-    return int(rt.edits_alone(names) if names else rt.ci(anew=False))
+    seeds = Seeds(rt)
+    give_way(rt, seeds)
+    if names:
+        return int(rt.edits_alone(names))
+    hold_proofs(rt)
+    compile_at_once(rt)
+    if is_newer:
+        setattr(rt, "seeded", seeded_by(rt, seeds))
+        return int(rt.ci(anew=False))
+    setattr(rt, "must_fail_all", must_fail_all_by(rt, seeds))
+    return int(rt.ci())
 
 
 if __name__ == "__main__":

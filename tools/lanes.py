@@ -1,9 +1,10 @@
 """In which order the gate proves crates and tries wrong bodies, and how many at once."""
 
+import contextlib
 import os
-from collections import Counter
 from collections.abc import Callable
 from concurrent.futures import FIRST_COMPLETED, Future, ThreadPoolExecutor, wait
+from pathlib import Path
 from types import ModuleType
 from typing import Any
 
@@ -44,13 +45,13 @@ def in_order(tasks: dict[Any, Any]) -> list[Any]:
         behind[key] += tasks[key][1]
         for below in tasks[key][0]:
             behind[below] = max(behind[below], behind[key])
-    many = Counter(key[0] for key in tasks if is_of_wrong_bodies(key))
 
     def rank(key: tuple[Any, ...]) -> int:
         if not is_of_wrong_bodies(key):
             return int(behind[key])
+        many = len([*Path("crates", key[0], "must-fail").glob("*.edit")])
         proof = tasks.get((key[0], "proof"))
-        return many[key[0]] * len(proof[0]) if proof else 0
+        return many * len(proof[0]) if proof else 0
 
     return sorted(tasks, key=lambda it: (is_of_wrong_bodies(it), -rank(it)))
 
@@ -58,21 +59,22 @@ def in_order(tasks: dict[Any, Any]) -> list[Any]:
 def in_lanes_by(rt: ModuleType) -> Callable[..., Any]:
     """What stands for `in_lanes` of `rt ci`, where it is said how many checks run at once. What
     wrong bodies begin with waits for the proof, and those of a crate are tried one after the other,
-    since one check tries many."""
+    since one check tries many. (An older `rt ci` has one task for all of a crate.)"""
     alone = rt.in_lanes
+    ending = getattr(rt, "ending", contextlib.nullcontext)
 
     def in_lanes(tasks: dict[Any, Any]) -> Any:
         for key, (waits, *others) in tasks.items():
             if key[1] == "seed" and (key[0], "proof") in tasks:
                 tasks[key] = ([*waits, (key[0], "proof")], *others)
-            elif key[1] == "edits" and key[2] > 0:
+            elif key[1] == "edits" and key[2:] > (0,):
                 tasks[key] = ([*waits, (*key[:2], key[2] - 1)], *others)
         if "RT_JOBS" not in os.environ:
             return alone(tasks)
         left, given = in_order(tasks), dict[Any, Any]()
         running: dict[Any, int] = {}
         begun: dict[Future[Any], Any] = {}
-        with rt.ending(), ThreadPoolExecutor(LANES + 2) as pool:
+        with ending(), ThreadPoolExecutor(LANES + 2) as pool:
             while left or running:
                 for key in [it for it in left if all(below in given for below in tasks[it][0])]:
                     jobs = room_for(key, running)

@@ -5,6 +5,12 @@ import importlib.util
 import os
 import shutil
 from types import ModuleType
+from typing import Any
+
+
+def has(rt: ModuleType, *needed: str) -> bool:
+    """Whether the command rt has all of these parts."""
+    return all(hasattr(rt, name) for name in needed)
 
 
 def load(*needed: str) -> ModuleType | None:
@@ -18,4 +24,10 @@ def load(*needed: str) -> ModuleType | None:
         return None
     rt = importlib.util.module_from_spec(spec)
     loader.exec_module(rt)
-    return rt if all(hasattr(rt, name) for name in needed) else None
+    return rt if has(rt, *needed) else None
+
+
+def crates_below(rt: ModuleType, root: str) -> list[Any]:
+    """The repository's crates, the lowest first, each as the command rt proves it."""
+    rt.rtlib.Crate = rt.Crate
+    return sorted(rt.rtlib.crates_below(root), key=lambda it: len(it.below()))
