@@ -1,5 +1,5 @@
-//! Databases in memory, and files there whose calls stop after so many, and what is done over a
-//! connection to them. Here alone their stores are named.
+//! Files in memory whose calls stop after so many, and what is done over a connection to them. Here
+//! alone their store is named.
 ghost use Rattle.std.specs.Prelude.{◌≡◌, false, IfOk, IsTrue};
 ghost use Rattle.sqlite_disk.specs.Memory.{memory_is_usable};
 
@@ -30,31 +30,9 @@ pub(crate) trait Visit {
     /// What comes of it.
     type Told;
 
-    /// Does it, and gives the store back.
-    fn visit<S: Alter + Drop>(self, alloc: Global, conn: Connection<S>) -> (Self::Told, S)
+    /// Does it, and gives the store back, where it is not let go of.
+    fn visit<S: Alter + Drop>(self, alloc: Global, conn: Connection<S>) -> (Self::Told, Option<S>)
         requires { conn.in_transaction ≡ false };
-}
-
-/// What is done over a connection that is let go of, whatever its store.
-pub(crate) trait Use {
-    /// What comes of it.
-    type Told;
-
-    /// Does it.
-    fn over<S: Alter + Drop>(self, alloc: Global, conn: Connection<S>) -> Self::Told
-        requires { conn.in_transaction ≡ false };
-}
-
-/// What comes of the use of a new database in memory; none where it is not opened.
-pub(crate) fn use_memory<U: Use + Drop>(alloc: Global, that: U) -> Option<U::Told> {
-    let Ok(conn) = Connection::open_in_memory(alloc) else {
-        return None;
-    };
-    if conn.is_autocommit() {
-        Some(that.over(alloc, conn))
-    } else {
-        None
-    }
 }
 
 /// A file with these bytes.
@@ -68,14 +46,14 @@ fn file(alloc: Global, bytes: &[u8]) -> Result<Memory, Fail>
 }
 
 /// Opens two files for a visit. Answers what came of it, nothing where they were not opened; and
-/// what is left of them.
+/// what is left of them, nothing where their store was let go of.
 fn visit_fused<V: Visit + Drop>(
     alloc: Global,
     log: Memory,
     db: Memory,
     calls: Calls,
     visit: V,
-) -> (Option<V::Told>, Files<Fused>)
+) -> (Option<V::Told>, Option<Files<Fused>>)
     requires log { IsTrue (memory_is_usable log) }
     requires db { IsTrue (memory_is_usable db) }
 {
@@ -84,9 +62,9 @@ fn visit_fused<V: Visit + Drop>(
     match Connection::open_files(alloc, Files { log, db }, Options::new(1)) {
         Ok(conn) => {
             let (told, store) = visit.visit(alloc, conn);
-            (Some(told), store.close())
+            (Some(told), store.map(|store| store.close()))
         }
-        Err((_, left)) => (None, left.into_files()),
+        Err((_, left)) => (None, Some(left.into_files())),
     }
 }
 
@@ -95,8 +73,13 @@ pub(crate) fn visit_new<V: Visit + Drop>(
     alloc: Global,
     calls: Calls,
     visit: V,
-) -> (Option<V::Told>, Files<Fused>) {
+) -> (Option<V::Told>, Option<Files<Fused>>) {
     visit_fused(alloc, Memory::new(alloc), Memory::new(alloc), calls, visit)
+}
+
+/// What comes of a visit to new files, whose calls are all taken.
+pub(crate) fn told_of_new<V: Visit + Drop>(alloc: Global, visit: V) -> Option<V::Told> {
+    visit_new(alloc, ALL_CALLS, visit).0
 }
 
 /// A visit to files with the bytes of these.
@@ -105,7 +88,7 @@ pub(crate) fn visit_again<V: Visit + Drop>(
     files: &Files<Fused>,
     calls: Calls,
     visit: V,
-) -> Result<(Option<V::Told>, Files<Fused>), Fail> {
+) -> Result<(Option<V::Told>, Option<Files<Fused>>), Fail> {
     let log = file(alloc, files.log.inner().bytes())?;
     let db = file(alloc, files.db.inner().bytes())?;
     Ok(visit_fused(alloc, log, db, calls, visit))

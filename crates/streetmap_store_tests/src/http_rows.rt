@@ -1,7 +1,8 @@
 //! The rows of HTTP over a keeper in memory, over tables, and with an index over each: the answers
 //! are the same bytes.
 use crate::answers::answers;
-use crate::files::{Use, use_memory};
+use crate::files::{Visit, told_of_new};
+use crate::keepers::{Came, OverNew, Task};
 use crate::rows::{COUNT, ROWS};
 use serde_json::Value;
 use sqlite::{Alter, Connection};
@@ -57,18 +58,12 @@ fn is_answered_so<K: Keeper>(alloc: Global, keeper: &mut K, row: Row<'_>) -> boo
             == row.written.as_bytes())
 }
 
-/// A row is sent to a keeper over new tables: whether it is answered so.
-#[derive(Clone, Copy)]
-struct OverTables<'a>(Row<'a>);
-
-impl Use for OverTables<'_> {
+impl Task for Row<'_> {
     type Told = bool;
 
-    fn over<S: Alter + Drop>(self, alloc: Global, conn: Connection<S>) -> bool {
-        match TableKeeper::make(alloc, conn) {
-            Ok(mut keeper) => is_answered_so(alloc, &mut keeper, self.0),
-            Err(_) => false,
-        }
+    /// Whether a new keeper answers so to the requests of the row.
+    fn run<K: Keeper>(self, alloc: Global, keeper: &mut K) -> bool {
+        is_answered_so(alloc, keeper, self)
     }
 }
 
@@ -76,13 +71,16 @@ impl Use for OverTables<'_> {
 #[derive(Clone, Copy)]
 struct OverIndexedTables<'a>(Row<'a>);
 
-impl Use for OverIndexedTables<'_> {
+impl Visit for OverIndexedTables<'_> {
     type Told = bool;
 
-    fn over<S: Alter + Drop>(self, alloc: Global, conn: Connection<S>) -> bool {
+    fn visit<S: Alter + Drop>(self, alloc: Global, conn: Connection<S>) -> (bool, Option<S>) {
         match TableKeeper::make(alloc, conn) {
-            Ok(keeper) => is_answered_so(alloc, &mut IndexedKeeper::new(alloc, keeper), self.0),
-            Err(_) => false,
+            Ok(keeper) => {
+                let mut indexed = IndexedKeeper::new(alloc, keeper);
+                (is_answered_so(alloc, &mut indexed, self.0), None)
+            }
+            Err(_) => (false, None),
         }
     }
 }
@@ -96,10 +94,10 @@ fn differing(alloc: Global, row: Row<'_>) -> Option<&'static str> {
     if !is_answered_so(alloc, &mut indexed, row) {
         return Some("with an index over memory");
     }
-    if use_memory(alloc, OverTables(row)) != Some(true) {
+    if told_of_new(alloc, OverNew(row)) != Some(Came::Told(true)) {
         return Some("over tables");
     }
-    if use_memory(alloc, OverIndexedTables(row)) != Some(true) {
+    if told_of_new(alloc, OverIndexedTables(row)) != Some(true) {
         return Some("with an index over tables");
     }
     None

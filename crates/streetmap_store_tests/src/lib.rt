@@ -11,6 +11,8 @@ mod files;
 #[cfg(test)]
 mod http_rows;
 #[cfg(test)]
+mod keepers;
+#[cfg(test)]
 mod opening;
 #[cfg(test)]
 mod rows;

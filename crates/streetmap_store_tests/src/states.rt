@@ -1,15 +1,13 @@
 //! Batches, the states that they lead to one by one, and which of these is seen in files that are
 //! opened again.
 use crate::answers::{answers, is_answered};
-use crate::files::{ALL_CALLS, Fused, Visit, visit_again};
-use sqlite::{Alter, Connection};
+use crate::files::{ALL_CALLS, Fused, visit_again};
+use crate::keepers::{Came, OverOpened, Task};
 use sqlite_disk::{Crash, Files};
 use std::alloc::Global;
 use std::test::Fail;
 use streetmap_ledger::Keeper;
 use streetmap_memory::PlainKeeper;
-use streetmap_store::TableKeeper;
-use streetmap_tables::TablesFault;
 
 /// Points, features without a geometry, and features with a time.
 const BATCHES: [&str; COUNT] = [
@@ -92,9 +90,11 @@ pub(crate) struct Look<'a> {
     pub(crate) acts_again: bool,
 }
 
-impl Look<'_> {
+impl Task for Look<'_> {
+    type Told = Seen;
+
     /// What is seen of a keeper.
-    fn seen<K: Keeper>(self, alloc: Global, keeper: &mut K) -> Seen {
+    fn run<K: Keeper>(self, alloc: Global, keeper: &mut K) -> Seen {
         match place(alloc, keeper, self.states) {
             Some(count) if !self.acts_again || acts_again(alloc, keeper, self.states) => {
                 Seen::Behind(count)
@@ -104,25 +104,13 @@ impl Look<'_> {
     }
 }
 
-impl Visit for Look<'_> {
-    type Told = Seen;
-
-    fn visit<S: Alter + Drop>(self, alloc: Global, conn: Connection<S>) -> (Seen, S) {
-        match TableKeeper::adopt(alloc, conn) {
-            Ok(mut keeper) => {
-                let seen = self.seen(alloc, &mut keeper);
-                (seen, keeper.release().into_store())
-            }
-            Err((TablesFault::NotOurs, conn)) => (Seen::NotOurs, conn.into_store()),
-            Err((_, conn)) => (Seen::Other, conn.into_store()),
-        }
-    }
-}
-
 /// What is seen of files that are opened again.
 fn reopened(alloc: Global, files: &Files<Fused>, look: Look<'_>) -> Result<Seen, Fail> {
-    let (seen, _) = visit_again(alloc, files, ALL_CALLS, look)?;
-    Ok(seen.unwrap_or(Seen::Other))
+    match visit_again(alloc, files, ALL_CALLS, OverOpened(look))?.0 {
+        Some(Came::Told(seen)) => Ok(seen),
+        Some(Came::NotOurs) => Ok(Seen::NotOurs),
+        Some(Came::Refused) | None => Ok(Seen::Other),
+    }
 }
 
 /// What is seen of what was written, and then of what was synchronised alone.

@@ -2,12 +2,13 @@
 //! beginning of them, with each acknowledged one; of carrying format 1 over, it is the state that
 //! was there.
 use crate::files::{ALL_CALLS, Calls, Fused, Visit, visit_again, visit_new};
+use crate::keepers::{Came, OverNew, OverOpened, Task};
 use crate::states::{COUNT, Look, Seen, act, seen_twice, states};
 use sqlite::{Alter, Connection};
 use sqlite_disk::Files;
 use std::alloc::Global;
 use std::test::Fail;
-use streetmap_store::TableKeeper;
+use streetmap_ledger::Keeper;
 
 /// More calls than any run makes.
 const MOST_CALLS: u64 = 10_000;
@@ -27,22 +28,25 @@ fn calls(of_log: bool, count: u64) -> Calls {
     }
 }
 
-/// New tables are made, and the batches acted on: how many were answered, none where the tables
-/// were not made.
-#[derive(Drop)]
+/// The batches are acted on: how many were answered.
+#[derive(Clone, Copy)]
 struct ActOnAll;
 
-impl Visit for ActOnAll {
-    type Told = Option<usize>;
+impl Task for ActOnAll {
+    type Told = usize;
 
-    fn visit<S: Alter + Drop>(self, alloc: Global, conn: Connection<S>) -> (Option<usize>, S) {
-        match TableKeeper::make(alloc, conn) {
-            Ok(mut keeper) => {
-                let acknowledged = act(alloc, &mut keeper);
-                (Some(acknowledged), keeper.release().into_store())
-            }
-            Err((_, conn)) => (None, conn.into_store()),
-        }
+    fn run<K: Keeper>(self, alloc: Global, keeper: &mut K) -> usize {
+        act(alloc, keeper)
+    }
+}
+
+/// Makes tables in new files that take so many calls, and acts on the batches. Answers how many
+/// were answered, none where the tables were not made; and what is left of the files.
+fn acted(alloc: Global, calls: Calls) -> Result<(Option<usize>, Files<Fused>), Fail> {
+    match visit_new(alloc, calls, OverNew(ActOnAll)) {
+        (Some(Came::Told(acknowledged)), Some(files)) => Ok((Some(acknowledged), files)),
+        (_, Some(files)) => Ok((None, files)),
+        (_, None) => Err(Fail::from("the files were let go of")),
     }
 }
 
@@ -61,8 +65,7 @@ fn may_be_left(seen: Seen, acknowledged: Option<usize>) -> bool {
 /// Acts on the batches in new files that take so many calls. Answers whether all were acknowledged;
 /// none where what is left may not be.
 fn stopped(alloc: Global, calls: Calls, states: &[Vec<u8>]) -> Result<Option<bool>, Fail> {
-    let (told, mut files) = visit_new(alloc, calls, ActOnAll);
-    let acknowledged = told.unwrap_or(None);
+    let (acknowledged, mut files) = acted(alloc, calls)?;
     let look = Look {
         states,
         acts_again: true,
@@ -98,39 +101,37 @@ fn a_stop_at_each_call_leaves_a_beginning(rt: HostRuntime) -> Result<(), Fail> {
 const TO_FORMAT_1: &str =
     "CREATE TABLE old (collection TEXT, id TEXT, body TEXT); INSERT INTO old SELECT collection, id, body FROM streetmap_features; DROP TABLE streetmap_features; CREATE TABLE streetmap_features (collection TEXT NOT NULL REFERENCES streetmap_collections(id), id TEXT NOT NULL, body TEXT NOT NULL, PRIMARY KEY (collection, id)) STRICT; INSERT INTO streetmap_features SELECT collection, id, body FROM old; DROP TABLE old; UPDATE streetmap_meta SET value = 1";
 
-/// Tables of format 1 with the batches are made: whether they were.
-#[derive(Drop)]
-struct MakeOld;
+/// The tables are made those of format 1: whether they were.
+#[derive(Clone, Copy)]
+struct ToFormat1;
 
-impl Visit for MakeOld {
+impl Visit for ToFormat1 {
     type Told = bool;
 
-    fn visit<S: Alter + Drop>(self, alloc: Global, conn: Connection<S>) -> (bool, S) {
-        match TableKeeper::make(alloc, conn) {
-            Ok(mut keeper) => {
-                let is_acted = act(alloc, &mut keeper) == COUNT;
-                let mut conn = keeper.release();
-                let is_old = conn.execute_batch(TO_FORMAT_1).is_ok();
-                (is_acted && is_old, conn.into_store())
-            }
-            Err((_, conn)) => (false, conn.into_store()),
-        }
+    fn visit<S: Alter + Drop>(self, _: Global, conn: Connection<S>) -> (bool, Option<S>) {
+        let mut conn = conn;
+        let is_old = conn.execute_batch(TO_FORMAT_1).is_ok();
+        (is_old, Some(conn.into_store()))
     }
 }
 
-/// Tables are opened: whether they were.
-#[derive(Drop)]
-struct Open;
-
-impl Visit for Open {
-    type Told = bool;
-
-    fn visit<S: Alter + Drop>(self, alloc: Global, conn: Connection<S>) -> (bool, S) {
-        match TableKeeper::adopt(alloc, conn) {
-            Ok(keeper) => (true, keeper.release().into_store()),
-            Err((_, conn)) => (false, conn.into_store()),
-        }
+/// Files with tables of format 1 and the batches.
+fn old_files(alloc: Global) -> Result<Files<Fused>, Fail> {
+    let (acknowledged, new) = acted(alloc, ALL_CALLS)?;
+    match visit_again(alloc, &new, ALL_CALLS, ToFormat1)? {
+        (Some(true), Some(old)) if acknowledged == Some(COUNT) => Ok(old),
+        _ => Err(Fail::from("the tables of format 1 were not made")),
     }
+}
+
+/// Nothing is done.
+#[derive(Clone, Copy)]
+struct Nothing;
+
+impl Task for Nothing {
+    type Told = ();
+
+    fn run<K: Keeper>(self, _: Global, _: &mut K) {}
 }
 
 /// Opens copies of files of format 1 that take so many calls. Answers whether they were opened;
@@ -141,14 +142,17 @@ fn carried(
     calls: Calls,
     states: &[Vec<u8>],
 ) -> Result<Option<bool>, Fail> {
-    let (opened, mut files) = visit_again(alloc, old, calls, Open)?;
+    let (opened, left) = visit_again(alloc, old, calls, OverOpened(Nothing))?;
+    let Some(mut files) = left else {
+        return Err(Fail::from("the files were let go of"));
+    };
     let look = Look {
         states,
         acts_again: false,
     };
     let seen = seen_twice(alloc, &mut files, look)?;
     let is_right = seen == (Seen::Behind(COUNT), Seen::Behind(COUNT));
-    Ok(is_right.then_some(opened == Some(true)))
+    Ok(is_right.then_some(opened == Some(Came::Told(()))))
 }
 
 /// After how many calls the files were opened, where each stop before left their state.
@@ -171,8 +175,7 @@ fn calls_of_carrying(
 #[test]
 fn a_stop_at_each_call_of_carrying_over_leaves_the_state(rt: HostRuntime) -> Result<(), Fail> {
     let states = states(rt.alloc())?;
-    let (is_old, old) = visit_new(rt.alloc(), ALL_CALLS, MakeOld);
-    assert!(rt; is_old == Some(true));
+    let old = old_files(rt.alloc())?;
     for of_log in [true, false] {
         let calls = calls_of_carrying(rt.alloc(), &old, of_log, &states)?;
         assert!(rt; calls.is_some_and(|count| count > 0), "{of_log} {calls:?}");

@@ -1,0 +1,76 @@
+//! What is done over a keeper of tables, which are made or opened for it.
+ghost use Rattle.std.specs.Prelude.{◌≡◌, false};
+
+use crate::files::Visit;
+use sqlite::{Alter, Connection};
+use std::alloc::Global;
+use streetmap_ledger::Keeper;
+use streetmap_store::TableKeeper;
+use streetmap_tables::TablesFault;
+
+/// What is done over a keeper, whatever it is.
+pub(crate) trait Task {
+    /// What comes of it.
+    type Told;
+
+    /// Does it.
+    fn run<K: Keeper>(self, alloc: Global, keeper: &mut K) -> Self::Told;
+}
+
+/// What comes of a task over tables.
+#[derive(Clone, Copy, PartialEq)]
+pub(crate) enum Came<T> {
+    /// There was a keeper, and this came of it.
+    Told(T),
+    /// The tables are none of this product.
+    NotOurs,
+    /// There was no keeper, for another reason.
+    Refused,
+}
+
+/// A task over the keeper of new tables.
+#[derive(Clone, Copy)]
+pub(crate) struct OverNew<T>(pub(crate) T);
+
+impl<T: Task + Drop> Visit for OverNew<T> {
+    type Told = Came<T::Told>;
+
+    fn visit<S: Alter + Drop>(
+        self,
+        alloc: Global,
+        conn: Connection<S>,
+    ) -> (Came<T::Told>, Option<S>) {
+        let OverNew(task) = self;
+        match TableKeeper::make(alloc, conn) {
+            Ok(mut keeper) => {
+                let told = task.run(alloc, &mut keeper);
+                (Came::Told(told), Some(keeper.release().into_store()))
+            }
+            Err((_, conn)) => (Came::Refused, Some(conn.into_store())),
+        }
+    }
+}
+
+/// A task over the keeper of the tables that are there.
+#[derive(Clone, Copy)]
+pub(crate) struct OverOpened<T>(pub(crate) T);
+
+impl<T: Task + Drop> Visit for OverOpened<T> {
+    type Told = Came<T::Told>;
+
+    fn visit<S: Alter + Drop>(
+        self,
+        alloc: Global,
+        conn: Connection<S>,
+    ) -> (Came<T::Told>, Option<S>) {
+        let OverOpened(task) = self;
+        match TableKeeper::adopt(alloc, conn) {
+            Ok(mut keeper) => {
+                let told = task.run(alloc, &mut keeper);
+                (Came::Told(told), Some(keeper.release().into_store()))
+            }
+            Err((TablesFault::NotOurs, conn)) => (Came::NotOurs, Some(conn.into_store())),
+            Err((_, conn)) => (Came::Refused, Some(conn.into_store())),
+        }
+    }
+}
