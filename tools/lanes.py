@@ -28,10 +28,12 @@ def is_of_wrong_bodies(key: tuple[Any, ...]) -> bool:
 
 def room_for(key: tuple[Any, ...], running: dict[tuple[Any, ...], int]) -> int:
     """How many processes a task may take beside those that run with so many: none where it has to
-    wait. A proof does not wait for checks of wrong bodies, which take minutes and give way: two
-    processes more than there are lanes may run then."""
+    wait. A proof does not wait for checks of wrong bodies, which take minutes and give way: it may
+    have one process, and more up to two beyond the lanes."""
     beside = [it for it in running if is_of_wrong_bodies(key) or not is_of_wrong_bodies(it)]
     free = LANES + 2 - sum(running.values())
+    if not is_of_wrong_bodies(key):
+        free = max(free, 1)
     wanted = PROCESSES.get(key[0], 1) if key[1] == "proof" and LANES >= 4 else 1
     return min(wanted, free) if len(beside) < LANES else 0
 
