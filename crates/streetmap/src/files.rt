@@ -15,6 +15,15 @@ fn is_there(rt: &HostRuntime, path: &str) -> Result<bool, ProgramFault> {
     exists(rt, path).map_err(|_| ProgramFault::Device)
 }
 
+/// Refuses a file that is not there.
+fn refuse_missing(rt: &HostRuntime, path: &str) -> Result<(), ProgramFault> {
+    if is_there(rt, path)? {
+        Ok(())
+    } else {
+        Err(ProgramFault::NoFile)
+    }
+}
+
 /// Makes an empty file where there is none.
 fn make(rt: &HostRuntime, path: &str) -> Result<(), ProgramFault> {
     match streetmap_store::create(rt, path, Unknown) {
@@ -40,13 +49,31 @@ fn run_over(rt: &HostRuntime, path: &str, task: Task<'_>) -> Result<(), ProgramF
     }
 }
 
-/// Opens a file, and does something over its keeper.
-pub(crate) fn run(rt: &HostRuntime, path: &str, task: Task<'_>) -> Result<(), ProgramFault> {
-    match is_there(rt, path) {
-        Ok(true) => run_over(rt, path, task),
-        Ok(false) => Err(ProgramFault::NoFile),
-        Err(fault) => Err(fault),
-    }
+/// Serves the requests of standard input over a file.
+pub(crate) fn pipe(rt: &HostRuntime, path: &str, base: Base) -> Result<(), ProgramFault> {
+    refuse_missing(rt, path)?;
+    run_over(rt, path, Task::Pipe(base))
+}
+
+/// Writes a collection of a file on standard output.
+pub(crate) fn export(
+    rt: &HostRuntime,
+    path: &str,
+    collection: &str,
+    progress: bool,
+) -> Result<(), ProgramFault> {
+    refuse_missing(rt, path)?;
+    let work = Work::Export {
+        collection,
+        progress,
+    };
+    run_over(rt, path, Task::Work(work))
+}
+
+/// Prints the kept batches of a file behind a serial.
+pub(crate) fn print_batches(rt: &HostRuntime, path: &str, after: u32) -> Result<(), ProgramFault> {
+    refuse_missing(rt, path)?;
+    run_over(rt, path, Task::Work(Work::Batches { after }))
 }
 
 /// Says on standard error which file is opened, and how large it is: a large one takes a while.
@@ -65,9 +92,7 @@ pub(crate) fn serve(
     base: Base,
     journal: Option<JournalAsked<'_>>,
 ) -> Result<(), ProgramFault> {
-    if !is_there(rt, path)? {
-        return Err(ProgramFault::NoFile);
-    }
+    refuse_missing(rt, path)?;
     if let Some(asked) = journal {
         refuse_same(rt, path, asked.path)?;
     }
@@ -82,21 +107,20 @@ pub(crate) fn serve(
 
 /// Reads all rows of a file; before that its kept batches are replayed, where that is asked for.
 pub(crate) fn check(rt: &HostRuntime, path: &str, replay: bool) -> Result<(), ProgramFault> {
+    refuse_missing(rt, path)?;
     if replay {
-        run(rt, path, Task::Work(Work::Replay))?;
+        run_over(rt, path, Task::Work(Work::Replay))?;
+        refuse_missing(rt, path)?;
     }
-    run(rt, path, Task::Check)
+    run_over(rt, path, Task::Check)
 }
 
 /// Puts the features of a text into a collection of a file. The text is read, and its batch made,
 /// before the file is opened: a text that is refused writes nothing.
 pub(crate) fn import(rt: &HostRuntime, path: &str, asked: Import<'_>) -> Result<(), ProgramFault> {
-    if is_there(rt, path)? {
-        let batch = read_batch(rt, asked)?;
-        run_over(rt, path, Task::Work(Work::Import(batch)))
-    } else {
-        Err(ProgramFault::NoFile)
-    }
+    refuse_missing(rt, path)?;
+    let batch = read_batch(rt, asked)?;
+    run_over(rt, path, Task::Work(Work::Import(batch)))
 }
 
 /// Puts the features of a text into a collection of a file by batches, or prints these.
@@ -120,12 +144,9 @@ pub(crate) fn load(
 
 /// Applies the lines of a text, or of standard input, to a file.
 pub(crate) fn apply(rt: &HostRuntime, path: &str, text: Option<&str>) -> Result<(), ProgramFault> {
-    if is_there(rt, path)? {
-        look_for(rt, path, text)?;
-        run_over(rt, path, Task::Work(Work::Apply { text }))
-    } else {
-        Err(ProgramFault::NoFile)
-    }
+    refuse_missing(rt, path)?;
+    look_for(rt, path, text)?;
+    run_over(rt, path, Task::Work(Work::Apply { text }))
 }
 
 /// Looks whether a text is there, where one is named, and is another than the file.

@@ -23,7 +23,6 @@ mod serving;
 mod tasks;
 mod texts;
 
-use crate::tasks::{Task, Work};
 use std::env;
 use std::process::ExitCode;
 use streetmap_command::{Command, VERSION, read_command};
@@ -48,7 +47,7 @@ fn perform(rt: &HostRuntime, command: Command<'_>) -> Result<(), ProgramFault> {
         Command::Create { file } => files::create(rt, file),
         Command::Pipe { file, base } => {
             let base = Base::new(rt.alloc(), base.as_str())?;
-            files::run(rt, file, Task::Pipe(base))
+            files::pipe(rt, file, base)
         }
         Command::Serve {
             file,
@@ -64,21 +63,13 @@ fn perform(rt: &HostRuntime, command: Command<'_>) -> Result<(), ProgramFault> {
             file,
             collection,
             progress,
-        } => {
-            let work = Work::Export {
-                collection,
-                progress,
-            };
-            files::run(rt, file, Task::Work(work))
-        }
+        } => files::export(rt, file, collection, progress),
         Command::Check { file, replay } => files::check(rt, file, replay),
         Command::Load { file, load } => {
             let numbers = loading::numbers_of(load)?;
             files::load(rt, file, load, numbers)
         }
-        Command::Batches { file, after } => {
-            files::run(rt, file, Task::Work(Work::Batches { after }))
-        }
+        Command::Batches { file, after } => files::print_batches(rt, file, after),
         Command::Apply { file, text } => files::apply(rt, file, text),
     }
 }
