@@ -18,14 +18,15 @@ abbrev pub IsTimePropertyIf : Option Text → Type 0
 IsTimePropertyIf None = Unit {0}
 IsTimePropertyIf (Some name) = IsTrue (is_time_property name) × IsTrue (is_utf8 name)
 
--- an edit names a collection; what it opens has a title and may have a time property, and what it
--- puts in is a feature
+-- an edit names a collection; what it opens has a title and may have a time property, what it puts
+-- in is a feature, and what it takes out has an id, a text in UTF-8
 abbrev pub IsSoundEdit : EditValue → Type 0
 IsSoundEdit (edit.«open» name title time) = IsTrue (is_collection_id name) × IsTitle title
     × IsTimePropertyIf time
 IsSoundEdit (edit.insert name f) = IsTrue (is_collection_id name) × IsFeature f
 IsSoundEdit (edit.replace name f) = IsTrue (is_collection_id name) × IsFeature f
-IsSoundEdit (edit.delete name id) = IsTrue (is_collection_id name) × IsTrue (is_id id)
+IsSoundEdit (edit.delete name id) =
+    IsTrue (is_collection_id name) × IsTrue (is_id id) × IsTrue (is_utf8 id)
 
 -- a batch has a key, and at most 10,000 edits
 pub record IsSoundBatch (b : BatchValue) : Type 0 where

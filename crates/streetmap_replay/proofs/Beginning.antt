@@ -13,7 +13,7 @@ use Rattle.streetmap_ledger.specs.Batches.{Outcome, after_all}
 use Rattle.streetmap_ledger.specs.Keep.{LeavesOnly}
 use Rattle.streetmap_ledger.specs.State.{State, opening_state}
 use Rattle.streetmap_ledger.specs.declared.reply.Reply.{Reply}
-use Rattle.streetmap_replay.specs.Again.{IsWritable}
+use Rattle.streetmap_batch.specs.BatchFacts.{IsSoundBatch}
 use Rattle.streetmap_replay.specs.Following.{LineFault, Followed as Told, line_outcome, goes_on}
 use Rattle.streetmap_replay.specs.Following.{follow, follower}
 use Rattle.streetmap_replay.specs.JournalText.{text_of_lines, journal_lines}
@@ -104,7 +104,7 @@ as_many : (s : State) (xs : List Line) → (follow s xs).fault ≡ None →
 as_many s [] h = refl
 as_many s (x ∷ xs) h = more_replies s xs (λ v. as_many v xs) (line_outcome s x) h
 
-module _ (bs : List BatchValue) (w : All IsWritable bs) where
+module _ (bs : List BatchValue) (w : All IsSoundBatch bs) where
   journal_bytes : (line : Line) → IsLineOf bs line → IsInputBytes line
   journal_bytes line h = record {
     is = All-at (λ l. IsLine (line_bytes l) l) (journal_lines (after_all opening_state bs)) h.0 line
@@ -193,7 +193,7 @@ module _ (bs : List BatchValue) (w : All IsWritable bs) where
           h.2 (ap (λ (f : Told). f.fault) more) in
           subst stands (sym (ap (λ (f : Told). f.state) more) ∙ last) h.3.2
 
-pub follower_by : {T : Type 0} (bs : List BatchValue) → All IsWritable bs → (k : ℕ)
+pub follower_by : {T : Type 0} (bs : List BatchValue) → All IsSoundBatch bs → (k : ℕ)
     (lines : List Line) (old new : Option (List ℕ)) (tells : T → Text → Reply → T → Type 0)
     (first last : T) (before left : Option State → Type 0) (result : Followed)
     (stands : State → Type 0) → IsOfJournal bs lines old →

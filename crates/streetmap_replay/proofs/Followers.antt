@@ -12,7 +12,7 @@ use Rattle.std.proofs.lemmas.Bool.{cases_lt}
 use Rattle.std.proofs.lemmas.Bool.Decides.{nat_tests}
 use Rattle.std.proofs.lemmas.List.{length-map, take_all, take-map, drop-map, length-drop}
 use Rattle.std.proofs.lemmas.List.{length-take}
-use Rattle.std.proofs.lemmas.List.Elements.{All-head, All-tail, All-take, All-weaker}
+use Rattle.std.proofs.lemmas.List.Elements.{All-head, All-tail, All-take}
 use Rattle.streetmap_batch.specs.Text.{Text, text_cmp}
 use Rattle.streetmap_batch.specs.BatchFacts.{IsSoundBatch}
 use Rattle.streetmap_batch.specs.BatchReading.{batch_of}
@@ -27,7 +27,7 @@ use Rattle.streetmap_ledger.specs.declared.reply.Reply.TheVariants.{Accepted, Re
 use Rattle.streetmap_ledger.proofs.Repeat.{IsThere, again, there_again}
 use Rattle.streetmap_ledger.proofs.Acceptance.{accepted_are_enough}
 use Rattle.streetmap_ledger.proofs.StatesStay.{opening_sound}
-use Rattle.streetmap_replay.specs.Again.{IsWritable, untimed_batch}
+use Rattle.streetmap_replay.specs.Again.{untimed_batch}
 use Rattle.streetmap_replay.specs.Journal.{journal}
 use Rattle.streetmap_replay.specs.Lines.{Line, bare, numbered}
 use Rattle.streetmap_replay.specs.JournalText.{numbered_after, journal_lines}
@@ -64,22 +64,22 @@ batch_acts s b ack =
     ap (λ (o : Outcome). unless_refused o.state o.reply) (act_untimed s b)
     ∙ told_is (act s b).state (act s b).reply ack
 
-text_acts : (s : State) (b : BatchValue) → IsWritable b → IsAcknowledged (act s b).reply →
+text_acts : (s : State) (b : BatchValue) → IsSoundBatch b → IsAcknowledged (act s b).reply →
     acted s (batch_of (batch_text b)) ≡ Ok (act s b)
 text_acts s b w ack = ap (acted s) (reads_again b w).1 ∙ batch_acts s b ack
 
 abbrev bare_texts : List BatchValue → List Line
 bare_texts bs = map bare (map batch_text bs)
 
-pub follow_texts : (s : State) (bs : List BatchValue) → All IsWritable bs → AreAcknowledged s bs →
+pub follow_texts : (s : State) (bs : List BatchValue) → All IsSoundBatch bs → AreAcknowledged s bs →
     follow s (bare_texts bs)
     ≡ record { replies = replies_of s bs; state = after_all s bs; fault = None }
 follow_texts s [] w h = refl
 follow_texts s (b ∷ bs) w h =
     ap (λ (r : Result Outcome LineFault). goes_on s r (λ t. follow t (bare_texts bs)))
-    (text_acts s b (All-head IsWritable b bs w) h.0)
+    (text_acts s b (All-head IsSoundBatch b bs w) h.0)
     ∙ ap (with_reply (act s b).reply)
-    (follow_texts (act s b).state bs (All-tail IsWritable b bs w) h.1)
+    (follow_texts (act s b).state bs (All-tail IsSoundBatch b bs w) h.1)
 
 -- ---- one line
 
@@ -104,7 +104,7 @@ other_serial : (n : ℕ) (o : Option AcceptedBatch) →
 other_serial n None low = refl
 other_serial n (Some kept) low = other_number kept.serial n (low kept refl)
 
-numbered_acts : (s : State) (n : ℕ) (b : BatchValue) → IsWritable b → is_next s n b ≡ true →
+numbered_acts : (s : State) (n : ℕ) (b : BatchValue) → IsSoundBatch b → is_next s n b ≡ true →
     IsAcknowledged (act s b).reply →
     line_outcome s (numbered n (batch_text b)) ≡ Ok (act s b)
 numbered_acts s n b w next ack =
@@ -112,14 +112,11 @@ numbered_acts s n b w next ack =
     ∙ (ap (λ (t : Bool). cond t (acted s (Ok (untimed_batch b))) (Err not_next)) next
     ∙ batch_acts s b ack)
 
-numbered_waits : (s : State) (n : ℕ) (b : BatchValue) → IsWritable b → is_next s n b ≡ false →
+numbered_waits : (s : State) (n : ℕ) (b : BatchValue) → IsSoundBatch b → is_next s n b ≡ false →
     line_outcome s (numbered n (batch_text b)) ≡ Err not_next
 numbered_waits s n b w other =
     ap (acted_next s n) (reads_again b w).1
     ∙ ap (λ (t : Bool). cond t (acted s (Ok (untimed_batch b))) (Err not_next)) other
-
-sound_all : (bs : List BatchValue) → All IsWritable bs → All IsSoundBatch bs
-sound_all bs w = All-weaker IsWritable IsSoundBatch (λ b h. h.sound) bs w
 
 -- a line is followed, to this state
 pub record Advances (s : State) (line : Line) (t : State) : Type 0 where
@@ -127,16 +124,16 @@ pub record Advances (s : State) (line : Line) (t : State) : Type 0 where
   pub is : line_outcome s line ≡ Ok outcome
   pub there : outcome.state ≡ t
 
-module _ (bs : List BatchValue) (w : All IsWritable bs) where
+module _ (bs : List BatchValue) (w : All IsSoundBatch bs) where
   abbrev accepted : List BatchValue
   accepted = accepted_of opening_state bs
 
   in_turn : AreAccepted opening_state accepted
   in_turn = are_accepted opening_state bs
 
-  writable_at : (n : ℕ) (b : BatchValue) → slice_get accepted n ≡ Some b → IsWritable b
+  writable_at : (n : ℕ) (b : BatchValue) → slice_get accepted n ≡ Some b → IsSoundBatch b
   writable_at n b at =
-      All-at IsWritable accepted n b (all_accepted IsWritable opening_state bs w) at
+      All-at IsSoundBatch accepted n b (all_accepted IsSoundBatch opening_state bs w) at
 
   none_first : len opening_state.keys ≡ 0
   none_first = len-empty text_cmp AcceptedBatch
@@ -208,7 +205,7 @@ module _ (bs : List BatchValue) (w : All IsWritable bs) where
       let count = count_at opening_state accepted in_turn k (omega (arith, low, less)) in
       let zero_more = none_first in
       let made = All-take IsSoundBatch k accepted
-      (all_accepted IsSoundBatch opening_state bs (sound_all bs w)) in
+      (all_accepted IsSoundBatch opening_state bs w) in
       let sound : IsState s = all_sound opening_state (take k accepted) opening_sound made in
       let fewer : len s.keys + 1 < n + 1 = omega (arith, count, zero_more, less) in
       let other : (n + 1 == len s.keys + 1) ≡ false = grind (arith, nat_tests) in
@@ -217,7 +214,7 @@ module _ (bs : List BatchValue) (w : All IsWritable bs) where
       numbered_waits s (n + 1) b (writable_at n b at) (neither _ _ other under)
 
   lines_are : journal (after_all opening_state bs) ≡ map batch_text accepted
-  lines_are = from_opening bs (sound_all bs w)
+  lines_are = from_opening bs w
 
   -- a line of the journal is that of an accepted batch
   pub line_at : (n : ℕ) (line : Line) →
@@ -362,6 +359,6 @@ followers_are_beginnings bs k = begins opening_state bs k
 pub followers_arrive : FollowersArrive
 followers_arrive bs k w most =
     let accepted = accepted_of opening_state bs in
-    let as_many = ap length (from_opening bs (sound_all bs w)) ∙ length-map accepted batch_text in
+    let as_many = ap length (from_opening bs w) ∙ length-map accepted batch_text in
     ap (after_all opening_state) (take_all k accepted (omega (arith, most, as_many)))
     ∙ sym (accepted_are_enough.0 opening_state bs)

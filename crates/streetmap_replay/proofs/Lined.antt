@@ -20,7 +20,6 @@ use Rattle.streetmap_ledger.specs.Batches.{after_all}
 use Rattle.streetmap_ledger.specs.Laws.{accepted_of}
 use Rattle.streetmap_ledger.specs.WellFormed.{IsState}
 use Rattle.streetmap_ledger.proofs.StatesStay.{opening_sound}
-use Rattle.streetmap_replay.specs.Again.{IsWritable}
 use Rattle.streetmap_replay.specs.Journal.{journal}
 use Rattle.streetmap_replay.specs.Lines.{Line, bare, numbered, line_bytes, IsLine, LinesAreOne}
 use Rattle.streetmap_replay.specs.JournalText.{numbered_after, journal_lines, text_of_lines}
@@ -106,23 +105,20 @@ all_numbered P most m (t ∷ ts) each h few =
     (all_numbered P most (m + 1) ts each (All-tail (λ t. IsTrue (is_printed t)) t ts h)
     (omega (arith, few)))
 
-module _ (bs : List BatchValue) (w : All IsWritable bs) where
-  sound : All IsSoundBatch bs
-  sound = All-weaker IsWritable IsSoundBatch (λ b h. h.sound) bs w
-
+module _ (bs : List BatchValue) (w : All IsSoundBatch bs) where
   pub all_printed : All (λ t. IsTrue (is_printed t)) (journal (after_all opening_state bs))
   all_printed =
       let accepted = accepted_of opening_state bs in
       All-same (λ t. IsTrue (is_printed t)) (journal (after_all opening_state bs))
-      (map batch_text accepted) (from_opening bs sound)
+      (map batch_text accepted) (from_opening bs w)
       (All-map (λ t. IsTrue (is_printed t)) batch_text accepted
-      (All-weaker IsWritable (λ b. IsTrue (is_printed (batch_text b))) text_printed accepted
-      (all_accepted IsWritable opening_state bs w)))
+      (All-weaker IsSoundBatch (λ b. IsTrue (is_printed (batch_text b))) text_printed accepted
+      (all_accepted IsSoundBatch opening_state bs w)))
 
   few : length (journal (after_all opening_state bs)) < 2 ^ 63
   few =
       let made : IsState (after_all opening_state bs) =
-      all_sound opening_state bs opening_sound sound in
+      all_sound opening_state bs opening_sound w in
       let count = (journal_is_whole (after_all opening_state bs) made).0 in
       let most = made.not_too_many in
       omega (arith, count, most)

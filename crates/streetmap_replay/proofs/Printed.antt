@@ -20,7 +20,7 @@ use Rattle.streetmap_json.specs.ExactData.{are_exact_members}
 use Rattle.std.specs.Str.{is_utf8}
 use Rattle.streetmap_batch.specs.BatchText.{batch_data, batch_text}
 use Rattle.streetmap_batch.specs.BatchValue.{BatchValue}
-use Rattle.streetmap_replay.specs.Again.{IsWritable}
+use Rattle.streetmap_batch.specs.BatchFacts.{IsSoundBatch}
 use Rattle.streetmap_replay.proofs.TextAgain.{exact_batch}
 
 -- no byte below a space
@@ -137,7 +137,7 @@ mutual
       (joins (compact_text d) (members_text true ms) (value_printed d r.0)
       (members_printed true ms r.1)))
 
-pub text_printed : (b : BatchValue) → IsWritable b → IsTrue (is_printed (batch_text b))
+pub text_printed : (b : BatchValue) → IsSoundBatch b → IsTrue (is_printed (batch_text b))
 unfolding batch_text
 text_printed b h = value_printed (batch_data b) (exact_batch b h)
 

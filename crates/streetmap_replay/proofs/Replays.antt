@@ -14,7 +14,7 @@ use Rattle.streetmap_ledger.specs.WellFormed.{IsState}
 use Rattle.streetmap_ledger.specs.declared.reply.Reply.{Reply}
 use Rattle.streetmap_ledger.specs.declared.reply.Reply.TheVariants.{Accepted, Repeated, Refused}
 use Rattle.streetmap_ledger.proofs.StatesStay.{opening_sound, act_sound}
-use Rattle.streetmap_replay.specs.Again.{IsWritable}
+use Rattle.streetmap_batch.specs.BatchFacts.{IsSoundBatch}
 use Rattle.streetmap_replay.specs.Journal.{journal, text_if}
 use Rattle.streetmap_replay.specs.Lines.{Line, bare}
 use Rattle.streetmap_replay.specs.Following.{LineFault, Followed, unless_refused, acted}
@@ -44,10 +44,10 @@ follow_on t u (x ∷ xs) ys k s h =
     on_by s t u xs ys (λ v. follow_on t u xs ys k v) (line_outcome s x) h
 
 -- the text of a batch
-follow_text : (s : State) (b : BatchValue) → IsWritable b → (t : Bool) →
+follow_text : (s : State) (b : BatchValue) → IsSoundBatch b → (t : Bool) →
     is_accepted (act s b).reply ≡ t → Arrives (follow s (map bare (text_if t b))) (act s b).state
 follow_text s b w true e =
-    let followed = follow_texts s (b ∷ []) (All-cons IsWritable b [] w (All-nil IsWritable))
+    let followed = follow_texts s (b ∷ []) (All-cons IsSoundBatch b [] w (All-nil IsSoundBatch))
     (accepted_told (act s b).reply e, tt) in
     record {
       there = ap (λ (f : Followed). f.state) followed;
@@ -60,7 +60,7 @@ opening_replays =
     subst (λ (ts : List Text). Arrives (follow opening_state (map bare ts)) opening_state)
     (sym opening_empty) (record { there = refl; whole = refl })
 
-batch_replays : (s : State) (b : BatchValue) → IsState s → IsWritable b → Replays s →
+batch_replays : (s : State) (b : BatchValue) → IsState s → IsSoundBatch b → Replays s →
     Replays (act s b).state
 batch_replays s b sound w h =
     let more = text_if (is_accepted (act s b).reply) b in
@@ -69,12 +69,12 @@ batch_replays s b sound w h =
     (follow_on s (act s b).state (map bare (journal s)) (map bare more)
     (follow_text s b w (is_accepted (act s b).reply) refl) opening_state h)
 
-all_replay : (s : State) (bs : List BatchValue) → IsState s → All IsWritable bs → Replays s →
+all_replay : (s : State) (bs : List BatchValue) → IsState s → All IsSoundBatch bs → Replays s →
     Replays (after_all s bs)
 all_replay s [] sound w h = h
 all_replay s (b ∷ bs) sound w h =
-    let head = All-head IsWritable b bs w in
-    all_replay (act s b).state bs (act_sound s b sound head.sound) (All-tail IsWritable b bs w)
+    let head = All-head IsSoundBatch b bs w in
+    all_replay (act s b).state bs (act_sound s b sound head) (All-tail IsSoundBatch b bs w)
     (batch_replays s b sound head h)
 
 -- ---- and comes from batches

@@ -10,7 +10,7 @@ use Rattle.streetmap_batch.specs.BatchValue.{BatchValue}
 use Rattle.streetmap_ledger.specs.Batches.{Outcome}
 use Rattle.streetmap_ledger.specs.State.{State, opening_state}
 use Rattle.streetmap_ledger.specs.Laws.{accepted_of}
-use Rattle.streetmap_replay.specs.Again.{IsWritable}
+use Rattle.streetmap_batch.specs.BatchFacts.{IsSoundBatch}
 use Rattle.streetmap_replay.specs.Lines.{Line, bare, numbered}
 use Rattle.streetmap_replay.specs.Following.{LineFault, Followed, goes_on, follow, follower}
 use Rattle.streetmap_replay.specs.Sittings.{after_sittings, followed_of, followed_in, highest}
@@ -28,7 +28,7 @@ abbrev Reaches : List BatchValue → ℕ → List Line → Followed → Type 0
 Reaches bs k lines f =
     f.state ≡ follower bs (max k (highest (take (length f.replies) lines)))
 
-module _ (bs : List BatchValue) (w : All IsWritable bs) where
+module _ (bs : List BatchValue) (w : All IsSoundBatch bs) where
   none_more : (k : ℕ) → follower bs k ≡ follower bs (max k 0)
   none_more k = let most : k ≡ max k 0 = omega arith in ap (follower bs) most
 

@@ -29,7 +29,7 @@ use Rattle.streetmap_batch.specs.BatchReading.{has_only, list_of, most_edits, ed
 use Rattle.streetmap_batch.specs.BatchReading.{batch, batch_of}
 use Rattle.streetmap_batch.specs.BatchText.{feature_edit_data, edit_data, batch_data, batch_text}
 use Rattle.streetmap_batch.specs.Names.{is_id_byte, is_key_byte, is_key, is_collection_id}
-use Rattle.streetmap_replay.specs.Again.{untimed_edit, untimed_batch, HasTexts, IsWritable}
+use Rattle.streetmap_replay.specs.Again.{untimed_edit, untimed_batch}
 use Rattle.streetmap_replay.specs.Again.{BatchTextReadsAgain}
 
 -- ---- what is written for an edit reads as it
@@ -168,40 +168,40 @@ exact_feature_edit op name f h k l =
       ascii_utf8 (codes "op") refl,
     ) refl
 
-exact_edit : (e : EditValue) → IsSoundEdit e → HasTexts e → IsTrue (is_exact (edit_data e))
+exact_edit : (e : EditValue) → IsSoundEdit e → IsTrue (is_exact (edit_data e))
 unfolding edit_data
-exact_edit (edit.«open» name title time) h texts =
+exact_edit (edit.«open» name title time) h =
     exact_open name title time (collection_utf8 name h.0) h.1 h.2
-exact_edit (edit.insert name f) h texts =
+exact_edit (edit.insert name f) h =
     exact_feature_edit (codes "insert") name f (ascii_utf8 (codes "insert") refl)
     (collection_utf8 name h.0) (exact_feature f h.1)
-exact_edit (edit.replace name f) h texts =
+exact_edit (edit.replace name f) h =
     exact_feature_edit (codes "replace") name f (ascii_utf8 (codes "replace") refl)
     (collection_utf8 name h.0) (exact_feature f h.1)
-exact_edit (edit.delete name id) h texts =
+exact_edit (edit.delete name id) h =
     rw (
       collection_utf8 name h.0,
-      texts,
+      h.2,
       ascii_utf8 (codes "collection") refl,
       ascii_utf8 (codes "id") refl,
       ascii_utf8 (codes "op") refl,
       ascii_utf8 (codes "delete") refl,
     ) refl
 
-exact_edits : (es : List EditValue) → All IsSoundEdit es → All HasTexts es →
+exact_edits : (es : List EditValue) → All IsSoundEdit es →
     IsTrue (are_exact (items_of (map edit_data es)))
-exact_edits [] h texts = refl
-exact_edits (e ∷ es) h texts =
+exact_edits [] h = refl
+exact_edits (e ∷ es) h =
     rw (
-      exact_edit e (All-head IsSoundEdit e es h) (All-head HasTexts e es texts),
-      exact_edits es (All-tail IsSoundEdit e es h) (All-tail HasTexts e es texts),
+      exact_edit e (All-head IsSoundEdit e es h),
+      exact_edits es (All-tail IsSoundEdit e es h),
     ) refl
 
-pub exact_batch : (b : BatchValue) → IsWritable b → IsTrue (is_exact (batch_data b))
+pub exact_batch : (b : BatchValue) → IsSoundBatch b → IsTrue (is_exact (batch_data b))
 unfolding batch_data
 exact_batch b h = rw (
-  exact_edits b.edits h.sound.made h.texts,
-  key_utf8 b.key h.sound.named,
+  exact_edits b.edits h.made,
+  key_utf8 b.key h.named,
   ascii_utf8 (codes "edits") refl,
   ascii_utf8 (codes "key") refl,
 ) refl
@@ -228,12 +228,12 @@ shallow_batch b h = let k = shallow_edits b.edits h.made in omega (arith, k)
 
 -- ---- the whole
 
-pub is_batch_text : (b : BatchValue) → IsWritable b → IsBatchText (batch_text b) (untimed_batch b)
+pub is_batch_text : (b : BatchValue) → IsSoundBatch b → IsBatchText (batch_text b) (untimed_batch b)
 unfolding batch_text
 is_batch_text b h = (
   batch_data b,
-  text_again (batch_data b) (exact_batch b h) (shallow_batch b h.sound),
-  batch_reads b h.sound,
+  text_again (batch_data b) (exact_batch b h) (shallow_batch b h),
+  batch_reads b h,
 )
 
 edits_again : (n : ℕ) (ds : List Data) (es : List EditValue) → AreEdits ds es →

@@ -1,6 +1,5 @@
 -- The text of a batch reads again.
-use Rattle.std.specs.Prelude.{◌≡◌, ℕ, List, Ok, All, IsTrue, map}
-use Rattle.std.specs.Str.{is_utf8}
+use Rattle.std.specs.Prelude.{◌≡◌, ℕ, List, Ok, map}
 use Rattle.streetmap_geojson.specs.FeatureValue.{untimed}
 use Rattle.streetmap_batch.specs.BatchValue as edit
 use Rattle.streetmap_batch.specs.BatchValue.{EditValue, BatchValue}
@@ -21,21 +20,9 @@ untimed_edit (edit.delete name id) = edit.delete name id
 abbrev pub untimed_batch : BatchValue → BatchValue
 untimed_batch b = record { key = b.key; edits = map untimed_edit b.edits }
 
--- an id to delete is a text in UTF-8
-abbrev pub HasTexts : EditValue → Type 0
-HasTexts (edit.«open» name title time) = Unit {0}
-HasTexts (edit.insert name f) = Unit {0}
-HasTexts (edit.replace name f) = Unit {0}
-HasTexts (edit.delete name id) = IsTrue (is_utf8 id)
-
--- a batch that the type of batches can hold
-pub record IsWritable (b : BatchValue) : Type 0 where
-  pub sound : IsSoundBatch b
-  pub texts : All HasTexts b.edits
-
 -- what its text reads as
 abbrev pub BatchTextReadsAgain : Type 0
-BatchTextReadsAgain = (b : BatchValue) → IsWritable b →
+BatchTextReadsAgain = (b : BatchValue) → IsSoundBatch b →
     IsBatchText (batch_text b) (untimed_batch b) × (batch_of (batch_text b) ≡ Ok (untimed_batch b))
 
 -- a batch that was read from a text has no times, so that its text reads as that very batch

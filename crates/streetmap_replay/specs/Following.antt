@@ -13,7 +13,7 @@ use Rattle.streetmap_ledger.specs.Laws.{accepted_of}
 use Rattle.streetmap_ledger.specs.declared.reply.Refusal.{Refusal}
 use Rattle.streetmap_ledger.specs.declared.reply.Reply.{Reply}
 use Rattle.streetmap_ledger.specs.declared.reply.Reply.TheVariants.{Accepted, Repeated, Refused}
-use Rattle.streetmap_replay.specs.Again.{IsWritable}
+use Rattle.streetmap_batch.specs.BatchFacts.{IsSoundBatch}
 use Rattle.streetmap_replay.specs.Journal.{journal}
 use Rattle.streetmap_replay.specs.Lines.{Line, bare, numbered}
 use Rattle.streetmap_replay.specs.JournalText.{journal_lines}
@@ -92,7 +92,7 @@ lines_between bs j m = drop j (take m (journal_lines (after_all opening_state bs
 -- to the m-th, follows all of them, and is then a follower of the first m, or as it was
 abbrev pub FollowersGoOn : Type 0
 FollowersGoOn =
-    (bs : List BatchValue) (k j m : ℕ) → All IsWritable bs → j ≤ k →
+    (bs : List BatchValue) (k j m : ℕ) → All IsSoundBatch bs → j ≤ k →
     Arrives (follow (follower bs k) (lines_between bs j m)) (follower bs (max k m))
 
 -- its state is that of a beginning of the batches
@@ -104,7 +104,7 @@ FollowersAreBeginnings =
 -- and behind all lines it is that of all batches
 abbrev pub FollowersArrive : Type 0
 FollowersArrive =
-    (bs : List BatchValue) (k : ℕ) → All IsWritable bs →
+    (bs : List BatchValue) (k : ℕ) → All IsSoundBatch bs →
     length (journal (after_all opening_state bs)) ≤ k →
     follower bs k ≡ after_all opening_state bs
 
@@ -112,7 +112,7 @@ FollowersArrive =
 -- followed before; to who lacks one before it, it is not the next
 abbrev pub LinesComeInOrder : Type 0
 LinesComeInOrder =
-    (bs : List BatchValue) (k n : ℕ) (line : Line) → All IsWritable bs →
+    (bs : List BatchValue) (k n : ℕ) (line : Line) → All IsSoundBatch bs →
     slice_get (journal_lines (after_all opening_state bs)) n ≡ Some line →
     (n ≤ k → Arrives (follow (follower bs k) (line ∷ [])) (follower bs (max k (n + 1))))
     × (k < n → line_outcome (follower bs k) line ≡ Err not_next)

@@ -9,7 +9,6 @@ use Rattle.streetmap_batch.specs.BatchFacts.{IsSoundBatch}
 use Rattle.streetmap_ledger.specs.State.{State, opening_state}
 use Rattle.streetmap_ledger.specs.WellFormed.{IsState}
 use Rattle.streetmap_ledger.specs.Batches.{after_all}
-use Rattle.streetmap_replay.specs.Again.{IsWritable}
 use Rattle.streetmap_replay.specs.Journal.{journal}
 use Rattle.streetmap_replay.specs.Lines.{Line, numbered, line_bytes, IsLine}
 
@@ -34,7 +33,7 @@ journal_text s = text_of_lines (journal_lines s)
 -- the lines of the bytes of a journal are its lines, each of which reads as itself
 abbrev pub JournalReadsInLines : Type 0
 JournalReadsInLines =
-    (bs : List BatchValue) → All IsWritable bs →
+    (bs : List BatchValue) → All IsSoundBatch bs →
     let s = after_all opening_state bs in
     (lines (journal_text s) ≡ map line_bytes (journal_lines s))
     × All (λ line. IsLine (line_bytes line) line) (journal_lines s)
@@ -54,7 +53,7 @@ pub record IsTorn (whole : List Line) (bytes : List ℕ) : Type 0 where
 -- state's journal begins the journal of each later state
 abbrev pub BeginningsAreTorn : Type 0
 BeginningsAreTorn =
-    ((bs : List BatchValue) (bytes : List ℕ) → All IsWritable bs →
+    ((bs : List BatchValue) (bytes : List ℕ) → All IsSoundBatch bs →
     StartsWith (journal_text (after_all opening_state bs)) bytes →
     IsTorn (journal_lines (after_all opening_state bs)) bytes)
     × ((s : State) (bs : List BatchValue) (bytes : List ℕ) → IsState s → All IsSoundBatch bs →

@@ -3,7 +3,7 @@ use Rattle.std.specs.Prelude.{◌≡◌, ◌<◌, ◌^◌, ℕ, List, ◌∷◌,
 use Rattle.streetmap_batch.specs.Text.{Text}
 use Rattle.streetmap_batch.specs.BatchText.{batch_text}
 use Rattle.streetmap_batch.specs.BatchValue.{BatchValue}
-use Rattle.streetmap_replay.specs.Again.{IsWritable}
+use Rattle.streetmap_batch.specs.BatchFacts.{IsSoundBatch}
 
 -- a batch alone, or a batch with its serial
 pub data Line : Type 0 where
@@ -27,4 +27,4 @@ IsLine bytes (bare text) =
 abbrev pub LinesAreOne : Type 0
 LinesAreOne =
     ((bytes : List ℕ) (x y : Line) → IsLine bytes x → IsLine bytes y → x ≡ y)
-    × ((b : BatchValue) → IsWritable b → IsLine (batch_text b) (bare (batch_text b)))
+    × ((b : BatchValue) → IsSoundBatch b → IsLine (batch_text b) (bare (batch_text b)))

@@ -4,7 +4,7 @@ use Rattle.streetmap_batch.specs.BatchValue.{BatchValue}
 use Rattle.streetmap_ledger.specs.State.{State, opening_state}
 use Rattle.streetmap_ledger.specs.Batches.{act, after_all}
 use Rattle.streetmap_ledger.specs.WellFormed.{IsState}
-use Rattle.streetmap_replay.specs.Again.{IsWritable}
+use Rattle.streetmap_batch.specs.BatchFacts.{IsSoundBatch}
 use Rattle.streetmap_replay.specs.Journal.{journal}
 use Rattle.streetmap_replay.specs.Lines.{bare}
 use Rattle.streetmap_replay.specs.Following.{Arrives, follow}
@@ -19,7 +19,7 @@ Replays s = Arrives (follow opening_state (map bare (journal s))) s
 abbrev pub StatesReplay : Type 0
 StatesReplay =
     Replays opening_state
-    × ((s : State) (b : BatchValue) → IsState s → IsWritable b → Replays s →
+    × ((s : State) (b : BatchValue) → IsState s → IsSoundBatch b → Replays s →
     Replays (act s b).state)
-    × ((bs : List BatchValue) → All IsWritable bs → Replays (after_all opening_state bs))
+    × ((bs : List BatchValue) → All IsSoundBatch bs → Replays (after_all opening_state bs))
     × ((s : State) → Replays s → (bs : List BatchValue) × (after_all opening_state bs ≡ s))

@@ -3,7 +3,7 @@ use Rattle.std.specs.Prelude.{◌≡◌, ℕ, max, List, [], ◌∷◌, ◌++◌
 use Rattle.streetmap_batch.specs.BatchValue.{BatchValue}
 use Rattle.streetmap_ledger.specs.State.{State, opening_state}
 use Rattle.streetmap_ledger.specs.Batches.{after_all}
-use Rattle.streetmap_replay.specs.Again.{IsWritable}
+use Rattle.streetmap_batch.specs.BatchFacts.{IsSoundBatch}
 use Rattle.streetmap_replay.specs.Lines.{Line, bare, numbered}
 use Rattle.streetmap_replay.specs.JournalText.{journal_lines}
 use Rattle.streetmap_replay.specs.Following.{follow, follower}
@@ -40,7 +40,7 @@ IsLineOf bs line =
 -- serial that was followed
 abbrev pub SittingsAddUp : Type 0
 SittingsAddUp =
-    (bs : List BatchValue) (sittings : List (List Line)) → All IsWritable bs →
+    (bs : List BatchValue) (sittings : List (List Line)) → All IsSoundBatch bs →
     All (All (IsLineOf bs)) sittings →
     after_sittings opening_state sittings
     ≡ follower bs (highest (followed_in opening_state sittings))

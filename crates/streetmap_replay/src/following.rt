@@ -2,7 +2,7 @@
 ghost use Rattle.std.specs.Prelude.{◌≡◌, ℕ, List, All as AllOf};
 ghost use Rattle.streetmap_batch.specs.BatchValue.{BatchValue};
 ghost use Rattle.streetmap_ledger.specs.State.{State};
-ghost use Rattle.streetmap_replay.specs.Again.{IsWritable};
+ghost use Rattle.streetmap_batch.specs.BatchFacts.{IsSoundBatch};
 ghost use Rattle.streetmap_replay.specs.Following.{follower};
 ghost use Rattle.streetmap_replay.specs.Lines.{Line};
 ghost use Rattle.streetmap_replay.specs.Beginnings.{IsOfJournal, FollowerBy};
@@ -57,7 +57,7 @@ pub fn follow_lines<K: KeepsBatches, R: BufRead, T: Replies>(
         (K.may_leave keeper.old) (K.may_leave keeper.new) result (K.stands keeper.new) }
     // Of a journal's lines: a follower goes on, or is as before.
     ensures beginnings { K.is_clean keeper.new → (bs : List BatchValue) (k : ℕ)
-        (lines : List Line) → AllOf IsWritable bs → K.stands keeper.old (follower bs k) →
+        (lines : List Line) → AllOf IsSoundBatch bs → K.stands keeper.old (follower bs k) →
         IsOfJournal bs lines (R.remaining reader.old) →
         FollowerBy bs k lines result.count result.end (K.stands keeper.new) }
 {

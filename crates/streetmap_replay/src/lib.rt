@@ -18,7 +18,7 @@
 //! answers that all is well exactly where the replay of the state is the state, and else the first
 //! batch or the first collection that the texts do not give again (`specs/Given`, `specs/Checked`).
 //!
-//! Modules, in the order of reading: `writable`, `length`, `laws`; for following `line_stop`,
+//! Modules, in the order of reading: `length`, `laws`; for following `line_stop`,
 //! `reading` (bytes as a line), `serial` (which serial is the next), `acting` (one line), `replies`
 //! (where replies are told), `following`, `writing` (replies as text), `names` (of faults); for
 //! replaying `fault`, `batches` (each text given again), `features` and `collections` (what two
@@ -39,7 +39,6 @@ mod reading;
 mod replaying;
 mod replies;
 mod serial;
-mod writable;
 mod writing;
 
 pub use acting::{Acknowledged, follow_line};
@@ -52,5 +51,4 @@ pub use line_stop::LineStop;
 pub use reading::{Line, read_line};
 pub use replaying::check_replay;
 pub use replies::{NotTold, Replies};
-pub use writable::is_writable;
 pub use writing::ReplyLines;
