@@ -5,5 +5,4 @@ pub mod TextLemmas
 pub mod Again
 pub mod KeeperLemmas
 pub mod OpeningLemmas
-pub mod WriteLemmas
 pub mod PrintLemmas

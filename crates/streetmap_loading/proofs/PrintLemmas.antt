@@ -11,7 +11,7 @@ use Rattle.streetmap_loading.specs.Sinks.{SinkTakesAll}
 use Rattle.streetmap_loading.specs.Ends.{ByEnd, EndsAt, EndsWithin, end_of_stop}
 use Rattle.streetmap_loading.specs.Loads.{Loads}
 use Rattle.streetmap_loading.specs.Checking.{IsOfText}
-use Rattle.streetmap_loading.specs.Printing.{line_of, AppendsFirst, IsWriteStop, Prints}
+use Rattle.streetmap_loading.specs.Printing.{line_of, IsWriteStop, Prints}
 use Rattle.streetmap_loading.specs.TextPrints.{lines_of, PrintsBefore, PrintsInto, PrintsBy}
 use Rattle.streetmap_loading.specs.declared.sink.Stop.{Stop}
 use Rattle.streetmap_loading.specs.declared.sink.Stop.TheVariants as stops
@@ -19,7 +19,7 @@ use Rattle.streetmap_loading.specs.declared.end.Loaded.{Loaded}
 use Rattle.streetmap_loading.specs.declared.end.End.{End}
 use Rattle.streetmap_loading.specs.declared.end.End.TheVariants.{All, AtFault, ReadFailed, Memory}
 use Rattle.streetmap_loading.specs.declared.end.End.TheVariants.{Refused, Stopped, WriteFailed}
-use Rattle.streetmap_loading.proofs.WriteLemmas.{first_behind}
+use Rattle.streetmap_text_lines.proofs.WriteLemmas.{beginning_behind}
 
 module _ {S : Type 0} (contents : S → Option (List ℕ)) where
   abbrev pub prints : S → BatchValue → Result (Option ℕ) Stop → S → Type 0
@@ -57,7 +57,7 @@ module _ {S : Type 0} (contents : S → Option (List ℕ)) where
       are_left = e.are_left;
       batch = e.batch;
       next = e.next;
-      written = first_behind (contents first) (contents it.ends.mid) (contents last)
+      written = beginning_behind (contents first) (contents it.ends.mid) (contents last)
           (lines_of it.ends.sent) (line_of e.batch) written e.refused.1;
     }
 

@@ -1,20 +1,16 @@
 -- Batches that are written, a line each.
 use Rattle.std.specs.Prelude.{◌≡◌, ℕ, List, [], ◌∷◌, ◌++◌, Option, None, Some, Result, Ok, Err, ⊤}
-use Rattle.std.specs.Io.{StartsWith}
 use Rattle.std.specs.Io.KnownBytes.{Appends}
 use Rattle.streetmap_batch.specs.BatchText.{batch_text}
 use Rattle.streetmap_batch.specs.BatchValue.{BatchValue}
 use Rattle.streetmap_ledger.specs.declared.reply.Fault.TheVariants.{Memory}
+use Rattle.streetmap_text_lines.specs.Written.{AppendsBeginning}
 use Rattle.streetmap_loading.specs.declared.sink.Stop.{Stop}
 use Rattle.streetmap_loading.specs.declared.sink.Stop.TheVariants.{Refused, Stopped, WriteFailed}
 
 -- the text of a batch, and a line feed
 abbrev pub line_of : BatchValue → List ℕ
 line_of b = batch_text b ++ 10 ∷ []
-
--- the first of these bytes were written, and nothing else
-abbrev pub AppendsFirst : Option (List ℕ) → Option (List ℕ) → List ℕ → Type 0
-AppendsFirst old new bytes = (first : List ℕ) × StartsWith bytes first × Appends old new first
 
 -- what may come of a write: memory is refused, or the write fails
 abbrev pub IsWriteStop : Stop → Type 0
@@ -26,4 +22,4 @@ IsWriteStop _ = ⊥
 abbrev pub Prints : BatchValue → Result (Option ℕ) Stop → Option (List ℕ) → Option (List ℕ) → Type
     0
 Prints b (Ok serial) old new = (serial ≡ None) × Appends old new (line_of b)
-Prints b (Err stop) old new = IsWriteStop stop × AppendsFirst old new (line_of b)
+Prints b (Err stop) old new = IsWriteStop stop × AppendsBeginning old new (line_of b)

@@ -4,11 +4,12 @@ use Rattle.std.specs.Io.KnownBytes.{Appends}
 use Rattle.streetmap_batch.specs.Text.{Text}
 use Rattle.streetmap_batch.specs.BatchValue.{BatchValue}
 use Rattle.streetmap_packing.specs.Packs.{Packs}
+use Rattle.streetmap_text_lines.specs.Written.{AppendsBeginning}
 use Rattle.streetmap_loading.specs.Places.{PlacedValue, edits_of}
 use Rattle.streetmap_loading.specs.Ends.{AreLeft, IsNext}
 use Rattle.streetmap_loading.specs.KeeperLoads.{IsRead}
 use Rattle.streetmap_loading.specs.Options.{LoadValue, load_items}
-use Rattle.streetmap_loading.specs.Printing.{line_of, AppendsFirst}
+use Rattle.streetmap_loading.specs.Printing.{line_of}
 use Rattle.streetmap_loading.specs.declared.end.Loaded.{Loaded}
 use Rattle.streetmap_loading.specs.declared.end.End.{End}
 use Rattle.streetmap_loading.specs.declared.end.End.TheVariants.{All, AtFault, ReadFailed, Memory}
@@ -33,7 +34,7 @@ pub record PrintsInto (each : ℕ) (key : Text) (read : List PlacedValue) (sent 
   pub are_left : AreLeft each key read sent rest
   pub batch : BatchValue
   pub next : IsNext key (1 + length sent) (edits_of rest) batch
-  pub written : AppendsFirst old new (lines_of sent ++ line_of batch)
+  pub written : AppendsBeginning old new (lines_of sent ++ line_of batch)
 
 abbrev pub PrintsBy :
     (each : ℕ) (key : Text) (read : List PlacedValue) (sent : List BatchValue)

@@ -1,9 +1,10 @@
 //! A writer that batches are written to.
 use crate::sink::{Sink, Stop};
 use std::alloc::{AllocError, Global};
-use std::io::{Error, ErrorKind, Write};
+use std::io::Write;
 use streetmap_batch::Batch;
 use streetmap_ledger::Fault;
+use streetmap_text_lines::WriteFault;
 
 /// A writer that the texts of batches are written to, one a line.
 #[derive(Drop)]
@@ -15,14 +16,13 @@ pub struct LineSink<W: Write> {
 impl Stop {
     ghost use Rattle.streetmap_loading.specs.Printing.{IsWriteStop};
 
-    /// Why a write failed. A buffer that finds no memory fails so too.
-    fn of_write(error: &Error) -> Stop
+    /// Why a batch was not written.
+    fn of_write(fault: WriteFault) -> Stop
         ensures { IsWriteStop result }
     {
-        if error.kind() == ErrorKind::OutOfMemory {
-            Stop::Stopped(Fault::Memory)
-        } else {
-            Stop::WriteFailed
+        match fault {
+            WriteFault::Memory => Stop::Stopped(Fault::Memory),
+            WriteFault::WriteFailed => Stop::WriteFailed,
         }
     }
 }
@@ -43,41 +43,33 @@ ghost use Rattle.std.specs.Prelude.{OnOk, OnErr, IfErr, IfOk, ◌≡◌, ◌++�
 ghost use Rattle.std.specs.Io.KnownBytes.{Appends};
 ghost use Rattle.streetmap_batch.specs.BatchText.{batch_text};
 ghost use Rattle.streetmap_batch.specs.BatchView.{batch_value};
-ghost use Rattle.streetmap_loading.specs.Printing.{AppendsFirst, IsWriteStop};
+ghost use Rattle.streetmap_text_lines.specs.Written.{AppendsBeginning};
+ghost use Rattle.streetmap_loading.specs.Printing.{IsWriteStop};
 
-/// Writes bytes, as often as the writer takes some of them.
+/// Writes bytes.
 fn write_bytes<W: Write>(writer: &mut W, bytes: &[u8]) -> Result<(), Stop>
     ensures ok { OnOk result (Appends (W.contents writer.old) (W.contents writer.new) bytes.now) }
     ensures err { OnErr result
-        (AppendsFirst (W.contents writer.old) (W.contents writer.new) bytes.now) }
+        (AppendsBeginning (W.contents writer.old) (W.contents writer.new) bytes.now) }
     ensures fault { IfErr result IsWriteStop }
 {
-    let mut rest = bytes;
-    for _turn in 0..u64::MAX {
-        if rest.is_empty() {
-            return Ok(());
-        }
-        match writer.write(rest) {
-            Ok(0) => return Err(Stop::WriteFailed),
-            Ok(count) => rest = &rest[count..],
-            Err(error) if error.kind() == ErrorKind::Interrupted => {}
-            Err(error) => return Err(Stop::of_write(&error)),
-        }
+    match streetmap_text_lines::write_bytes(writer, bytes) {
+        Ok(()) => Ok(()),
+        Err(stopped) => Err(Stop::of_write(stopped.why)),
     }
-    Err(Stop::WriteFailed)
 }
 
 /// Writes a line, and lets the reader of the lines see it.
 fn write_line<W: Write>(writer: &mut W, line: &[u8]) -> Result<(), Stop>
     ensures ok { OnOk result (Appends (W.contents writer.old) (W.contents writer.new) line.now) }
     ensures err { OnErr result
-        (AppendsFirst (W.contents writer.old) (W.contents writer.new) line.now) }
+        (AppendsBeginning (W.contents writer.old) (W.contents writer.new) line.now) }
     ensures fault { IfErr result IsWriteStop }
 {
     write_bytes(writer, line)?;
     match writer.flush() {
         Ok(()) => Ok(()),
-        Err(error) => Err(Stop::of_write(&error)),
+        Err(error) => Err(Stop::of_write(WriteFault::of_write(&error))),
     }
 }
 

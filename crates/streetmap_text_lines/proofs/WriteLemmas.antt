@@ -1,11 +1,83 @@
--- What is written of a text, whole or in part.
-use Rattle.std.proofs.Common.{◌≡◌, ℕ, ◌-◌, ◌≤◌, List, [], ◌++◌, length, take, drop, refl, sym, ap}
-use Rattle.std.proofs.Common.{subst, ◌∙◌, arith, append_assoc, length-append, length-drop, take_all}
-use Rattle.std.proofs.Common.{take-append-drop, Option, Result, Ok, Err, OnErr, OnOk}
-use Rattle.std.proofs.Math.Seq.{take-append_seam}
+-- What is written of bytes, whole or in part.
+use Rattle.std.proofs.Common.{◌≡◌, ℕ, ◌-◌, ◌≤◌, ◌<◌, List, [], ◌++◌, length, take, drop, refl, sym}
+use Rattle.std.proofs.Common.{ap, subst, ◌∙◌, arith, append_assoc, length-append, length-drop}
+use Rattle.std.proofs.Common.{length-take-le, take_all, take-append-drop, Option, Result, Ok, Err}
+use Rattle.std.proofs.Common.{OnErr, OnOk}
+use Rattle.std.proofs.Math.Seq.{take-append-add, take-append_seam, take-length}
+use Rattle.std.proofs.lemmas.List.{take-append-le}
 use Rattle.std.proofs.KnownBytes.{Appends-nil, Appends-trans, Appends-kept}
+use Rattle.std.proofs.Transfers.{starts_with_length}
+use Rattle.std.specs.Io.{StartsWith}
 use Rattle.std.specs.Io.KnownBytes.{Appends, Keeps}
-use Rattle.streetmap_text_lines.specs.Written.{AppendsFirst}
+use Rattle.streetmap_text_lines.specs.Written.{AppendsFirst, AppendsBeginning, AppendsLess}
+
+pub on_ok : {T E : Type 0} (r : Result T E) (P : Type 0) → P → OnOk r P
+on_ok (Ok x) P h = h
+on_ok (Err e) P h = tt
+
+pub on_err : {T E : Type 0} (r : Result T E) (P : Type 0) → P → OnErr r P
+on_err (Ok x) P h = tt
+on_err (Err e) P h = h
+
+-- ---- beginnings
+
+pub starts-longer : (xs ys first : List ℕ) → StartsWith xs first → StartsWith (xs ++ ys) first
+starts-longer xs ys first h =
+    let within : length first ≤ length xs = starts_with_length xs first h in
+    take-append-le (length first) xs ys within ∙ h
+
+pub starts-behind : (xs ys first : List ℕ) → StartsWith ys first →
+    StartsWith (xs ++ ys) (xs ++ first)
+starts-behind xs ys first h =
+    ap (λ n. take n (xs ++ ys)) (length-append xs first)
+    ∙ take-append-add xs ys (length first)
+    ∙ ap (λ l. xs ++ l) h
+
+pub beginning_longer : (a b : Option (List ℕ)) (xs ys : List ℕ) → AppendsBeginning a b xs →
+    AppendsBeginning a b (xs ++ ys)
+beginning_longer a b xs ys h = (h.0, starts-longer xs ys h.0 h.1, h.2)
+
+pub beginning_behind : (a b c : Option (List ℕ)) (xs ys : List ℕ) → Appends a b xs →
+    AppendsBeginning b c ys → AppendsBeginning a c (xs ++ ys)
+beginning_behind a b c xs ys p h =
+    (xs ++ h.0, starts-behind xs ys h.0 h.1, Appends-trans a b c xs h.0 p h.2)
+
+pub beginning_all : (a b : Option (List ℕ)) (xs : List ℕ) → Appends a b xs →
+    AppendsBeginning a b xs
+beginning_all a b xs h = (xs, take-length xs, h)
+
+-- ---- beginnings that are not all
+
+pub less_longer : (a b : Option (List ℕ)) (xs ys : List ℕ) → AppendsLess a b xs →
+    AppendsLess a b (xs ++ ys)
+less_longer a b xs ys h =
+    (h.0, starts-longer xs ys h.0 h.1, omega (arith, h.2, length-append xs ys), h.3)
+
+pub less_behind : (a b c : Option (List ℕ)) (xs ys : List ℕ) → Appends a b xs →
+    AppendsLess b c ys → AppendsLess a c (xs ++ ys)
+less_behind a b c xs ys p h = (
+  xs ++ h.0,
+  starts-behind xs ys h.0 h.1,
+  omega (arith, h.2, length-append xs ys, length-append xs h.0),
+  Appends-trans a b c xs h.0 p h.3,
+)
+
+-- nothing of some bytes is not all of them
+pub less_none : (a : Option (List ℕ)) (xs : List ℕ) → 0 < length xs → AppendsLess a a xs
+less_none a xs some = ([], refl, some, Appends-nil a)
+
+-- ---- beginnings of so many bytes
+
+pub first_is_beginning : (n : ℕ) (a b : Option (List ℕ)) (bytes : List ℕ) →
+    AppendsFirst n a b bytes → AppendsBeginning a b bytes
+first_is_beginning n a b bytes h =
+    (take n bytes, ap (λ m. take m bytes) (length-take-le n bytes h.0), h.1)
+
+pub first_is_less : (n : ℕ) (a b : Option (List ℕ)) (bytes : List ℕ) →
+    AppendsFirst n a b bytes → n < length bytes → AppendsLess a b bytes
+first_is_less n a b bytes h few =
+    let long = length-take-le n bytes h.0 in
+    (take n bytes, ap (λ m. take m bytes) long, omega (arith, long, few), h.1)
 
 -- ---- bytes that are written in part
 

@@ -1,4 +1,7 @@
-//! Why a line is not read.
+//! Why a line is not read, and why bytes are not written.
+ghost use Rattle.std.specs.Prelude.{◌≡◌, ◌≢◌};
+ghost use Rattle.std.specs.IoError.{error_kind};
+
 use std::alloc::AllocError;
 use std::io::{Error, ErrorKind};
 
@@ -14,9 +17,6 @@ pub enum LineFault {
 }
 
 impl LineFault {
-    ghost use Rattle.std.specs.Prelude.{◌≡◌, ◌≢◌};
-    ghost use Rattle.std.specs.IoError.{error_kind};
-
     /// The fault of a read that failed. A buffer that finds no memory fails so too.
     pub fn of_read(error: &Error) -> LineFault
         ensures memory { error_kind error.now ≡ ErrorKind.OutOfMemory →
@@ -34,12 +34,36 @@ impl LineFault {
 }
 
 impl From<AllocError> for LineFault {
-    ghost use Rattle.std.specs.Prelude.{◌≡◌};
     ghost use Rattle.streetmap_text_lines.specs.declared.fault.LineFault.TheVariants.{Memory};
 
     ghost from_gives = { λ _ fault. fault ≡ Memory };
 
     fn from(_: AllocError) -> LineFault {
         LineFault::Memory
+    }
+}
+
+/// Why bytes are not written.
+#[derive(Clone, Copy)]
+pub enum WriteFault {
+    /// They could not be written.
+    WriteFailed,
+    /// Memory was refused.
+    Memory,
+}
+
+impl WriteFault {
+    /// The fault of a write that failed. A buffer that finds no memory fails so too.
+    pub fn of_write(error: &Error) -> WriteFault
+        ensures memory { error_kind error.now ≡ ErrorKind.OutOfMemory →
+            result ≡ WriteFault.Memory }
+        ensures other { error_kind error.now ≢ ErrorKind.OutOfMemory →
+            result ≡ WriteFault.WriteFailed }
+    {
+        if error.kind() == ErrorKind::OutOfMemory {
+            WriteFault::Memory
+        } else {
+            WriteFault::WriteFailed
+        }
     }
 }

@@ -12,7 +12,7 @@ mod line;
 mod whole;
 mod writing;
 
-pub use fault::LineFault;
+pub use fault::{LineFault, WriteFault};
 pub use line::{Line, next_line};
 pub use whole::{WholeLine, next_whole_line};
 pub use writing::{NotWritten, write_bytes};

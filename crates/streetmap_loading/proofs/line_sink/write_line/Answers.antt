@@ -1,9 +1,9 @@
 use Rattle.std.proofs.KnownBytes.{Appends-kept}
-use Rattle.streetmap_loading.proofs.WriteLemmas.{first_all}
+use Rattle.streetmap_text_lines.proofs.WriteLemmas.{beginning_all}
 use Rattle.streetmap_loading.proofs.line_sink.write_line.Goals as goal
 
 pub returns-in-Err-clause-err : goal.returns-in-Err-clause-err
 returns-in-Err-clause-err g c =
-    first_all _ _ _
+    beginning_all _ _ _
     (Appends-kept _ _ (g.W.Write.contents c.flush.new.self) _ c.in_ok-write_bytes.ensures.ok
     c.in-Err.ensures.bytes)
