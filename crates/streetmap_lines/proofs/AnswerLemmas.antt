@@ -1,10 +1,10 @@
 -- What is written for lines.
-use Rattle.std.proofs.Common.{◌≡◌, ℕ, ◌+◌, ◌≤◌, ◌<◌, List, [], ◌∷◌, ◌++◌, length, take, drop, refl, sym, ap, subst, ◌∙◌, arith, append_assoc, append-nil, length-append, length-drop, take_all, ◌-◌, take-append-drop, Option, Some, None, option_map, IfSome, OnSome, IsSomeAnd, Result, Ok, Err, OnErr, OnOk, ◌≢◌, String, string_bytes, Global}
-use Rattle.std.proofs.Math.Seq.{take-append_seam, take-append-add, take-length}
-use Rattle.std.proofs.lemmas.List.{take-append-le}
-use Rattle.std.proofs.KnownBytes.{Appends-nil, Appends-trans, Appends-kept}
-use Rattle.std.proofs.Transfers.{starts_with_length}
-use Rattle.std.specs.Io.{StartsWith}
+use Rattle.std.proofs.Common.{◌≡◌, ◌≢◌, ℕ, ◌+◌, List, [], ◌∷◌, ◌++◌, length, take, refl, sym, ap}
+use Rattle.std.proofs.Common.{subst, ◌∙◌, arith, append_assoc, append-nil, length-append, Option}
+use Rattle.std.proofs.Common.{Some, None, option_map, IfSome, OnSome, IsSomeAnd, Result, Ok, String}
+use Rattle.std.proofs.Common.{string_bytes, Global}
+use Rattle.std.proofs.Math.Seq.{take-append_seam}
+use Rattle.std.proofs.KnownBytes.{Appends-nil, Appends-trans}
 use Rattle.std.specs.Io.KnownBytes.{Appends, Keeps, IsAtEnd}
 use Rattle.std.specs.Str.Lines.{lines}
 use Rattle.streetmap_ledger.specs.State.{State, opening_state}
@@ -17,85 +17,11 @@ use Rattle.streetmap_lines.specs.AnswerView.{LineSays}
 use Rattle.streetmap_lines.specs.Answers.{answer_to}
 use Rattle.streetmap_lines.specs.Request.{request_in}
 use Rattle.streetmap_lines.specs.Lines.{line_answer, state_after, answer_text, answers_of, first_too_long}
-use Rattle.streetmap_lines.specs.Lines.{AppendsFirst, AppendsLess, AnswersFirst}
+use Rattle.streetmap_lines.specs.Lines.{AnswersFirst}
 use Rattle.streetmap_text_lines.specs.Reading.{IsFirstLine, WhereKnown}
-
--- ---- beginnings
-
-pub on_ok : {T E : Type 0} (r : Result T E) (P : Type 0) → P → OnOk r P
-on_ok (Ok x) P h = h
-on_ok (Err e) P h = tt
-
-pub on_err : {T E : Type 0} (r : Result T E) (P : Type 0) → P → OnErr r P
-on_err (Ok x) P h = tt
-on_err (Err e) P h = h
-
-starts-longer : (xs ys first : List ℕ) → StartsWith xs first → StartsWith (xs ++ ys) first
-starts-longer xs ys first h =
-    let within : length first ≤ length xs = starts_with_length xs first h in
-    take-append-le (length first) xs ys within ∙ h
-
-starts-behind : (xs ys first : List ℕ) → StartsWith ys first → StartsWith (xs ++ ys) (xs ++ first)
-starts-behind xs ys first h =
-    ap (λ n. take n (xs ++ ys)) (length-append xs first) ∙ take-append-add xs ys (length first) ∙ ap (λ l. xs ++ l) h
-
-pub first_longer : (a b : Option (List ℕ)) (xs ys : List ℕ) → AppendsFirst a b xs → AppendsFirst a b (xs ++ ys)
-first_longer a b xs ys h = (h.0, starts-longer xs ys h.0 h.1, h.2)
-
-pub first_behind : (a b c : Option (List ℕ)) (xs ys : List ℕ) → Appends a b xs → AppendsFirst b c ys → AppendsFirst a c (xs ++ ys)
-first_behind a b c xs ys p h = (xs ++ h.0, starts-behind xs ys h.0 h.1, Appends-trans a b c xs h.0 p h.2)
-
-pub first_all : (a b : Option (List ℕ)) (xs : List ℕ) → Appends a b xs → AppendsFirst a b xs
-first_all a b xs h = (xs, take-length xs, h)
-
--- ---- beginnings that are not all
-
-pub less_longer : (a b : Option (List ℕ)) (xs ys : List ℕ) → AppendsLess a b xs → AppendsLess a b (xs ++ ys)
-less_longer a b xs ys h =
-    (h.0, starts-longer xs ys h.0 h.1, omega (arith, h.2, length-append xs ys), h.3)
-
-pub less_behind : (a b c : Option (List ℕ)) (xs ys : List ℕ) → Appends a b xs → AppendsLess b c ys
-    → AppendsLess a c (xs ++ ys)
-less_behind a b c xs ys p h = (
-  xs ++ h.0,
-  starts-behind xs ys h.0 h.1,
-  omega (arith, h.2, length-append xs ys, length-append xs h.0),
-  Appends-trans a b c xs h.0 p h.3,
-)
-
--- ---- bytes that are written in part
-
-pub record IsPartWritten (a b : Option (List ℕ)) (bytes rest : List ℕ) : Type 0 where
-  pub front : List ℕ
-  pub whole : bytes ≡ front ++ rest
-  pub written : Appends a b front
-
-pub part_none : (a : Option (List ℕ)) (bytes : List ℕ) → IsPartWritten a a bytes bytes
-part_none a bytes = record { front = []; whole = refl; written = Appends-nil a }
-
-pub part_more : (a b c : Option (List ℕ)) (bytes rest : List ℕ) (n : ℕ) → IsPartWritten a b bytes rest → Appends b c (take n rest) → IsPartWritten a c bytes (drop n rest)
-part_more a b c bytes rest n p h = record {
-  front = p.front ++ take n rest;
-  whole = p.whole ∙ ap (λ l. p.front ++ l) (sym (take-append-drop n rest)) ∙ sym (append_assoc p.front (take n rest) (drop n rest));
-  written = Appends-trans a b c p.front (take n rest) p.written h;
-}
-
--- the rest as a slice: what stands from n on, up to the end
-pub part_sliced : (a b c : Option (List ℕ)) (bytes rest : List ℕ) (n : ℕ) → IsPartWritten a b bytes rest → Appends b c (take n rest)
-    → IsPartWritten a c bytes (take (length rest - n) (drop n rest))
-part_sliced a b c bytes rest n p h =
-    let whole : take (length rest - n) (drop n rest) ≡ drop n rest = take_all (length rest - n) (drop n rest) (omega (arith, length-drop n rest)) in
-    subst (IsPartWritten a c bytes) (sym whole) (part_more a b c bytes rest n p h)
-
-pub part_kept : (a b c : Option (List ℕ)) (bytes rest : List ℕ) → IsPartWritten a b bytes rest → Keeps b c → IsPartWritten a c bytes rest
-part_kept a b c bytes rest p h = record { front = p.front; whole = p.whole; written = Appends-kept a b c p.front p.written h }
-
--- where some bytes are left
-pub part_less : (a b : Option (List ℕ)) (bytes rest : List ℕ) → IsPartWritten a b bytes rest
-    → 0 < length rest → AppendsLess a b bytes
-part_less a b bytes rest p some =
-    subst (AppendsLess a b) (sym p.whole)
-    (p.front, take-append_seam p.front rest, omega (arith, some, length-append p.front rest), p.written)
+use Rattle.streetmap_text_lines.specs.Written.{AppendsBeginning, AppendsLess}
+use Rattle.streetmap_text_lines.proofs.WriteLemmas.{beginning_longer, beginning_behind}
+use Rattle.streetmap_text_lines.proofs.WriteLemmas.{less_longer, less_behind}
 
 -- ---- answers
 
@@ -238,45 +164,63 @@ answered_too_long (Some input) (Some rest) old w s h long =
     subst (λ o. IsSomeAnd o (λ count. Appends old w (answers_of opening_state (take count (lines input))))) (sym found)
     (subst (λ ls. Appends old w (answers_of opening_state ls)) (sym (ap (take (length h.done)) h.all ∙ take-append_seam h.done (lines rest))) h.written)
 
-rest-written : (input rest : List ℕ) (old w v : Option (List ℕ)) (s : State) → IsAnswered input rest old w s → AppendsFirst w v (answers_of s (lines rest))
-    → AppendsFirst old v (answers_of opening_state (lines input))
+rest-written : (input rest : List ℕ) (old w v : Option (List ℕ)) (s : State) →
+    IsAnswered input rest old w s → AppendsBeginning w v (answers_of s (lines rest)) →
+    AppendsBeginning old v (answers_of opening_state (lines input))
 rest-written input rest old w v s h f =
-    subst (AppendsFirst old v)
-    (ap (λ x. answers_of opening_state h.done ++ answers_of x (lines rest)) h.state ∙ sym (answers_of-append opening_state h.done (lines rest)) ∙ ap (answers_of opening_state) (sym h.all))
-    (first_behind old w v (answers_of opening_state h.done) (answers_of s (lines rest)) h.written f)
+    subst (AppendsBeginning old v)
+    (ap (λ x. answers_of opening_state h.done ++ answers_of x (lines rest)) h.state
+    ∙ sym (answers_of-append opening_state h.done (lines rest))
+    ∙ ap (answers_of opening_state) (sym h.all))
+    (beginning_behind old w v (answers_of opening_state h.done) (answers_of s (lines rest))
+    h.written f)
 
 -- what was written is the beginning of the answers
-pub answered_begun : (a b old w : Option (List ℕ)) (s : State) → WhereKnown a b (λ input rest. IsAnswered input rest old w s)
-    → IfSome a (λ input. AppendsFirst old w (answers_of opening_state (lines input)))
+pub answered_begun : (a b old w : Option (List ℕ)) (s : State) →
+    WhereKnown a b (λ input rest. IsAnswered input rest old w s) →
+    IfSome a (λ input. AppendsBeginning old w (answers_of opening_state (lines input)))
 answered_begun None b old w s h = tt
 answered_begun (Some input) None old w s h = absurd h
-answered_begun (Some input) (Some rest) old w s h = rest-written input rest old w w s h ([], refl, Appends-nil w)
+answered_begun (Some input) (Some rest) old w s h =
+    rest-written input rest old w w s h ([], refl, Appends-nil w)
 
 -- so is what was written where the answer to a line was written in part
-pub answered_partly : (a b c old w v : Option (List ℕ)) (line : List ℕ) (s : State) → WhereKnown a b (λ input rest. IsAnswered input rest old w s)
-    → WhereKnown b c (λ input rest. IsFirstLine 8388608 input line rest) → AppendsFirst w v (answer_text (line_answer s line))
-    → IfSome a (λ input. AppendsFirst old v (answers_of opening_state (lines input)))
+pub answered_partly : (a b c old w v : Option (List ℕ)) (line : List ℕ) (s : State) →
+    WhereKnown a b (λ input rest. IsAnswered input rest old w s) →
+    WhereKnown b c (λ input rest. IsFirstLine 8388608 input line rest) →
+    AppendsBeginning w v (answer_text (line_answer s line)) →
+    IfSome a (λ input. AppendsBeginning old v (answers_of opening_state (lines input)))
 answered_partly None b c old w v line s h f p = tt
 answered_partly (Some input) None c old w v line s h f p = absurd h
 answered_partly (Some input) (Some rest) None old w v line s h f p = absurd f
 answered_partly (Some input) (Some rest) (Some later) old w v line s h f p =
     rest-written input rest old w v s h
-    (subst (λ ls. AppendsFirst w v (answers_of s ls)) (sym f.first) (first_longer w v (answer_text (line_answer s line)) (answers_of (state_after s line) (lines later)) p))
+    (subst (λ ls. AppendsBeginning w v (answers_of s ls)) (sym f.first)
+    (beginning_longer w v (answer_text (line_answer s line))
+    (answers_of (state_after s line) (lines later)) p))
 
 -- and not all of them
-less-written : (input rest : List ℕ) (old w v : Option (List ℕ)) (s : State) → IsAnswered input rest old w s → AppendsLess w v (answers_of s (lines rest))
-    → AppendsLess old v (answers_of opening_state (lines input))
+less-written : (input rest : List ℕ) (old w v : Option (List ℕ)) (s : State) →
+    IsAnswered input rest old w s → AppendsLess w v (answers_of s (lines rest)) →
+    AppendsLess old v (answers_of opening_state (lines input))
 less-written input rest old w v s h f =
     subst (AppendsLess old v)
-    (ap (λ x. answers_of opening_state h.done ++ answers_of x (lines rest)) h.state ∙ sym (answers_of-append opening_state h.done (lines rest)) ∙ ap (answers_of opening_state) (sym h.all))
-    (less_behind old w v (answers_of opening_state h.done) (answers_of s (lines rest)) h.written f)
+    (ap (λ x. answers_of opening_state h.done ++ answers_of x (lines rest)) h.state
+    ∙ sym (answers_of-append opening_state h.done (lines rest))
+    ∙ ap (answers_of opening_state) (sym h.all))
+    (less_behind old w v (answers_of opening_state h.done) (answers_of s (lines rest))
+    h.written f)
 
-pub answered_less : (a b c old w v : Option (List ℕ)) (line : List ℕ) (s : State) → WhereKnown a b (λ input rest. IsAnswered input rest old w s)
-    → WhereKnown b c (λ input rest. IsFirstLine 8388608 input line rest) → AppendsLess w v (answer_text (line_answer s line))
-    → IfSome a (λ input. AppendsLess old v (answers_of opening_state (lines input)))
+pub answered_less : (a b c old w v : Option (List ℕ)) (line : List ℕ) (s : State) →
+    WhereKnown a b (λ input rest. IsAnswered input rest old w s) →
+    WhereKnown b c (λ input rest. IsFirstLine 8388608 input line rest) →
+    AppendsLess w v (answer_text (line_answer s line)) →
+    IfSome a (λ input. AppendsLess old v (answers_of opening_state (lines input)))
 answered_less None b c old w v line s h f p = tt
 answered_less (Some input) None c old w v line s h f p = absurd h
 answered_less (Some input) (Some rest) None old w v line s h f p = absurd f
 answered_less (Some input) (Some rest) (Some later) old w v line s h f p =
     less-written input rest old w v s h
-    (subst (λ ls. AppendsLess w v (answers_of s ls)) (sym f.first) (less_longer w v (answer_text (line_answer s line)) (answers_of (state_after s line) (lines later)) p))
+    (subst (λ ls. AppendsLess w v (answers_of s ls)) (sym f.first)
+    (less_longer w v (answer_text (line_answer s line))
+    (answers_of (state_after s line) (lines later)) p))

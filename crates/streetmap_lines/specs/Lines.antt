@@ -1,6 +1,5 @@
 -- The lines of the input, and what is written for them.
-use Rattle.std.specs.Prelude.{ℕ, ◌<◌, List, [], ◌∷◌, ◌++◌, Option, None, Some, length, take}
-use Rattle.std.specs.Io.{StartsWith}
+use Rattle.std.specs.Prelude.{ℕ, List, [], ◌∷◌, ◌++◌, Option, None, Some, take}
 use Rattle.std.specs.Io.KnownBytes.{Appends}
 use Rattle.serde_json.specs.Data.{Data}
 use Rattle.serde_json.specs.Written.{compact_text}
@@ -40,16 +39,6 @@ abbrev pub first_too_long : List ℕ → Option ℕ
 first_too_long input = bounded.first_too_long 8388608 input
 
 -- ---- writing that ends early
-
--- the first of these bytes were written, and nothing else
-abbrev pub AppendsFirst : Option (List ℕ) → Option (List ℕ) → List ℕ → Type 0
-AppendsFirst old new bytes = (first : List ℕ) × StartsWith bytes first × Appends old new first
-
--- the first of these bytes were written, not all of them, and nothing else
-abbrev pub AppendsLess : Option (List ℕ) → Option (List ℕ) → List ℕ → Type 0
-AppendsLess old new bytes =
-    (first : List ℕ) × StartsWith bytes first × (length first < length bytes)
-    × Appends old new first
 
 -- the answers to the first of these lines were written, and nothing else
 abbrev pub AnswersFirst : Option (List ℕ) → Option (List ℕ) → State → List (List ℕ) → Type 0

@@ -1,12 +1,11 @@
 //! Why lines are not answered to their end.
 ghost use Rattle.std.specs.Prelude.{◌≡◌, ◌≢◌};
-ghost use Rattle.std.specs.IoError.{error_kind};
 ghost use Rattle.streetmap_lines.specs.Faults.{code_of, description_of};
 ghost use Rattle.streetmap_lines.specs.Faults.{IsLineFault, IsWriteFault, IsFlushFault};
 
 use std::alloc::AllocError;
 use std::io::{Error, ErrorKind};
-use streetmap_text_lines::LineFault;
+use streetmap_text_lines::{LineFault, WriteFault};
 
 /// Why the answering of lines ends before the input does.
 #[derive(Clone, Copy, PartialEq, Eq)]
@@ -62,18 +61,15 @@ impl LinesFault {
         }
     }
 
-    /// The fault of a write that failed.
-    pub(crate) fn of_write(error: &Error) -> LinesFault
-        ensures memory { error_kind error.now ≡ ErrorKind.OutOfMemory
-            → result ≡ LinesFault.Memory }
-        ensures other { error_kind error.now ≢ ErrorKind.OutOfMemory
-            → result ≡ LinesFault.WriteFailed }
+    /// The fault of bytes that were not written.
+    pub(crate) fn of_write(fault: WriteFault) -> LinesFault
+        ensures memory { fault ≡ WriteFault.Memory → result ≡ LinesFault.Memory }
+        ensures other { fault ≢ WriteFault.Memory → result ≡ LinesFault.WriteFailed }
         ensures fault { IsWriteFault result }
     {
-        if error.kind() == ErrorKind::OutOfMemory {
-            LinesFault::Memory
-        } else {
-            LinesFault::WriteFailed
+        match fault {
+            WriteFault::Memory => LinesFault::Memory,
+            WriteFault::WriteFailed => LinesFault::WriteFailed,
         }
     }
 

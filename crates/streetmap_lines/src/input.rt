@@ -7,14 +7,14 @@ ghost use Rattle.streetmap_memory.specs.Plain.{IsPlain, plain_state};
 ghost use Rattle.streetmap_ledger.specs.State.{opening_state};
 ghost use Rattle.streetmap_lines.specs.Faults.{IsLineFault, IsWriteFault, IsAnswerFault};
 ghost use Rattle.streetmap_lines.specs.Lines.{line_answer, state_after, answer_text, answers_of};
-ghost use Rattle.streetmap_lines.specs.Lines.{first_too_long, AppendsFirst, AppendsLess};
-ghost use Rattle.streetmap_lines.specs.Lines.{AnswersFirst};
+ghost use Rattle.streetmap_lines.specs.Lines.{first_too_long, AnswersFirst};
 ghost use Rattle.streetmap_text_lines.specs.Reading.{TakesLine};
+ghost use Rattle.streetmap_text_lines.specs.Written.{AppendsBeginning, AppendsLess};
 
 use crate::answer::answer_line;
 use crate::fault::LinesFault;
 use std::alloc::Global;
-use std::io::{BufRead, ErrorKind, Write};
+use std::io::{BufRead, Write};
 use streetmap_memory::PlainKeeper;
 use streetmap_text_lines::Line;
 
@@ -35,31 +35,18 @@ fn next_line<R: BufRead>(alloc: Global, reader: &mut R) -> Result<Line, LinesFau
     }
 }
 
-/// Writes bytes, as often as the writer takes some of them.
+/// Writes bytes.
 fn write_bytes<W: Write>(writer: &mut W, bytes: &[u8]) -> Result<(), LinesFault>
     ensures ok { OnOk result (Appends (W.contents writer.old) (W.contents writer.new) bytes.now) }
-    ensures err { OnErr result (AppendsFirst (W.contents writer.old) (W.contents writer.new)
+    ensures err { OnErr result (AppendsBeginning (W.contents writer.old) (W.contents writer.new)
         bytes.now) }
     ensures less { result ≡ Err LinesFault.WriteFailed →
         AppendsLess (W.contents writer.old) (W.contents writer.new) bytes.now }
     ensures fault { IfErr result IsWriteFault }
 {
-    let mut rest = bytes;
-    for _turn in 0..u64::MAX {
-        if rest.is_empty() {
-            return Ok(());
-        }
-        match writer.write(rest) {
-            Ok(0) => return Err(LinesFault::WriteFailed),
-            Ok(count) => rest = &rest[count..],
-            Err(error) if error.kind() == ErrorKind::Interrupted => {}
-            Err(error) => return Err(LinesFault::of_write(&error)),
-        }
-    }
-    if rest.is_empty() {
-        Ok(())
-    } else {
-        Err(LinesFault::WriteFailed)
+    match streetmap_text_lines::write_bytes(writer, bytes) {
+        Ok(()) => Ok(()),
+        Err(stopped) => Err(LinesFault::of_write(stopped.why)),
     }
 }
 
@@ -67,7 +54,7 @@ fn write_bytes<W: Write>(writer: &mut W, bytes: &[u8]) -> Result<(), LinesFault>
 fn write_line<W: Write>(writer: &mut W, answer: &str) -> Result<(), LinesFault>
     ensures ok { OnOk result (Appends (W.contents writer.old) (W.contents writer.new)
         (answer.now ++ 10 ∷ [])) }
-    ensures err { OnErr result (AppendsFirst (W.contents writer.old) (W.contents writer.new)
+    ensures err { OnErr result (AppendsBeginning (W.contents writer.old) (W.contents writer.new)
         (answer.now ++ 10 ∷ [])) }
     ensures less { result ≡ Err LinesFault.WriteFailed →
         AppendsLess (W.contents writer.old) (W.contents writer.new) (answer.now ++ 10 ∷ []) }
@@ -96,7 +83,7 @@ fn write_answer<W: Write>(
     ensures state { IsPlain keeper.old (plain_state keeper.old)
         → OnOk result (IsPlain keeper.new (state_after (plain_state keeper.old) line.now)) }
     ensures err { IsPlain keeper.old (plain_state keeper.old)
-        → OnErr result (AppendsFirst (W.contents writer.old) (W.contents writer.new)
+        → OnErr result (AppendsBeginning (W.contents writer.old) (W.contents writer.new)
         (answer_text (line_answer (plain_state keeper.old) line.now))) }
     ensures less { IsPlain keeper.old (plain_state keeper.old) →
         result ≡ Err LinesFault.WriteFailed →
@@ -161,7 +148,7 @@ pub fn lines<R: BufRead, W: Write>(
         AnswersFirst (W.contents writer.old) (W.contents writer.new) opening_state (lines input)) }
     // What was written is the beginning of the answers.
     ensures err { OnErr result (IfSome (R.remaining reader.old) (λ input.
-        AppendsFirst (W.contents writer.old) (W.contents writer.new)
+        AppendsBeginning (W.contents writer.old) (W.contents writer.new)
         (answers_of opening_state (lines input)))) }
 {
     let mut keeper = PlainKeeper::new(alloc);

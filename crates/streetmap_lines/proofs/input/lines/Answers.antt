@@ -1,11 +1,13 @@
 use Rattle.std.proofs.Common.{◌∙◌, ap, sym, refl, subst, Err}
 use Rattle.std.proofs.lemmas.Result.{err_from_is_err_and}
 use Rattle.streetmap_memory.specs.Plain.{IsPlain, plain_state}
-use Rattle.streetmap_lines.specs.Lines.{line_answer, state_after, answer_text, AppendsFirst, AppendsLess}
+use Rattle.streetmap_lines.specs.Lines.{line_answer, state_after, answer_text}
 use Rattle.streetmap_text_lines.specs.Reading.{TakesLine}
+use Rattle.streetmap_text_lines.specs.Written.{AppendsBeginning, AppendsLess}
+use Rattle.streetmap_text_lines.proofs.WriteLemmas.{on_err}
 use Rattle.std.specs.Io.KnownBytes.{Appends}
 use Rattle.streetmap_lines.proofs.AnswerLemmas.{answered_none, answered_more, answered_first, answered_begun, answered_partly, answered_less}
-use Rattle.streetmap_lines.proofs.AnswerLemmas.{on_err, stands_for_own}
+use Rattle.streetmap_lines.proofs.AnswerLemmas.{stands_for_own}
 use Rattle.streetmap_lines.proofs.input.lines.Goals as goal
 
 pub loop-turn-init : goal.loop-turn-init
@@ -27,7 +29,8 @@ returns-in_err-write_answer-in-Text-clause-err g c =
     let before = plain_state c.loop-turn.keeper in
     let line = c.in-Text.line.items in
     let taken = subst (TakesLine 8388608 rest later) c.in-Text.is c.in_ok-next_line.ensures.taken in
-    let partly = subst (λ l. AppendsFirst (g.W.Write.contents c.loop-turn.writer) (g.W.Write.contents c.write_answer.new.writer) (answer_text (line_answer before l)))
+    let partly = subst (λ l. AppendsBeginning (g.W.Write.contents c.loop-turn.writer)
+    (g.W.Write.contents c.write_answer.new.writer) (answer_text (line_answer before l)))
     c.as_slice.ensures.value (c.in_err-write_answer-in-Text.ensures.err c.loop-turn.invariant.stands) in
     on_err c.from_residual-in_err-write_answer-in-Text.result _
     (answered_partly (g.R.Read.remaining c.args.reader.now) rest later (g.W.Write.contents c.args.writer.now) _ (g.W.Write.contents c.write_answer.new.writer) line before

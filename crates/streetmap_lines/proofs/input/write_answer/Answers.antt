@@ -2,8 +2,10 @@ use Rattle.std.proofs.Common.{◌≡◌, ◌∷◌, ◌++◌, [], OnOk, OnErr, a
 use Rattle.std.proofs.KnownBytes.{Appends-nil}
 use Rattle.std.specs.Io.KnownBytes.{Appends}
 use Rattle.streetmap_memory.specs.Plain.{IsPlain, plain_state}
-use Rattle.streetmap_lines.specs.Lines.{line_answer, answer_text, AppendsFirst, AppendsLess}
-use Rattle.streetmap_lines.proofs.AnswerLemmas.{line_answered, said_text, said_none, on_ok, IsLineAnswer}
+use Rattle.streetmap_lines.specs.Lines.{line_answer, answer_text}
+use Rattle.streetmap_text_lines.specs.Written.{AppendsBeginning, AppendsLess}
+use Rattle.streetmap_text_lines.proofs.WriteLemmas.{on_ok}
+use Rattle.streetmap_lines.proofs.AnswerLemmas.{line_answered, said_text, said_none, IsLineAnswer}
 use Rattle.streetmap_lines.proofs.input.write_answer.Goals as goal
 
 pub returns-in-Some : goal.returns-in-Some
@@ -20,7 +22,8 @@ returns-in-Some g c =
     record {
       ok = λ stands. subst (λ l. OnOk c.write_line.result (Appends old new l)) (text stands) c.write_line.ensures.ok;
       state = λ stands. on_ok c.write_line.result _ (answer stands).state;
-      err = λ stands. subst (λ l. OnErr c.write_line.result (AppendsFirst old new l)) (text stands) c.write_line.ensures.err;
+      err = λ stands. subst (λ l. OnErr c.write_line.result (AppendsBeginning old new l))
+          (text stands) c.write_line.ensures.err;
       less = λ stands is. subst (AppendsLess old new) (text stands) (c.write_line.ensures.less is);
       flush = λ stands is. subst (Appends old new) (text stands) (c.write_line.ensures.flush is);
       fault = c.write_line.ensures.fault;

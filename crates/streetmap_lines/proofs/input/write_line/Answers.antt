@@ -1,7 +1,7 @@
 use Rattle.std.proofs.Common.{rules, subst, [], ◌∷◌, ◌++◌}
 use Rattle.std.proofs.KnownBytes.{Appends-trans, Appends-kept}
 use Rattle.std.specs.Io.KnownBytes.{Appends}
-use Rattle.streetmap_lines.proofs.AnswerLemmas.{first_behind, first_all, on_err}
+use Rattle.streetmap_text_lines.proofs.WriteLemmas.{beginning_behind, beginning_all, on_err}
 use Rattle.streetmap_lines.proofs.input.write_line.Goals as goal
 
 pub returns-in_err-write_bytes-2-clause-err : goal.returns-in_err-write_bytes-2-clause-err
@@ -9,14 +9,17 @@ returns-in_err-write_bytes-2-clause-err g c =
     let old = g.W.Write.contents c.args.writer.now in
     let text = subst (Appends old (g.W.Write.contents c.write_bytes.new.writer)) c.as_bytes.ensures.value c.in_ok-write_bytes.ensures.ok in
     on_err c.from_residual-in_err-write_bytes-2.result _
-    (first_behind old _ (g.W.Write.contents c.write_bytes-2.new.writer) c.args.answer.now (10 ∷ []) text c.in_err-write_bytes-2.ensures.err)
+    (beginning_behind old _ (g.W.Write.contents c.write_bytes-2.new.writer) c.args.answer.now
+    (10 ∷ []) text c.in_err-write_bytes-2.ensures.err)
 
 pub returns-in-Err-clause-err : goal.returns-in-Err-clause-err
 returns-in-Err-clause-err g c =
     let old = g.W.Write.contents c.args.writer.now in
     let text = subst (Appends old (g.W.Write.contents c.write_bytes.new.writer)) c.as_bytes.ensures.value c.in_ok-write_bytes.ensures.ok in
     let both = Appends-trans old _ (g.W.Write.contents c.write_bytes-2.new.writer) c.args.answer.now (10 ∷ []) text c.in_ok-write_bytes-2.ensures.ok in
-    first_all old _ (c.args.answer.now ++ 10 ∷ []) (Appends-kept old _ (g.W.Write.contents c.flush.new.self) (c.args.answer.now ++ 10 ∷ []) both c.in-Err.ensures.bytes)
+    beginning_all old _ (c.args.answer.now ++ 10 ∷ [])
+    (Appends-kept old _ (g.W.Write.contents c.flush.new.self) (c.args.answer.now ++ 10 ∷ [])
+    both c.in-Err.ensures.bytes)
 
 pub returns-in-Err-clause-less : goal.returns-in-Err-clause-less
 returns-in-Err-clause-less c = search rules
