@@ -25,11 +25,13 @@ use Rattle.streetmap_exchange.specs.declared.fault.ExportFault.{ExportFault}
 use Rattle.streetmap_exchange.specs.declared.fault.ExportFault.TheVariants.{NoCollection, Stopped}
 use Rattle.streetmap_exchange.specs.declared.fault.ExportFault.TheVariants.{WriteFailed, FlushFailed}
 use Rattle.streetmap_exchange.specs.ExportFaults.{IsWriteFault, IsEndFault}
-use Rattle.streetmap_exchange.specs.Exports.{export_text, features_in, AppendsFirst, AppendsLess, WritesAll}
-use Rattle.streetmap_exchange.specs.Exports.{WritesSome, WritesLess, WritesSomeIf, Exports, ShowsPart}
+use Rattle.streetmap_exchange.specs.Exports.{export_text, features_in, WritesAll, WritesSome}
+use Rattle.streetmap_exchange.specs.Exports.{WritesLess, WritesSomeIf, Exports, ShowsPart}
 use Rattle.streetmap_exchange.specs.Exports.{part_query, part_text}
-use Rattle.streetmap_exchange.proofs.WriteLemmas.{first_longer, first_behind, first_all}
-use Rattle.streetmap_exchange.proofs.WriteLemmas.{less_longer, less_behind, less_none}
+use Rattle.streetmap_text_lines.specs.Written.{AppendsBeginning, AppendsLess}
+use Rattle.streetmap_text_lines.proofs.WriteLemmas.{beginning_longer, beginning_behind}
+use Rattle.streetmap_text_lines.proofs.WriteLemmas.{beginning_all, less_longer, less_behind}
+use Rattle.streetmap_text_lines.proofs.WriteLemmas.{less_none}
 
 -- ---- the text in parts
 
@@ -235,10 +237,12 @@ left_last s name old a later page u none =
 all_of : (o : Option (List FeatureValue)) (fs : List FeatureValue) (old new : Option (List ℕ)) → o ≡ Some fs → Appends old new (export_text fs) → WritesAll o old new
 all_of o fs old new is w = subst (λ (p : Option (List FeatureValue)). WritesAll p old new) (sym is) w
 
-some_of : (o : Option (List FeatureValue)) (fs : List FeatureValue) (old new : Option (List ℕ)) → o ≡ Some fs → AppendsFirst old new (export_text fs) → WritesSome o old new
+some_of : (o : Option (List FeatureValue)) (fs : List FeatureValue) (old new : Option (List ℕ)) →
+    o ≡ Some fs → AppendsBeginning old new (export_text fs) → WritesSome o old new
 some_of o fs old new is w = subst (λ (p : Option (List FeatureValue)). WritesSome p old new) (sym is) w
 
-less_of : (o : Option (List FeatureValue)) (fs : List FeatureValue) (old new : Option (List ℕ)) → o ≡ Some fs → AppendsLess old new (export_text fs) → WritesLess o old new
+less_of : (o : Option (List FeatureValue)) (fs : List FeatureValue) (old new : Option (List ℕ)) →
+    o ≡ Some fs → AppendsLess old new (export_text fs) → WritesLess o old new
 less_of o fs old new is w = subst (λ (p : Option (List FeatureValue)). WritesLess p old new) (sym is) w
 
 -- the last page and the end are written
@@ -251,19 +255,26 @@ finished s name old a b c later page u none w v =
 
 -- the last page is written, and a beginning of the end
 pub ends_early : (s : State) (name : Text) (old a b c : Option (List ℕ)) (later : Bool) (page : PageValue) → Underway s name old a later page → page.next ≡ None
-    → Appends a b (part_text later page.features) → AppendsFirst b c closing → WritesSome (features_in s name) old c
+    → Appends a b (part_text later page.features) → AppendsBeginning b c closing
+    → WritesSome (features_in s name) old c
 ends_early s name old a b c later page u none w v =
     let l = left_last s name old a later page u none in
-    let both = first_behind a b c (part_text later page.features) closing w v in
-    some_of (features_in s name) l.features old c l.told (subst (AppendsFirst old c) (sym l.text) (first_behind old a c (opening ++ part_text false u.front) (part_text later page.features ++ closing) u.written both))
+    let both = beginning_behind a b c (part_text later page.features) closing w v in
+    some_of (features_in s name) l.features old c l.told
+    (subst (AppendsBeginning old c) (sym l.text)
+    (beginning_behind old a c (opening ++ part_text false u.front)
+    (part_text later page.features ++ closing) u.written both))
 
 -- a beginning of the page is written
 pub breaks_off : (s : State) (name : Text) (old a b : Option (List ℕ)) (later : Bool) (page : PageValue) → Underway s name old a later page
-    → AppendsFirst a b (part_text later page.features) → WritesSome (features_in s name) old b
+    → AppendsBeginning a b (part_text later page.features) → WritesSome (features_in s name) old b
 breaks_off s name old a b later page u w =
     let l = left_of s name old a later page u in
     let part = part_text later page.features in
-    some_of (features_in s name) l.1.features old b l.1.told (subst (AppendsFirst old b) (sym l.1.text) (first_behind old a b (opening ++ part_text false u.front) (part ++ l.0) u.written (first_longer a b part l.0 w)))
+    some_of (features_in s name) l.1.features old b l.1.told
+    (subst (AppendsBeginning old b) (sym l.1.text)
+    (beginning_behind old a b (opening ++ part_text false u.front) (part ++ l.0) u.written
+    (beginning_longer a b part l.0 w)))
 
 -- a beginning of the page is written, and not all of it
 pub breaks_off_less : (s : State) (name : Text) (old a b : Option (List ℕ)) (later : Bool) (page : PageValue) → Underway s name old a later page
@@ -271,7 +282,10 @@ pub breaks_off_less : (s : State) (name : Text) (old a b : Option (List ℕ)) (l
 breaks_off_less s name old a b later page u w =
     let l = left_of s name old a later page u in
     let part = part_text later page.features in
-    less_of (features_in s name) l.1.features old b l.1.told (subst (AppendsLess old b) (sym l.1.text) (less_behind old a b (opening ++ part_text false u.front) (part ++ l.0) u.written (less_longer a b part l.0 w)))
+    less_of (features_in s name) l.1.features old b l.1.told
+    (subst (AppendsLess old b) (sym l.1.text)
+    (less_behind old a b (opening ++ part_text false u.front) (part ++ l.0) u.written
+    (less_longer a b part l.0 w)))
 
 -- the page is not written yet, so not all of the text is
 pub stands_less : (s : State) (name : Text) (old a : Option (List ℕ)) (later : Bool) (page : PageValue) → Underway s name old a later page → WritesLess (features_in s name) old a
@@ -279,40 +293,54 @@ stands_less s name old a later page u =
     let l = left_of s name old a later page u in
     let part = part_text later page.features in
     let some : 0 < length (part ++ l.0) = omega (arith, length-append part l.0, l.1.some) in
-    less_of (features_in s name) l.1.features old a l.1.told (subst (AppendsLess old a) (sym l.1.text) (less_behind old a a (opening ++ part_text false u.front) (part ++ l.0) u.written (less_none a (part ++ l.0) some)))
+    less_of (features_in s name) l.1.features old a l.1.told
+    (subst (AppendsLess old a) (sym l.1.text)
+    (less_behind old a a (opening ++ part_text false u.front) (part ++ l.0) u.written
+    (less_none a (part ++ l.0) some)))
 
 -- the last page is written, and a beginning of the end, and not all of it
 pub ends_less : (s : State) (name : Text) (old a b c : Option (List ℕ)) (later : Bool) (page : PageValue) → Underway s name old a later page → page.next ≡ None
-    → Appends a b (part_text later page.features) → AppendsLess b c closing → WritesLess (features_in s name) old c
+    → Appends a b (part_text later page.features) → AppendsLess b c closing
+    → WritesLess (features_in s name) old c
 ends_less s name old a b c later page u none w v =
     let l = left_last s name old a later page u none in
     let both = less_behind a b c (part_text later page.features) closing w v in
-    less_of (features_in s name) l.features old c l.told (subst (AppendsLess old c) (sym l.text) (less_behind old a c (opening ++ part_text false u.front) (part_text later page.features ++ closing) u.written both))
+    less_of (features_in s name) l.features old c l.told
+    (subst (AppendsLess old c) (sym l.text)
+    (less_behind old a c (opening ++ part_text false u.front)
+    (part_text later page.features ++ closing) u.written both))
 
 -- the page is not written yet
 pub stands_still : (s : State) (name : Text) (old a : Option (List ℕ)) (later : Bool) (page : PageValue) → Underway s name old a later page → WritesSome (features_in s name) old a
 stands_still s name old a later page u = breaks_off s name old a a later page u ([], refl, Appends-nil a)
 
 -- a beginning of what stands before the pages is written
-pub begins_early : (s : State) (name : Text) (old new : Option (List ℕ)) (page : PageValue) → page_in s name (part_query None) ≡ Some page → AppendsFirst old new opening → WritesSome (features_in s name) old new
+pub begins_early : (s : State) (name : Text) (old new : Option (List ℕ)) (page : PageValue) →
+    page_in s name (part_query None) ≡ Some page → AppendsBeginning old new opening →
+    WritesSome (features_in s name) old new
 begins_early s name old new page h w =
     let c = collection_of s name None page h in
     let fs = values c.0.features in
     some_of (features_in s name) fs old new (ap (option_map (λ (d : Collection). values d.features)) c.1)
-    (subst (AppendsFirst old new) (sym (text_in_parts fs)) (first_longer old new opening (part_text false fs ++ closing) w))
+    (subst (AppendsBeginning old new) (sym (text_in_parts fs))
+    (beginning_longer old new opening (part_text false fs ++ closing) w))
 
 -- and not all of it
-pub begins_less : (s : State) (name : Text) (old new : Option (List ℕ)) (page : PageValue) → page_in s name (part_query None) ≡ Some page → AppendsLess old new opening → WritesLess (features_in s name) old new
+pub begins_less : (s : State) (name : Text) (old new : Option (List ℕ)) (page : PageValue) →
+    page_in s name (part_query None) ≡ Some page → AppendsLess old new opening →
+    WritesLess (features_in s name) old new
 begins_less s name old new page h w =
     let c = collection_of s name None page h in
     let fs = values c.0.features in
     less_of (features_in s name) fs old new (ap (option_map (λ (d : Collection). values d.features)) c.1)
-    (subst (AppendsLess old new) (sym (text_in_parts fs)) (less_longer old new opening (part_text false fs ++ closing) w))
+    (subst (AppendsLess old new) (sym (text_in_parts fs))
+    (less_longer old new opening (part_text false fs ++ closing) w))
 
 -- the page is written, and no other
 pub stands_between : (s : State) (name : Text) (old a b : Option (List ℕ)) (later : Bool) (page : PageValue) → Underway s name old a later page
     → Appends a b (part_text later page.features) → WritesSome (features_in s name) old b
-stands_between s name old a b later page u w = breaks_off s name old a b later page u (first_all a b (part_text later page.features) w)
+stands_between s name old a b later page u w =
+    breaks_off s name old a b later page u (beginning_all a b (part_text later page.features) w)
 
 -- ---- how an export ends
 
@@ -390,8 +418,10 @@ first_ends {T} s name r e old stands is h = subst (λ (x : Result T ExportFault)
 
 -- by what stands behind the features
 pub end_exports : {T : Type 0} (s : State) (name : Text) (old a b c : Option (List ℕ)) (later : Bool) (page : PageValue) (r : Result T ExportFault) (stands : State → Type 0) → Underway s name old a later page → page.next ≡ None
-    → Appends a b (part_text later page.features) → OnOk r (Appends b c closing) → OnErr r (AppendsFirst b c closing)
-    → (r ≡ Err WriteFailed → AppendsLess b c closing) → (r ≡ Err FlushFailed → Appends b c closing) → IfErr r IsEndFault → stands s → Exports s name r old c stands
+    → Appends a b (part_text later page.features) → OnOk r (Appends b c closing)
+    → OnErr r (AppendsBeginning b c closing) → (r ≡ Err WriteFailed → AppendsLess b c closing)
+    → (r ≡ Err FlushFailed → Appends b c closing) → IfErr r IsEndFault → stands s
+    → Exports s name r old c stands
 end_exports s name old a b c later page (Ok done) stands u none w ok err less whole f h = (finished s name old a b c later page u none w ok, h)
 end_exports {T} s name old a b c later page (Err e) stands u none w ok err less whole f h =
     end_ends-by T s name e old c stands f (ends_early s name old a b c later page u none w err)

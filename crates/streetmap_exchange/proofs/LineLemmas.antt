@@ -6,8 +6,8 @@ use Rattle.std.proofs.Common.{◌+◌, ◌-◌, ◌<◌, length, take, drop, get
 use Rattle.std.specs.Prelude.{slice_get, decimal}
 use Rattle.std.specs.Io.KnownBytes.{Appends}
 use Rattle.std.proofs.KnownBytes.{Appends-trans}
-use Rattle.streetmap_exchange.specs.Exports.{AppendsFirst}
-use Rattle.streetmap_exchange.proofs.WriteLemmas.{first_longer, first_behind}
+use Rattle.streetmap_text_lines.specs.Written.{AppendsBeginning}
+use Rattle.streetmap_text_lines.proofs.WriteLemmas.{beginning_longer, beginning_behind}
 use Rattle.streetmap_ledger.specs.Kept.{KeyedBatch}
 use Rattle.streetmap_ledger.specs.KeptView.{keyed_batch, keyed_batches}
 use Rattle.streetmap_ledger.specs.declared.kept_batch.KeptBatch.{KeptBatch}
@@ -51,25 +51,26 @@ module _ (n : ℕ) (text : List ℕ) (a b : Option (List ℕ)) (serial : Appends
   abbrev line : List ℕ
   line = (decimal n ++ 9 ∷ text) ++ 10 ∷ []
 
-  pub tab_breaks : (c : Option (List ℕ)) → AppendsFirst b c (9 ∷ []) → AppendsFirst a c line
+  pub tab_breaks : (c : Option (List ℕ)) → AppendsBeginning b c (9 ∷ []) → AppendsBeginning a c line
   tab_breaks c h =
       let rest = text ++ 10 ∷ [] in
-      subst (AppendsFirst a c) (sym (line_is n text))
-      (first_behind a b c _ _ serial (first_longer b c (9 ∷ []) rest h))
+      subst (AppendsBeginning a c) (sym (line_is n text))
+      (beginning_behind a b c _ _ serial (beginning_longer b c (9 ∷ []) rest h))
 
   module _ (c : Option (List ℕ)) (tab : Appends b c (9 ∷ [])) where
-    pub text_breaks : (d : Option (List ℕ)) → AppendsFirst c d text → AppendsFirst a d line
+    pub text_breaks : (d : Option (List ℕ)) → AppendsBeginning c d text → AppendsBeginning a d line
     text_breaks d h =
-        subst (AppendsFirst a d) (sym (line_is n text))
-        (first_behind a b d _ _ serial
-        (first_behind b c d _ _ tab (first_longer c d text (10 ∷ []) h)))
+        subst (AppendsBeginning a d) (sym (line_is n text))
+        (beginning_behind a b d _ _ serial
+        (beginning_behind b c d _ _ tab (beginning_longer c d text (10 ∷ []) h)))
 
     module _ (d : Option (List ℕ)) (told : Appends c d text) where
-      pub feed_breaks : (e : Option (List ℕ)) → AppendsFirst d e (10 ∷ []) → AppendsFirst a e line
+      pub feed_breaks : (e : Option (List ℕ)) → AppendsBeginning d e (10 ∷ [])
+          → AppendsBeginning a e line
       feed_breaks e h =
-          subst (AppendsFirst a e) (sym (line_is n text))
-          (first_behind a b e _ _ serial
-          (first_behind b c e _ _ tab (first_behind c d e _ _ told h)))
+          subst (AppendsBeginning a e) (sym (line_is n text))
+          (beginning_behind a b e _ _ serial
+          (beginning_behind b c e _ _ tab (beginning_behind c d e _ _ told h)))
 
       pub line_written : (e : Option (List ℕ)) → Appends d e (10 ∷ []) → Appends a e line
       line_written e h =
@@ -101,8 +102,8 @@ line_alone x = refl
 
 module _ (xs : List KeptBatch) (i : ℕ) (x : KeptBatch) (h : i < length xs) (is : x ≡ get_or xs i x)
     (a b c : Option (List ℕ)) (before : Appends a b (lines_text (keyed_batches (take i xs)))) where
-  pub lines_break : AppendsFirst b c (line_text (keyed_batch x))
-      → AppendsFirst a c (lines_text (keyed_batches xs))
+  pub lines_break : AppendsBeginning b c (line_text (keyed_batch x))
+      → AppendsBeginning a c (lines_text (keyed_batches xs))
   lines_break wrote =
       let first = keyed_batches (take i xs) in
       let rest = keyed_batches (drop (suc i) xs) in
@@ -110,8 +111,8 @@ module _ (xs : List KeptBatch) (i : ℕ) (x : KeptBatch) (h : i < length xs) (is
       ∙ keyed_append (take i xs) (x ∷ drop (suc i) xs) in
       let lines = ap lines_text cut ∙ (lines_append first (keyed_batch x ∷ rest)
       ∙ ap (λ l. lines_text first ++ l) (lines_more (keyed_batch x) rest)) in
-      subst (AppendsFirst a c) (sym lines)
-      (first_behind a b c _ _ before (first_longer b c (line_text (keyed_batch x))
+      subst (AppendsBeginning a c) (sym lines)
+      (beginning_behind a b c _ _ before (beginning_longer b c (line_text (keyed_batch x))
       (lines_text rest) wrote))
 
   pub lines_grow : Appends b c (line_text (keyed_batch x))

@@ -9,8 +9,9 @@ use Rattle.streetmap_ledger.specs.State.{State}
 use Rattle.streetmap_ledger.specs.WellFormed.{IsState}
 use Rattle.streetmap_ledger.specs.declared.reply.Fault.{Fault}
 use Rattle.streetmap_ledger.specs.declared.reply.Fault.TheVariants.{Memory, Device, Damaged, Reopen}
-use Rattle.streetmap_exchange.specs.Exports.{AppendsFirst}
-use Rattle.streetmap_exchange.proofs.WriteLemmas.{first_longer, first_behind, first_all}
+use Rattle.streetmap_text_lines.specs.Written.{AppendsBeginning}
+use Rattle.streetmap_text_lines.proofs.WriteLemmas.{beginning_longer, beginning_behind}
+use Rattle.streetmap_text_lines.proofs.WriteLemmas.{beginning_all}
 use Rattle.streetmap_ledger.specs.Kept.{KeyedBatch, batch_in, batch_count, batches_next}
 use Rattle.streetmap_ledger.specs.Kept.{batches_behind, AreNext}
 use Rattle.streetmap_ledger.proofs.Nexts.{nexts_split, last_next}
@@ -50,12 +51,12 @@ cut_at s after last low high =
 
 module _ (s : State) (sound : IsState s) (after last : ℕ) (old now : Option (List ℕ))
     (it : Underway s after last old now) where
-  pub early : AppendsFirst old now (lines_text (batches_behind s after))
+  pub early : AppendsBeginning old now (lines_text (batches_behind s after))
   early =
       let cut = ap lines_text (cut_at s after last it.low it.high)
       ∙ lines_append (batches_next s after (last - after)) (batches_behind s last) in
-      subst (AppendsFirst old now) (sym cut) (first_longer old now _ _
-      (first_all old now _ it.written))
+      subst (AppendsBeginning old now) (sym cut) (beginning_longer old now _ _
+      (beginning_all old now _ it.written))
 
   module _ (room : ℕ) (found : List KeyedBatch) (next : AreNext s last room found) where
     pub ends : found ≡ []
@@ -115,8 +116,8 @@ module _ (s : State) (sound : IsState s) (after last : ℕ) (old now : Option (L
                 (Appends-trans old now later _ _ it.written wrote);
           }
 
-      pub breaks : (later : Option (List ℕ)) → AppendsFirst now later (lines_text found)
-          → AppendsFirst old later (lines_text (batches_behind s after))
+      pub breaks : (later : Option (List ℕ)) → AppendsBeginning now later (lines_text found)
+          → AppendsBeginning old later (lines_text (batches_behind s after))
       breaks later wrote =
           let low = it.low in
           let serial = serial_is in
@@ -125,9 +126,9 @@ module _ (s : State) (sound : IsState s) (after last : ℕ) (old now : Option (L
           (omega (arith, most)))
           ∙ lines_append (batches_next s after (b.1.serial - after))
           (batches_behind s b.1.serial) in
-          subst (AppendsFirst old later) (sym cut) (first_longer old later _ _
-          (subst (AppendsFirst old later) (sym texts_up_to)
-          (first_behind old now later _ _ it.written wrote)))
+          subst (AppendsBeginning old later) (sym cut) (beginning_longer old later _ _
+          (subst (AppendsBeginning old later) (sym texts_up_to)
+          (beginning_behind old now later _ _ it.written wrote)))
 
 -- ---- stops
 

@@ -1,9 +1,8 @@
 -- What an export of a collection writes.
-use Rattle.std.specs.Prelude.{◌≡◌, ◌<◌, length, ℕ, Bool, true, List, [], ◌∷◌, ◌++◌, Option, None}
-use Rattle.std.specs.Prelude.{Some, Result, Ok, Err, IsSomeAnd}
+use Rattle.std.specs.Prelude.{◌≡◌, ℕ, Bool, true, List, [], ◌∷◌, ◌++◌, Option, None, Some, Result}
+use Rattle.std.specs.Prelude.{Ok, Err, IsSomeAnd}
 use Rattle.std.specs.Option.{option_map}
 use Rattle.std.specs.FinMap.{get, values}
-use Rattle.std.specs.Io.{StartsWith}
 use Rattle.std.specs.Io.KnownBytes.{Appends, Keeps}
 use Rattle.serde_json.specs.Written.{comma_if, compact_text}
 use Rattle.streetmap_geojson.specs.FeatureValue.{FeatureValue}
@@ -15,6 +14,7 @@ use Rattle.streetmap_ledger.specs.Pages.{page_in}
 use Rattle.streetmap_ledger.specs.PageView.{page_value}
 use Rattle.streetmap_ledger.specs.declared.page.Page.{Page}
 use Rattle.streetmap_ledger.specs.declared.reply.Fault.TheVariants.{Memory, Device, Damaged, Reopen}
+use Rattle.streetmap_text_lines.specs.Written.{AppendsBeginning, AppendsLess}
 use Rattle.streetmap_exchange.specs.declared.fault.ExportFault.{ExportFault}
 use Rattle.streetmap_exchange.specs.declared.fault.ExportFault.TheVariants.{NoCollection, Stopped}
 use Rattle.streetmap_exchange.specs.declared.fault.ExportFault.TheVariants.{WriteFailed}
@@ -28,23 +28,14 @@ export_text fs = compact_text (collection_data fs) ++ 10 ∷ []
 abbrev pub features_in : State → Text → Option (List FeatureValue)
 features_in s name = option_map (λ (c : Collection). values c.features) (get s.collections name)
 
--- the first of these bytes were written, and nothing else
-abbrev pub AppendsFirst : Option (List ℕ) → Option (List ℕ) → List ℕ → Type 0
-AppendsFirst old new bytes = (first : List ℕ) × StartsWith bytes first × Appends old new first
-
--- the first of these bytes were written, not all of them, and nothing else
-abbrev pub AppendsLess : Option (List ℕ) → Option (List ℕ) → List ℕ → Type 0
-AppendsLess old new bytes =
-    (first : List ℕ) × StartsWith bytes first × (length first < length bytes)
-    × Appends old new first
-
 -- the text of a collection that is there was written
 abbrev pub WritesAll : Option (List FeatureValue) → Option (List ℕ) → Option (List ℕ) → Type 0
 WritesAll features old new = IsSomeAnd features (λ fs. Appends old new (export_text fs))
 
 -- a beginning of that text was written
 abbrev pub WritesSome : Option (List FeatureValue) → Option (List ℕ) → Option (List ℕ) → Type 0
-WritesSome features old new = IsSomeAnd features (λ fs. AppendsFirst old new (export_text fs))
+WritesSome features old new =
+    IsSomeAnd features (λ fs. AppendsBeginning old new (export_text fs))
 
 -- a beginning of that text was written, and not all of it
 abbrev pub WritesLess : Option (List FeatureValue) → Option (List ℕ) → Option (List ℕ) → Type 0
@@ -53,7 +44,7 @@ WritesLess features old new = IsSomeAnd features (λ fs. AppendsLess old new (ex
 -- a beginning of the text, where the collection is there, and else nothing
 abbrev pub WritesSomeIf : Option (List FeatureValue) → Option (List ℕ) → Option (List ℕ) → Type 0
 WritesSomeIf None old new = Keeps old new
-WritesSomeIf (Some fs) old new = AppendsFirst old new (export_text fs)
+WritesSomeIf (Some fs) old new = AppendsBeginning old new (export_text fs)
 
 -- an export from a keeper that stood for this state: what was written, and the state stays
 abbrev pub Exports : {T : Type 0} → State → Text → Result T ExportFault → Option (List ℕ)

@@ -1,11 +1,11 @@
 -- What is written of kept batches.
 use Rattle.std.specs.Prelude.{◌≡◌, ℕ, max, List, ◌∷◌, ◌++◌, [], map, Option, Result, Ok, Err}
 use Rattle.std.specs.Io.KnownBytes.{Appends}
-use Rattle.streetmap_exchange.specs.Exports.{AppendsFirst}
 use Rattle.streetmap_ledger.specs.State.{State}
 use Rattle.streetmap_ledger.specs.Kept.{KeyedBatch, batch_count, batches_behind}
 use Rattle.streetmap_replay.specs.JournalText.{text_of_lines}
 use Rattle.streetmap_replay.specs.Lines.{Line, numbered, line_bytes}
+use Rattle.streetmap_text_lines.specs.Written.{AppendsBeginning}
 use Rattle.streetmap_exchange.specs.Stops.{StaysBy}
 use Rattle.streetmap_exchange.specs.declared.lines_stop.LinesStop.{LinesStop}
 
@@ -29,4 +29,4 @@ WritesLines s after (Ok last) old new stands =
     Appends old new (lines_text (batches_behind s after))
     × (last ≡ max after (batch_count s)) × stands s
 WritesLines s after (Err stop) old new stands =
-    AppendsFirst old new (lines_text (batches_behind s after)) × StaysBy s stop stands
+    AppendsBeginning old new (lines_text (batches_behind s after)) × StaysBy s stop stands

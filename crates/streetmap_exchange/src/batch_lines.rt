@@ -1,42 +1,33 @@
-//! Bytes and lines, written as often as the writer takes some of them.
+//! Lines of kept batches, written.
 ghost use Rattle.std.specs.Prelude.{OnOk, OnErr, IfErr};
 ghost use Rattle.std.specs.Io.KnownBytes.{Appends};
-ghost use Rattle.streetmap_exchange.specs.Exports.{AppendsFirst};
 ghost use Rattle.streetmap_ledger.specs.KeptView.{keyed_batch, keyed_batches};
+ghost use Rattle.streetmap_text_lines.specs.Written.{AppendsBeginning};
 ghost use Rattle.streetmap_exchange.specs.Printed.{line_text, lines_text};
 ghost use Rattle.streetmap_exchange.specs.Stops.{IsWriteStop};
 
 use crate::lines_stop::{LinesStop, of_write};
-use std::io::{ErrorKind, Write};
+use std::io::Write;
 use streetmap_ledger::KeptBatch;
 
 /// Writes bytes.
 fn write_bytes<W: Write>(writer: &mut W, bytes: &[u8]) -> Result<(), LinesStop>
     ensures ok { OnOk result (Appends (W.contents writer.old) (W.contents writer.new) bytes.now) }
     ensures err { OnErr result
-        (AppendsFirst (W.contents writer.old) (W.contents writer.new) bytes.now) }
+        (AppendsBeginning (W.contents writer.old) (W.contents writer.new) bytes.now) }
     ensures stop { IfErr result IsWriteStop }
 {
-    let mut rest = bytes;
-    for _turn in 0..u64::MAX {
-        if rest.is_empty() {
-            return Ok(());
-        }
-        match writer.write(rest) {
-            Ok(0) => return Err(LinesStop::WriteFailed),
-            Ok(count) => rest = &rest[count..],
-            Err(error) if error.kind() == ErrorKind::Interrupted => {}
-            Err(error) => return Err(of_write(&error)),
-        }
+    match streetmap_text_lines::write_bytes(writer, bytes) {
+        Ok(()) => Ok(()),
+        Err(stopped) => Err(of_write(stopped.why)),
     }
-    Err(LinesStop::WriteFailed)
 }
 
 /// Writes the line of a batch: its serial in decimal, a tab, its text and a line feed.
 fn write_line<W: Write>(writer: &mut W, batch: &KeptBatch) -> Result<(), LinesStop>
     ensures ok { OnOk result (Appends (W.contents writer.old) (W.contents writer.new)
         (line_text (keyed_batch batch.now))) }
-    ensures err { OnErr result (AppendsFirst (W.contents writer.old) (W.contents writer.new)
+    ensures err { OnErr result (AppendsBeginning (W.contents writer.old) (W.contents writer.new)
         (line_text (keyed_batch batch.now))) }
     ensures stop { IfErr result IsWriteStop }
 {
@@ -51,7 +42,7 @@ fn write_line<W: Write>(writer: &mut W, batch: &KeptBatch) -> Result<(), LinesSt
 pub(crate) fn write_lines<W: Write>(writer: &mut W, batches: &[KeptBatch]) -> Result<(), LinesStop>
     ensures ok { OnOk result (Appends (W.contents writer.old) (W.contents writer.new)
         (lines_text (keyed_batches batches.now))) }
-    ensures err { OnErr result (AppendsFirst (W.contents writer.old) (W.contents writer.new)
+    ensures err { OnErr result (AppendsBeginning (W.contents writer.old) (W.contents writer.new)
         (lines_text (keyed_batches batches.now))) }
     ensures stop { IfErr result IsWriteStop }
 {

@@ -6,6 +6,7 @@ use std::io::{Error, ErrorKind};
 use streetmap_batch::BatchFault;
 use streetmap_geojson::Fault;
 use streetmap_ledger::{Fault as KeeperFault, Refusal};
+use streetmap_text_lines::WriteFault;
 
 /// Why a text is not read into a batch.
 #[derive(Clone, Copy, PartialEq, Drop)]
@@ -234,14 +235,13 @@ impl ExportFault {
         }
     }
 
-    /// The fault of a write that failed. A buffer that finds no memory fails so too.
-    pub(crate) fn of_write(error: &Error) -> ExportFault
+    /// The fault of bytes that were not written.
+    pub(crate) fn of_write(fault: WriteFault) -> ExportFault
         ensures { IsWriteFault result }
     {
-        if error.kind() == ErrorKind::OutOfMemory {
-            ExportFault::Stopped(KeeperFault::Memory)
-        } else {
-            ExportFault::WriteFailed
+        match fault {
+            WriteFault::Memory => ExportFault::Stopped(KeeperFault::Memory),
+            WriteFault::WriteFailed => ExportFault::WriteFailed,
         }
     }
 

@@ -17,7 +17,7 @@
 //! many there are. These lines are those of the state's journal (`line_laws`).
 //!
 //! Modules, in the order of reading: `fault`, `progress`, `importing`, `keeping`, `part`,
-//! `exporting`, `laws`; `lines_stop`, `batch_lines` (bytes and lines), `batches`, `line_laws`.
+//! `exporting`, `laws`; `lines_stop`, `batch_lines`, `batches`, `line_laws`.
 #![tactic(auto)]
 
 mod batch_lines;

@@ -1,10 +1,9 @@
 //! Why lines are not written to the end.
 ghost use Rattle.std.specs.Prelude.{◌≡◌, ◌≢◌};
-ghost use Rattle.std.specs.IoError.{error_kind};
 ghost use Rattle.streetmap_exchange.specs.Stops.{stop_code_of};
 
-use std::io::{Error, ErrorKind};
 use streetmap_ledger::Fault;
+use streetmap_text_lines::WriteFault;
 
 /// Why lines are not written to the end.
 #[derive(Clone, Copy, PartialEq, Drop)]
@@ -28,16 +27,13 @@ impl LinesStop {
     }
 }
 
-/// The stop at a write that failed. A buffer that finds no memory fails so too.
-pub(crate) fn of_write(error: &Error) -> LinesStop
-    ensures memory { error_kind error.now ≡ ErrorKind.OutOfMemory →
-        result ≡ LinesStop.Stopped Fault.Memory }
-    ensures other { error_kind error.now ≢ ErrorKind.OutOfMemory →
-        result ≡ LinesStop.WriteFailed }
+/// The stop at bytes that were not written.
+pub(crate) fn of_write(fault: WriteFault) -> LinesStop
+    ensures memory { fault ≡ WriteFault.Memory → result ≡ LinesStop.Stopped Fault.Memory }
+    ensures other { fault ≢ WriteFault.Memory → result ≡ LinesStop.WriteFailed }
 {
-    if error.kind() == ErrorKind::OutOfMemory {
-        LinesStop::Stopped(Fault::Memory)
-    } else {
-        LinesStop::WriteFailed
+    match fault {
+        WriteFault::Memory => LinesStop::Stopped(Fault::Memory),
+        WriteFault::WriteFailed => LinesStop::WriteFailed,
     }
 }

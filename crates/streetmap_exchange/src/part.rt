@@ -8,11 +8,12 @@ ghost use Rattle.streetmap_ledger.specs.PageView.{page_value};
 ghost use Rattle.streetmap_ledger.specs.State.{State};
 ghost use Rattle.streetmap_ledger.specs.declared.reply.Fault.TheVariants.{Reopen};
 ghost use Rattle.streetmap_exchange.specs.ExportFaults.{IsWriteFault, IsEndFault, ExportShuts};
-ghost use Rattle.streetmap_exchange.specs.Exports.{AppendsFirst, AppendsLess, ShowsPart, part_text};
+ghost use Rattle.streetmap_text_lines.specs.Written.{AppendsBeginning, AppendsLess};
+ghost use Rattle.streetmap_exchange.specs.Exports.{ShowsPart, part_text};
 
 use crate::fault::ExportFault;
 use std::alloc::{AllocError, Global};
-use std::io::{ErrorKind, Write};
+use std::io::Write;
 use streetmap_feature_text::{push_comma, push_feature};
 use streetmap_geojson::{Feature, Id};
 use streetmap_ledger::{Keeper, Page};
@@ -82,31 +83,18 @@ fn push_part(
     Ok(())
 }
 
-/// Writes bytes, as often as the writer takes some of them.
+/// Writes bytes.
 pub(crate) fn write_bytes<W: Write>(writer: &mut W, bytes: &[u8]) -> Result<(), ExportFault>
     ensures ok { OnOk result (Appends (W.contents writer.old) (W.contents writer.new) bytes.now) }
-    ensures err { OnErr result (AppendsFirst (W.contents writer.old) (W.contents writer.new)
+    ensures err { OnErr result (AppendsBeginning (W.contents writer.old) (W.contents writer.new)
         bytes.now) }
     ensures less { result ≡ Err ExportFault.WriteFailed →
         AppendsLess (W.contents writer.old) (W.contents writer.new) bytes.now }
     ensures fault { IfErr result IsWriteFault }
 {
-    let mut rest = bytes;
-    for _turn in 0..u64::MAX {
-        if rest.is_empty() {
-            return Ok(());
-        }
-        match writer.write(rest) {
-            Ok(0) => return Err(ExportFault::WriteFailed),
-            Ok(count) => rest = &rest[count..],
-            Err(error) if error.kind() == ErrorKind::Interrupted => {}
-            Err(error) => return Err(ExportFault::of_write(&error)),
-        }
-    }
-    if rest.is_empty() {
-        Ok(())
-    } else {
-        Err(ExportFault::WriteFailed)
+    match streetmap_text_lines::write_bytes(writer, bytes) {
+        Ok(()) => Ok(()),
+        Err(stopped) => Err(ExportFault::of_write(stopped.why)),
     }
 }
 
@@ -119,7 +107,7 @@ pub(crate) fn write_part<W: Write>(
 ) -> Result<(), ExportFault>
     ensures ok { OnOk result (Appends (W.contents writer.old) (W.contents writer.new)
         (part_text later (map feature_value features.now))) }
-    ensures err { OnErr result (AppendsFirst (W.contents writer.old) (W.contents writer.new)
+    ensures err { OnErr result (AppendsBeginning (W.contents writer.old) (W.contents writer.new)
         (part_text later (map feature_value features.now))) }
     ensures less { result ≡ Err ExportFault.WriteFailed →
         AppendsLess (W.contents writer.old) (W.contents writer.new)
@@ -135,7 +123,7 @@ pub(crate) fn write_part<W: Write>(
 pub(crate) fn write_end<W: Write>(writer: &mut W) -> Result<(), ExportFault>
     ensures ok { OnOk result (Appends (W.contents writer.old) (W.contents writer.new)
         (codes "],\"type\":\"FeatureCollection\"}\n")) }
-    ensures err { OnErr result (AppendsFirst (W.contents writer.old) (W.contents writer.new)
+    ensures err { OnErr result (AppendsBeginning (W.contents writer.old) (W.contents writer.new)
         (codes "],\"type\":\"FeatureCollection\"}\n")) }
     ensures less { result ≡ Err ExportFault.WriteFailed →
         AppendsLess (W.contents writer.old) (W.contents writer.new)

@@ -1,7 +1,7 @@
 use Rattle.std.proofs.Common.{subst, ◌∙◌}
 use Rattle.std.specs.Io.KnownBytes.{Appends}
-use Rattle.streetmap_exchange.specs.Exports.{AppendsFirst}
-use Rattle.streetmap_exchange.proofs.WriteLemmas.{on_err}
+use Rattle.streetmap_text_lines.specs.Written.{AppendsBeginning}
+use Rattle.streetmap_text_lines.proofs.WriteLemmas.{on_err}
 use Rattle.streetmap_exchange.proofs.LineLemmas.{tab_breaks, text_breaks, feed_breaks}
 use Rattle.streetmap_exchange.proofs.LineLemmas.{line_written}
 use Rattle.streetmap_exchange.proofs.LineLemmas.{on_ok_more, on_err_more}
@@ -22,7 +22,8 @@ returns-in_err-write_bytes-3-clause-err g c =
     let batch = c.args.batch.now in
     let serial = subst (Appends (at c.args.writer.now) (at c.write_bytes.new.writer))
     (c.as_bytes.ensures.value ∙ c.format.ensures.text) c.in_ok-write_bytes.ensures.ok in
-    let wrote = subst (AppendsFirst (at c.write_bytes-2.new.writer) (at c.write_bytes-3.new.writer))
+    let before = at c.write_bytes-2.new.writer in
+    let wrote = subst (AppendsBeginning before (at c.write_bytes-3.new.writer))
     c.as_slice.ensures.value c.in_err-write_bytes-3.ensures.err in
     on_err _ _ (text_breaks batch.serial batch.text.items _ _ serial _
     c.in_ok-write_bytes-2.ensures.ok

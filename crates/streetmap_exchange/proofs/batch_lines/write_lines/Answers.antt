@@ -1,5 +1,5 @@
 use Rattle.std.proofs.Common.{◌<◌, length, arith}
-use Rattle.streetmap_exchange.proofs.WriteLemmas.{on_err}
+use Rattle.streetmap_text_lines.proofs.WriteLemmas.{on_err}
 use Rattle.streetmap_exchange.proofs.LineLemmas.{lines_break, lines_grow}
 use Rattle.streetmap_exchange.proofs.batch_lines.write_lines.Goals as goal
 

@@ -4,7 +4,7 @@ use Rattle.std.specs.Prelude.{slice_get}
 use Rattle.std.specs.Option.{option_copied}
 use Rattle.std.specs.Io.KnownBytes.{Appends}
 use Rattle.std.proofs.lemmas.Result.{err_from_is_err_and}
-use Rattle.streetmap_exchange.specs.Exports.{AppendsFirst}
+use Rattle.streetmap_text_lines.specs.Written.{AppendsBeginning}
 use Rattle.streetmap_ledger.specs.Kept.{AreNext}
 use Rattle.streetmap_ledger.specs.declared.kept_batch.KeptBatch.{KeptBatch}
 use Rattle.streetmap_ledger.specs.KeptView.{keyed_batch, keyed_batches}
@@ -80,7 +80,7 @@ returns-in_err-write_lines-clause-writes g c = λ h s e.
     sym (ap (λ l. slice_get l (length l - 1)) c.deref.ensures.value)
     ∙ (sym c.last.ensures.value ∙ ap option_copied c.in-Some.is) in
     let of_last = last_some items latest last in
-    let wrote = subst (λ l. AppendsFirst (at c.loop-turn.writer) (at c.write_lines.new.writer)
+    let wrote = subst (λ l. AppendsBeginning (at c.loop-turn.writer) (at c.write_lines.new.writer)
     (lines_text (keyed_batches l))) c.as_slice.ensures.value c.in_err-write_lines.ensures.err in
     let first = breaks s sound c.args.after c.loop-turn.last _ _
     (inv.underway began s e) _ _ shown.0

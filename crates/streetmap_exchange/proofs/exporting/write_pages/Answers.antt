@@ -2,7 +2,7 @@ use Rattle.std.proofs.Common.{◌≡◌, ◌||◌, Some, Err, arith, vec_len, ap
 use Rattle.std.proofs.lemmas.Result.{err_from_is_err_and}
 use Rattle.std.specs.Io.KnownBytes.{Appends}
 use Rattle.streetmap_ledger.specs.PageView.{page_value}
-use Rattle.streetmap_exchange.specs.Exports.{AppendsFirst, AppendsLess}
+use Rattle.streetmap_text_lines.specs.Written.{AppendsBeginning, AppendsLess}
 use Rattle.streetmap_exchange.proofs.ExportLemmas.{Underway, is_any, begins, begins_early, begins_less, breaks_off, breaks_off_less}
 use Rattle.streetmap_exchange.proofs.ExportLemmas.{stands_less, stands_between, goes_further, write_ends, page_ends, end_exports, page_part, some_before, some_here}
 use Rattle.streetmap_exchange.proofs.exporting.write_pages.Goals as goal
@@ -30,9 +30,15 @@ returns-in_err-write_part-clause-exports g c = λ clean s stands first.
     let p = err_from_is_err_and c.from_residual-in_err-write_part.result c.from_residual-in_err-write_part.ensures.1 in
     let before = g.W.Write.contents c.loop-turn.writer in
     let after = g.W.Write.contents c.write_part.new.writer in
-    let part = subst (AppendsFirst before after) (page_part c.loop-turn.later c.as_slice.result.now _ c.as_slice.ensures.value) c.in_err-write_part.ensures.err in
+    let part = subst (AppendsBeginning before after)
+    (page_part c.loop-turn.later c.as_slice.result.now _ c.as_slice.ensures.value)
+    c.in_err-write_part.ensures.err in
     write_ends s _ c.from_residual-in_err-write_part.result c.in_err-write_part.field-0.0 _ _ (g.K.Keeper.stands c.loop-turn.keeper) (p.1 ∙ ap (λ x. Err x) p.2) c.in_err-write_part.ensures.fault (breaks_off s _ _ before after _ _ (inv.underway clean s stands first) part)
-    (λ is. breaks_off_less s _ _ before after _ _ (inv.underway clean s stands first) (subst (AppendsLess before after) (page_part c.loop-turn.later c.as_slice.result.now _ c.as_slice.ensures.value) (c.in_err-write_part.ensures.less (ap (λ x. Err x) is)))) (inv.stands clean s stands)
+    (λ is. breaks_off_less s _ _ before after _ _ (inv.underway clean s stands first)
+    (subst (AppendsLess before after)
+    (page_part c.loop-turn.later c.as_slice.result.now _ c.as_slice.ensures.value)
+    (c.in_err-write_part.ensures.less (ap (λ x. Err x) is))))
+    (inv.stands clean s stands)
 
 pub returns-in_err-page-in-Some-clause-exports : goal.returns-in_err-page-in-Some-clause-exports
 returns-in_err-page-in-Some-clause-exports g c = λ clean s stands first.

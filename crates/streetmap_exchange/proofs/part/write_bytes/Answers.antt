@@ -1,19 +1,17 @@
-use Rattle.std.proofs.Common.{rules, subst, sym}
-use Rattle.streetmap_exchange.proofs.WriteLemmas.{part_sliced, part_kept, IsPartWritten}
-use Rattle.streetmap_exchange.proofs.part.write_bytes.Goals.{in-Ok, in-Err}
+use Rattle.std.proofs.Common.{rules}
+use Rattle.streetmap_text_lines.proofs.WriteLemmas.{first_is_beginning, first_is_less}
 use Rattle.streetmap_exchange.proofs.part.write_bytes.Goals as goal
 
-pub loop-turn-preserved : goal.loop-turn-preserved
-loop-turn-preserved g c =
-    let old = g.W.Write.contents c.args.writer.now in
-    let before = g.W.Write.contents c.loop-turn.writer in
-    let after = g.W.Write.contents c.write.new.self in
-    let bytes = c.args.bytes.now in
-    let rest = c.loop-turn.rest.now in
-    elim c.match-write.branch [
-      | in-Ok w ↦ subst (λ r. IsPartWritten old after bytes r.now) (sym w.rest-is) (part_sliced old before after bytes rest w.in-Ok.count c.loop-turn.invariant w.in-Ok.ensures.bytes)
-      | in-Err w ↦ subst (λ r. IsPartWritten old after bytes r.now) (sym w.rest-is) (part_kept old before after bytes rest c.loop-turn.invariant w.in-Err.ensures.bytes)
-    ]
+pub returns-in-Err-clause-ok : goal.returns-in-Err-clause-ok
+returns-in-Err-clause-ok c = search rules
 
-pub returns-in-Ok-eq0-clause-ok : goal.returns-in-Ok-eq0-clause-ok
-returns-in-Ok-eq0-clause-ok c = search rules
+pub returns-in-Err-clause-err : goal.returns-in-Err-clause-err
+returns-in-Err-clause-err g c =
+    first_is_beginning c.in-Err.stopped.written (g.W.Write.contents c.args.writer.now)
+    (g.W.Write.contents c.write_bytes.new.writer) c.args.bytes.now c.in-Err.ensures.err
+
+pub returns-in-Err-clause-less : goal.returns-in-Err-clause-less
+returns-in-Err-clause-less g c = λ _.
+    first_is_less c.in-Err.stopped.written (g.W.Write.contents c.args.writer.now)
+    (g.W.Write.contents c.write_bytes.new.writer) c.args.bytes.now c.in-Err.ensures.err
+    c.in-Err.ensures.less
