@@ -1,7 +1,6 @@
 pub mod Compiles
 pub mod Same
-pub mod Seeing
-pub mod Stopping
+pub mod Undone
 pub mod Rising
 pub mod RowCells
 pub mod Refusing

@@ -6,31 +6,37 @@ use Rattle.sqlite.specs.State.{State as Seen, IsUnchanged}
 use Rattle.sqlite.proofs.Callers.{unchanged_then}
 use Rattle.streetmap_rows.specs.declared.fault.ReadFault.{ReadFault}
 use Rattle.streetmap_rows.specs.declared.fault.ReadFault.TheVariants.{Memory, Store, Unread}
-use Rattle.streetmap_checking.specs.Seeing.{IsSimpleQuery, QueryShows}
-use Rattle.streetmap_checking.specs.Folding.{Refuses, StopsQuery}
+use Rattle.streetmap_reading.specs.Seeing.{QueryShows}
+use Rattle.streetmap_reading.specs.Folding.{Refuses, StopsQuery}
 use Rattle.streetmap_checking.specs.Telling.{IsNotShown, is_refused, begins_badly, not_good, TellsWhy, LooksOver, Known, SeesFeatures, SeesAllFeatures, SeesCollections, SeesOwners, SeesBatches, NoFeatures, NoFeaturesOfAll}
 use Rattle.streetmap_checking.specs.Good.{AreFeatureRows}
 use Rattle.streetmap_checking.specs.Statements.{select_features, select_owners, select_batches}
 use Rattle.streetmap_rows.specs.Statements.{select_collections}
 use Rattle.streetmap_rows.proofs.Reasons.{other, reason_on}
-use Rattle.streetmap_checking.proofs.Simple.{features_simple, collections_simple, owners_simple, batches_simple}
+use Rattle.streetmap_checking.proofs.Simple.{IsSimpleQuery, features_simple, collections_simple}
+use Rattle.streetmap_checking.proofs.Simple.{owners_simple, batches_simple}
 use Rattle.sqlite.specs.declared.types.Value.TheVariants.{Text as Words}
-use Rattle.streetmap_checking.proofs.Seeing.{unchanged_was, was_then, begins_there}
-use Rattle.streetmap_checking.proofs.Stopping.{sees_on, unseen_on}
+use Rattle.streetmap_reading.proofs.Seeing.{begins_there}
+use Rattle.streetmap_reading.proofs.Stopping.{sees_on, unseen_on}
+use Rattle.streetmap_checking.proofs.Undone.{unchanged_was, undone_was, was_then}
 
 -- what a fold that stopped tells
 pub stopped : {F : Type 0} (Holds : F → F → List Row → Type 0) (IsGood : F → List Row → Type 0) (sql : List ℕ) (params : Row) (start : F) (Good : List Row → Type 0) → ((rows : List Row) → Good rows → IsGood start rows)
     → (old new : Seen) (fault : ReadFault) → StopsQuery Holds IsGood sql params start old new fault → TellsWhy (IsNotShown sql params Good old) old new fault
 stopped Holds IsGood sql params start Good good old new Memory h = h
 stopped Holds IsGood sql params start Good good old new Unread h = (begins_badly h.0.0 h.0.1 (λ later g. h.0.2 later (good (h.0.0 ++ later) g)), h.1)
-stopped Holds IsGood sql params start Good good old new (Store e) h = ((λ other. is_refused (h.0 other)), h.1, h.2)
+stopped Holds IsGood sql params start Good good old new (Store e) h =
+    ((λ other. is_refused (h.0 other)), undone_was old new h.1, h.2)
 
 module _ (sql : List ℕ) (params : Row) (simple : IsSimpleQuery sql) (Good : List Row → Type 0) (a b : Seen) (same : IsUnchanged a b) (limit : b.step_limit ≡ a.step_limit) where
   -- of a connection that was left as it was
   pub none_on : IsNotShown sql params Good b → IsNotShown sql params Good a
-  none_on (is_refused h) = is_refused (unseen_on sql params simple a b same limit h)
-  none_on (begins_badly rows first none) = begins_badly rows (begins_there sql params simple b b a same.0.now_is rows first) none
-  none_on (not_good rows shown bad) = not_good rows (sees_on sql params simple a b rows same shown) bad
+  none_on (is_refused h) = is_refused (unseen_on sql params a b (simple a.now.schema) same limit h)
+  none_on (begins_badly rows first none) =
+      let begins = begins_there sql params b b a (simple a.now.schema) same.0.now_is rows first in
+      begins_badly rows begins none
+  none_on (not_good rows shown bad) =
+      not_good rows (sees_on sql params a b (simple a.now.schema) same rows shown) bad
 
 -- a fault of a look behind another
 pub fault_on : (why first : Type 0) (a b c : Seen) (fault : ReadFault) → IsUnchanged a b
@@ -64,7 +70,10 @@ looked Holds IsGood sql params start after Good Is old new (Err fault) good is h
 -- ---- what was told of a connection that was left as it was
 
 pub features_on : (head : Known) (count : ℕ) (a b : Seen) → IsUnchanged a b → SeesFeatures head count b → SeesFeatures head count a
-features_on head count a b same h = (h.0, sees_on select_features (Words head.0 ∷ []) features_simple a b h.0 same h.1, h.2, h.3)
+features_on head count a b same h =
+    let params = Words head.0 ∷ [] in
+    let sees = sees_on select_features params a b (features_simple a.now.schema) same h.0 h.1 in
+    (h.0, sees, h.2, h.3)
 
 pub no_features_on : (head : Known) (a b : Seen) → IsUnchanged a b → b.step_limit ≡ a.step_limit → NoFeatures head b → NoFeatures head a
 no_features_on head a b same limit h = none_on select_features (Words head.0 ∷ []) features_simple (AreFeatureRows head.1) a b same limit h
@@ -84,10 +93,14 @@ pub no_features_all_on : (heads : List Known) (a b : Seen) → IsUnchanged a b �
 no_features_all_on heads a b same limit h = (h.0, h.1, no_features_on h.0 a b same limit h.2)
 
 pub heads_on : (heads : List Known) (a b : Seen) → IsUnchanged a b → SeesCollections heads b → SeesCollections heads a
-heads_on heads a b same h = (h.0, sees_on select_collections [] collections_simple a b h.0 same h.1, h.2, h.3)
+heads_on heads a b same h =
+    let sees = sees_on select_collections [] a b (collections_simple a.now.schema) same h.0 h.1 in
+    (h.0, sees, h.2, h.3)
 
 pub owners_on : (heads : List Known) (a b : Seen) → IsUnchanged a b → SeesOwners heads b → SeesOwners heads a
-owners_on heads a b same h = (h.0, sees_on select_owners [] owners_simple a b h.0 same h.1, h.2)
+owners_on heads a b same h =
+    (h.0, sees_on select_owners [] a b (owners_simple a.now.schema) same h.0 h.1, h.2)
 
 pub batches_on : (count : ℕ) (a b : Seen) → IsUnchanged a b → SeesBatches count b → SeesBatches count a
-batches_on count a b same h = (h.0, sees_on select_batches [] batches_simple a b h.0 same h.1, h.2, h.3)
+batches_on count a b same h =
+    (h.0, sees_on select_batches [] a b (batches_simple a.now.schema) same h.0 h.1, h.2, h.3)

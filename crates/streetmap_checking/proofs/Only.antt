@@ -18,7 +18,7 @@ use Rattle.streetmap_rows.specs.Queries.{program}
 use Rattle.streetmap_rows.proofs.OfStore.{failure_is}
 use Rattle.streetmap_rows.proofs.Resolving.{Means, command_is, is_plain, is_whole, unlisted}
 use Rattle.streetmap_reading.specs.Candidates.{IsOneStatement, ShowsOf}
-use Rattle.streetmap_checking.specs.Seeing.{QueryShows}
+use Rattle.streetmap_reading.specs.Seeing.{QueryShows}
 use Rattle.streetmap_checking.specs.Telling.{IsNotShown, is_refused, begins_badly, not_good}
 
 -- the text is a query of this database that no rule refuses, and what it may show is so

@@ -25,7 +25,7 @@ use Rattle.streetmap_rows.proofs.Unique.{one_text_one_feature, untimed_is}
 use Rattle.streetmap_reading.proofs.ShownOutlines.{collections_at}
 use Rattle.streetmap_checking.specs.Checking.{ShowsState}
 use Rattle.streetmap_checking.specs.Good.{feature_view}
-use Rattle.streetmap_checking.specs.Seeing.{QueryShows}
+use Rattle.streetmap_reading.specs.Seeing.{QueryShows}
 use Rattle.streetmap_checking.specs.Statements.{select_features, select_batches}
 use Rattle.streetmap_checking.proofs.Only.{only_of, sees_good}
 use Rattle.streetmap_checking.proofs.Shown.{features_at, batches_at}

@@ -1,9 +1,13 @@
 -- The statements of a check have no RETURNING and do not read the time.
-use Rattle.std.proofs.Common.{◌≡◌, inl, inr, ℕ, ◌+◌, List, [], Bool, true, false, if◌then◌else◌, Ok, Err, Option, None, Result, is_ok, refl, sym, ap, subst, ◌∙◌}
+use Rattle.std.proofs.Common.{◌≡◌, inl, inr, ℕ, ◌+◌, List, [], Bool, true, false, if◌then◌else◌}
+use Rattle.std.proofs.Common.{Ok, Err, Option, None, Result, IsSome, is_ok, refl, sym, ap, subst, ◌∙◌}
 use Rattle.std.proofs.lemmas.Bool.{cases_Bool}
+use Rattle.sqlite.specs.Order.{Row}
 use Rattle.sqlite.specs.Schema.{Schema}
+use Rattle.sqlite.specs.State.{State as Seen, Survives, CommitsShowing}
 use Rattle.sqlite.specs.Command.{Command}
 use Rattle.sqlite.specs.Listing.{understood, reads_listing, if_select, is_select, listing_schema}
+use Rattle.sqlite.proofs.StateLemmas.{survives_weaker}
 use Rattle.sqlite_schema.specs.declared.command.Returning.{Returning}
 use Rattle.sqlite_resolve.specs.Compile.{first, meaning, planned, compiled, command, timed, returning, small, with_command}
 use Rattle.sqlite_resolve.specs.Lowering.{Checked, and_then}
@@ -11,11 +15,29 @@ use Rattle.sqlite_resolve.specs.declared.compiled.Compiled.{Compiled}
 use Rattle.sqlite_resolve.specs.declared.error.CompileError.{CompileError}
 use Rattle.sqlite_resolve.specs.declared.error.CompileError.TheVariants.{NoSuchTable}
 use Rattle.sqlite_tied.specs.Compute.{everything}
+use Rattle.sqlite_trees.specs.Tree.{Trees}
 use Rattle.streetmap_rows.proofs.Drafts.{parsed_of, was_parsed}
 use Rattle.streetmap_rows.specs.Statements.{select_collections}
 use Rattle.streetmap_tables.proofs.Seeing.{IsBare}
-use Rattle.streetmap_checking.specs.Seeing.{IsSimpleQuery}
+use Rattle.streetmap_reading.specs.Seeing.{IsSimpleIn}
 use Rattle.streetmap_checking.specs.Statements as text
+
+-- whatever the tables are
+abbrev pub IsSimpleQuery : List ℕ → Type 0
+IsSimpleQuery sql = (schema : Schema) → IsSimpleIn schema sql
+
+-- such a query commits nothing
+module _ (sql : List ℕ) (params : Row) (simple : IsSimpleQuery sql) where
+  no_commit : (s : Seen) (db : Trees) → CommitsShowing sql params s db → ⊥
+  unfolding CommitsShowing
+  no_commit s db h =
+      absurd (let some = subst IsSome (simple s.now.schema h.0 h.1.is).0 h.2 in cc)
+
+  pub commits_nothing : (old new : Seen) → Survives old new (CommitsShowing sql params old)
+      → Survives old new (λ _. ⊥)
+  commits_nothing old new survives =
+      survives_weaker old new (CommitsShowing sql params old) (λ _. ⊥)
+      (λ clean db h. no_commit old db h) survives
 
 abbrev Planned : Type 0
 Planned = List (List ℕ) × (Command × Option Returning)

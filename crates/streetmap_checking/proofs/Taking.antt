@@ -13,7 +13,7 @@ use Rattle.streetmap_rows.specs.Stored.{IsStored}
 use Rattle.streetmap_reading.proofs.Rests.{map_append}
 use Rattle.streetmap_rows.specs.declared.fault.ReadFault.{ReadFault}
 use Rattle.streetmap_rows.specs.Rows.{feature_text, batch_cells}
-use Rattle.streetmap_checking.specs.Folding.{Refuses}
+use Rattle.streetmap_reading.specs.Folding.{Refuses}
 use Rattle.streetmap_batch.specs.Names.{is_key}
 use Rattle.streetmap_checking.specs.Good.{AreEntryRows, feature_view, head_cells, IsCollectionHead, HasBatch, IsAccepted, AreBatchRows, serials_of}
 use Rattle.streetmap_checking.specs.Held.{last_key, StandsBehind}

@@ -9,7 +9,7 @@ use Rattle.streetmap_rows.specs.Rows.{collection_cells, batch_cells}
 use Rattle.streetmap_rows.specs.Statements.{select_collections}
 use Rattle.streetmap_checking.specs.Statements.{select_formats, select_features, select_owners}
 use Rattle.streetmap_checking.specs.Statements.{select_batches}
-use Rattle.streetmap_checking.specs.Seeing.{QueryShows}
+use Rattle.streetmap_reading.specs.Seeing.{QueryShows}
 use Rattle.streetmap_checking.specs.Good.{feature_view, AreOwnerRows}
 use Rattle.std.specs.FinMap.{len, entries}
 use Rattle.sqlite.specs.State.{State as Seen}

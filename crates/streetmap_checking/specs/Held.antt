@@ -1,7 +1,6 @@
 -- What is held of rows that were taken.
 use Rattle.std.specs.Prelude.{◌≡◌, ◌⊎◌, List, [], ◌∷◌, map, length, Option, None, Some, option_map}
-use Rattle.std.specs.Prelude.{string_bytes, Vec}
-use Rattle.std.specs.declared.alloc.Global.{Global}
+use Rattle.std.specs.Prelude.{string_bytes}
 use Rattle.std.specs.declared.cmp.Ordering.TheVariants.{Less}
 use Rattle.sqlite.specs.Order.{Row}
 use Rattle.streetmap_batch.specs.Text.{Text, text_cmp}
@@ -10,6 +9,7 @@ use Rattle.streetmap_checking.specs.Good.{AreEntryRows, AreFormatRows, AreCollec
 use Rattle.streetmap_checking.specs.Good.{AreFeatureRows, AreOwnerRows, IsAccepted, AreBatchRows}
 use Rattle.streetmap_checking.specs.Good.{serials_of}
 use Rattle.streetmap_checking.specs.declared.formats.FormatRows.{FormatRows}
+use Rattle.streetmap_checking.specs.declared.collections.CollectionRows.{CollectionRows}
 use Rattle.streetmap_checking.specs.declared.collections.Head.{Head}
 use Rattle.streetmap_checking.specs.declared.features.FeatureRows.{FeatureRows}
 use Rattle.streetmap_checking.specs.declared.owners.OwnerRows.{OwnerRows}
@@ -40,11 +40,11 @@ IsGoodFormat start rows = AreFormatRows rows
 abbrev pub known : List Head → List (Text × Option Text)
 known heads = map (λ h. (string_bytes h.id, option_map string_bytes h.time)) heads
 
-abbrev pub HoldsCollectionRows : Vec Head Global → Vec Head Global → List Row → Type 0
+abbrev pub HoldsCollectionRows : CollectionRows → CollectionRows → List Row → Type 0
 HoldsCollectionRows start now rows = (are : AreCollectionRows rows)
-    × (known now.items ≡ map (λ e. (e.0, e.1.time)) are.entries)
+    × (known now.heads.items ≡ map (λ e. (e.0, e.1.time)) are.entries)
 
-abbrev pub IsGoodCollections : Vec Head Global → List Row → Type 0
+abbrev pub IsGoodCollections : CollectionRows → List Row → Type 0
 IsGoodCollections start rows = AreCollectionRows rows
 
 -- ---- features of a collection: the last id, and how many they are

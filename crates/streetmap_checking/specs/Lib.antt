@@ -1,7 +1,5 @@
 pub mod Statements
-pub mod Seeing
 pub mod Faults
-pub mod Folding
 pub mod Good
 pub mod Held
 pub mod Telling

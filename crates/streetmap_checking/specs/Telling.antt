@@ -13,7 +13,7 @@ use Rattle.streetmap_rows.specs.declared.fault.ReadFault.TheVariants.{Memory, St
 use Rattle.streetmap_tables.specs.Adopting.{IsAsItWas}
 use Rattle.streetmap_checking.specs.Statements.{select_formats, select_features, select_owners}
 use Rattle.streetmap_checking.specs.Statements.{select_batches}
-use Rattle.streetmap_checking.specs.Seeing.{QueryShows, QueryBegins, QueryIsRefused}
+use Rattle.streetmap_reading.specs.Seeing.{QueryShows, QueryBegins, QueryIsRefused}
 use Rattle.streetmap_checking.specs.Good.{AreFormatRows, AreCollectionRows, AreFeatureRows}
 use Rattle.streetmap_checking.specs.Good.{AreOwnerRows, AreBatchRows}
 

@@ -7,15 +7,15 @@ ghost use Rattle.streetmap_batch.specs.Text.{Text};
 ghost use Rattle.streetmap_batch.specs.BatchReading.{most_edits};
 ghost use Rattle.streetmap_ledger.specs.State.{AcceptedBatch};
 ghost use Rattle.streetmap_rows.specs.Rows.{batch_cells};
-ghost use Rattle.streetmap_checking.specs.Folding.{Refuses};
+ghost use Rattle.streetmap_reading.specs.Folding.{Refuses};
 ghost use Rattle.streetmap_checking.specs.Good.{HasNumber, HasBatch, IsAccepted, AreSerials};
 
 use crate::cells::{follows, has_text, text_at};
-use crate::fold::RowCheck;
 use sqlite::Row;
 use sqlite::types::ValueRef;
 use std::alloc::{AllocError, Global};
 use streetmap_batch::is_key;
+use streetmap_reading::RowFold;
 use streetmap_rows::ReadFault;
 
 /// How many batches a ledger accepts at most.
@@ -86,7 +86,7 @@ fn batch_in(row: &Row) -> Result<KeptBatch, ReadFault>
     }
 }
 
-impl RowCheck for BatchRows {
+impl RowFold for BatchRows {
     ghost use Rattle.streetmap_checking.specs.Held.{HoldsBatchRows, IsGoodBatches};
 
     ghost holds = { HoldsBatchRows };

@@ -7,7 +7,7 @@ ghost use Rattle.sqlite.specs.Order.{column};
 ghost use Rattle.sqlite.specs.Values.{or_null};
 ghost use Rattle.sqlite.specs.declared.types.Value.TheVariants.{Int, Text as Words};
 ghost use Rattle.streetmap_batch.specs.Text.{Text};
-ghost use Rattle.streetmap_checking.specs.Folding.{Refuses};
+ghost use Rattle.streetmap_reading.specs.Folding.{Refuses};
 ghost use Rattle.streetmap_checking.specs.Held.{StandsBehind};
 
 use sqlite::types::ValueRef;

@@ -3,16 +3,16 @@ ghost use Rattle.std.specs.Prelude.{◌≡◌, ◌↔◌, IsTrue, IfOk, MatchRes
 ghost use Rattle.std.specs.Option.{option_copied};
 ghost use Rattle.streetmap_batch.specs.Text.{Text};
 ghost use Rattle.streetmap_batch.specs.BatchFacts.{IsTimePropertyIf};
-ghost use Rattle.streetmap_checking.specs.Folding.{Refuses};
+ghost use Rattle.streetmap_reading.specs.Folding.{Refuses};
 ghost use Rattle.streetmap_checking.specs.Good.{CollectionHead, head_cells, IsCollectionHead};
 ghost use Rattle.streetmap_checking.specs.Held.{last_key, known};
 ghost use Rattle.streetmap_checking.specs.Looking.{known_of};
 
 use crate::cells::{follows, text_at, text_if_at};
-use crate::fold::RowCheck;
 use sqlite::Row;
 use std::alloc::AllocError;
 use streetmap_batch::{is_collection_id, is_time_property, is_title};
+use streetmap_reading::RowFold;
 use streetmap_rows::ReadFault;
 
 /// What is kept of a collection while its features are checked.
@@ -21,6 +21,12 @@ pub struct Head {
     pub id: String,
     /// The property that the times of its features are read from.
     pub time: Option<String>,
+}
+
+/// What is kept of the collections whose rows were read.
+#[derive(Drop)]
+pub struct CollectionRows {
+    pub heads: Vec<Head>,
 }
 
 /// A copy of a text, where there is one.
@@ -86,7 +92,7 @@ fn last_id(heads: &[Head]) -> Option<&str>
     }
 }
 
-impl RowCheck for Vec<Head> {
+impl RowFold for CollectionRows {
     ghost use Rattle.streetmap_checking.specs.Held.{HoldsCollectionRows, IsGoodCollections};
 
     ghost holds = { HoldsCollectionRows };
@@ -95,10 +101,10 @@ impl RowCheck for Vec<Head> {
 
     fn take(&mut self, row: &Row) -> Result<(), ReadFault> {
         let head = head_in(row)?;
-        if !follows(last_id(self.as_slice()), head.id.as_str()) {
+        if !follows(last_id(self.heads.as_slice()), head.id.as_str()) {
             return Err(ReadFault::Unread);
         }
-        self.push(head)?;
+        self.heads.push(head)?;
         Ok(())
     }
 }

@@ -10,13 +10,12 @@ ghost use Rattle.streetmap_moment.specs.Meeting.{seconds_of};
 ghost use Rattle.streetmap_ledger.specs.WellFormed.{IsPlaced};
 ghost use Rattle.streetmap_rows.specs.Stored.{IsStored};
 ghost use Rattle.streetmap_rows.specs.Rows.{feature_text, extent_in, seconds_in};
-ghost use Rattle.streetmap_checking.specs.Folding.{Refuses};
+ghost use Rattle.streetmap_reading.specs.Folding.{Refuses};
 ghost use Rattle.streetmap_checking.specs.Good.{HasTextCells, HasExtentCells, HasSeconds};
 ghost use Rattle.streetmap_checking.specs.Good.{feature_view};
 
 use crate::cells::{follows, is_number, is_text, one_more};
 use crate::collections::Head;
-use crate::fold::RowCheck;
 use sqlite::Row;
 use sqlite::types::ValueRef;
 use std::alloc::{AllocError, Global};
@@ -24,6 +23,7 @@ use streetmap_feature_text::push_feature;
 use streetmap_geojson::{Feature, JsonFault, read_feature, read_json};
 use streetmap_grid::GridBox;
 use streetmap_moment::Interval;
+use streetmap_reading::RowFold;
 use streetmap_rows::ReadFault;
 
 /// What is known of a collection's features whose rows were read.
@@ -153,7 +153,7 @@ fn feature_in(alloc: Global, row: &Row, head: &Head) -> Result<Feature, ReadFaul
     }
 }
 
-impl RowCheck for FeatureRows {
+impl RowFold for FeatureRows {
     ghost use Rattle.streetmap_checking.specs.Held.{HoldsFeatureRows, IsGoodFeatures};
 
     ghost holds = { HoldsFeatureRows };

@@ -3,8 +3,8 @@ ghost use Rattle.std.specs.Prelude.{◌≡◌, ◌↔◌, [], ◌∷◌, codes, 
 ghost use Rattle.sqlite.specs.declared.types.Value.TheVariants.{Int, Text as Words};
 
 use crate::cells::{is_number, is_text};
-use crate::fold::RowCheck;
 use sqlite::Row;
+use streetmap_reading::RowFold;
 use streetmap_rows::ReadFault;
 
 /// How many rows of the format were found.
@@ -20,7 +20,7 @@ fn is_format(row: &Row) -> bool
     row.column_count() == 2 && is_text(row, 0, b"format") && is_number(row, 1, Some(2))
 }
 
-impl RowCheck for FormatRows {
+impl RowFold for FormatRows {
     ghost use Rattle.streetmap_checking.specs.Held.{HoldsFormatRows, IsGoodFormat};
 
     ghost holds = { HoldsFormatRows };

@@ -5,9 +5,9 @@
 //! `Damaged`. A feature is read from its text, written again, and compared with it, and so are its
 //! stored extent and seconds. It writes nothing.
 //!
-//! In the order of reading: `fold` (rows of a query, one after the other), `cells` (what stands in
-//! a row), `formats`, `collections`, `features`, `owners`, `batches` (the rows of each table),
-//! `looks` (one statement after the other), `checking`.
+//! In the order of reading: `cells` (what stands in a row), `formats`, `collections`, `features`,
+//! `owners`, `batches` (the rows of each table, which `streetmap_reading`'s `fold_rows` takes one
+//! after the other), `looks` (one statement after the other), `checking`.
 #![tactic(auto)]
 
 mod batches;
@@ -15,7 +15,6 @@ mod cells;
 mod checking;
 mod collections;
 mod features;
-mod fold;
 mod formats;
 mod looks;
 mod owners;

@@ -13,13 +13,13 @@ ghost use Rattle.streetmap_checking.specs.Telling.{NoOwners, NoBatches};
 
 use crate::batches::{BatchRows, are_serials};
 use crate::cells::sum_of;
-use crate::collections::{Head, copy_of};
+use crate::collections::{CollectionRows, Head, copy_of};
 use crate::features::FeatureRows;
-use crate::fold::fold_rows;
 use crate::formats::FormatRows;
 use crate::owners::OwnerRows;
 use sqlite::{Alter, Connection, params};
 use std::alloc::Global;
+use streetmap_reading::fold_rows;
 use streetmap_rows::ReadFault;
 
 /// Whether the row of the format is there, and no other.
@@ -55,14 +55,15 @@ pub fn check_collections<S: Alter>(
     ensures mode { conn.old.in_transaction ≡ false → conn.new.in_transaction ≡ false }
     ensures survives { Survives (state S.Store conn.old) (state S.Store conn.new) (λ _. ⊥) }
 {
-    let mut heads = Vec::new(alloc);
+    let heads = Vec::new(alloc);
+    let mut rows = CollectionRows { heads };
     fold_rows(
         conn,
         "SELECT id, title, time FROM streetmap_collections ORDER BY id",
         params![],
-        &mut heads,
+        &mut rows,
     )?;
-    Ok(heads)
+    Ok(rows.heads)
 }
 
 /// How many features a collection has.

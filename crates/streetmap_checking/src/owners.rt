@@ -6,8 +6,8 @@ ghost use Rattle.streetmap_batch.specs.Text.{Text};
 
 use crate::cells::is_text;
 use crate::collections::Head;
-use crate::fold::RowCheck;
 use sqlite::Row;
+use streetmap_reading::RowFold;
 use streetmap_rows::ReadFault;
 
 /// The collections that are there.
@@ -32,7 +32,7 @@ fn names_one(row: &Row, heads: &[Head]) -> bool
     false
 }
 
-impl RowCheck for OwnerRows {
+impl RowFold for OwnerRows {
     ghost use Rattle.streetmap_checking.specs.Held.{HoldsOwnerRows, IsGoodOwners};
 
     ghost holds = { HoldsOwnerRows };

@@ -2,6 +2,7 @@ pub mod Boxes
 pub mod Choosing
 pub mod Compiles
 pub mod Features
+pub mod Folded
 pub mod Given
 pub mod Listing
 pub mod Lists
@@ -9,8 +10,10 @@ pub mod Looks
 pub mod Pages
 pub mod Readings
 pub mod Rests
+pub mod Seeing
 pub mod Shown
 pub mod ShownOutlines
+pub mod Stopping
 pub mod Taken
 pub mod Told
 pub mod ToldOutlines

@@ -31,3 +31,8 @@ ends_with f (w ∷ ys) y (x ∷ xs) e =
 pub all_before : {A : Type 0} (P : A → Type 0) (xs : List A) (x : A) → AllByRecursion P (xs ++ x ∷ []) → AllByRecursion P xs × P x
 all_before P [] x all = (tt, all.0)
 all_before P (y ∷ xs) x all = let it = all_before P xs x all.1 in ((all.0, it.0), it.1)
+
+pub one_of : {A : Type 0} (P : A → Type 0) (xs : List A) (x : A) (ys : List A)
+    → AllByRecursion P ((xs ++ x ∷ []) ++ ys) → P x
+one_of P [] x ys all = all.0
+one_of P (y ∷ xs) x ys all = one_of P xs x ys all.1

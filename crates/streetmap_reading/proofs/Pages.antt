@@ -31,17 +31,24 @@ use Rattle.streetmap_reading.specs.Held.{property_of, IsCandidate, HoldsPage}
 use Rattle.streetmap_reading.specs.Choosing.{chosen_of, TakesChosen}
 use Rattle.streetmap_reading.specs.Looking.{Stays}
 use Rattle.streetmap_rows.specs.Views.{collection_view}
+use Rattle.streetmap_reading.proofs.Folded.{folded}
 use Rattle.streetmap_reading.proofs.Shown.{chosen_stored}
 use Rattle.streetmap_reading.proofs.Taken.{candidates_fine, page_begun}
 
 -- the rows of the chosen features are taken
 pub takes_by : (sql : List ℕ) (params : Row) (box : Option BoxValue) (interval : Option IntervalValue) (name : Text) (old new : Seen) (before after : PageRows) (r : Result (Unit {0}) ReadFault)
-    → TakesAll HoldsPage IsCandidate sql params old new before after r → ((s : State) (c : Collection) → Keeps s old.now → get s.collections name ≡ Some c → ShowsOf sql params old.now (map candidate_row (chosen_of box interval c)))
+    → TakesAll HoldsPage (λ start. AllByRecursion (IsCandidate start)) sql params old new before
+    after r
+    → ((s : State) (c : Collection) → Keeps s old.now → get s.collections name ≡ Some c
+    → ShowsOf sql params old.now (map candidate_row (chosen_of box interval c)))
     → TakesChosen (chosen_of box interval) name old new before after r
 takes_by sql params box interval name old new before after r all shows q s c limit keeps collected same held =
     let fs = chosen_of box interval c in
     let stored : AllByRecursion (IsStored (property_of before)) fs = subst (λ p. AllByRecursion (IsStored p) fs) same (chosen_stored s old.now keeps name c collected box interval) in
-    result_map r (λ h. h.page q fs held refl stored) (all _ limit (shows s c keeps collected) (candidates_fine before fs stored) (page_begun before))
+    let took = folded HoldsPage (λ start. AllByRecursion (IsCandidate start)) sql params old new
+    before after (map candidate_row fs) (shows s c keeps collected) limit
+    (candidates_fine before fs stored) r all (page_begun before) in
+    result_map r (λ h. h.page q fs held refl stored) took
   where
     result_map : (r : Result (Unit {0}) ReadFault) → (HoldsPage before after (map candidate_row (chosen_of box interval c)) → Holds q after.fold (chosen_of box interval c))
         → MatchResult r (λ _. HoldsPage before after (map candidate_row (chosen_of box interval c)) × IsUnchanged old new) (Stopped old new)

@@ -1,6 +1,6 @@
 -- What stays between the rows of a query, and why taking them stops.
-use Rattle.std.proofs.Common.{Result, MatchResult, ◌≡◌, ◌≤◌, ◌<◌, inl, ℕ, List, [], ◌∷◌, ◌++◌, map, length}
-use Rattle.std.proofs.Common.{Ok, Err, refl, sym, ap, subst, arith}
+use Rattle.std.proofs.Common.{◌≡◌, ◌≤◌, ◌<◌, inl, ℕ, List, [], ◌∷◌, ◌++◌, map, length}
+use Rattle.std.proofs.Common.{refl, sym, ap, subst, arith}
 use Rattle.sqlite.specs.declared.types.Value.TheVariants.{Text as Words}
 use Rattle.sqlite.specs.Order.{Row, column}
 use Rattle.sqlite.specs.Store.{Ghosts}
@@ -50,10 +50,3 @@ pub stopped_on : (a b c : Seen) (fault : ReadFault) → IsUnchanged a b → a.fa
 stopped_on a b c Memory same counts h = unchanged_then a b c same h
 stopped_on a b c (Store e) same counts h = (h.0, (λ live tells. omega (arith, counts, h.1 same.0.is_open tells)), keeps_on a b c same h.2)
 stopped_on a b c Unread same counts h = h
-
--- a query whose rows were taken, after it had begun
-pub taken_on : (a b c : Seen) (P : Type 0) (r : Result (Unit {0}) ReadFault) → IsUnchanged a b
-    → a.faults ≤ b.faults → MatchResult r (λ _. P × IsUnchanged b c) (Stopped b c)
-    → MatchResult r (λ _. P × IsUnchanged a c) (Stopped a c)
-taken_on a b c P (Ok u) same counts h = (h.0, unchanged_then a b c same h.1)
-taken_on a b c P (Err fault) same counts h = stopped_on a b c fault same counts h

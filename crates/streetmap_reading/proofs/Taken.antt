@@ -23,14 +23,17 @@ use Rattle.streetmap_rows.specs.Rows.{collection_cells}
 use Rattle.streetmap_rows.specs.Stored.{IsStored}
 use Rattle.streetmap_rows.specs.Stands.{IsReadable}
 use Rattle.streetmap_rows.specs.Views.{collection_view}
+use Rattle.streetmap_rows.specs.declared.fault.ReadFault.{ReadFault}
+use Rattle.streetmap_rows.specs.declared.fault.ReadFault.TheVariants.{Memory, Store, Unread}
 use Rattle.streetmap_reading.proofs.Rests.{map_append}
 use Rattle.streetmap_reading.specs.Candidates.{candidate_row}
+use Rattle.streetmap_reading.specs.Folding.{IsForMemory, Refuses}
 use Rattle.streetmap_reading.specs.declared.candidates.PageRows.{PageRows}
 use Rattle.streetmap_reading.specs.Held.{head_of, property_of, IsCandidate, HoldsPage}
 use Rattle.streetmap_reading.specs.Telling.{features_in, IsExtentIn, CompletesHead}
 use Rattle.streetmap_reading.specs.Views.{extent_row, feature_extent}
 use Rattle.streetmap_reading.proofs.Boxes.{feature_bounds}
-use Rattle.streetmap_reading.proofs.Lists.{ends_with, all_before, none_mapped}
+use Rattle.streetmap_reading.proofs.Lists.{ends_with, all_before, none_mapped, one_of}
 
 -- a list with one value more, where the rows end with the row of that value
 pub one_more : {A B : Type 0} (value : A → B) (row_of : B → Row) (Fine : B → Type 0) (items next : List A) (item : A) (rows : List Row) (row : Row) → next ≡ items ++ item ∷ []
@@ -53,6 +56,16 @@ wider_bounds rows row old extent new held reads both fs is fine =
     let own : AreBounds (feature_vertices end.last) extent = feature_bounds extent end.last.geometry all.1 (reads end.last end.same all.1) in
     let P : List PositionValue → Type 0 = λ vs. AreBounds vs new in
     subst P (flat_map_more feature_vertices [] end.before end.last ∙ ap all_vertices (sym end.is)) (both (all_vertices end.before) (feature_vertices end.last) (held end.before end.rest all.0) own)
+
+-- a row is not taken that no readable rows have
+pub not_taken : (IsReadable : Row → Type 0) (rows : List Row) (row : Row) (fault : ReadFault)
+    → Refuses (Unit {0}) fault → (IsReadable row → IsForMemory fault)
+    → Refuses ((later : List Row) → AllByRecursion IsReadable ((rows ++ row ∷ []) ++ later) → ⊥)
+    fault
+not_taken IsReadable rows row Memory refuses reads = tt
+not_taken IsReadable rows row Unread refuses reads = λ later all.
+    absurd (let clash = reads (one_of IsReadable rows row later all) in cc)
+not_taken IsReadable rows row (Store e) refuses reads = refuses
 
 -- ---- what is told of a collection
 

@@ -3,6 +3,7 @@ pub mod Choosing
 pub mod Folding
 pub mod Held
 pub mod Looking
+pub mod Seeing
 pub mod Statements
 pub mod Taking
 pub mod Telling

@@ -1,11 +1,12 @@
 //! The candidates of a page, whose texts the rows of a query show.
-ghost use Rattle.std.specs.Prelude.{◌≡◌, ◌<◌, MatchResult, length};
+ghost use Rattle.std.specs.Prelude.{◌≡◌, ◌<◌, IfErr, MatchResult, length};
 ghost use Rattle.std.specs.Option.{option_copied};
 ghost use Rattle.sqlite.specs.Order.{column};
 ghost use Rattle.sqlite.specs.declared.types.Value.TheVariants.{Text as Words};
 ghost use Rattle.streetmap_geojson.specs.FeatureValue.{FeatureValue};
 ghost use Rattle.streetmap_rows.specs.Rows.{feature_text};
 ghost use Rattle.streetmap_rows.specs.Stored.{IsStored};
+ghost use Rattle.streetmap_reading.specs.Folding.{Refuses};
 
 use crate::fold::RowFold;
 use sqlite::Row;
@@ -17,9 +18,10 @@ use streetmap_rows::{ReadFault, read_body};
 
 /// The feature of a row that shows its text first.
 pub fn read_row(alloc: Global, row: &Row, property: Option<&str>) -> Result<Feature, ReadFault>
-    ensures { (f : FeatureValue) → 0 < length row.now → column row.now 0
+    ensures reads { (f : FeatureValue) → 0 < length row.now → column row.now 0
         ≡ Words (feature_text f) → IsStored (option_copied property.entry) f
         → MatchResult result (λ g. g ≡ f) (λ fault. fault ≡ ReadFault.Memory) }
+    ensures refuses { IfErr result (Refuses (Unit {0})) }
 {
     match row.get_ref(0) {
         Ok(ValueRef::Text(body)) => match read_body(alloc, body, property) {
@@ -41,11 +43,12 @@ pub struct PageRows<'a> {
 }
 
 impl RowFold for PageRows<'_> {
+    ghost use Rattle.std.specs.List.{AllByRecursion};
     ghost use Rattle.streetmap_reading.specs.Held.{HoldsPage, IsCandidate};
 
     ghost holds = { HoldsPage };
 
-    ghost is_readable = { IsCandidate };
+    ghost is_good = { λ start. AllByRecursion (IsCandidate start) };
 
     fn take(&mut self, row: &Row) -> Result<(), ReadFault> {
         let feature = read_row(self.alloc, row, self.property)?;

@@ -1,6 +1,6 @@
 //! What stands in the cells of a row.
 ghost use Rattle.std.specs.Prelude.{◌≡◌, ℤ, ◌+◌, ◌^◌, ◌<◌, Option, Ok, length, MatchResult, IfSome};
-ghost use Rattle.std.specs.Prelude.{IsUtf8, option_map, string_bytes};
+ghost use Rattle.std.specs.Prelude.{IsUtf8, IfErr, option_map, string_bytes};
 ghost use Rattle.sqlite.specs.Order.{column};
 ghost use Rattle.sqlite.specs.Values.{or_null};
 ghost use Rattle.sqlite.specs.declared.types.Value.TheVariants.{Int, Text as Words};
@@ -8,7 +8,7 @@ ghost use Rattle.streetmap_batch.specs.Text.{Text};
 ghost use Rattle.streetmap_grid.specs.Values.{BoxValue};
 ghost use Rattle.streetmap_grid.specs.Views.{box_value};
 ghost use Rattle.streetmap_grid.specs.WellFormed.{IsBox};
-ghost use Rattle.streetmap_reading.specs.Folding.{IsForMemory};
+ghost use Rattle.streetmap_reading.specs.Folding.{IsForMemory, Refuses};
 
 use sqlite::Row;
 use sqlite::types::ValueRef;
@@ -17,25 +17,28 @@ use streetmap_rows::{ReadFault, unread};
 
 /// The text in a cell.
 pub fn text_at(row: &Row, at: usize) -> Result<String, ReadFault>
-    ensures { (t : Text) → at < length row.now → column row.now at ≡ Words t → IsUtf8 t
+    ensures reads { (t : Text) → at < length row.now → column row.now at ≡ Words t → IsUtf8 t
         → MatchResult result (λ text. string_bytes text ≡ t) IsForMemory }
+    ensures refuses { IfErr result (Refuses (Unit {0})) }
 {
     row.get::<String>(at).map_err(|error| unread(error))
 }
 
 /// The text in a cell, or none.
 pub fn text_if_at(row: &Row, at: usize) -> Result<Option<String>, ReadFault>
-    ensures { (t : Option Text) → at < length row.now → column row.now at ≡ or_null Words t
+    ensures reads { (t : Option Text) → at < length row.now → column row.now at ≡ or_null Words t
         → IfSome t IsUtf8 → MatchResult result (λ text. option_map string_bytes text
         ≡ t) IsForMemory }
+    ensures refuses { IfErr result (Refuses (Unit {0})) }
 {
     row.get::<Option<String>>(at).map_err(|error| unread(error))
 }
 
 /// The number in a cell, or none.
 fn number_at(row: &Row, at: usize) -> Result<Option<i64>, ReadFault>
-    ensures { (n : Option ℤ) → at < length row.now → column row.now at ≡ or_null Int n
+    ensures reads { (n : Option ℤ) → at < length row.now → column row.now at ≡ or_null Int n
         → result ≡ Ok n }
+    ensures refuses { IfErr result (Refuses (Unit {0})) }
 {
     match row.get_ref(at) {
         Ok(ValueRef::Int(number)) => Ok(Some(number)),
@@ -51,12 +54,13 @@ fn box_of(
     east: Option<i64>,
     north: Option<i64>,
 ) -> Result<Option<GridBox>, ReadFault>
-    ensures { (b : Option BoxValue) → IfSome b IsBox
+    ensures reads { (b : Option BoxValue) → IfSome b IsBox
         → west ≡ option_map (λ (g : BoxValue). g.x0) b
         → south ≡ option_map (λ (g : BoxValue). g.y0) b
         → east ≡ option_map (λ (g : BoxValue). g.x1) b
         → north ≡ option_map (λ (g : BoxValue). g.y1) b
         → MatchResult result (λ found. option_map box_value found ≡ b) (λ _. ⊥) }
+    ensures refuses { IfErr result (Refuses (Unit {0})) }
 {
     match (west, south, east, north) {
         (Some(x0), Some(y0), Some(x1), Some(y1)) => match GridBox::new(x0, y0, x1, y1) {
@@ -70,8 +74,9 @@ fn box_of(
 
 /// The first and the last second, or none.
 fn seconds_of(first: Option<i64>, last: Option<i64>) -> Result<Option<(i64, i64)>, ReadFault>
-    ensures { (s : Option (ℤ × ℤ)) → first ≡ option_map (λ (p : ℤ × ℤ). p.0) s
+    ensures reads { (s : Option (ℤ × ℤ)) → first ≡ option_map (λ (p : ℤ × ℤ). p.0) s
         → last ≡ option_map (λ (p : ℤ × ℤ). p.1) s → result ≡ Ok s }
+    ensures refuses { IfErr result (Refuses (Unit {0})) }
 {
     match (first, last) {
         (Some(first), Some(last)) => Ok(Some((first, last))),
@@ -84,12 +89,13 @@ fn seconds_of(first: Option<i64>, last: Option<i64>) -> Result<Option<(i64, i64)
 /// are none.
 pub fn box_at(row: &Row, from: usize) -> Result<Option<GridBox>, ReadFault>
     requires { from + 3 < 2 ^ 64 }
-    ensures { (b : Option BoxValue) → IfSome b IsBox → from + 3 < length row.now
+    ensures reads { (b : Option BoxValue) → IfSome b IsBox → from + 3 < length row.now
         → column row.now from ≡ or_null Int (option_map (λ (g : BoxValue). g.x0) b)
         → column row.now (from + 1) ≡ or_null Int (option_map (λ (g : BoxValue). g.y0) b)
         → column row.now (from + 2) ≡ or_null Int (option_map (λ (g : BoxValue). g.x1) b)
         → column row.now (from + 3) ≡ or_null Int (option_map (λ (g : BoxValue). g.y1) b)
         → MatchResult result (λ found. option_map box_value found ≡ b) (λ _. ⊥) }
+    ensures refuses { IfErr result (Refuses (Unit {0})) }
 {
     let west = number_at(row, from)?;
     let south = number_at(row, from + 1)?;
@@ -101,10 +107,11 @@ pub fn box_at(row: &Row, from: usize) -> Result<Option<GridBox>, ReadFault>
 /// The first and the last second, which stand in this cell and the next one, or none.
 pub fn seconds_at(row: &Row, from: usize) -> Result<Option<(i64, i64)>, ReadFault>
     requires { from + 1 < 2 ^ 64 }
-    ensures { (s : Option (ℤ × ℤ)) → from + 1 < length row.now
+    ensures reads { (s : Option (ℤ × ℤ)) → from + 1 < length row.now
         → column row.now from ≡ or_null Int (option_map (λ (p : ℤ × ℤ). p.0) s)
         → column row.now (from + 1) ≡ or_null Int (option_map (λ (p : ℤ × ℤ). p.1) s)
         → result ≡ Ok s }
+    ensures refuses { IfErr result (Refuses (Unit {0})) }
 {
     let first = number_at(row, from)?;
     let last = number_at(row, from + 1)?;

@@ -1,12 +1,13 @@
 //! Extents of collections, folded from the extents of their features.
 ghost use Rattle.std.specs.Prelude.{◌≡◌, List, Option, option_map, ◌++◌, false, MatchResult};
-ghost use Rattle.std.specs.Prelude.{IfSome};
+ghost use Rattle.std.specs.Prelude.{IfErr, IfSome};
 ghost use Rattle.sqlite.specs.Held.{state};
 ghost use Rattle.sqlite.specs.State.{HasCleanDisk, Survives};
 ghost use Rattle.streetmap_grid.specs.Bounds.{AreBounds};
 ghost use Rattle.streetmap_grid.specs.Values.{BoxValue, PositionValue};
 ghost use Rattle.streetmap_grid.specs.Views.{box_value};
 ghost use Rattle.streetmap_grid.specs.WellFormed.{IsBox};
+ghost use Rattle.streetmap_reading.specs.Folding.{Refuses};
 ghost use Rattle.streetmap_reading.specs.Looking.{LooksInto, Stays};
 ghost use Rattle.streetmap_reading.specs.Telling.{IsExtentIn};
 ghost use Rattle.streetmap_reading.specs.Views.{extent_row};
@@ -31,19 +32,21 @@ fn bounds_of_both(one: Option<GridBox>, other: Option<GridBox>) -> Option<GridBo
 
 /// The extent that a row shows.
 fn extent_in(row: &Row) -> Result<Option<GridBox>, ReadFault>
-    ensures { (b : Option BoxValue) → row.now ≡ extent_row b → IfSome b IsBox
+    ensures reads { (b : Option BoxValue) → row.now ≡ extent_row b → IfSome b IsBox
         → MatchResult result (λ extent. option_map box_value extent ≡ b) (λ _. ⊥) }
+    ensures refuses { IfErr result (Refuses (Unit {0})) }
 {
     box_at(row, 0)
 }
 
 impl RowFold for Option<GridBox> {
+    ghost use Rattle.std.specs.List.{AllByRecursion};
     ghost use Rattle.streetmap_reading.specs.Held.{HoldsBounds};
     ghost use Rattle.streetmap_reading.specs.Views.{IsExtentRow};
 
     ghost holds = { λ _. HoldsBounds };
 
-    ghost is_readable = { λ _. IsExtentRow };
+    ghost is_good = { λ _. AllByRecursion IsExtentRow };
 
     fn take(&mut self, row: &Row) -> Result<(), ReadFault> {
         let extent = extent_in(row)?;

@@ -1,4 +1,4 @@
-//! Rows of a query, folded one after the other.
+//! Rows of a query, taken one after the other, whatever they are.
 ghost use Rattle.std.specs.Prelude.{◌≡◌, List, false};
 ghost use Rattle.sqlite.specs.Held.{state};
 ghost use Rattle.sqlite.specs.Order.{Row as Cells};
@@ -10,25 +10,26 @@ use sqlite::types::ValueRef;
 use sqlite::{Alter, Connection, Error, ErrorCode, Row, Rows};
 use streetmap_rows::ReadFault;
 
-/// What takes rows one after the other, and holds what they say.
+/// What takes rows one after the other, up to the first with which no good rows begin.
 pub trait RowFold {
-    /// Begun as the first, it holds what these rows say, and nothing else.
+    /// Begun as the first, it holds what these rows say.
     ghost holds: { Self → Self → List Cells → Type 0 };
 
-    /// The row is one that it can take, begun so.
-    ghost is_readable: { Self → Cells → Type 0 };
+    /// Rows that are good for one that begins so.
+    ghost is_good: { Self → List Cells → Type 0 };
 
-    /// Takes the row that comes next.
+    /// Takes the row that comes next; `Unread` where no good rows begin with it behind those
+    /// before.
     fn take(&mut self, row: &Row) -> Result<(), ReadFault>
-        ensures { TakesRow holds is_readable row.now self.old self.new result };
+        ensures { TakesRow holds is_good row.now self.old self.new result };
 }
 
 /// Takes the next row, if there is one.
 fn take_next<S: Alter, F: RowFold>(rows: &mut Rows<'_, S>, fold: &mut F) -> Result<bool, ReadFault>
     ensures same_reference { rows.new.conn.ghost_name ≡ rows.old.conn.ghost_name }
     ensures takes { HasCleanDisk (state S.Store rows.new.conn.now)
-        → TakesNext F.holds F.is_readable S.Store rows.old.conn.now rows.new.conn.now fold.old
-        fold.new result }
+        → TakesNext F.holds F.is_good S.Store rows.old.conn.now rows.new.conn.now fold.old fold.new
+        result }
     ensures mode { rows.old.conn.now.in_transaction ≡ false
         → rows.new.conn.now.in_transaction ≡ false }
     ensures survives { Survives (state S.Store rows.old.conn.now) (state S.Store rows.new.conn.now)
@@ -49,8 +50,8 @@ fn take_next<S: Alter, F: RowFold>(rows: &mut Rows<'_, S>, fold: &mut F) -> Resu
 fn take_rest<S: Alter, F: RowFold>(rows: &mut Rows<'_, S>, fold: &mut F) -> Result<(), ReadFault>
     ensures same_reference { rows.new.conn.ghost_name ≡ rows.old.conn.ghost_name }
     ensures takes { HasCleanDisk (state S.Store rows.new.conn.now)
-        → TakesRest F.holds F.is_readable S.Store rows.old.conn.now rows.new.conn.now fold.old
-        fold.new result }
+        → TakesRest F.holds F.is_good S.Store rows.old.conn.now rows.new.conn.now fold.old fold.new
+        result }
     ensures mode { rows.old.conn.now.in_transaction ≡ false
         → rows.new.conn.now.in_transaction ≡ false }
     ensures survives { Survives (state S.Store rows.old.conn.now) (state S.Store rows.new.conn.now)
@@ -66,6 +67,11 @@ fn take_rest<S: Alter, F: RowFold>(rows: &mut Rows<'_, S>, fold: &mut F) -> Resu
 }
 
 /// Takes all rows of a query.
+///
+/// # Errors
+///
+/// `Unread` at the first row with which no good rows begin, `Memory` where memory was refused while
+/// a row was taken, and `Store` where the statement failed, by its error.
 pub fn fold_rows<S: Alter, F: RowFold>(
     conn: &mut Connection<S>,
     sql: &str,
@@ -73,7 +79,7 @@ pub fn fold_rows<S: Alter, F: RowFold>(
     fold: &mut F,
 ) -> Result<(), ReadFault>
     ensures takes { HasCleanDisk (state S.Store conn.new)
-        → TakesAll F.holds F.is_readable sql.now (bound params.now) (state S.Store conn.old)
+        → TakesAll F.holds F.is_good sql.now (bound params.now) (state S.Store conn.old)
         (state S.Store conn.new) fold.old fold.new result }
     ensures mode { conn.old.in_transaction ≡ false → conn.new.in_transaction ≡ false }
     ensures survives { Survives (state S.Store conn.old) (state S.Store conn.new)

@@ -16,6 +16,9 @@
 //! in order and as many as there is room for: each by one statement over the index of the column
 //! `serial`, the second in one scan that stops where the room is full.
 //!
+//! `fold_rows` hands the rows of any query of any tables, one after the other, to a `RowFold`: a
+//! type that says what it holds of rows, and which rows are good.
+//!
 //! In the order of reading: `candidates` (rows of a query, one after the other), `page`, `feature`;
 //! `cells` (a value of a row), `fold` (rows taken one by one), `extents`, `summaries`, `outlines`;
 //! `batch_cells` (a batch from its row), `scanning`, `batches` (looks by a serial).
@@ -35,6 +38,7 @@ mod summaries;
 
 pub use batches::{batch_of, batches_of};
 pub use feature::feature_of;
+pub use fold::{RowFold, fold_rows};
 pub use outlines::outlines_of;
 pub use page::page_of;
 pub use summaries::{summaries_of, summary_of};

@@ -1,11 +1,11 @@
 //! Outlines of the features of a collection.
-ghost use Rattle.std.specs.Prelude.{◌≡◌, false, MatchResult};
+ghost use Rattle.std.specs.Prelude.{◌≡◌, false, IfErr, MatchResult};
 ghost use Rattle.sqlite.specs.Held.{state};
 ghost use Rattle.sqlite.specs.State.{HasCleanDisk, Survives};
 ghost use Rattle.streetmap_ledger.specs.Outlines.{FeatureOutlineValue};
 ghost use Rattle.streetmap_ledger.specs.OutlineView.{feature_outline_value};
 ghost use Rattle.streetmap_reading.specs.Looking.{LooksInto, Stays};
-ghost use Rattle.streetmap_reading.specs.Folding.{IsForMemory};
+ghost use Rattle.streetmap_reading.specs.Folding.{IsForMemory, Refuses};
 ghost use Rattle.streetmap_reading.specs.Telling.{AreOutlinesOf, AreOutlinesIn};
 ghost use Rattle.streetmap_reading.specs.Views.{outline_row, IsOutline};
 
@@ -19,8 +19,9 @@ use streetmap_rows::ReadFault;
 
 /// The outline that a row shows.
 fn outline_in(row: &Row) -> Result<FeatureOutline, ReadFault>
-    ensures { (o : FeatureOutlineValue) → row.now ≡ outline_row o → IsOutline o
+    ensures reads { (o : FeatureOutlineValue) → row.now ≡ outline_row o → IsOutline o
         → MatchResult result (λ outline. feature_outline_value outline ≡ o) IsForMemory }
+    ensures refuses { IfErr result (Refuses (Unit {0})) }
 {
     let id = text_at(row, 0)?;
     let extent = box_at(row, 1)?;
@@ -33,12 +34,13 @@ fn outline_in(row: &Row) -> Result<FeatureOutline, ReadFault>
 }
 
 impl RowFold for Vec<FeatureOutline> {
+    ghost use Rattle.std.specs.List.{AllByRecursion};
     ghost use Rattle.streetmap_reading.specs.Held.{HoldsOutlines};
     ghost use Rattle.streetmap_reading.specs.Views.{IsOutlineRow};
 
     ghost holds = { λ _. HoldsOutlines };
 
-    ghost is_readable = { λ _. IsOutlineRow };
+    ghost is_good = { λ _. AllByRecursion IsOutlineRow };
 
     fn take(&mut self, row: &Row) -> Result<(), ReadFault> {
         let outline = outline_in(row)?;

@@ -1,5 +1,5 @@
 //! What is told of collections.
-ghost use Rattle.std.specs.Prelude.{◌≡◌, false, MatchResult};
+ghost use Rattle.std.specs.Prelude.{◌≡◌, false, IfErr, MatchResult};
 ghost use Rattle.sqlite.specs.Held.{state};
 ghost use Rattle.sqlite.specs.State.{HasCleanDisk, Survives};
 ghost use Rattle.streetmap_batch.specs.Text.{Text};
@@ -9,7 +9,7 @@ ghost use Rattle.streetmap_reading.specs.Looking.{LooksInto, Stays};
 ghost use Rattle.streetmap_rows.specs.Rows.{collection_cells};
 ghost use Rattle.streetmap_rows.specs.Stands.{IsReadable};
 ghost use Rattle.streetmap_rows.specs.Views.{collection_view};
-ghost use Rattle.streetmap_reading.specs.Folding.{IsForMemory};
+ghost use Rattle.streetmap_reading.specs.Folding.{IsForMemory, Refuses};
 ghost use Rattle.streetmap_reading.specs.Held.{head_of};
 ghost use Rattle.streetmap_reading.specs.Telling.{IsSummaryOf, AreSummaries, AreHeads};
 ghost use Rattle.streetmap_reading.specs.Telling.{CompletesHead};
@@ -42,8 +42,10 @@ fn head_under(alloc: Global, id: &str, row: &Row) -> Result<Summary, ReadFault>
 
 /// What is told of a collection before its extent is known, from its row.
 fn head_in(row: &Row) -> Result<Summary, ReadFault>
-    ensures { (id : Text) (c : Collection) → row.now ≡ collection_cells id c → IsReadable id c
-        → MatchResult result (λ head. summary_value head ≡ head_of id c) IsForMemory }
+    ensures reads { (id : Text) (c : Collection) → row.now ≡ collection_cells id c
+        → IsReadable id c → MatchResult result (λ head. summary_value head ≡ head_of id c)
+        IsForMemory }
+    ensures refuses { IfErr result (Refuses (Unit {0})) }
 {
     let id = text_at(row, 0)?;
     let title = text_at(row, 1)?;
@@ -57,12 +59,13 @@ fn head_in(row: &Row) -> Result<Summary, ReadFault>
 }
 
 impl RowFold for Vec<Summary> {
+    ghost use Rattle.std.specs.List.{AllByRecursion};
     ghost use Rattle.streetmap_reading.specs.Held.{HoldsHeads};
     ghost use Rattle.streetmap_reading.specs.Views.{IsHeadRow};
 
     ghost holds = { λ _. HoldsHeads };
 
-    ghost is_readable = { λ _. IsHeadRow };
+    ghost is_good = { λ _. AllByRecursion IsHeadRow };
 
     fn take(&mut self, row: &Row) -> Result<(), ReadFault> {
         let head = head_in(row)?;

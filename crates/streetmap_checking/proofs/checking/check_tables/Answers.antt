@@ -6,7 +6,7 @@ use Rattle.streetmap_rows.specs.declared.failing.Stop.TheVariants.{Closed}
 use Rattle.streetmap_rows.specs.declared.failing.Shut.TheVariants.{Device}
 use Rattle.streetmap_rows.specs.Settling.{Settles}
 use Rattle.streetmap_rows.proofs.Reasons.{stops_settled}
-use Rattle.streetmap_checking.proofs.Seeing.{unchanged_was}
+use Rattle.streetmap_checking.proofs.Undone.{unchanged_was}
 use Rattle.streetmap_checking.proofs.OfState.{totals_of, never_damaged, damaged_told, refused_told}
 use Rattle.streetmap_checking.proofs.OfState.{refused_for}
 use Rattle.streetmap_checking.proofs.Stated.{state_of}

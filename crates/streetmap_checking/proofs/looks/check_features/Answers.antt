@@ -11,7 +11,7 @@ use Rattle.streetmap_checking.specs.Statements.{select_features}
 use Rattle.streetmap_checking.specs.Telling.{Known}
 use Rattle.streetmap_checking.proofs.Found.{features_of}
 use Rattle.streetmap_checking.proofs.Looked.{stopped, handed}
-use Rattle.streetmap_checking.proofs.Simple.{features_simple}
+use Rattle.streetmap_checking.proofs.Simple.{commits_nothing, features_simple}
 use Rattle.streetmap_checking.proofs.looks.check_features.Goals as goal
 
 pub returns-in_err-fold_rows-clause-looks : goal.returns-in_err-fold_rows-clause-looks
@@ -23,22 +23,24 @@ returns-in_err-fold_rows-clause-looks g c clean live =
     let took = rw (c.params-to_sql.ensures, name) at (c.in_err-fold_rows.ensures.takes clean) in
     handed _ _ old new _ _ (is_handed _ _ c.from_residual-in_err-fold_rows.ensures.1)
     (stopped HoldsFeatureRows IsGoodFeatures select_features (Words (known_of c.args.head.now).0 ∷ []) (record { alloc = c.args.alloc; head = c.in_ok-copy.copy; last = None; count = 0 }) (AreFeatureRows (known_of c.args.head.now).1) (λ rows good. subst (λ p. AreFeatureRows p rows) (sym same) good) old new c.in_err-fold_rows.field-0.0
-    (took features_simple (record { head = refl; are = record { entries = []; are = refl; rising = tt; fine = tt }; last = refl; counted = refl })))
+    (took (features_simple _) (record { head = refl; are = record { entries = []; are = refl; rising = tt; fine = tt }; last = refl; counted = refl })))
 
 pub returns-clause-looks : goal.returns-clause-looks
 returns-clause-looks g c clean live =
     let name : c.as_str-id.result.now ≡ (known_of c.args.head.now).0 = c.as_str-id.ensures.value in
     let same = ap (λ (k : Known). k.1) c.in_ok-copy.ensures in
     let took = rw (c.params-to_sql.ensures, name) at (c.in_ok-fold_rows.ensures.takes clean) in
-    let r = took features_simple (record { head = refl; are = record { entries = []; are = refl; rising = tt; fine = tt }; last = refl; counted = refl }) in
+    let r = took (features_simple _) (record { head = refl; are = record { entries = []; are = refl; rising = tt; fine = tt }; last = refl; counted = refl }) in
     let f = features_of _ _ r.0.0 _ same (r.0.2.are, r.0.2.counted) in
     ((r.0.0, r.0.1, f.0, f.1), r.1)
 
 pub returns-in_err-fold_rows-clause-survives : goal.returns-in_err-fold_rows-clause-survives
-returns-in_err-fold_rows-clause-survives g c = c.fold_rows.ensures.survives features_simple
+returns-in_err-fold_rows-clause-survives g c =
+    commits_nothing select_features _ features_simple _ _ c.fold_rows.ensures.survives
 
 pub returns-clause-survives : goal.returns-clause-survives
-returns-clause-survives g c = c.fold_rows.ensures.survives features_simple
+returns-clause-survives g c =
+    commits_nothing select_features _ features_simple _ _ c.fold_rows.ensures.survives
 
 pub returns-in_err-copy-clause-looks : goal.returns-in_err-copy-clause-looks
 returns-in_err-copy-clause-looks g c clean live =

@@ -11,4 +11,5 @@ returns-then-is_timeless-clause-shows g c clean = λ s id f limit live keeps the
     let it = holder (get s.collections c.args.collection.now) id f there in
     let kept = timeless it.0.time f (stored_at _ s keeps c.args.collection.now id it.0 it.1 f there) none in
     read_on seen seen f c.read_row.result (unchanged seen live)
-    (c.read_row.ensures f (some_cell f c.args.row.now is) (text_first f c.args.row.now is) kept)
+    (c.read_row.ensures.reads f (some_cell f c.args.row.now is) (text_first f c.args.row.now is)
+    kept)

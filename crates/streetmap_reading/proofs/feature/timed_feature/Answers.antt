@@ -22,4 +22,5 @@ returns-clause-shows g c clean = λ s id f limit live keeps there is.
     let time = c.in_ok-time.ensures c.args.collection.now it.0 it.2 (keeps.rows.readable.collections c.args.collection.now it.0 it.1) in
     let kept = subst (λ p. IsStored p f) (sym (c.as_deref.ensures.value ∙ time)) (stored_at _ s keeps c.args.collection.now id it.0 it.1 f there) in
     read_on (state g.S.Store c.args.conn.now) (state g.S.Store c.collection_row.new.conn) f c.read_row.result found.1
-    (c.read_row.ensures f (some_cell f c.args.row.now is) (text_first f c.args.row.now is) kept)
+    (c.read_row.ensures.reads f (some_cell f c.args.row.now is) (text_first f c.args.row.now is)
+    kept)

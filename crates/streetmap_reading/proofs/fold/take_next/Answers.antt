@@ -1,31 +1,46 @@
-use Rattle.std.proofs.Common.{sym, subst, ◌∙◌, ap}
+use Rattle.std.proofs.Common.{sym, ◌∙◌, ap}
 use Rattle.std.specs.Option.{option_copied}
-use Rattle.std.specs.List.{AllByRecursion}
 use Rattle.streetmap_rows.proofs.Answering.{handed_on}
-use Rattle.sqlite.specs.Held.{state}
-use Rattle.streetmap_reading.specs.Taking.{Stopped}
-use Rattle.streetmap_reading.proofs.Given.{at_end, at_row, at_fault}
+use Rattle.streetmap_reading.proofs.Stopping.{at_end, at_row, at_fault, stops_at}
 use Rattle.streetmap_reading.proofs.fold.take_next.Goals as goal
 
 pub returns-in-Err-clause-takes : goal.returns-in-Err-clause-takes
-returns-in-Err-clause-takes g c clean = λ sql params start done rest limit shows readable given held.
-    at_fault g.S.Store c.args.rows.now.conn.now c.advance.new.self.conn.now sql params done rest shows given c.in-Err.error limit (c.in-Err.ensures.err clean)
+returns-in-Err-clause-takes g c clean = λ sql params start done simple given held.
+    let old = c.args.rows.now.conn.now in
+    let new = c.advance.new.self.conn.now in
+    let fails = c.in-Err.ensures.err clean in
+    at_fault sql params g.S.Store old new simple done given c.in-Err.error fails
 
 pub returns-in_default-clause-takes : goal.returns-in_default-clause-takes
-returns-in_default-clause-takes g c clean = λ sql params start done rest limit shows readable given held.
-    ((at_end g.S.Store c.args.rows.now.conn.now c.advance.new.self.conn.now sql params done rest shows given _ (sym c.get.ensures ∙ ap option_copied c.in_default.is) (c.in-Ok.ensures.ok clean), held), c.in-Ok.ensures.same clean)
+returns-in_default-clause-takes g c clean = λ sql params start done simple given held.
+    let old = c.args.rows.now.conn.now in
+    let new = c.advance.new.self.conn.now in
+    let same = c.in-Ok.ensures.same clean in
+    let none = sym c.get.ensures ∙ ap option_copied c.in_default.is in
+    let moved = c.in-Ok.ensures.ok clean in
+    ((at_end sql params g.S.Store old new simple done given _ none same moved, held), same)
 
 pub returns-in_err-take-clause-takes : goal.returns-in_err-take-clause-takes
-returns-in_err-take-clause-takes g c clean = λ sql params start done rest limit shows readable given held.
+returns-in_err-take-clause-takes g c clean = λ sql params start done simple given held.
+    let old = c.args.rows.now.conn.now in
+    let new = c.advance.new.self.conn.now in
     let same = c.in-Ok.ensures.same clean in
-    let met = at_row g.S.Store c.args.rows.now.conn.now c.advance.new.self.conn.now sql params done rest shows given _ c.in-Some.row.now (sym c.get.ensures ∙ ap option_copied c.in-Some.is) same (c.in-Ok.ensures.ok clean) in
-    let fine = (subst (AllByRecursion (g.F.RowFold.is_readable start)) met.1 readable).0 in
-    let stopped = subst (Stopped (state g.S.Store c.args.rows.now.conn.now) (state g.S.Store c.advance.new.self.conn.now)) (sym (c.in_err-take.ensures start done fine held)) same in
-    handed_on _ _ _ _ c.from_residual.ensures.1 stopped
+    let row = sym c.get.ensures ∙ ap option_copied c.in-Some.is in
+    let moved = c.in-Ok.ensures.ok clean in
+    let next = c.in-Some.row.now in
+    let more = at_row sql params g.S.Store old new simple done given _ next row moved in
+    let wrong = c.in_err-take.ensures start done held in
+    handed_on _ _ _ _ c.from_residual.ensures.1
+    (stops_at g.F.RowFold.holds g.F.RowFold.is_good sql params g.S.Store old new start _ simple same
+    more _ wrong)
 
 pub returns-clause-takes : goal.returns-clause-takes
-returns-clause-takes g c clean = λ sql params start done rest limit shows readable given held.
+returns-clause-takes g c clean = λ sql params start done simple given held.
+    let old = c.args.rows.now.conn.now in
+    let new = c.advance.new.self.conn.now in
     let same = c.in-Ok.ensures.same clean in
-    let met = at_row g.S.Store c.args.rows.now.conn.now c.advance.new.self.conn.now sql params done rest shows given _ c.in-Some.row.now (sym c.get.ensures ∙ ap option_copied c.in-Some.is) same (c.in-Ok.ensures.ok clean) in
-    let fine = (subst (AllByRecursion (g.F.RowFold.is_readable start)) met.1 readable).0 in
-    ((c.in-Some.row.now, met.0, met.1, met.2, c.in_ok-take.ensures start done fine held), same)
+    let row = sym c.get.ensures ∙ ap option_copied c.in-Some.is in
+    let moved = c.in-Ok.ensures.ok clean in
+    let next = c.in-Some.row.now in
+    let more = at_row sql params g.S.Store old new simple done given _ next row moved in
+    ((next, more, c.in_ok-take.ensures start done held), same)

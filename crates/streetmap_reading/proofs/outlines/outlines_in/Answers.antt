@@ -1,12 +1,17 @@
-use Rattle.std.proofs.Common.{◌≡◌, [], map, ap, sym, ◌∙◌}
+use Rattle.std.proofs.Common.{◌≡◌, ◌∷◌, [], Ok, Err, map, ap, sym, ◌∙◌}
 use Rattle.std.specs.FinMap.{entries}
+use Rattle.std.specs.List.{AllByRecursion}
+use Rattle.sqlite.specs.Held.{state}
+use Rattle.sqlite.specs.declared.types.Value.TheVariants.{Text as Words}
 use Rattle.streetmap_ledger.specs.Outlines.{feature_outline_of}
 use Rattle.streetmap_ledger.specs.OutlineView.{feature_outline_values}
 use Rattle.streetmap_rows.proofs.Answering.{handed_on}
+use Rattle.streetmap_reading.proofs.Folded.{folded}
 use Rattle.streetmap_reading.proofs.Pages.{stays_by, survives_any}
+use Rattle.streetmap_reading.specs.Held.{HoldsOutlines}
 use Rattle.streetmap_reading.specs.Statements.{select_outlines}
 use Rattle.streetmap_reading.specs.Telling.{features_in}
-use Rattle.streetmap_reading.specs.Views.{outline_row}
+use Rattle.streetmap_reading.specs.Views.{outline_row, IsOutlineRow}
 use Rattle.streetmap_reading.proofs.Lists.{map_again, none_mapped}
 use Rattle.streetmap_reading.proofs.ShownOutlines.{outlines_at, outlines_fine, outline_rows}
 use Rattle.streetmap_reading.proofs.outlines.outlines_in.Goals as goal
@@ -14,17 +19,35 @@ use Rattle.streetmap_reading.proofs.outlines.outlines_in.Goals as goal
 pub returns-clause-shows : goal.returns-clause-shows
 returns-clause-shows g c clean = λ s limit keeps.
     let name = c.args.collection.now in
+    let old = state g.S.Store c.args.conn.now in
+    let new = state g.S.Store c.fold_rows.new.conn in
+    let es = entries (features_in s name) in
     let all = rw c.params-to_sql.ensures at (c.in_ok-fold_rows.ensures.takes clean) in
-    let none : feature_outline_values c.new-outlines.result.items ≡ [] = ap feature_outline_values c.new-outlines.ensures.items in
-    let took = all _ limit (outlines_at _ s keeps name) (outline_rows _ s keeps name) (λ vs is fine. none ∙ sym (none_mapped outline_row vs is)) in
-    (took.0 (map (λ e. feature_outline_of e.0 e.1) (entries (features_in s name))) (sym (map_again outline_row (λ e. feature_outline_of e.0 e.1) (entries (features_in s name)))) (outlines_fine _ s keeps name), took.1)
+    let none : feature_outline_values c.new-outlines.result.items ≡ [] =
+    ap feature_outline_values c.new-outlines.ensures.items in
+    let took = folded (λ _. HoldsOutlines) (λ _. AllByRecursion IsOutlineRow) select_outlines
+    (Words name ∷ []) old new c.new-outlines.result c.fold_rows.new.fold _
+    (outlines_at _ s keeps name) limit (outline_rows _ s keeps name) (Ok tt) all
+    (λ vs is fine. none ∙ sym (none_mapped outline_row vs is)) in (
+      took.0 (map (λ e. feature_outline_of e.0 e.1) es)
+          (sym (map_again outline_row (λ e. feature_outline_of e.0 e.1) es))
+          (outlines_fine _ s keeps name),
+      took.1,
+    )
 
 pub returns-in_err-fold_rows-clause-shows : goal.returns-in_err-fold_rows-clause-shows
 returns-in_err-fold_rows-clause-shows g c clean = λ s limit keeps.
     let name = c.args.collection.now in
+    let old = state g.S.Store c.args.conn.now in
+    let new = state g.S.Store c.fold_rows.new.conn in
     let all = rw c.params-to_sql.ensures at (c.in_err-fold_rows.ensures.takes clean) in
-    let none : feature_outline_values c.new-outlines.result.items ≡ [] = ap feature_outline_values c.new-outlines.ensures.items in
-    handed_on _ _ _ _ c.from_residual.ensures.1 (all _ limit (outlines_at _ s keeps name) (outline_rows _ s keeps name) (λ vs is fine. none ∙ sym (none_mapped outline_row vs is)))
+    let none : feature_outline_values c.new-outlines.result.items ≡ [] =
+    ap feature_outline_values c.new-outlines.ensures.items in
+    let told = folded (λ _. HoldsOutlines) (λ _. AllByRecursion IsOutlineRow) select_outlines
+    (Words name ∷ []) old new c.new-outlines.result c.fold_rows.new.fold _
+    (outlines_at _ s keeps name) limit (outline_rows _ s keeps name) (Err c.in_err-fold_rows.field-0.0) all
+    (λ vs is fine. none ∙ sym (none_mapped outline_row vs is)) in
+    handed_on _ _ _ _ c.from_residual.ensures.1 told
 
 pub returns-clause-stays : goal.returns-clause-stays
 returns-clause-stays g c = stays_by select_outlines _ _ _ c.fold_rows.ensures.survives (λ s keeps. (outlines_at _ s keeps c.args.collection.now).plain)

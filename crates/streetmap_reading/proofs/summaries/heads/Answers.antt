@@ -1,27 +1,52 @@
-use Rattle.std.proofs.Common.{◌≡◌, [], map, ap, sym, ◌∙◌, refl}
+use Rattle.std.proofs.Common.{◌≡◌, [], Ok, Err, map, ap, sym, ◌∙◌, refl}
 use Rattle.std.specs.FinMap.{entries}
+use Rattle.std.specs.List.{AllByRecursion}
+use Rattle.sqlite.specs.Held.{state}
+use Rattle.sqlite.specs.Order.{Row}
 use Rattle.streetmap_batch.specs.Text.{Text}
 use Rattle.streetmap_ledger.specs.State.{Collection}
+use Rattle.streetmap_ledger.specs.Summaries.{SummaryValue}
 use Rattle.streetmap_ledger.specs.SummaryView.{summary_values}
 use Rattle.streetmap_rows.specs.Rows.{collection_cells}
 use Rattle.streetmap_rows.specs.Statements.{select_collections}
 use Rattle.streetmap_rows.proofs.Answering.{handed_on}
+use Rattle.streetmap_reading.proofs.Folded.{folded}
 use Rattle.streetmap_reading.proofs.Pages.{stays_by, survives_any}
-use Rattle.streetmap_reading.specs.Held.{head_of}
+use Rattle.streetmap_reading.specs.Held.{head_of, HoldsHeads}
+use Rattle.streetmap_reading.specs.Views.{IsHeadRow}
 use Rattle.streetmap_reading.proofs.Lists.{none_mapped}
 use Rattle.streetmap_reading.proofs.ShownOutlines.{collections_at, readable_each, head_rows}
 use Rattle.streetmap_reading.proofs.summaries.heads.Goals as goal
 
 pub returns-clause-shows : goal.returns-clause-shows
 returns-clause-shows g c clean = λ s limit keeps.
-    let none : summary_values c.new-heads.result.items ≡ [] = ap summary_values c.new-heads.ensures.items in
-    let took = c.in_ok-fold_rows.ensures.takes clean _ limit (collections_at _ s keeps) (head_rows _ s keeps) (λ es is fine. none ∙ sym (ap (map (λ (e : Text × Collection). head_of e.0 e.1)) (none_mapped (λ (e : Text × Collection). collection_cells e.0 e.1) es is))) in
+    let old = state g.S.Store c.args.conn.now in
+    let new = state g.S.Store c.fold_rows.new.conn in
+    let told_of : Text × Collection → SummaryValue = λ e. head_of e.0 e.1 in
+    let cells : Text × Collection → Row = λ e. collection_cells e.0 e.1 in
+    let none : summary_values c.new-heads.result.items ≡ [] =
+    ap summary_values c.new-heads.ensures.items in
+    let took = folded (λ _. HoldsHeads) (λ _. AllByRecursion IsHeadRow) select_collections [] old
+    new c.new-heads.result c.fold_rows.new.fold _ (collections_at _ s keeps) limit
+    (head_rows _ s keeps) (Ok tt)
+    (c.in_ok-fold_rows.ensures.takes clean)
+    (λ es is fine. none ∙ sym (ap (map told_of) (none_mapped cells es is))) in
     (took.0 (entries s.collections) refl (readable_each _ s keeps), took.1)
 
 pub returns-in_err-fold_rows-clause-shows : goal.returns-in_err-fold_rows-clause-shows
 returns-in_err-fold_rows-clause-shows g c clean = λ s limit keeps.
-    let none : summary_values c.new-heads.result.items ≡ [] = ap summary_values c.new-heads.ensures.items in
-    handed_on _ _ _ _ c.from_residual.ensures.1 (c.in_err-fold_rows.ensures.takes clean _ limit (collections_at _ s keeps) (head_rows _ s keeps) (λ es is fine. none ∙ sym (ap (map (λ (e : Text × Collection). head_of e.0 e.1)) (none_mapped (λ (e : Text × Collection). collection_cells e.0 e.1) es is))))
+    let old = state g.S.Store c.args.conn.now in
+    let new = state g.S.Store c.fold_rows.new.conn in
+    let told_of : Text × Collection → SummaryValue = λ e. head_of e.0 e.1 in
+    let cells : Text × Collection → Row = λ e. collection_cells e.0 e.1 in
+    let none : summary_values c.new-heads.result.items ≡ [] =
+    ap summary_values c.new-heads.ensures.items in
+    let told = folded (λ _. HoldsHeads) (λ _. AllByRecursion IsHeadRow) select_collections [] old
+    new c.new-heads.result c.fold_rows.new.fold _ (collections_at _ s keeps) limit
+    (head_rows _ s keeps) (Err c.in_err-fold_rows.field-0.0)
+    (c.in_err-fold_rows.ensures.takes clean)
+    (λ es is fine. none ∙ sym (ap (map told_of) (none_mapped cells es is))) in
+    handed_on _ _ _ _ c.from_residual.ensures.1 told
 
 pub returns-clause-stays : goal.returns-clause-stays
 returns-clause-stays g c = stays_by select_collections _ _ _ c.fold_rows.ensures.survives (λ s keeps. (collections_at _ s keeps).plain)

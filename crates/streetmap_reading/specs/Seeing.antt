@@ -8,9 +8,9 @@ use Rattle.sqlite.specs.State.{State as Seen, Shown, Begins, FailsToQuery}
 use Rattle.sqlite_resolve.specs.declared.compiled.Compiled.{Compiled}
 use Rattle.streetmap_rows.specs.Failing.{IsOfStore}
 
--- a text that has no RETURNING and does not read the time
-abbrev pub IsSimpleQuery : List ℕ → Type 0
-IsSimpleQuery sql = (schema : Schema) (c : Compiled) → understood schema sql ≡ Ok c
+-- a text that, with these tables, has no RETURNING and does not read the time
+abbrev pub IsSimpleIn : Schema → List ℕ → Type 0
+IsSimpleIn schema sql = (c : Compiled) → understood schema sql ≡ Ok c
     → (c.returning ≡ None) × (c.formats ≡ [])
 
 -- a query shows these rows of a connection, which it leaves as it is

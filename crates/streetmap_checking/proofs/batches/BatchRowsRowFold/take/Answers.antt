@@ -6,7 +6,7 @@ use Rattle.streetmap_checking.specs.Good.{IsAccepted}
 use Rattle.streetmap_checking.specs.Held.{StandsBehind, last_key}
 use Rattle.streetmap_checking.proofs.Rising.{grows, last_end}
 use Rattle.streetmap_checking.proofs.Taking.{no_batches, batch_not_behind, serials_more}
-use Rattle.streetmap_checking.proofs.batches.BatchRowsRowCheck.take.Goals as goal
+use Rattle.streetmap_checking.proofs.batches.BatchRowsRowFold.take.Goals as goal
 
 pub returns-in_err-batch : goal.returns-in_err-batch
 returns-in_err-batch c = λ start rows held. handed_on _ _ _ _ c.from_residual.ensures.1 (no_batches rows c.args.row.now held.are _ c.in_err-batch.ensures)

@@ -7,7 +7,7 @@ use Rattle.streetmap_checking.specs.Held.{StandsBehind, property_of, last_key}
 use Rattle.streetmap_checking.proofs.RowCells.{id_of_cells}
 use Rattle.streetmap_checking.proofs.Rising.{grows, last_end}
 use Rattle.streetmap_checking.proofs.Taking.{not_taken, not_behind, no_feature_of, feature_of, never}
-use Rattle.streetmap_checking.proofs.features.FeatureRowsRowCheck.take.Goals as goal
+use Rattle.streetmap_checking.proofs.features.FeatureRowsRowFold.take.Goals as goal
 
 pub returns-in_err-feature : goal.returns-in_err-feature
 returns-in_err-feature c = λ start rows held. handed_on _ _ _ _ c.from_residual.ensures.1

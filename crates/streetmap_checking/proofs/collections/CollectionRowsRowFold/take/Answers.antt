@@ -7,7 +7,7 @@ use Rattle.streetmap_checking.proofs.RowCells.{name_of_cells}
 use Rattle.streetmap_checking.proofs.Rising.{grows}
 use Rattle.streetmap_checking.proofs.Taking.{not_taken, not_behind}
 use Rattle.streetmap_checking.proofs.Owning.{last_is, one_head_more}
-use Rattle.streetmap_checking.proofs.collections.VecHeadRowCheck.take.Goals as goal
+use Rattle.streetmap_checking.proofs.collections.CollectionRowsRowFold.take.Goals as goal
 
 pub returns-in_err-head : goal.returns-in_err-head
 returns-in_err-head c = λ start rows held. handed_on _ _ _ _ c.from_residual.ensures.1 (not_taken head_cells IsCollectionHead name_of_cells rows c.args.row.now held.0 _ c.in_err-head.ensures)
@@ -17,7 +17,7 @@ returns-then-not-follows c = λ start rows held.
     let off : c.follows.result ≡ false = search rules in
     let head = c.in_ok-head.ensures in
     let id : c.as_str.result.now ≡ string_bytes c.in_ok-head.head.id = search rules in
-    let known_last : option_copied c.last_id.result ≡ last_key (known c.args.self.now.items) = search rules in
+    let known_last : option_copied c.last_id.result ≡ last_key (known c.args.self.now.heads.items) = search rules in
     let last = last_is _ _ _ held.1 known_last in
     not_behind head_cells IsCollectionHead name_of_cells rows c.args.row.now held.0 _ _ head.1 (λ less. absurd (let on = sym off ∙ c.follows.ensures.1 (subst (λ l. StandsBehind l c.as_str.result.now) (sym last) (subst (StandsBehind (last_key held.0.entries)) (sym id) less)) in cc))
 
@@ -26,7 +26,7 @@ unfolding grows
 returns c = λ start rows held.
     let head = c.in_ok-head.ensures in
     let id : c.as_str.result.now ≡ string_bytes c.in_ok-head.head.id = search rules in
-    let known_last : option_copied c.last_id.result ≡ last_key (known c.args.self.now.items) = search rules in
+    let known_last : option_copied c.last_id.result ≡ last_key (known c.args.self.now.heads.items) = search rules in
     let last = last_is _ _ _ held.1 known_last in
     let on : c.follows.result ≡ true = search rules in
     let less = subst (StandsBehind (last_key held.0.entries)) id (subst (λ l. StandsBehind l c.as_str.result.now) last (c.follows.ensures.0 on)) in
