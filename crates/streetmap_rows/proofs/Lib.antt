@@ -16,6 +16,7 @@ pub mod Inserting
 pub mod Keys
 pub mod Leaving
 pub mod Looking
+pub mod Meaning
 pub mod OfStore
 pub mod Ordered
 pub mod Parts
