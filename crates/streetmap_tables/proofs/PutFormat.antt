@@ -1,24 +1,16 @@
 -- The format row goes into tables that have every other row of a state.
-use Rattle.std.proofs.Common.{◌≡◌, ◌≢◌, ℕ, ◌≤◌, pos, List, [], ◌∷◌, length, codes, Ok, Err, false, eq-eqb, refl, None, Option, true, is_ok, sym, subst, ◌∙◌, arith}
+use Rattle.std.proofs.Common.{◌≡◌, ◌≢◌, ℕ, pos, List, [], ◌∷◌, codes, Ok, Err, false, eq-eqb, refl, None, Option, true, sym, subst, ◌∙◌, arith}
 use Rattle.std.specs.List.{AllByRecursion}
 use Rattle.std.specs.FinMap.{empty, get-empty}
-use Rattle.sqlite.specs.declared.types.Value.TheVariants.{Null, Int, Text as Words}
+use Rattle.sqlite.specs.declared.types.Value.TheVariants.{Int, Text as Words}
 use Rattle.sqlite.specs.Order.{Row}
 use Rattle.sqlite.specs.Term.{Term, lit}
 use Rattle.sqlite.specs.Schema.{Schema}
 use Rattle.sqlite.specs.Table.{Table}
 use Rattle.sqlite.specs.Effect.{Database, IsDatabase}
-use Rattle.sqlite.specs.Source.TheVariants.{Values}
-use Rattle.sqlite.specs.Command.TheVariants.{Insert}
 use Rattle.sqlite.specs.State.{State as Seen, Executes, ExecutesInside}
 use Rattle.sqlite.specs.declared.error.Error.{Error}
 use Rattle.sqlite_ast.specs.declared.Expr.TheVariants as expr
-use Rattle.sqlite_ast.specs.declared.Rows.{Rows as Given}
-use Rattle.sqlite_ast.specs.declared.Rows.TheVariants as rows
-use Rattle.sqlite_ast.specs.declared.Statement.TheVariants as written
-use Rattle.sqlite_ast.specs.declared.Conflict.TheVariants as conflict
-use Rattle.sqlite_syntax.specs.declared.statement.Parsed.{Parsed}
-use Rattle.sqlite_resolve.specs.Compile.{first}
 use Rattle.sqlite_tied.specs.Compute.{everything}
 use Rattle.sqlite_trees.specs.Tree.{Trees, put_row, with_tree}
 use Rattle.sqlite_schema.specs.declared.schema.Constraint.TheVariants.{Unique}
@@ -34,11 +26,12 @@ use Rattle.sqlite_rules.proofs.ListLemmas.{all_has}
 use Rattle.streetmap_ledger.specs.State.{State, opening_state}
 use Rattle.streetmap_rows.specs.Holds.{Holds, KeyPair, first_key, is_first, pair_key, has_pair}
 use Rattle.streetmap_rows.proofs.Casts.{cast_null, cast_int}
-use Rattle.streetmap_rows.proofs.Drafts.{parsed_of, was_parsed}
 use Rattle.streetmap_rows.proofs.Finding.{IsFound}
 use Rattle.streetmap_rows.proofs.Holding.{holds_put, holds_same}
 use Rattle.streetmap_rows.proofs.Keys.{first_is, first_self}
-use Rattle.streetmap_rows.proofs.Resolving.{Means, means, insert_planned, command_is, is_plain, is_fit}
+use Rattle.streetmap_rows.proofs.Resolving.{command_is, is_plain, is_fit}
+use Rattle.streetmap_rows.proofs.Meaning.{Insertion, IsInsert, InsertMeans, quoted, terms_of}
+use Rattle.streetmap_rows.proofs.Meaning.{insert_means}
 use Rattle.streetmap_rows.proofs.Running as run
 use Rattle.sqlite.proofs.StateLemmas.{refers_if_sound}
 use Rattle.streetmap_rows.specs.Failing.{IsOfStore}
@@ -54,28 +47,28 @@ use Rattle.streetmap_tables.specs.Making.{AreMade, LacksFormat, format_text}
 
 -- ---- what the text means
 
-format_reads : is_ok (first format_text) ≡ true
+abbrev format_row : Insertion
+format_row = record {
+  text = format_text;
+  count = 0;
+  table = meta;
+  columns = codes "name" ∷ codes "value" ∷ [];
+  values = quoted (codes "format") ∷ (expr.Integer (codes "2"), lit (Int (pos 2))) ∷ [];
+}
+
+format_is : IsInsert format_row
 unfolding everything
-format_reads = refl
-
-abbrev format_parsed : Parsed
-format_parsed = parsed_of (first format_text) format_reads
-
-abbrev format_rows : Given
-format_rows = rows.Values ((expr.Text (codes "format") ∷ expr.Integer (codes "2") ∷ []) ∷ [])
-
-format_says : (format_parsed.statement ≡ written.Insert conflict.Abort meta_name (codes "name" ∷ codes "value" ∷ []) format_rows [] []) × (format_parsed.formats ≡ []) × (length format_text ≤ format_parsed.tail) × (0 ≡ length format_parsed.names)
-unfolding everything
-format_says = (refl, refl, omega arith, refl)
+format_is = record {
+  says = (refl, refl, omega arith, refl);
+  unstamped = λ tree. refl;
+  filled = λ schema tree. refl;
+}
 
 abbrev format_terms : List Term
-format_terms = lit Null ∷ lit (Words (codes "format")) ∷ lit (Int (pos 2)) ∷ []
+format_terms = terms_of format_row
 
-format_means : (schema : Schema) (tree : ℕ) (found : IsFound schema meta_name (meta tree)) → Means schema format_text 0 (Insert found.at (Values format_terms 3))
-unfolding everything
-format_means schema tree found =
-    means schema format_text format_parsed 0 _ (was_parsed (first format_text) format_reads) format_says.2 format_says.3
-    (insert_planned schema meta_name found.at (meta tree) found.named found.listed format_parsed (codes "name" ∷ codes "value" ∷ []) format_rows (Values format_terms 3) format_says.0 format_says.1 refl refl)
+format_means : InsertMeans format_row
+format_means = insert_means format_row format_is
 
 -- ---- tables with no row
 

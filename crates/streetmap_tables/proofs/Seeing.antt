@@ -17,6 +17,7 @@ use Rattle.sqlite_resolve.specs.declared.compiled.Compiled.{Compiled}
 use Rattle.sqlite_resolve.specs.declared.error.CompileError.{CompileError}
 use Rattle.sqlite_resolve.specs.declared.error.CompileError.TheVariants.{NoSuchTable}
 use Rattle.streetmap_rows.specs.Failing.{IsOfStore}
+use Rattle.streetmap_rows.proofs.Meaning.{Selection, IsSelect, reads_select}
 use Rattle.streetmap_rows.proofs.OfStore.{failure_is}
 
 -- a text that is read as one statement without RETURNING, which does not read the time
@@ -25,6 +26,18 @@ pub record IsBare (text : List ℕ) : Type 0 where
   pub is : first text ≡ Ok parsed
   pub none : (schema : Schema) (base : ℕ) → returning schema base parsed.statement ≡ Ok None
   pub untimed : (schema : Schema) → timed schema parsed.formats parsed.statement ≡ []
+
+-- a SELECT from one table is such a text
+pub select_bare : (s : Selection) → IsSelect s → IsBare s.text
+unfolding returning timed
+select_bare s it =
+    let read = reads_select s it in
+    record {
+      parsed = read.parsed;
+      is = read.is;
+      none = λ schema base. rw read.statement_is refl;
+      untimed = λ schema. rw (read.statement_is, read.plain) refl;
+    }
 
 abbrev Planned : Type 0
 Planned = List (List ℕ) × (Command × Option Returning)
@@ -54,7 +67,7 @@ module _ (text : List ℕ) (it : IsBare text) where
           (ap (λ (x : Compiled). x.returning) (sym same) ∙ p.0, ap (λ (x : Compiled). x.formats) (sym same) ∙ p.1)
       go (Err why) at e = absurd (cc)
 
-  query_plain : (schema : Schema) (c : Compiled) → understood schema text ≡ Ok c → Plain c
+  pub query_plain : (schema : Schema) (c : Compiled) → understood schema text ≡ Ok c → Plain c
   unfolding understood
   query_plain schema c h = elim (cases_Bool (reads_listing schema text)) [
     | inl listed ↦ lists (compiled listing_schema text) refl (rw listed at h)

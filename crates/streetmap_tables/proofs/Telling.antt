@@ -1,15 +1,14 @@
 -- What the two looks tell of any tables.
-use Rattle.std.proofs.Common.{◌∙◌, ◌≡◌, ◌⊎◌, inl, inr, ℕ, ℤ, true, List, [], Ok, Err, Option, Some}
-use Rattle.std.proofs.Common.{Result, Vec, IsTrue, IfOk, OnOk, IfErr, MatchResult, is_ok, pos, refl}
+use Rattle.std.proofs.Common.{◌∙◌, ◌≡◌, ◌⊎◌, inl, inr, ℕ, ℤ, List, [], Ok, Err, Option, Some}
+use Rattle.std.proofs.Common.{Result, Vec, IsTrue, IfOk, OnOk, IfErr, MatchResult, pos, refl}
 use Rattle.std.proofs.Common.{sym, subst}
 use Rattle.std.specs.declared.alloc.Global.{Global}
 use Rattle.sqlite.specs.Order.{Row}
 use Rattle.sqlite.specs.State.{State as Seen, IsUnchanged, Shown, FailsToQuery, IsTooLate}
 use Rattle.sqlite.specs.declared.error.Error.{Error}
-use Rattle.sqlite_resolve.specs.Compile.{first, returning, timed}
-use Rattle.sqlite_tied.specs.Compute.{everything}
 use Rattle.streetmap_rows.specs.Failing.{IsOfStore, HasReason}
-use Rattle.streetmap_rows.proofs.Drafts.{parsed_of, was_parsed}
+use Rattle.streetmap_rows.proofs.Compiles.{selects_format, select_format_is, selects_collection}
+use Rattle.streetmap_rows.proofs.Compiles.{select_collection_is}
 use Rattle.streetmap_rows.specs.Statements.{select_format, select_collection}
 use Rattle.streetmap_tables.specs.Adopting.{serials_text}
 use Rattle.streetmap_tables.specs.Part.{old_rows_text, HasCarried}
@@ -24,39 +23,22 @@ use Rattle.streetmap_tables.specs.declared.adopting.AdoptFault.{AdoptFault}
 use Rattle.streetmap_tables.specs.declared.adopting.AdoptFault.TheVariants.{NotOurs, OldFormat}
 use Rattle.streetmap_tables.specs.declared.adopting.AdoptFault.TheVariants.{NewFormat, Damaged}
 use Rattle.streetmap_tables.specs.declared.adopting.AdoptFault.TheVariants.{Device, Memory}
-use Rattle.streetmap_tables.proofs.Seeing.{IsBare, was_unchanged, shown_there, fails_there, not_too_late}
-
-format_reads : is_ok (first select_format) ≡ true
-unfolding everything
-format_reads = refl
-
-serials_read : is_ok (first serials_text) ≡ true
-unfolding everything
-serials_read = refl
+use Rattle.streetmap_tables.proofs.Seeing.{IsBare, select_bare, was_unchanged, shown_there}
+use Rattle.streetmap_tables.proofs.Seeing.{fails_there, not_too_late}
+use Rattle.streetmap_tables.proofs.SelectOld.{selects_rows, select_rows_is}
+use Rattle.streetmap_tables.proofs.Serials.{selects_serials, select_serials_is}
 
 pub format_bare : IsBare select_format
-unfolding everything returning timed
-format_bare = record { parsed = parsed_of (first select_format) format_reads; is = was_parsed (first select_format) format_reads; none = λ schema base. refl; untimed = λ schema. refl }
+format_bare = select_bare selects_format select_format_is
 
 pub serials_bare : IsBare serials_text
-unfolding everything returning timed
-serials_bare = record { parsed = parsed_of (first serials_text) serials_read; is = was_parsed (first serials_text) serials_read; none = λ schema base. refl; untimed = λ schema. refl }
-
-rows_read : is_ok (first old_rows_text) ≡ true
-unfolding everything
-rows_read = refl
+serials_bare = select_bare selects_serials select_serials_is
 
 pub rows_bare : IsBare old_rows_text
-unfolding everything returning timed
-rows_bare = record { parsed = parsed_of (first old_rows_text) rows_read; is = was_parsed (first old_rows_text) rows_read; none = λ schema base. refl; untimed = λ schema. refl }
-
-head_reads : is_ok (first select_collection) ≡ true
-unfolding everything
-head_reads = refl
+rows_bare = select_bare selects_rows select_rows_is
 
 pub head_bare : IsBare select_collection
-unfolding everything returning timed
-head_bare = record { parsed = parsed_of (first select_collection) head_reads; is = was_parsed (first select_collection) head_reads; none = λ schema base. refl; untimed = λ schema. refl }
+head_bare = select_bare selects_collection select_collection_is
 
 -- ---- one look
 
