@@ -13,7 +13,7 @@ use Rattle.streetmap_checking.specs.Looking.{known_of}
 use Rattle.streetmap_checking.specs.declared.collections.Head.{Head}
 use Rattle.streetmap_checking.specs.declared.formats.FormatRows.{FormatRows}
 use Rattle.streetmap_checking.proofs.RowCells.{serial_of_cells}
-use Rattle.streetmap_reading.proofs.Rests.{map_append}
+use Rattle.streetmap_reading.proofs.BetweenRows.{map_append}
 use Rattle.std.proofs.lemmas.List.{take_more}
 
 pub format_found : (start now : FormatRows) (rows : List Row) → HoldsFormatRows start now rows → (now.found ≡ 0 → ⊥) → AreFormatRows rows

@@ -12,7 +12,7 @@ use Rattle.streetmap_checking.specs.Telling.{IsNotShown, is_refused, begins_badl
 use Rattle.streetmap_checking.specs.Good.{AreFeatureRows}
 use Rattle.streetmap_checking.specs.Statements.{select_features, select_owners, select_batches}
 use Rattle.streetmap_rows.specs.Statements.{select_collections}
-use Rattle.streetmap_rows.proofs.Reasons.{other, reason_on}
+use Rattle.streetmap_rows.proofs.ErrorReasons.{other, reason_on}
 use Rattle.streetmap_checking.proofs.Simple.{IsSimpleQuery, features_simple, collections_simple}
 use Rattle.streetmap_checking.proofs.Simple.{owners_simple, batches_simple}
 use Rattle.sqlite.specs.declared.types.Value.TheVariants.{Text as Words}

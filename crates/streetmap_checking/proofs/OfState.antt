@@ -25,7 +25,7 @@ use Rattle.streetmap_rows.specs.declared.fault.ReadFault.TheVariants.{Store, Unr
 use Rattle.streetmap_rows.specs.Keeping.{Rests}
 use Rattle.streetmap_rows.specs.Rows.{collection_cells, batch_cells}
 use Rattle.streetmap_rows.specs.Statements.{select_collections}
-use Rattle.streetmap_rows.proofs.Ordered.{find_has, mapped_has}
+use Rattle.streetmap_rows.proofs.OrderedRows.{find_has, mapped_has}
 use Rattle.streetmap_checking.specs.Statements.{select_formats, select_features, select_owners, select_batches}
 use Rattle.streetmap_checking.specs.Good.{CollectionHead, head_cells, IsCollectionHead, feature_view, AreFormatRows, AreCollectionRows, AreFeatureRows, AreOwnerRows, AreBatchRows, serials_of}
 use Rattle.streetmap_checking.specs.Telling.{Known, IsNotShown, TellsWhy, SeesCollections, SeesAllFeatures}

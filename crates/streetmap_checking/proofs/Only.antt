@@ -15,7 +15,7 @@ use Rattle.sqlite.proofs.Callers.{command_of, reads_as, begins_as}
 use Rattle.sqlite_schema.specs.declared.program.Program.{Program}
 use Rattle.streetmap_rows.specs.Failing.{IsOfStore}
 use Rattle.streetmap_rows.specs.Queries.{program}
-use Rattle.streetmap_rows.proofs.OfStore.{failure_is}
+use Rattle.streetmap_rows.proofs.StoreErrors.{failure_is}
 use Rattle.streetmap_rows.proofs.Resolving.{Means, command_is, is_plain, is_whole, unlisted}
 use Rattle.streetmap_reading.specs.Candidates.{IsOneStatement, ShowsOf}
 use Rattle.streetmap_reading.specs.Seeing.{QueryShows}

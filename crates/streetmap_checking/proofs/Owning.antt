@@ -4,7 +4,7 @@ use Rattle.sqlite.specs.declared.types.Value.TheVariants.{Text as Words}
 use Rattle.sqlite.specs.Order.{Row, column}
 use Rattle.sqlite_rules.specs.Lists.{Has}
 use Rattle.streetmap_batch.specs.Text.{Text}
-use Rattle.streetmap_reading.proofs.Rests.{map_append}
+use Rattle.streetmap_reading.proofs.BetweenRows.{map_append}
 use Rattle.streetmap_checking.specs.Good.{CollectionHead}
 use Rattle.streetmap_checking.proofs.RowCells.{one_cell}
 use Rattle.streetmap_checking.specs.Held.{last_key, known}

@@ -7,7 +7,7 @@ use Rattle.std.specs.FinMap.Entries.{below_all}
 use Rattle.std.specs.Cmp.Lexicographic.{nat_list_cmp_total}
 use Rattle.sqlite.specs.Order.{Row}
 use Rattle.streetmap_batch.specs.Text.{Text, text_cmp}
-use Rattle.streetmap_reading.proofs.Rests.{map_append}
+use Rattle.streetmap_reading.proofs.BetweenRows.{map_append}
 use Rattle.streetmap_checking.specs.Good.{AreEntryRows}
 use Rattle.streetmap_checking.specs.Held.{last_key, StandsBehind}
 

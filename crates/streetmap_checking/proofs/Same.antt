@@ -19,9 +19,9 @@ use Rattle.streetmap_ledger.specs.WellFormed.{IsState, IsPlaced}
 use Rattle.streetmap_rows.specs.Keeping.{Rests}
 use Rattle.streetmap_rows.specs.Rows.{collection_cells, batch_cells, feature_text}
 use Rattle.streetmap_rows.specs.Statements.{select_collections}
-use Rattle.streetmap_rows.proofs.Keys.{one_text}
-use Rattle.streetmap_rows.proofs.Ordered.{find_has}
-use Rattle.streetmap_rows.proofs.Unique.{one_text_one_feature, untimed_is}
+use Rattle.streetmap_rows.proofs.TextKeys.{one_text}
+use Rattle.streetmap_rows.proofs.OrderedRows.{find_has}
+use Rattle.streetmap_rows.proofs.OneState.{one_text_one_feature, untimed_is}
 use Rattle.streetmap_reading.proofs.ShownOutlines.{collections_at}
 use Rattle.streetmap_checking.specs.Checking.{ShowsState}
 use Rattle.streetmap_checking.specs.Good.{feature_view}

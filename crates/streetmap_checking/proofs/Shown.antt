@@ -19,20 +19,20 @@ use Rattle.streetmap_geojson.specs.FeatureValue.{FeatureValue}
 use Rattle.streetmap_batch.specs.Text.{Text, text_cmp}
 use Rattle.streetmap_ledger.specs.State.{State, Collection, AcceptedBatch}
 use Rattle.streetmap_rows.specs.Holds.{first_key, is_first, same_text, pair_key}
-use Rattle.streetmap_rows.proofs.Choosing.{picked, staged}
-use Rattle.streetmap_rows.proofs.Finding.{IsFound}
-use Rattle.streetmap_rows.proofs.Holding.{cells_of, there}
-use Rattle.streetmap_rows.proofs.Keys.{first_is, first_self, column_later, text_is}
-use Rattle.streetmap_rows.proofs.Ordered.{Says, AreRowsOf, keeps, ordered_query, shows_entries, mapped_has, has_mapped, passing}
+use Rattle.streetmap_rows.proofs.OneRowChosen.{picked, staged}
+use Rattle.streetmap_rows.proofs.NamedTables.{IsFound}
+use Rattle.streetmap_rows.proofs.HeldKeys.{cells_of, there}
+use Rattle.streetmap_rows.proofs.TextKeys.{first_is, first_self, column_later, text_is}
+use Rattle.streetmap_rows.proofs.OrderedRows.{Says, AreRowsOf, keeps, ordered_query, shows_entries, mapped_has, has_mapped, passing}
 use Rattle.streetmap_rows.specs.Keeping.{Keeps}
 use Rattle.streetmap_rows.specs.Rows.{AreOf, feature_at, feature_cells, batch_cells, meta_cells}
 use Rattle.streetmap_rows.specs.Tables.{Roots, features, batches, meta, features_name, batches_name, meta_name}
-use Rattle.streetmap_rows.proofs.Placing as placing
+use Rattle.streetmap_rows.proofs.TablesInSchema as placing
 use Rattle.streetmap_reading.specs.Candidates.{ShowsOf}
 use Rattle.streetmap_reading.specs.Choosing.{is_chosen}
-use Rattle.streetmap_reading.proofs.Choosing.{in_collection, all_chooses}
-use Rattle.streetmap_reading.proofs.Listing.{Shows, row_of, shows_chosen}
-use Rattle.streetmap_reading.proofs.Shown.{shows_by}
+use Rattle.streetmap_reading.proofs.TermsChoose.{in_collection, all_chooses}
+use Rattle.streetmap_reading.proofs.ChosenInOrder.{Shows, row_of, shows_chosen}
+use Rattle.streetmap_reading.proofs.PageRowsShown.{shows_by}
 use Rattle.streetmap_checking.specs.Good.{AreOwnerRows, feature_view}
 use Rattle.streetmap_checking.specs.Statements.{select_formats, select_features, select_owners, select_batches}
 use Rattle.streetmap_checking.proofs.Compiles.{select_formats_means, select_formats_never, select_features_means, select_features_never, select_owners_means, select_owners_never, select_batches_means, select_batches_never}

@@ -16,7 +16,7 @@ use Rattle.streetmap_ledger.specs.WellFormed.{IsState, IsCollection, IsPlaced}
 use Rattle.streetmap_ledger.specs.Batches.{most_batches}
 use Rattle.streetmap_rows.specs.Rows.{collection_cells, batch_cells}
 use Rattle.streetmap_rows.specs.Statements.{select_collections}
-use Rattle.streetmap_rows.proofs.Ordered.{has_mapped}
+use Rattle.streetmap_rows.proofs.OrderedRows.{has_mapped}
 use Rattle.streetmap_checking.specs.Statements.{select_formats, select_features, select_batches}
 use Rattle.streetmap_reading.specs.Seeing.{QueryShows}
 use Rattle.streetmap_checking.specs.Good.{CollectionHead, head_cells, IsCollectionHead, feature_view, AreOwnerRows, AreSerials, IsAccepted, serials_of}

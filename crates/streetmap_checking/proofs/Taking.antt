@@ -8,9 +8,9 @@ use Rattle.streetmap_geojson.specs.FeatureValue.{FeatureValue}
 use Rattle.streetmap_batch.specs.Text.{Text}
 use Rattle.streetmap_ledger.specs.State.{AcceptedBatch}
 use Rattle.streetmap_ledger.specs.WellFormed.{IsPlaced}
-use Rattle.streetmap_reading.proofs.Readings.{within}
+use Rattle.streetmap_reading.proofs.RowReadings.{within}
 use Rattle.streetmap_rows.specs.Stored.{IsStored}
-use Rattle.streetmap_reading.proofs.Rests.{map_append}
+use Rattle.streetmap_reading.proofs.BetweenRows.{map_append}
 use Rattle.streetmap_rows.specs.declared.fault.ReadFault.{ReadFault}
 use Rattle.streetmap_rows.specs.Rows.{feature_text, batch_cells}
 use Rattle.streetmap_reading.specs.Folding.{Refuses}

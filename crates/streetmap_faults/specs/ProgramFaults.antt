@@ -31,9 +31,11 @@ use Rattle.streetmap_faults.specs.declared.fault.ProgramFault.TheVariants.{Net, 
 use Rattle.streetmap_faults.specs.declared.fault.ProgramFault.TheVariants.{Memory}
 use Rattle.streetmap_faults.specs.declared.fault.ProgramFault.TheVariants.{SameFile, NoJournal}
 use Rattle.streetmap_faults.specs.declared.fault.ProgramFault.TheVariants.{JournalAhead}
-use Rattle.streetmap_faults.specs.declared.fault.ProgramFault.TheVariants.{NotItsJournal, NotReplayed}
+use Rattle.streetmap_faults.specs.declared.fault.ProgramFault.TheVariants.{NotItsJournal}
+use Rattle.streetmap_faults.specs.declared.fault.ProgramFault.TheVariants.{NotReplayed}
 use Rattle.streetmap_faults.specs.declared.fault.ProgramFault.TheVariants.{Load, NotLoaded}
-use Rattle.streetmap_faults.specs.declared.fault.ProgramFault.TheVariants.{Follow, Batches, PassedOver}
+use Rattle.streetmap_faults.specs.declared.fault.ProgramFault.TheVariants.{Follow, Batches}
+use Rattle.streetmap_faults.specs.declared.fault.ProgramFault.TheVariants.{PassedOver}
 use Rattle.streetmap_batch.specs.declared.batch_fault.BatchFault.TheVariants as batch
 use Rattle.streetmap_text_lines.specs.declared.fault.LineFault.TheVariants as text
 use Rattle.streetmap_loading.specs.declared.end.End.{End as LoadEnd}

@@ -1,6 +1,6 @@
-pub mod Reached
-pub mod Noted
-pub mod Completed
-pub mod Alike
-pub mod Told
+pub mod OneLineFurther
+pub mod LineBehindBatch
+pub mod LooksInTurn
+pub mod LinesSoFar
+pub mod PartOfLine
 pub mod Telling

@@ -18,10 +18,10 @@ IsKeptLine s serial (Some line) =
     × (line ≡ line_bytes (numbered serial text) ++ 10 ∷ [])
 
 -- a keeper was not shut, neither before nor after, unless it was not asked
-abbrev pub StaysOpen : {K : Type 0} → (K → Option Cause) → K → K → Type 0
-StaysOpen cause old new = (new ≡ old) ⊎ ((cause old ≡ None) × (cause new ≡ None))
+abbrev pub StaysUnshut : {K : Type 0} → (K → Option Cause) → K → K → Type 0
+StaysUnshut cause old new = (new ≡ old) ⊎ ((cause old ≡ None) × (cause new ≡ None))
 
 -- a keeper that stood for this state does so still, unless its store failed
-abbrev pub StaysBy : State → Result (Unit {0}) Fault → (State → Type 0) → Type 0
-StaysBy s (Ok _) stands = stands s
-StaysBy s (Err fault) stands = StaysBut s fault stands
+abbrev pub StateStaysBy : State → Result (Unit {0}) Fault → (State → Type 0) → Type 0
+StateStaysBy s (Ok _) stands = stands s
+StateStaysBy s (Err fault) stands = StaysBut s fault stands

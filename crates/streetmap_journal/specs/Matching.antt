@@ -42,8 +42,8 @@ abbrev pub lines_from : State → ℕ → ℕ → List Line
 lines_from s after count = take count (drop after (journal_lines s))
 
 -- the first bytes of the input
-abbrev pub BeginsWith : Option (List ℕ) → List ℕ → Type 0
-BeginsWith input front = IfSome input (λ bytes. (rest : List ℕ) × (bytes ≡ front ++ rest))
+abbrev pub InputBeginsWith : Option (List ℕ) → List ℕ → Type 0
+InputBeginsWith input front = IfSome input (λ bytes. (rest : List ℕ) × (bytes ≡ front ++ rest))
 
 -- the serial of the line behind so many, as far as one is a number of 64 bits
 abbrev pub serial_behind : (after count : ℕ) → ℕ
@@ -51,8 +51,8 @@ serial_behind after count = min (min (after + count) (2 ^ 64 - 1) + 1) (2 ^ 64 -
 
 -- the input ends within a line; or the next line is not that of the batch with this serial, and a
 -- zero byte stands in it
-abbrev pub IsCut : State → (serial : ℕ) → (part rest : List ℕ) → Type 0
-IsCut s serial part rest =
+abbrev pub IsCutLine : State → (serial : ℕ) → (part rest : List ℕ) → Type 0
+IsCutLine s serial part rest =
     ((rest ≡ []) × (0 < length part)) ⊎ ((IsLineWith s serial part → ⊥) × HasZero part)
 
 -- what is next of the input
@@ -66,7 +66,7 @@ abbrev pub MatchesBy : State → (serial : ℕ) → (front : List ℕ) → Optio
     (State → Type 0) → Type 0
 MatchesBy s serial front input All stands = IfSome input (λ bytes. bytes ≡ front) × stands s
 MatchesBy s serial front input Cut stands =
-    NextIs input front (λ part rest. IsCut s serial part rest) × stands s
+    NextIs input front (λ part rest. IsCutLine s serial part rest) × stands s
 MatchesBy s serial front input Other stands =
     NextIs input front (λ line rest. IsLineWith s serial line → ⊥) × stands s
 MatchesBy s serial front input Ahead stands = (batch_in s serial ≡ None) × stands s
@@ -77,7 +77,7 @@ MatchesBy s serial front input (Stopped fault) stands = StaysBut s fault stands
 pub record Matches (s : State) (after : ℕ) (old : Option (List ℕ)) (result : Matched)
     (stands : State → Type 0) : Type 0 where
   pub within : result.count ≤ length (drop after (journal_lines s))
-  pub front : BeginsWith old (text_of_lines (lines_from s after result.count))
+  pub front : InputBeginsWith old (text_of_lines (lines_from s after result.count))
   pub size :
       result.bytes ≡ min (length (text_of_lines (lines_from s after result.count))) (2 ^ 64 - 1)
   pub ends :

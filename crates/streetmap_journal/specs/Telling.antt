@@ -10,9 +10,9 @@ abbrev pub IsToldBy : (behind : Bool) → (next : ℕ) → (told : Option ℕ) �
 IsToldBy false next told kept = (told ≡ None) × kept
 IsToldBy true next told kept = (serial : ℕ) × (told ≡ Some serial) × (serial ≤ next)
 
-abbrev pub IsTold :
+abbrev pub WriterIsTold :
     {W : Type 0} → (told : W → Option ℕ) → (kept : W → Type 0) → Journal W → Type 0
-IsTold told kept journal =
+WriterIsTold told kept journal =
     IsToldBy journal.is_behind journal.next (told journal.writer) (kept journal.writer)
 
 -- the journal of a state: its writer knows what is missing; and where writers of its type tell
@@ -20,7 +20,7 @@ IsTold told kept journal =
 abbrev pub IsFor : {W : Type 0} → (contents : W → Option (List ℕ)) → (told : W → Option ℕ) →
     (kept : W → Type 0) → Journal W → State → Type 0
 IsFor contents told kept journal s =
-    IsTold told kept journal × (TellBytes contents → HoldsIn contents journal s)
+    WriterIsTold told kept journal × (TellBytes contents → HoldsIn contents journal s)
 
 -- where there is one
 abbrev pub IsForIf : {W : Type 0} → (contents : W → Option (List ℕ)) → (told : W → Option ℕ) →

@@ -48,18 +48,18 @@ pub record Reaches (p : Position) (bytes : List ℕ) (s : State) : Type 0 where
   pub part : p.part ≤ length (line_at s p.next)
 
 -- and they are all lines, where the journal is not behind
-pub record IsWritten (p : Position) (bytes : List ℕ) (s : State) : Type 0 where
+pub record IsJournalOf (p : Position) (bytes : List ℕ) (s : State) : Type 0 where
   pub reaches : Reaches p bytes s
   pub whole : p.behind ≡ false → p.next ≡ length (journal_lines s) + 1
 
 -- where they are known
-abbrev pub Holds : Position → Option (List ℕ) → State → Type 0
-Holds p None s = ⊥
-Holds p (Some bytes) s = IsWritten p bytes s
+abbrev pub HoldsJournal : Position → Option (List ℕ) → State → Type 0
+HoldsJournal p None s = ⊥
+HoldsJournal p (Some bytes) s = IsJournalOf p bytes s
 
 -- a journal is written for this state
 abbrev pub HoldsIn : {W : Type 0} → (W → Option (List ℕ)) → Journal W → State → Type 0
-HoldsIn contents journal s = Holds (position_of journal) (contents journal.writer) s
+HoldsIn contents journal s = HoldsJournal (position_of journal) (contents journal.writer) s
 
 -- what lacks of the next line was written, and the next is behind it; or a beginning of that
 abbrev pub PutsBy : (whole : Bool) → Position → Position → Option (List ℕ) → Option (List ℕ) →

@@ -4,8 +4,8 @@ ghost use Rattle.std.specs.Option.{option_map};
 ghost use Rattle.std.specs.Io.KnownBytes.{Keeps};
 ghost use Rattle.streetmap_ledger.specs.State.{State};
 ghost use Rattle.streetmap_ledger.specs.Keep.{Looks, LeavesOnly, ShutsBy, AsBefore};
-ghost use Rattle.streetmap_journal.specs.Completing.{IsKeptLine, StaysOpen, StaysBy};
-ghost use Rattle.streetmap_journal.specs.Telling.{IsTold};
+ghost use Rattle.streetmap_journal.specs.Completing.{IsKeptLine, StaysUnshut, StateStaysBy};
+ghost use Rattle.streetmap_journal.specs.Telling.{WriterIsTold};
 ghost use Rattle.streetmap_journal.specs.Written.{position_of, HoldsIn};
 ghost use Rattle.streetmap_replay.specs.Faults.{StaysBut};
 
@@ -74,9 +74,9 @@ impl<W: JournalWriter> Journal<W> {
             × (self.new.part ≡ self.old.part) }
         ensures bytes { Keeps (W.contents self.old.writer) (W.contents self.new.writer) }
         ensures told { self.old.is_behind ≡ true →
-            IsTold W.told W.is_kept self.old → IsTold W.told W.is_kept self.new }
+            WriterIsTold W.told W.is_kept self.old → WriterIsTold W.told W.is_kept self.new }
         ensures whole { self.old.is_behind ≡ true → self.new.is_behind ≡ false →
-            IsTold W.told W.is_kept self.new }
+            WriterIsTold W.told W.is_kept self.new }
         ensures goes { W.goes self.old.writer self.new.writer }
         ensures failed { self.new.is_behind ≡ true → W.fails self.old.writer self.new.writer }
     {
@@ -90,8 +90,8 @@ impl<W: JournalWriter> Journal<W> {
     pub(crate) fn tell_missing(&mut self)
         ensures position { position_of self.new ≡ position_of self.old }
         ensures bytes { Keeps (W.contents self.old.writer) (W.contents self.new.writer) }
-        ensures told { (self.old.is_behind ≡ false → IsTold W.told W.is_kept self.old) →
-            IsTold W.told W.is_kept self.new }
+        ensures told { (self.old.is_behind ≡ false → WriterIsTold W.told W.is_kept self.old) →
+            WriterIsTold W.told W.is_kept self.new }
         ensures goes { W.goes self.old.writer self.new.writer }
     {
         if self.is_behind {
@@ -113,11 +113,11 @@ pub(crate) fn complete<K: KeepsBatches, W: JournalWriter>(
 ) -> Result<(), Fault>
     ensures spared { K.spares keeper.old keeper.new }
     ensures began_clean { K.is_clean keeper.new → K.is_clean keeper.old }
-    ensures opened { OnOk result (StaysOpen K.cause keeper.old keeper.new) }
+    ensures opened { OnOk result (StaysUnshut K.cause keeper.old keeper.new) }
     ensures faults { IfErr result (λ fault.
         ShutsBy {T = Unit {0}} (Err fault) (K.cause keeper.old) (K.cause keeper.new)) }
     ensures keeps { K.is_clean keeper.new → (s : State) → K.stands keeper.old s →
-        StaysBy s result (K.stands keeper.new) }
+        StateStaysBy s result (K.stands keeper.new) }
     ensures device { K.is_clean keeper.new → (s : State) → K.stands keeper.old s →
         result ≡ Err Fault.Device → K.fails keeper.old keeper.new }
     ensures leaves { K.is_clean keeper.new → (s : State) → K.stands keeper.old s →
@@ -127,9 +127,10 @@ pub(crate) fn complete<K: KeepsBatches, W: JournalWriter>(
         AsBefore (K.stands keeper.old) (K.stands keeper.new)
         (K.may_leave keeper.old) (K.may_leave keeper.new) }
     ensures after { journal.new.after ≡ journal.old.after }
-    ensures told { IsTold W.told W.is_kept journal.old → IsTold W.told W.is_kept journal.new }
+    ensures told { WriterIsTold W.told W.is_kept journal.old →
+        WriterIsTold W.told W.is_kept journal.new }
     ensures whole { journal.old.is_behind ≡ true → journal.new.is_behind ≡ false →
-        IsTold W.told W.is_kept journal.new }
+        WriterIsTold W.told W.is_kept journal.new }
     ensures goes { W.goes journal.old.writer journal.new.writer }
     ensures failed { IsOk result → journal.new.is_behind ≡ true →
         W.fails journal.old.writer journal.new.writer }

@@ -7,7 +7,7 @@ ghost use Rattle.streetmap_batch.specs.BatchView.{batch_value};
 ghost use Rattle.streetmap_replay.specs.Lines.{numbered, line_bytes};
 ghost use Rattle.streetmap_text_lines.specs.Written.{AppendsFirst};
 ghost use Rattle.streetmap_journal.specs.Written.{position_of, PutsLine, KeepsLine, NotesLine};
-ghost use Rattle.streetmap_journal.specs.Telling.{IsTold};
+ghost use Rattle.streetmap_journal.specs.Telling.{WriterIsTold};
 
 use itoa::Buffer;
 use std::alloc::{AllocError, Global};
@@ -198,8 +198,8 @@ impl<W: JournalWriter> Journal<W> {
         ensures line { NotesLine
             (position_of self.old) (position_of self.new)
             (W.contents self.old.writer) (W.contents self.new.writer) line.now }
-        ensures told { IsTold W.told W.is_kept self.old →
-            IsTold W.told W.is_kept self.new }
+        ensures told { WriterIsTold W.told W.is_kept self.old →
+            WriterIsTold W.told W.is_kept self.new }
         ensures goes { W.goes self.old.writer self.new.writer }
         ensures failed { self.old.is_behind ≡ false → self.new.is_behind ≡ true →
             W.fails self.old.writer self.new.writer }

@@ -3,9 +3,9 @@ ghost use Rattle.std.specs.Prelude.{◌≡◌, ◌+◌, ◌-◌, ◌^◌, min, t
 ghost use Rattle.std.specs.Prelude.{IsErrOf};
 ghost use Rattle.streetmap_ledger.specs.State.{State};
 ghost use Rattle.streetmap_ledger.specs.Keep.{AsBefore, LeavesOnly, ShutsBy};
-ghost use Rattle.streetmap_journal.specs.Completing.{StaysOpen};
+ghost use Rattle.streetmap_journal.specs.Completing.{StaysUnshut};
 ghost use Rattle.streetmap_journal.specs.Starting.{BeginsBy, StartsBy, StartShuts};
-ghost use Rattle.streetmap_journal.specs.Telling.{IsTold, IsWholeUnless};
+ghost use Rattle.streetmap_journal.specs.Telling.{WriterIsTold, IsWholeUnless};
 
 use crate::completing::complete;
 use crate::journal::{Journal, JournalWriter};
@@ -44,7 +44,7 @@ fn begin<K: KeepsBatches, W: JournalWriter + Drop>(
 ) -> Result<Journal<W>, Fault>
     ensures spared { K.spares keeper.old keeper.new }
     ensures began_clean { K.is_clean keeper.new → K.is_clean keeper.old }
-    ensures opened { OnOk result (StaysOpen K.cause keeper.old keeper.new) }
+    ensures opened { OnOk result (StaysUnshut K.cause keeper.old keeper.new) }
     ensures faults { IfErr result (λ fault.
         ShutsBy {T = Unit {0}} (Err fault) (K.cause keeper.old) (K.cause keeper.new)) }
     ensures device { K.is_clean keeper.new → (s : State) → K.stands keeper.old s →
@@ -58,7 +58,7 @@ fn begin<K: KeepsBatches, W: JournalWriter + Drop>(
     ensures begins { K.is_clean keeper.new → (s : State) → K.stands keeper.old s →
         BeginsBy s W.contents journal result (K.stands keeper.new) }
     ensures told { journal.is_behind ≡ true → IfOk result (λ begun.
-        IsTold W.told W.is_kept begun × IsWholeUnless W.fails journal begun) }
+        WriterIsTold W.told W.is_kept begun × IsWholeUnless W.fails journal begun) }
 {
     let mut journal = journal;
     match complete(alloc, keeper, &mut journal) {
@@ -97,7 +97,7 @@ pub fn start_journal<K: KeepsBatches, W: JournalWriter + Drop>(
     ensures starts { K.is_clean keeper.new → (s : State) → K.stands keeper.old s →
         StartsBy s after (W.contents writer) W.contents result (K.stands keeper.new) }
     // The writer knows what is missing; and where something is, it failed.
-    ensures told { IfOk result (λ journal. IsTold W.told W.is_kept journal
+    ensures told { IfOk result (λ journal. WriterIsTold W.told W.is_kept journal
         × (journal.is_behind ≡ true → W.fails writer journal.writer)) }
 {
     let count = match keeper.batch_count() {

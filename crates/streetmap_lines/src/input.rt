@@ -3,7 +3,7 @@ ghost use Rattle.std.specs.Prelude.{◌≡◌, ◌++◌, ◌∷◌, [], Some, No
 ghost use Rattle.std.specs.Prelude.{OnErr, IfSome, OnSome, IsSomeAnd, take};
 ghost use Rattle.std.specs.Str.Lines.{lines};
 ghost use Rattle.std.specs.Io.KnownBytes.{Appends, IsAtEnd};
-ghost use Rattle.streetmap_memory.specs.Plain.{IsPlain, plain_state};
+ghost use Rattle.streetmap_memory.specs.Plain.{StandsPlainly, plain_state};
 ghost use Rattle.streetmap_ledger.specs.State.{opening_state};
 ghost use Rattle.streetmap_lines.specs.Faults.{IsLineFault, IsWriteFault, IsAnswerFault};
 ghost use Rattle.streetmap_lines.specs.Lines.{line_answer, state_after, answer_text, answers_of};
@@ -77,19 +77,19 @@ fn write_answer<W: Write>(
     line: &[u8],
     writer: &mut W,
 ) -> Result<(), LinesFault>
-    ensures ok { IsPlain keeper.old (plain_state keeper.old)
+    ensures ok { StandsPlainly keeper.old (plain_state keeper.old)
         → OnOk result (Appends (W.contents writer.old) (W.contents writer.new)
         (answer_text (line_answer (plain_state keeper.old) line.now))) }
-    ensures state { IsPlain keeper.old (plain_state keeper.old)
-        → OnOk result (IsPlain keeper.new (state_after (plain_state keeper.old) line.now)) }
-    ensures err { IsPlain keeper.old (plain_state keeper.old)
+    ensures state { StandsPlainly keeper.old (plain_state keeper.old)
+        → OnOk result (StandsPlainly keeper.new (state_after (plain_state keeper.old) line.now)) }
+    ensures err { StandsPlainly keeper.old (plain_state keeper.old)
         → OnErr result (AppendsBeginning (W.contents writer.old) (W.contents writer.new)
         (answer_text (line_answer (plain_state keeper.old) line.now))) }
-    ensures less { IsPlain keeper.old (plain_state keeper.old) →
+    ensures less { StandsPlainly keeper.old (plain_state keeper.old) →
         result ≡ Err LinesFault.WriteFailed →
         AppendsLess (W.contents writer.old) (W.contents writer.new)
         (answer_text (line_answer (plain_state keeper.old) line.now)) }
-    ensures flush { IsPlain keeper.old (plain_state keeper.old) →
+    ensures flush { StandsPlainly keeper.old (plain_state keeper.old) →
         result ≡ Err LinesFault.FlushFailed →
         Appends (W.contents writer.old) (W.contents writer.new)
         (answer_text (line_answer (plain_state keeper.old) line.now)) }

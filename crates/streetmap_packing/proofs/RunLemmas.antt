@@ -2,7 +2,7 @@
 use Rattle.std.proofs.Common.{◌≡◌, ◌≢◌, ℕ, ◌+◌, Bool, true, false, List, [], ◌∷◌, ◌++◌, ◌⊎◌, inl}
 use Rattle.std.proofs.Common.{inr, length, refl, sym, ap, subst, ◌∙◌, arith, append_assoc}
 use Rattle.std.proofs.lemmas.List.{append-nil}
-use Rattle.streetmap_packing.specs.Runs.{Stops, IsFront, AreRuns, IsFull, AreDone}
+use Rattle.streetmap_packing.specs.Runs.{Stops, IsLongestRun, AreRuns, TakesNoMore, AreDone}
 
 nil_cons : {A : Type 0} {P : Type 0} (x : A) (xs : List A) → [] ≡ x ∷ xs → P
 nil_cons x xs e = cc
@@ -54,28 +54,28 @@ module _ (A : Type 0) (passes : ℕ → List A → Bool)
         (sym (heads y z _ _ f)) ∙ s in
         true_false _ (shorter n (run ++ z ∷ []) zs begun) not
 
-  pub same_front : (n : ℕ) (xs run rest us vs : List A) → IsFront passes n xs run rest →
-      IsFront passes n xs us vs → (run ≡ us) × (rest ≡ vs)
+  pub same_front : (n : ℕ) (xs run rest us vs : List A) → IsLongestRun passes n xs run rest →
+      IsLongestRun passes n xs us vs → (run ≡ us) × (rest ≡ vs)
   same_front n xs run rest us vs a b = by (compare run rest us vs (sym a.whole ∙ b.whole)) where
     by : Longer run rest us vs ⊎ Longer us vs run rest → (run ≡ us) × (rest ≡ vs)
     by (inl l) = no_longer n run rest us vs a.stops b.passed l
     by (inr l) = let e = no_longer n us vs run rest b.stops a.passed l in (sym e.0, sym e.1)
 
   -- nothing is no front
-  no_front : {P : Type 0} (n : ℕ) (xs run rest : List A) → xs ≡ [] → IsFront passes n xs run rest →
+  no_front : {P : Type 0} (n : ℕ) (xs run rest : List A) → xs ≡ [] → IsLongestRun passes n xs run rest →
       P
   no_front n xs [] rest e f = absurd (f.some refl)
   no_front n xs (x ∷ run) rest e f = nil_cons x (run ++ rest) (sym e ∙ f.whole)
 
   -- what stops a run stops it also with more behind the list
   stops_with : (n : ℕ) (run rest more : List A) → Stops passes n run rest →
-      IsFull passes n run rest → Stops passes n run (rest ++ more)
+      TakesNoMore passes n run rest → Stops passes n run (rest ++ more)
   stops_with n run [] [] stops full = tt
   stops_with n run [] (x ∷ more) stops full = full refl x
   stops_with n run (x ∷ rest) more stops full = stops
 
-  front_with : (n : ℕ) (xs run rest more : List A) → IsFront passes n xs run rest →
-      IsFull passes n run rest → IsFront passes n (xs ++ more) run (rest ++ more)
+  front_with : (n : ℕ) (xs run rest more : List A) → IsLongestRun passes n xs run rest →
+      TakesNoMore passes n run rest → IsLongestRun passes n (xs ++ more) run (rest ++ more)
   front_with n xs run rest more f full = record {
     whole = ap (λ t. t ++ more) f.whole ∙ append_assoc run rest more;
     some = f.some;
@@ -83,8 +83,8 @@ module _ (A : Type 0) (passes : ℕ → List A → Bool)
     stops = stops_with n run rest more f.stops full;
   }
 
-  full_with : (n : ℕ) (run rest more : List A) → IsFull passes n run rest →
-      IsFull passes n run (rest ++ more)
+  full_with : (n : ℕ) (run rest more : List A) → TakesNoMore passes n run rest →
+      TakesNoMore passes n run (rest ++ more)
   full_with n run [] more full e x = full refl x
   full_with n run (y ∷ rest) more full e x = nil_cons y (rest ++ more) (sym e)
 
@@ -119,15 +119,15 @@ module _ (A : Type 0) (passes : ℕ → List A → Bool)
   -- one run more
   pub one_done : (n m : ℕ) (xs : List A) (runs : List (List A)) (run rest : List A) →
       m ≡ n + length runs → AreDone passes n xs runs (run ++ rest) → run ≢ [] →
-      passes m run ≡ true → Stops passes m run rest → IsFull passes m run rest →
+      passes m run ≡ true → Stops passes m run rest → TakesNoMore passes m run rest →
       AreDone passes n xs (runs ++ run ∷ []) rest
   one_done n m xs [] run rest e d some passed stops full =
       let at : m ≡ n = omega arith in (
         rest,
-        subst (λ (k : ℕ). IsFront passes k xs run rest) at
+        subst (λ (k : ℕ). IsLongestRun passes k xs run rest) at
             (record { whole = d; some = some; passed = passed; stops = stops }),
         subst
-            (λ (k : ℕ). IsFull passes k run rest) at full,
+            (λ (k : ℕ). TakesNoMore passes k run rest) at full,
         refl,
       )
   one_done n m xs (r ∷ rs) run rest e d some passed stops full =
@@ -145,7 +145,7 @@ module _ (A : Type 0) (passes : ℕ → List A → Bool)
   last_short n m xs [] run e d some passed =
       let at : m ≡ n = omega arith in (
         [],
-        subst (λ (k : ℕ). IsFront passes k xs run []) at
+        subst (λ (k : ℕ). IsLongestRun passes k xs run []) at
             (record { whole = d ∙ sym (append-nil run); some = some; passed = passed; stops = tt }),
         refl,
       )

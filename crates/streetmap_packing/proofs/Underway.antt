@@ -5,7 +5,7 @@ use Rattle.std.proofs.lemmas.List.{append-nil}
 use Rattle.std.proofs.lemmas.Bool.Decides.{nat_tests}
 use Rattle.streetmap_batch.specs.Text.{Text}
 use Rattle.streetmap_batch.specs.BatchValue.{EditValue}
-use Rattle.streetmap_packing.specs.Runs.{IsFull, AreDone}
+use Rattle.streetmap_packing.specs.Runs.{TakesNoMore, AreDone}
 use Rattle.streetmap_packing.specs.Underway.{Underway, edits_in}
 use Rattle.streetmap_packing.specs.Packs.{numbered, numbered_all, passes, Packs}
 use Rattle.streetmap_packing.proofs.RunLemmas.{one_more, one_done, all_done, last_short}
@@ -24,7 +24,7 @@ false_from each n b h = let over : leb n each ≡ false = grind (arith, nat_test
 
 -- so many edits take no more
 pub is_full : (each : ℕ) (key : Text) (n : ℕ) (run rest : List EditValue) → each ≤ length run →
-    IsFull (passes each key) n run rest
+    TakesNoMore (passes each key) n run rest
 is_full each key n run rest many none e =
     let long = length-append run (e ∷ []) in
     false_from each (length (run ++ e ∷ [])) _ (omega (arith, long, many))

@@ -23,9 +23,9 @@ abbrev pub begun : (key : Text) (each : ℕ) → Packing
 begun key each = record { key = key; each = each; number = 1; edits = [] }
 
 -- the batch under way was given out, and the next begins
-abbrev pub Takes : Packing → Result Batch AllocError → Packing → Type 0
-Takes p (Ok b) q = (batch_value b ≡ under_way p) × (q ≡ next p)
-Takes p (Err memory) q = Unit {0}
+abbrev pub GivesOut : Packing → Result Batch AllocError → Packing → Type 0
+GivesOut p (Ok b) q = (batch_value b ≡ under_way p) × (q ≡ next p)
+GivesOut p (Err memory) q = Unit {0}
 
 -- an edit was added: to the batch under way, or, where that does not take it, to the next, and the
 -- one before is given out

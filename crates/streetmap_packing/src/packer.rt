@@ -39,7 +39,7 @@ impl Packer {
     ghost use Rattle.streetmap_batch.specs.BatchValue.{EditValue};
     ghost use Rattle.streetmap_batch.specs.BatchView.{edit_value};
     ghost use Rattle.streetmap_packing.specs.Packing.{is_passing, with_edit, under_way, next};
-    ghost use Rattle.streetmap_packing.specs.PackerView.{packing, begun, Takes, Adds, Fills};
+    ghost use Rattle.streetmap_packing.specs.PackerView.{packing, begun, GivesOut, Adds, Fills};
     ghost use Rattle.streetmap_packing.specs.PackerView.{Finishes};
 
     /// A packer of a key of at most 44 bytes, for at most `each` edits a batch.
@@ -85,7 +85,7 @@ impl Packer {
     fn take(&mut self, alloc: Global, bytes: usize) -> Result<Batch, AllocError>
         requires room { (packing self.old).number + 1 < 2 ^ 63 }
         requires measured { bytes ≡ length (batch_text (under_way (next (packing self.old)))) }
-        ensures { Takes (packing self.old) result (packing self.new) }
+        ensures { GivesOut (packing self.old) result (packing self.new) }
     {
         let edits = mem::replace(&mut self.edits, Vec::new(alloc));
         let number = self.number;

@@ -14,9 +14,9 @@ use Rattle.streetmap_reading.specs.Candidates.{ShowsOf}
 use Rattle.streetmap_reading.specs.Folding.{TakesAll, StopsQuery}
 use Rattle.streetmap_reading.specs.Seeing.{QueryBegins, QueryIsRefused}
 use Rattle.streetmap_reading.specs.Taking.{Stopped}
-use Rattle.streetmap_reading.proofs.Looks.{answered}
+use Rattle.streetmap_reading.proofs.WholeQueries.{answered}
 use Rattle.streetmap_reading.proofs.Seeing.{plain_simple, undone_keeps}
-use Rattle.streetmap_reading.proofs.Told.{told}
+use Rattle.streetmap_reading.proofs.QueryFails.{told}
 
 module _ (sql : List ℕ) (params : Row) (old : Seen) (rows : List Row)
     (shows : ShowsOf sql params old.now rows) where

@@ -16,7 +16,7 @@ use Rattle.sqlite.proofs.Callers.{unchanged_then}
 use Rattle.sqlite_resolve.specs.declared.compiled.Compiled.{Compiled}
 use Rattle.sqlite_resolve.specs.declared.error.CompileError.{CompileError}
 use Rattle.streetmap_rows.specs.Failing.{IsOfStore}
-use Rattle.streetmap_rows.proofs.OfStore.{failure_is}
+use Rattle.streetmap_rows.proofs.StoreErrors.{failure_is}
 use Rattle.streetmap_reading.specs.Folding.{IsSameOrUndone}
 use Rattle.streetmap_reading.specs.Seeing.{IsSimpleIn, QueryShows, QueryBegins, QueryIsRefused}
 

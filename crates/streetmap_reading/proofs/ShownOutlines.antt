@@ -20,26 +20,26 @@ use Rattle.streetmap_batch.specs.Text.{Text, text_cmp}
 use Rattle.streetmap_ledger.specs.State.{State, Collection}
 use Rattle.streetmap_ledger.specs.Outlines.{feature_outline_of}
 use Rattle.streetmap_rows.specs.Holds.{first_key, is_first}
-use Rattle.streetmap_rows.proofs.Finding.{IsFound}
-use Rattle.streetmap_rows.proofs.Holding.{cells_of, there}
-use Rattle.streetmap_rows.proofs.Keys.{first_is, first_self, column_later}
-use Rattle.streetmap_rows.proofs.Ordered.{Says, AreRowsOf, keeps, ordered_query, shows_entries, passing, mapped_has, find_has}
+use Rattle.streetmap_rows.proofs.NamedTables.{IsFound}
+use Rattle.streetmap_rows.proofs.HeldKeys.{cells_of, there}
+use Rattle.streetmap_rows.proofs.TextKeys.{first_is, first_self, column_later}
+use Rattle.streetmap_rows.proofs.OrderedRows.{Says, AreRowsOf, keeps, ordered_query, shows_entries, passing, mapped_has, find_has}
 use Rattle.streetmap_rows.specs.Keeping.{Keeps}
 use Rattle.streetmap_rows.specs.Rows.{AreOf, feature_at, feature_cells, collection_cells, extent_in, seconds_in}
 use Rattle.streetmap_rows.specs.Stands.{IsReadable}
 use Rattle.streetmap_rows.specs.Statements.{select_collections}
 use Rattle.streetmap_rows.specs.Tables.{Roots, features, collections, features_name, collections_name}
 use Rattle.streetmap_rows.proofs.Compiles.{select_collections_means, select_collections_never}
-use Rattle.streetmap_rows.proofs.Placing as placing
+use Rattle.streetmap_rows.proofs.TablesInSchema as placing
 use Rattle.streetmap_reading.specs.Candidates.{ShowsOf}
 use Rattle.streetmap_reading.specs.Choosing.{is_chosen}
-use Rattle.streetmap_reading.proofs.Choosing.{in_collection, all_chooses}
-use Rattle.streetmap_reading.proofs.Listing.{Shows, shows_chosen}
-use Rattle.streetmap_reading.proofs.Shown.{shows_by}
+use Rattle.streetmap_reading.proofs.TermsChoose.{in_collection, all_chooses}
+use Rattle.streetmap_reading.proofs.ChosenInOrder.{Shows, shows_chosen}
+use Rattle.streetmap_reading.proofs.PageRowsShown.{shows_by}
 use Rattle.streetmap_reading.specs.Statements.{select_outlines, select_extents}
 use Rattle.streetmap_reading.specs.Telling.{features_in}
 use Rattle.streetmap_reading.specs.Views.{outline_row, extent_row, feature_extent, IsOutline, IsOutlineRow, IsExtentRow, IsHeadRow}
-use Rattle.streetmap_reading.proofs.Boxes.{extent_is_box}
+use Rattle.streetmap_reading.proofs.PositionBounds.{extent_is_box}
 use Rattle.streetmap_reading.proofs.Compiles.{select_outlines_means, select_outlines_never, select_extents_means, select_extents_never}
 
 abbrev outline_terms : List Term

@@ -9,7 +9,7 @@ use Rattle.sqlite.specs.Held.{Held, state}
 use Rattle.sqlite.specs.State.{State as Seen, IsUnchanged, FailsToQuery}
 use Rattle.sqlite.proofs.Callers.{given_begin, unchanged_then}
 use Rattle.streetmap_rows.specs.Failing.{IsOfStore, HasReason}
-use Rattle.streetmap_rows.proofs.Reasons.{other, queried, reason_on}
+use Rattle.streetmap_rows.proofs.ErrorReasons.{other, queried, reason_on}
 use Rattle.streetmap_rows.specs.declared.fault.ReadFault.{ReadFault}
 use Rattle.streetmap_rows.specs.declared.fault.ReadFault.TheVariants.{Memory, Store, Unread}
 use Rattle.streetmap_reading.specs.Seeing.{IsSimpleIn, QueryShows, QueryIsRefused}

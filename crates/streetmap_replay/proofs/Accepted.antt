@@ -21,7 +21,7 @@ use Rattle.streetmap_ledger.specs.declared.reply.Refusal.{Refusal}
 use Rattle.streetmap_ledger.proofs.Repeat.{edited_keys, all_keep}
 use Rattle.streetmap_ledger.proofs.StatesStay.{act_sound}
 use Rattle.streetmap_replay.proofs.Texts.{Kept}
-use Rattle.streetmap_replay.proofs.There.{act_stays}
+use Rattle.streetmap_replay.proofs.RepeatedBatches.{act_stays}
 
 -- ---- one batch
 

@@ -17,24 +17,24 @@ use Rattle.streetmap_batch.specs.BatchFacts.{IsSoundBatch}
 use Rattle.streetmap_replay.specs.Following.{LineFault, Followed as Told, line_outcome, goes_on}
 use Rattle.streetmap_replay.specs.Following.{follow, follower}
 use Rattle.streetmap_replay.specs.JournalText.{text_of_lines, journal_lines}
-use Rattle.streetmap_replay.specs.Lines.{Line, line_bytes, IsLine}
+use Rattle.streetmap_replay.specs.Lines.{Line, line_bytes, IsJournalLine}
 use Rattle.streetmap_replay.specs.Sittings.{IsLineOf, highest}
-use Rattle.streetmap_replay.proofs.Lined.{IsOneLine, no_feed, all_one_line, lines_are_one_each}
-use Rattle.streetmap_replay.proofs.Lined.{journal_reads_in_lines}
-use Rattle.streetmap_replay.proofs.Listed.{All-at}
+use Rattle.streetmap_replay.proofs.LineBytes.{IsOneLine, no_feed, all_one_line, lines_are_one_each}
+use Rattle.streetmap_replay.proofs.LineBytes.{journal_reads_in_lines}
+use Rattle.streetmap_replay.proofs.ItemsByPlace.{All-at}
 use Rattle.streetmap_replay.proofs.Sitting.{reaches}
 use Rattle.streetmap_text_lines.specs.Reading.{HasNoLineFeed}
 use Rattle.streetmap_text_lines.specs.declared.fault.LineFault.TheVariants.{LineTooLong, ReadFailed}
 use Rattle.streetmap_text_lines.specs.declared.fault.LineFault.TheVariants.{Memory}
 use Rattle.streetmap_replay.specs.Acting.{TellsOutcome, KeepsBut}
 use Rattle.streetmap_replay.specs.Beginnings.{IsOfJournal, FollowerBy}
-use Rattle.streetmap_replay.specs.Ends.{IsInputLine, EndsBy, Follows}
+use Rattle.streetmap_replay.specs.Ends.{IsInputLine, FollowingEndsBy, Follows}
 use Rattle.streetmap_replay.specs.declared.line_stop.LineStop.{LineStop}
 use Rattle.streetmap_replay.specs.declared.line_stop.LineStop.TheVariants as stops
 use Rattle.streetmap_replay.specs.declared.following.End.{End}
 use Rattle.streetmap_replay.specs.declared.following.End.TheVariants as ends
 use Rattle.streetmap_replay.specs.declared.following.Followed.{Followed}
-use Rattle.streetmap_replay.proofs.Underway.{one_more}
+use Rattle.streetmap_replay.proofs.FollowedSoFar.{one_more}
 
 -- ---- lines of one text
 
@@ -67,7 +67,7 @@ no_line (x ∷ xs) t (p ∷ part) h e =
 
 -- the bytes of a line are one line, and are read as it
 record IsInputBytes (line : Line) : Type 0 where
-  is : IsLine (line_bytes line) line
+  is : IsJournalLine (line_bytes line) line
   one : HasNoLineFeed (line_bytes line)
 
 -- the lines that were read off a text are its first
@@ -86,7 +86,7 @@ first_lines (r ∷ read) (l ∷ ls) rest part h k none e =
     (sym (append_assoc (line_bytes r) (10 ∷ text_of_lines read) rest)
     ∙ (e ∙ append_assoc (line_bytes l) (10 ∷ text_of_lines ls) part)) in
     let same : r ≡ l = lines_are_one_each.0 (line_bytes l) r l
-    (subst (λ (b : List ℕ). IsLine b r) cut.0 here.is) there.is in
+    (subst (λ (b : List ℕ). IsJournalLine b r) cut.0 here.is) there.is in
     ap₂ (λ z zs. z ∷ zs) same (first_lines read ls rest part (All-tail IsInputLine r read h)
     (All-tail IsInputBytes l ls k) none cut.1)
 
@@ -107,7 +107,7 @@ as_many s (x ∷ xs) h = more_replies s xs (λ v. as_many v xs) (line_outcome s 
 module _ (bs : List BatchValue) (w : All IsSoundBatch bs) where
   journal_bytes : (line : Line) → IsLineOf bs line → IsInputBytes line
   journal_bytes line h = record {
-    is = All-at (λ l. IsLine (line_bytes l) l) (journal_lines (after_all opening_state bs)) h.0 line
+    is = All-at (λ l. IsJournalLine (line_bytes l) l) (journal_lines (after_all opening_state bs)) h.0 line
         (journal_reads_in_lines bs w).1 h.1;
     one = no_feed (line_bytes line) (All-at IsOneLine (journal_lines (after_all opening_state bs))
         h.0 line (all_one_line bs w) h.1);
@@ -162,9 +162,9 @@ module _ (bs : List BatchValue) (w : All IsSoundBatch bs) where
 
         end_by : (read : List Line) (new : Option (List ℕ)) (given : Type 0)
             (left : Option State → Type 0) (end : End) →
-            (EndsBy t read (Some input) new given left ends.NotTold stands →
+            (FollowingEndsBy t read (Some input) new given left ends.NotTold stands →
             FollowerBy bs k lines count ends.NotTold stands) →
-            EndsBy t read (Some input) new given left end stands →
+            FollowingEndsBy t read (Some input) new given left end stands →
             FollowerBy bs k lines count end stands
         end_by read new given left ends.All untold h = subst stands is h.1
         end_by read new given left ends.CutLine untold h = subst stands is h.1
@@ -179,7 +179,7 @@ module _ (bs : List BatchValue) (w : All IsSoundBatch bs) where
           (given : Type 0) (left : Option State → Type 0) → length read ≡ count →
           All IsInputLine read → (follow (follower bs k) read).fault ≡ None →
           (new : Option (List ℕ)) →
-          EndsBy (follow (follower bs k) read).state read (Some input) new given left ends.NotTold
+          FollowingEndsBy (follow (follower bs k) read).state read (Some input) new given left ends.NotTold
           stands → FollowerBy bs k lines count ends.NotTold stands
       one_behind read count stands given left counted all whole None h = absurd h.2
       one_behind read count stands given left counted all whole (Some rest) h =

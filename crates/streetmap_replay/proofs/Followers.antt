@@ -39,13 +39,13 @@ use Rattle.streetmap_replay.specs.Following.{FollowersGoOn, FollowersAreBeginnin
 use Rattle.streetmap_replay.specs.Following.{LinesComeInOrder}
 use Rattle.streetmap_replay.proofs.TextAgain.{reads_again}
 use Rattle.streetmap_replay.proofs.Untimed.{act_untimed}
-use Rattle.streetmap_replay.proofs.Growing.{from_opening}
-use Rattle.streetmap_replay.proofs.There.{act_stays, accepted_told, AreAcknowledged, all_accepted}
+use Rattle.streetmap_replay.proofs.JournalGrows.{from_opening}
+use Rattle.streetmap_replay.proofs.RepeatedBatches.{act_stays, accepted_told, AreAcknowledged, all_accepted}
 use Rattle.streetmap_replay.proofs.Accepted.{AreAccepted, are_accepted, there_at, next_at, count_at}
 use Rattle.streetmap_replay.proofs.Accepted.{all_sound}
-use Rattle.streetmap_replay.proofs.Listed.{get_map, All-at, get_low, get_drop, get_taken}
-use Rattle.streetmap_replay.proofs.Listed.{numbered_at}
-use Rattle.streetmap_replay.proofs.Listed.{take-numbered, drop-numbered}
+use Rattle.streetmap_replay.proofs.ItemsByPlace.{get_map, All-at, get_low, get_drop, get_taken}
+use Rattle.streetmap_replay.proofs.ItemsByPlace.{numbered_at}
+use Rattle.streetmap_replay.proofs.ItemsByPlace.{take-numbered, drop-numbered}
 
 -- ---- texts are followed
 

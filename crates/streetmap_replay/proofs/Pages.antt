@@ -25,10 +25,10 @@ use Rattle.streetmap_ledger.specs.Walks.{page_behind, IsWalk, ends, goes_on, sho
 use Rattle.streetmap_ledger.specs.WellFormed.{IsState, IsPlaced}
 use Rattle.streetmap_ledger.proofs.Walking.{walks_show_all}
 use Rattle.streetmap_query.specs.QueryValue.{QueryValue}
-use Rattle.streetmap_replay.specs.Alike.{part_query, SameText, EndsAs}
+use Rattle.streetmap_replay.specs.Alike.{part_query, SameText, PagesEndAs}
 use Rattle.streetmap_replay.specs.declared.features.PageEnd.{PageEnd}
 use Rattle.streetmap_replay.specs.declared.features.PageEnd.TheVariants.{Last}
-use Rattle.streetmap_replay.proofs.Maps.{each, all_values, same_values}
+use Rattle.streetmap_replay.proofs.TextMaps.{each, all_values, same_values}
 
 -- ---- features with one text
 
@@ -238,15 +238,15 @@ module _ (s t : State) (name : Text) (c d : Collection) (sound : IsState s) (aft
       page_is t name d after (Some q) here h in cc
 
   moved : (end : PageEnd) (p q : PageValue) → Some p ≡ page_in s name (part_query after) →
-      Some q ≡ page_in t name (part_query after) → EndsAs p q end →
-      EndsAs (page_behind all (values c.features) after)
+      Some q ≡ page_in t name (part_query after) → PagesEndAs p q end →
+      PagesEndAs (page_behind all (values c.features) after)
       (page_behind all (values d.features) after) end
   moved end p q e f h =
-      subst (λ (y : PageValue). EndsAs (page_behind all (values c.features) after) y end)
-      (at_theirs q f) (subst (λ (x : PageValue). EndsAs x q end) (at_ours p e) h)
+      subst (λ (y : PageValue). PagesEndAs (page_behind all (values c.features) after) y end)
+      (at_theirs q f) (subst (λ (x : PageValue). PagesEndAs x q end) (at_ours p e) h)
 
   pub last_same : (p q : PageValue) → Some p ≡ page_in s name (part_query after) →
-      Some q ≡ page_in t name (part_query after) → EndsAs p q Last →
+      Some q ≡ page_in t name (part_query after) → PagesEndAs p q Last →
       values c.features ≡ values d.features
   last_same p q e f h = let it = moved Last p q e f h in all_same it.0 it.1 it.2
 

@@ -20,8 +20,8 @@ use Rattle.streetmap_replay.specs.Lines.{Line, bare}
 use Rattle.streetmap_replay.specs.Following.{LineFault, Followed, unless_refused, acted}
 use Rattle.streetmap_replay.specs.Following.{line_outcome, goes_on, follow, Arrives}
 use Rattle.streetmap_replay.specs.Replay.{Replays, StatesReplay}
-use Rattle.streetmap_replay.proofs.Growing.{opening_empty, act_grows}
-use Rattle.streetmap_replay.proofs.There.{act_stays, accepted_told}
+use Rattle.streetmap_replay.proofs.JournalGrows.{opening_empty, act_grows}
+use Rattle.streetmap_replay.proofs.RepeatedBatches.{act_stays, accepted_told}
 use Rattle.streetmap_replay.proofs.Followers.{follow_texts}
 
 no_fault : {A : Type 0} (why : LineFault) → Some why ≡ None → A

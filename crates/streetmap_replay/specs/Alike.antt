@@ -32,10 +32,10 @@ SameText p q =
     compact_text (collection_data p.features) ≡ compact_text (collection_data q.features)
 
 -- two pages are not the same; or their features have one text, and the same follows them
-abbrev pub EndsAs : PageValue → PageValue → PageEnd → Type 0
-EndsAs p q Unlike = p ≡ q → ⊥
-EndsAs p q Last = SameText p q × (p.next ≡ None) × (q.next ≡ None)
-EndsAs p q (Next id) = SameText p q × (p.next ≡ Some id) × (q.next ≡ Some id)
+abbrev pub PagesEndAs : PageValue → PageValue → PageEnd → Type 0
+PagesEndAs p q Unlike = p ≡ q → ⊥
+PagesEndAs p q Last = SameText p q × (p.next ≡ None) × (q.next ≡ None)
+PagesEndAs p q (Next id) = SameText p q × (p.next ≡ Some id) × (q.next ≡ Some id)
 
 -- ---- collections
 

@@ -6,7 +6,7 @@ use Rattle.streetmap_replay.specs.Journal.{journal}
 use Rattle.streetmap_replay.specs.Lines.{bare}
 use Rattle.streetmap_replay.specs.Replay.{Replays}
 use Rattle.streetmap_replay.specs.Alike.{Differs}
-use Rattle.streetmap_replay.specs.Given.{GivesAll, StopsAt}
+use Rattle.streetmap_replay.specs.Given.{GivesAll, BreaksAt}
 use Rattle.streetmap_replay.specs.Faults.{StaysBut}
 use Rattle.streetmap_replay.specs.Stops.{IsForeseen}
 use Rattle.streetmap_replay.specs.declared.fault.ReplayStop.{ReplayStop}
@@ -32,7 +32,7 @@ abbrev pub GivesBatches : {T : Type 0} → State → Result T ReplayFault → (S
 GivesBatches s (Ok done) kept fresh = kept s × ((t : State) × GivesAll s t × fresh t)
 GivesBatches s (Err (Stopped stop)) kept fresh = StopLeaves s stop kept
 GivesBatches s (Err (Batch serial)) kept fresh =
-    (Replays s → ⊥) × StopsAt s serial × kept s
+    (Replays s → ⊥) × BreaksAt s serial × kept s
 GivesBatches s (Err (Collection name)) kept fresh = ⊥
 
 -- it ended well: the state is the one that its texts give, and both keepers stand for it. Or it is
@@ -42,6 +42,6 @@ abbrev pub Checks : {T : Type 0} → State → Result T ReplayFault → (State �
     (State → Type 0) → Type 0
 Checks s (Ok done) kept fresh = Replays s × kept s × fresh s
 Checks s (Err (Stopped stop)) kept fresh = StopLeaves s stop kept
-Checks s (Err (Batch serial)) kept fresh = (Replays s → ⊥) × StopsAt s serial × kept s
+Checks s (Err (Batch serial)) kept fresh = (Replays s → ⊥) × BreaksAt s serial × kept s
 Checks s (Err (Collection name)) kept fresh =
     (Replays s → ⊥) × GivesAll s (replayed s) × Differs s (replayed s) (string_bytes name) × kept s

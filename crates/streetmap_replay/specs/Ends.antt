@@ -13,7 +13,7 @@ use Rattle.streetmap_ledger.specs.State.{State}
 use Rattle.streetmap_ledger.specs.declared.reply.Reply.{Reply}
 use Rattle.streetmap_replay.specs.Following.{line_outcome, follow}
 use Rattle.streetmap_replay.specs.JournalText.{text_of_lines}
-use Rattle.streetmap_replay.specs.Lines.{Line, line_bytes, IsLine}
+use Rattle.streetmap_replay.specs.Lines.{Line, line_bytes, IsJournalLine}
 use Rattle.streetmap_text_lines.specs.Lines.{first_too_long}
 use Rattle.streetmap_text_lines.specs.Reading.{HasNoLineFeed, WhereKnown}
 use Rattle.streetmap_text_lines.specs.declared.fault.LineFault.TheVariants.{LineTooLong, ReadFailed}
@@ -30,7 +30,7 @@ most_bytes = 16777216
 
 -- the bytes of a line are one line, not too long, and are read as it
 pub record IsInputLine (line : Line) : Type 0 where
-  pub is : IsLine (line_bytes line) line
+  pub is : IsJournalLine (line_bytes line) line
   pub one : HasNoLineFeed (line_bytes line)
   pub short : length (line_bytes line) ≤ most_bytes
 
@@ -61,27 +61,27 @@ TellsBy tells first last replies end = ToldAll tells first replies last
 
 -- it ended in this state, behind these lines of the input; what a stop may leave is known where it
 -- was the state before
-abbrev pub EndsBy : State → List Line → Option (List ℕ) → Option (List ℕ) → (given : Type 0) →
-    (Option State → Type 0) → End → (State → Type 0) → Type 0
-EndsBy t read old new given left ends.All stands =
+abbrev pub FollowingEndsBy : State → List Line → Option (List ℕ) → Option (List ℕ)
+    → (given : Type 0) → (Option State → Type 0) → End → (State → Type 0) → Type 0
+FollowingEndsBy t read old new given left ends.All stands =
     WhereKnown old new (λ input rest. (input ≡ text_of_lines read) × (rest ≡ [])) × stands t
     × (given → LeavesOnly left (Some t))
-EndsBy t read old new given left ends.CutLine stands =
+FollowingEndsBy t read old new given left ends.CutLine stands =
     WhereKnown old new (λ input rest. (part : List ℕ) × (input ≡ text_of_lines read ++ part)
     × HasNoLineFeed part × (0 < length part)) × stands t × (given → LeavesOnly left (Some t))
-EndsBy t read old new given left (ends.NotRead LineTooLong) stands =
+FollowingEndsBy t read old new given left (ends.NotRead LineTooLong) stands =
     IfSome old (λ input. (rest : List ℕ) × (input ≡ text_of_lines read ++ rest)
     × (first_too_long most_bytes rest ≡ Some 0)) × stands t
     × (given → LeavesOnly left (Some t))
-EndsBy t read old new given left (ends.NotRead ReadFailed) stands =
+FollowingEndsBy t read old new given left (ends.NotRead ReadFailed) stands =
     stands t × (given → LeavesOnly left (Some t))
-EndsBy t read old new given left (ends.NotRead Memory) stands =
+FollowingEndsBy t read old new given left (ends.NotRead Memory) stands =
     stands t × (given → LeavesOnly left (Some t))
-EndsBy t read old new given left (ends.Stopped stop) stands =
+FollowingEndsBy t read old new given left (ends.Stopped stop) stands =
     (line : Line) × IsInputLine line × Consumes old new (text_of_lines (read ++ line ∷ []))
     × TellsOutcome t (line_outcome t line) (Err stop) stands
     × (given → OutcomeLeaves t (line_outcome t line) (Err stop) left)
-EndsBy t read old new given left ends.NotTold stands =
+FollowingEndsBy t read old new given left ends.NotTold stands =
     (line : Line) × IsInputLine line × Consumes old new (text_of_lines (read ++ line ∷ []))
     × ((o : Outcome) × (line_outcome t line ≡ Ok o) × stands o.state
     × (given → LeavesOnly left (Some o.state)))
@@ -99,4 +99,5 @@ pub record Follows {T : Type 0} (s : State) (old new : Option (List ℕ))
   pub followed : (follow s read).fault ≡ None
   pub told : TellsBy tells first last (answers read (follow s read).replies) result.end
   pub ends :
-      EndsBy (follow s read).state read old new (LeavesOnly before (Some s)) left result.end stands
+      FollowingEndsBy (follow s read).state read old new (LeavesOnly before (Some s)) left
+      result.end stands

@@ -58,7 +58,7 @@ pub record GivesAll (s t : State) : Type 0 where
   pub keys : t.keys ≡ s.keys
 
 -- the batches before this serial are given again by their texts, and the one with it is not
-pub record StopsAt (s : State) (serial : ℕ) : Type 0 where
+pub record BreaksAt (s : State) (serial : ℕ) : Type 0 where
   pub before : ℕ
   pub next : serial ≡ before + 1
   pub state : State
@@ -82,5 +82,5 @@ GivesPart s n (Ok done) stands = (t : State) × GivesFirst s n t × stands t
 GivesPart s n (Err (Stopped (Kept fault))) stands = ⊥
 GivesPart s n (Err (Stopped (Fresh fault))) stands = IsForeseen fault
 GivesPart s n (Err (Stopped Memory)) stands = Unit {0}
-GivesPart s n (Err (Batch serial)) stands = StopsAt s serial
+GivesPart s n (Err (Batch serial)) stands = BreaksAt s serial
 GivesPart s n (Err (Collection name)) stands = ⊥

@@ -10,7 +10,7 @@ use Rattle.streetmap_ledger.specs.State.{State, opening_state}
 use Rattle.streetmap_ledger.specs.WellFormed.{IsState}
 use Rattle.streetmap_ledger.specs.Batches.{after_all}
 use Rattle.streetmap_replay.specs.Journal.{journal}
-use Rattle.streetmap_replay.specs.Lines.{Line, numbered, line_bytes, IsLine}
+use Rattle.streetmap_replay.specs.Lines.{Line, numbered, line_bytes, IsJournalLine}
 
 -- texts with serials, the first with the one behind n
 abbrev pub numbered_after : ℕ → List Text → List Line
@@ -36,7 +36,7 @@ JournalReadsInLines =
     (bs : List BatchValue) → All IsSoundBatch bs →
     let s = after_all opening_state bs in
     (lines (journal_text s) ≡ map line_bytes (journal_lines s))
-    × All (λ line. IsLine (line_bytes line) line) (journal_lines s)
+    × All (λ line. IsJournalLine (line_bytes line) line) (journal_lines s)
 
 -- what is found of lines of which a beginning was written: some first lines, whole, and a
 -- beginning of the next, which has no line feed; with that cut off, the other lines complete it

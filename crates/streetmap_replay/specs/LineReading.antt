@@ -5,7 +5,7 @@ use Rattle.streetmap_batch.specs.BatchView.{batch_value}
 use Rattle.streetmap_batch.specs.Text.{Text}
 use Rattle.streetmap_ledger.specs.State.{State}
 use Rattle.streetmap_ledger.specs.declared.reply.Reply.{Reply}
-use Rattle.streetmap_replay.specs.Lines.{Line, bare, numbered, IsLine}
+use Rattle.streetmap_replay.specs.Lines.{Line, bare, numbered, IsJournalLine}
 use Rattle.streetmap_replay.specs.Following.{line_outcome}
 use Rattle.streetmap_replay.specs.Acting.{TellsOutcome, OutcomeLeaves}
 use Rattle.streetmap_replay.specs.declared.acting.Acknowledged.{Acknowledged}
@@ -26,7 +26,7 @@ reply_of (Err stop) = Err stop
 pub record FollowsLine (s : State) (bytes : List ℕ) (result : Result Acknowledged LineStop)
     (stands : State → Type 0) (given : Type 0) (left : Option State → Type 0) : Type 0 where
   pub line : Line
-  pub is : IsLine bytes line
+  pub is : IsJournalLine bytes line
   pub tells : TellsOutcome s (line_outcome s line) (reply_of result) stands
   pub batch : IfOk result (λ it. batch_of (line_text line) ≡ Ok (batch_value it.batch))
   pub leaves : given → OutcomeLeaves s (line_outcome s line) (reply_of result) left

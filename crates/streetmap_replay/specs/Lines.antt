@@ -16,15 +16,15 @@ line_bytes (bare text) = text
 line_bytes (numbered serial text) = decimal serial ++ 9 ∷ text
 
 -- what bytes are as a line: a batch with its serial where they have that form, else a batch alone
-abbrev pub IsLine : List ℕ → Line → Type 0
-IsLine bytes (numbered serial text) =
+abbrev pub IsJournalLine : List ℕ → Line → Type 0
+IsJournalLine bytes (numbered serial text) =
     (line_bytes (numbered serial text) ≡ bytes) × (serial < 2 ^ 64)
-IsLine bytes (bare text) =
+IsJournalLine bytes (bare text) =
     (text ≡ bytes)
     × ((serial : ℕ) (rest : Text) → serial < 2 ^ 64 → line_bytes (numbered serial rest) ≡ bytes → ⊥)
 
 -- bytes are one line, and the text of a batch is a batch alone
 abbrev pub LinesAreOne : Type 0
 LinesAreOne =
-    ((bytes : List ℕ) (x y : Line) → IsLine bytes x → IsLine bytes y → x ≡ y)
-    × ((b : BatchValue) → IsSoundBatch b → IsLine (batch_text b) (bare (batch_text b)))
+    ((bytes : List ℕ) (x y : Line) → IsJournalLine bytes x → IsJournalLine bytes y → x ≡ y)
+    × ((b : BatchValue) → IsSoundBatch b → IsJournalLine (batch_text b) (bare (batch_text b)))

@@ -62,13 +62,13 @@ IsFreshEnd (Err (Batch serial)) = Unit {0}
 IsFreshEnd (Err (Collection name)) = Unit {0}
 
 -- the first keeper's state stays, unless its store failed
-abbrev pub StaysBy : {T : Type 0} → State → Result T ReplayFault → (State → Type 0) → Type 0
-StaysBy s (Ok done) kept = kept s
-StaysBy s (Err (Stopped (Kept fault))) kept = StaysBut s fault kept
-StaysBy s (Err (Stopped (Fresh fault))) kept = kept s
-StaysBy s (Err (Stopped Memory)) kept = kept s
-StaysBy s (Err (Batch serial)) kept = kept s
-StaysBy s (Err (Collection name)) kept = kept s
+abbrev pub FirstStaysBy : {T : Type 0} → State → Result T ReplayFault → (State → Type 0) → Type 0
+FirstStaysBy s (Ok done) kept = kept s
+FirstStaysBy s (Err (Stopped (Kept fault))) kept = StaysBut s fault kept
+FirstStaysBy s (Err (Stopped (Fresh fault))) kept = kept s
+FirstStaysBy s (Err (Stopped Memory)) kept = kept s
+FirstStaysBy s (Err (Batch serial)) kept = kept s
+FirstStaysBy s (Err (Collection name)) kept = kept s
 
 abbrev pub StopStays : {T : Type 0} → State → Result T ReplayStop → (State → Type 0) → Type 0
 StopStays s (Ok done) kept = kept s

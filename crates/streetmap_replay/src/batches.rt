@@ -12,7 +12,7 @@ ghost use Rattle.streetmap_ledger.specs.declared.reply.Fault.{Fault};
 ghost use Rattle.streetmap_replay.specs.Checked.{GivesBatches};
 ghost use Rattle.streetmap_replay.specs.Given.{GivesFirst, GivesRow, GivesPart, read_of};
 ghost use Rattle.streetmap_replay.specs.Stops.{FreshEnds, FreshStops, IsFreshEnd};
-ghost use Rattle.streetmap_replay.specs.Stops.{IsFreshStop, KeptEnds, StaysBy};
+ghost use Rattle.streetmap_replay.specs.Stops.{IsFreshStop, KeptEnds, FirstStaysBy};
 
 use crate::fault::{ReplayFault, ReplayStop};
 use std::alloc::{AllocError, Global};
@@ -139,7 +139,7 @@ pub fn replay<K: KeepsBatches, L: Keeper>(
     ensures faults { KeptEnds result (K.cause keeper.old) (K.cause keeper.new) }
     ensures fresh_faults { FreshEnds result (L.cause fresh.old) (L.cause fresh.new) }
     ensures stays { K.is_clean keeper.new → (s : State) → K.stands keeper.old s →
-        StaysBy s result (K.stands keeper.new) }
+        FirstStaysBy s result (K.stands keeper.new) }
     ensures gives { K.is_clean keeper.new → L.is_clean fresh.new → (s : State) →
         K.stands keeper.old s → L.stands fresh.old opening_state →
         GivesBatches s result (K.stands keeper.new) (L.stands fresh.new) }

@@ -12,7 +12,7 @@ ghost use Rattle.streetmap_ledger.specs.declared.summary.Summary.{Summary};
 ghost use Rattle.streetmap_replay.specs.Alike.{AreAlike, AreSame, LooksBoth, Compares};
 ghost use Rattle.streetmap_replay.specs.Alike.{IsUnlike, is_named};
 ghost use Rattle.streetmap_replay.specs.Stops.{FreshEnds, FreshStops, KeptEnds, KeptStops};
-ghost use Rattle.streetmap_replay.specs.Stops.{StaysBy, StopStays};
+ghost use Rattle.streetmap_replay.specs.Stops.{FirstStaysBy, StopStays};
 
 use crate::fault::{ReplayFault, ReplayStop};
 use crate::features::has_same_features;
@@ -103,7 +103,7 @@ fn compare_each<K: Keeper, L: Keeper>(
     ensures faults { KeptEnds result (K.cause keeper.old) (K.cause keeper.new) }
     ensures fresh_faults { FreshEnds result (L.cause fresh.old) (L.cause fresh.new) }
     ensures stays { K.is_clean keeper.new → (s : State) → K.stands keeper.old s →
-        StaysBy s result (K.stands keeper.new) }
+        FirstStaysBy s result (K.stands keeper.new) }
     ensures compares { K.is_clean keeper.new → L.is_clean fresh.new → (s t : State) →
         K.stands keeper.old s → L.stands fresh.old t → summary_values ours.now ≡ summaries_in s →
         Compares s t (AreSame s t (entries s.collections)) result

@@ -7,7 +7,7 @@ ghost use Rattle.streetmap_ledger.specs.PageView.{page_value};
 ghost use Rattle.streetmap_ledger.specs.State.{State, Collection};
 ghost use Rattle.streetmap_ledger.specs.declared.reply.Fault.{Fault};
 ghost use Rattle.streetmap_query.specs.Views.{query_value};
-ghost use Rattle.streetmap_replay.specs.Alike.{EndsAs, SameText, part_query, LooksBoth};
+ghost use Rattle.streetmap_replay.specs.Alike.{PagesEndAs, SameText, part_query, LooksBoth};
 ghost use Rattle.streetmap_replay.specs.Stops.{FreshStops, KeptStops, StopStays};
 
 use crate::fault::ReplayStop;
@@ -66,7 +66,7 @@ fn has_same_text(alloc: Global, ours: &Page, theirs: &Page) -> Result<bool, Allo
 
 /// Compares two pages of one place: the texts of their features, and what follows them.
 fn compare_pages(alloc: Global, ours: Page, theirs: Page) -> Result<PageEnd, AllocError>
-    ensures { IfOk result (EndsAs (page_value ours) (page_value theirs)) }
+    ensures { IfOk result (PagesEndAs (page_value ours) (page_value theirs)) }
 {
     if !has_same_text(alloc, &ours, &theirs)? {
         return Ok(PageEnd::Unlike);

@@ -1,7 +1,7 @@
 //! The bytes of a line, read.
 ghost use Rattle.std.specs.Prelude.{◌≡◌, ◌<◌, ◌^◌, ◌==◌, ℕ, true, false, None, IfSome, decimal};
 ghost use Rattle.std.specs.List.{position_from, position_or_len};
-ghost use Rattle.streetmap_replay.specs.Lines.{IsLine};
+ghost use Rattle.streetmap_replay.specs.Lines.{IsJournalLine};
 ghost use Rattle.streetmap_replay.specs.View.{line_value};
 
 use itoa::Buffer;
@@ -63,7 +63,7 @@ fn read_serial(bytes: &[u8]) -> Option<u64>
 /// Reads the bytes of a line, without its line feed: a serial in decimal, a tab and a text are a
 /// journal's line; all else is the text of a batch alone.
 pub fn read_line<'a>(bytes: &'a [u8]) -> Line<'a>
-    ensures { IsLine bytes.entry.now (line_value result) }
+    ensures { IsJournalLine bytes.entry.now (line_value result) }
 {
     let tab = field_length(bytes);
     if tab >= bytes.len() {

@@ -18,7 +18,7 @@ use Rattle.sqlite_tied.specs.Compute.{everything}
 use Rattle.streetmap_batch.specs.Text.{Text}
 use Rattle.streetmap_rows.specs.Queries.{over, program}
 use Rattle.streetmap_rows.proofs.Drafts.{equal_terms, draft}
-use Rattle.streetmap_rows.proofs.Finding.{IsFound}
+use Rattle.streetmap_rows.proofs.NamedTables.{IsFound}
 use Rattle.streetmap_rows.proofs.Meaning.{Part, given, given_from, quoted, where_equal}
 use Rattle.streetmap_rows.proofs.Meaning.{where_at_most, where_at_least, test_of, a_text, a_number}
 use Rattle.streetmap_rows.proofs.Meaning.{IsRead, reads, none_refuses, Insertion, IsInsert}

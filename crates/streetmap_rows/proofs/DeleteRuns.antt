@@ -27,11 +27,11 @@ use Rattle.streetmap_ledger.specs.State.{State, Collection}
 use Rattle.streetmap_rows.specs.Tables.{Roots, features, IsOurs}
 use Rattle.streetmap_rows.specs.Rows.{AreOf}
 use Rattle.streetmap_rows.specs.Queries.{program}
-use Rattle.streetmap_rows.proofs.Finding.{IsFound}
+use Rattle.streetmap_rows.proofs.NamedTables.{IsFound}
 use Rattle.streetmap_rows.specs.Tables.{features_name}
 use Rattle.streetmap_rows.proofs.Compiles.{delete_feature_never}
-use Rattle.streetmap_rows.proofs.Parts.{went, same_value}
-use Rattle.streetmap_rows.proofs.Refusing.{refused_step}
+use Rattle.streetmap_rows.proofs.StatementParts.{went, same_value}
+use Rattle.streetmap_rows.proofs.FixedRefused.{refused_step}
 use Rattle.streetmap_rows.proofs.Deleting.{keys_of, delete_query, edit, gone_is, never, idle, refers}
 
 module _ (s : State) (schema : Schema) (roots : Roots) (ours : IsOurs roots schema) (db : Trees) (of : AreOf s roots db) (p : KeyPair) (c : Collection) (collected : get s.collections p.0 ≡ Some c) (d : FeatureValue) (is : get c.features p.1 ≡ Some d) (found : IsFound schema features_name (features roots.features)) where

@@ -26,10 +26,10 @@ use Rattle.streetmap_rows.specs.Holds.{Holds, same_text, first_key, is_first}
 use Rattle.streetmap_rows.specs.Rows.{AreOf, feature_at, feature_cells, collection_cells}
 use Rattle.streetmap_rows.specs.Queries.{over, program}
 use Rattle.streetmap_rows.proofs.Compiles.{both}
-use Rattle.streetmap_rows.proofs.Placing.{features_there}
-use Rattle.streetmap_rows.proofs.Choosing.{chosen, staged}
-use Rattle.streetmap_rows.proofs.Holding.{cells_of, there, filter_one, find_own}
-use Rattle.streetmap_rows.proofs.Keys.{pair_is, pair_self, equal_texts}
+use Rattle.streetmap_rows.proofs.TablesInSchema.{features_there}
+use Rattle.streetmap_rows.proofs.OneRowChosen.{chosen, staged}
+use Rattle.streetmap_rows.proofs.HeldKeys.{cells_of, there, filter_one, find_own}
+use Rattle.streetmap_rows.proofs.TextKeys.{pair_is, pair_self, equal_texts}
 use Rattle.streetmap_rows.proofs.PutFeature.{text_cell}
 use Rattle.std.specs.FinMap.{get-insert}
 use Rattle.std.proofs.lemmas.Bool.{ne_eqb, not-true}
@@ -47,9 +47,9 @@ use Rattle.sqlite_rules.specs.Edit.{Edit, IsRefused, Applies, taken_by}
 use Rattle.sqlite_rules.specs.Action.{works}
 use Rattle.sqlite_rules.proofs.ListLemmas.{all_has, test_has}
 use Rattle.streetmap_rows.specs.Tables.{Roots, IsOurs, features, features_name}
-use Rattle.streetmap_rows.proofs.Keys.{text_is}
-use Rattle.streetmap_rows.proofs.Holding.{holds_same, holds_cut}
-use Rattle.streetmap_rows.proofs.Cutting.{Cut, unique_after, refers_after, none_refers, no_work}
+use Rattle.streetmap_rows.proofs.TextKeys.{text_is}
+use Rattle.streetmap_rows.proofs.HeldKeys.{holds_same, holds_cut}
+use Rattle.streetmap_rows.proofs.RowsCut.{Cut, unique_after, refers_after, none_refers, no_work}
 
 abbrev pub keys_of : KeyPair → Row
 keys_of p = Words p.0 ∷ Words p.1 ∷ []

@@ -42,7 +42,7 @@ use Rattle.streetmap_batch.specs.Text.{Text}
 use Rattle.streetmap_rows.specs.Queries.{over_in, program}
 use Rattle.streetmap_rows.proofs.Drafts.{named_column, from_table, shown_column, equal_terms}
 use Rattle.streetmap_rows.proofs.Drafts.{at_most, at_least, rising, draft}
-use Rattle.streetmap_rows.proofs.Finding.{IsFound}
+use Rattle.streetmap_rows.proofs.NamedTables.{IsFound}
 use Rattle.streetmap_rows.proofs.Resolving.{Means, means, IsOne, whole_page, insert_planned}
 use Rattle.streetmap_rows.proofs.Resolving.{select_planned, program_is}
 

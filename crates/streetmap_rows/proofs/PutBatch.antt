@@ -34,10 +34,10 @@ use Rattle.streetmap_ledger.specs.State.{State, AcceptedBatch}
 use Rattle.streetmap_rows.specs.Tables.{Roots, batches, IsOurs}
 use Rattle.streetmap_rows.specs.Holds.{Holds, first_key, is_first, same_text}
 use Rattle.streetmap_rows.specs.Rows.{AreOf, batch_cells}
-use Rattle.streetmap_rows.proofs.Holding.{equal_is, cells_of, holds_put, holds_same}
-use Rattle.streetmap_rows.proofs.Keys.{text_is, first_is, first_self, agree_one, column_later, truth_is}
-use Rattle.streetmap_rows.proofs.Placing.{batches_there}
-use Rattle.streetmap_rows.proofs.Adding.{keeps_unique, refers_after}
+use Rattle.streetmap_rows.proofs.HeldKeys.{equal_is, cells_of, holds_put, holds_same}
+use Rattle.streetmap_rows.proofs.TextKeys.{text_is, first_is, first_self, agree_one, column_later, truth_is}
+use Rattle.streetmap_rows.proofs.TablesInSchema.{batches_there}
+use Rattle.streetmap_rows.proofs.RowPut.{keeps_unique, refers_after}
 
 equal_ints : (a b : ℤ) → equal Binary (Int a) (Int b) ≡ is_eq (int_cmp a b)
 unfolding binary

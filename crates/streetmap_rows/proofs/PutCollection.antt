@@ -29,11 +29,11 @@ use Rattle.streetmap_ledger.specs.State.{State, Collection, opened}
 use Rattle.streetmap_rows.specs.Tables.{Roots, collections, IsOurs}
 use Rattle.streetmap_rows.specs.Holds.{Holds, first_key, is_first, same_text}
 use Rattle.streetmap_rows.specs.Rows.{AreOf, feature_at, feature_cells, collection_cells}
-use Rattle.streetmap_rows.proofs.Casts.{word_null}
-use Rattle.streetmap_rows.proofs.Holding.{cells_of, holds_put, holds_same}
-use Rattle.streetmap_rows.proofs.Keys.{text_is, first_is, first_self, agree_one, column_later}
-use Rattle.streetmap_rows.proofs.Placing.{collections_there}
-use Rattle.streetmap_rows.proofs.Adding.{keeps_unique, refers_after}
+use Rattle.streetmap_rows.proofs.ColumnCasts.{word_null}
+use Rattle.streetmap_rows.proofs.HeldKeys.{cells_of, holds_put, holds_same}
+use Rattle.streetmap_rows.proofs.TextKeys.{text_is, first_is, first_self, agree_one, column_later}
+use Rattle.streetmap_rows.proofs.TablesInSchema.{collections_there}
+use Rattle.streetmap_rows.proofs.RowPut.{keeps_unique, refers_after}
 
 pub name_cell : (name : Text) (o : Option Collection) (r : Row) → option_map (collection_cells name) o ≡ Some (drop 1 r) → column r 1 ≡ Words (bytes (column r 1))
 name_cell name None r h = absurd (cc)

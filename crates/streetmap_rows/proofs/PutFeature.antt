@@ -29,13 +29,13 @@ use Rattle.streetmap_rows.specs.Tables.{Roots, features, to_collections, to_key,
 use Rattle.streetmap_rows.specs.Holds.{Holds, first_key, is_first, same_text}
 use Rattle.streetmap_rows.specs.Rows.{AreOf, feature_at, feature_cells, collection_cells, extent_in, seconds_in}
 use Rattle.streetmap_grid.specs.Values.{BoxValue}
-use Rattle.streetmap_rows.proofs.Casts.{whole_null}
+use Rattle.streetmap_rows.proofs.ColumnCasts.{whole_null}
 use Rattle.sqlite_tied.specs.Compute.{everything}
 use Rattle.sqlite_schema.specs.Rules.{parent_key, passes}
-use Rattle.streetmap_rows.proofs.Holding.{cells_of, there, holds_put, holds_same}
-use Rattle.streetmap_rows.proofs.Keys.{text_is, text_self, first_is, first_self, pair_is, pair_self, agree_one, agree_two, column_later}
-use Rattle.streetmap_rows.proofs.Placing.{features_there}
-use Rattle.streetmap_rows.proofs.Adding.{Put, keeps_unique, refers_after}
+use Rattle.streetmap_rows.proofs.HeldKeys.{cells_of, there, holds_put, holds_same}
+use Rattle.streetmap_rows.proofs.TextKeys.{text_is, text_self, first_is, first_self, pair_is, pair_self, agree_one, agree_two, column_later}
+use Rattle.streetmap_rows.proofs.TablesInSchema.{features_there}
+use Rattle.streetmap_rows.proofs.RowPut.{Put, keeps_unique, refers_after}
 use Rattle.sqlite_rules.specs.Edit.{Applies}
 use Rattle.sqlite_rules.proofs.ListLemmas.{all_has}
 

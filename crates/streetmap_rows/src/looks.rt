@@ -17,7 +17,7 @@ use sqlite::{Alter, Connection, Error, Row, Transaction, params};
 
 /// What is kept for a key, outside of a transaction: a row of its text, its counts and its serial,
 /// or none.
-#[tactic(auto, using(crate::proofs::Reasons::queried))]
+#[tactic(auto, using(crate::proofs::ErrorReasons::queried))]
 pub fn kept_rows<S: Alter>(conn: &mut Connection<S>, key: &str) -> Result<Vec<Row>, Error>
     requires { conn.old.in_transaction ≡ false }
     ensures idle { conn.new.in_transaction ≡ false }
@@ -42,7 +42,7 @@ pub fn kept_rows<S: Alter>(conn: &mut Connection<S>, key: &str) -> Result<Vec<Ro
 
 /// What is kept of a collection, inside a transaction: a row of its title and its time property, or
 /// none.
-#[tactic(auto, using(crate::proofs::Reasons::queried_inside))]
+#[tactic(auto, using(crate::proofs::ErrorReasons::queried_inside))]
 pub fn collection_rows<S: Alter>(
     tx: &mut Transaction<'_, S>,
     collection: &str,
@@ -63,7 +63,7 @@ pub fn collection_rows<S: Alter>(
 }
 
 /// The time property in the row of a collection. The error is that memory was refused.
-#[tactic(auto, using(crate::proofs::Reasons::read_spared))]
+#[tactic(auto, using(crate::proofs::ErrorReasons::read_spared))]
 pub fn time_in(row: &Row) -> Result<Option<String>, Error>
     ensures spared { IfErr result SparesDisk }
     ensures reads { (name : Text) (c : Collection) → row.now ≡ views.collection_view c →
@@ -74,7 +74,7 @@ pub fn time_in(row: &Row) -> Result<Option<String>, Error>
 }
 
 /// Whether a collection has a feature with this id.
-#[tactic(auto, using(crate::proofs::Reasons::queried_inside))]
+#[tactic(auto, using(crate::proofs::ErrorReasons::queried_inside))]
 pub fn has_feature<S: Alter>(
     tx: &mut Transaction<'_, S>,
     collection: &str,

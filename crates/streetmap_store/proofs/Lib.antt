@@ -1,7 +1,7 @@
-pub mod Counting
-pub mod Standing
-pub mod Reopened
-pub mod New
-pub mod Opened
+pub mod BatchesCounted
+pub mod StandsAfterLook
+pub mod IndexesListed
+pub mod NewFiles
+pub mod JustOpened
 pub mod Refusals
 pub mod Surviving

@@ -30,7 +30,7 @@ use Rattle.streetmap_store.specs.declared.fault.CreateFault.{CreateFault}
 use Rattle.streetmap_store.specs.declared.fault.CreateFault.TheVariants as created
 use Rattle.streetmap_store.specs.declared.fault.Left.{Left}
 use Rattle.streetmap_store.specs.declared.fault.Left.TheVariants as left
-use Rattle.streetmap_store.proofs.New.{new_takes_none}
+use Rattle.streetmap_store.proofs.NewFiles.{new_takes_none}
 
 -- ---- no connection
 

@@ -11,10 +11,10 @@ use Rattle.streetmap_ledger.specs.Keep.{LeavesOnly, LeavesEither, RunLeaves}
 use Rattle.streetmap_ledger.specs.declared.reply.Fault.{Fault}
 use Rattle.streetmap_ledger.specs.declared.reply.Fault.TheVariants.{Memory, Device, Damaged, Reopen}
 use Rattle.streetmap_rows.specs.Keeping.{MayLeave}
-use Rattle.streetmap_store.proofs.Reopened.{keeps_too}
+use Rattle.streetmap_store.proofs.IndexesListed.{keeps_too}
 use Rattle.streetmap_batch.specs.Text.{Text}
 use Rattle.streetmap_web.specs.Standing.{Standing, of_state}
-use Rattle.streetmap_web.specs.Exchanges.{Around, Serves}
+use Rattle.streetmap_web.specs.Exchanges.{Around, ServesExchanges}
 use Rattle.streetmap_web.specs.declared.serving.End.{End}
 use Rattle.streetmap_web.proofs.Beginnings.{served_leaves}
 use Rattle.streetmap_web.specs.Sight.{Sight}
@@ -85,8 +85,8 @@ holds seen s bs k states survives db left sound =
     (it.0, (survives db left sound).only it.0 kept, kept)
 
 -- and what serving may leave
-pub served_survives : (root : Text) (end : End) (count : ℕ) (s : State) (a : Around) (seen : Seen) → Serves root end count (of_state s) a → a.known
-    → ((o : Option State) → MayLeave seen o → a.new_leaves o) → ServesTables root end count s a seen
+pub served_survives : (root : Text) (end : End) (count : ℕ) (s : State) (a : Around) (seen : Seen) → ServesExchanges root end count (of_state s) a → a.known
+    → ((o : Option State) → MayLeave seen o → a.crash_after o) → ServesTables root end count s a seen
 served_survives root end count s a seen serves known bound = record {
   serves = serves;
   survives = opens seen _ λ o left. served_leaves root end count s a serves known o (bound o left);

@@ -10,11 +10,11 @@ use Rattle.streetmap_ledger.specs.State.{State}
 use Rattle.streetmap_rows.specs.declared.failing.Shut.{Shut}
 use Rattle.streetmap_rows.specs.declared.failing.Shut.TheVariants.{Device, Damaged}
 use Rattle.streetmap_rows.specs.Keeping.{Rests, Tells}
-use Rattle.streetmap_rows.proofs.Reasons.{counts_then, more_before, more_later, reason_on}
-use Rattle.streetmap_rows.proofs.Reasons.{reason_still}
+use Rattle.streetmap_rows.proofs.ErrorReasons.{counts_then, more_before, more_later, reason_on}
+use Rattle.streetmap_rows.proofs.ErrorReasons.{reason_still}
 use Rattle.streetmap_rows.specs.Elsewhere.{IsSameElsewhere}
 use Rattle.streetmap_tables.specs.Acting.{LeavesOtherTables}
-use Rattle.streetmap_tables.proofs.Joining.{same_all, elsewhere_then}
+use Rattle.streetmap_tables.proofs.CallsInTransaction.{same_all, elsewhere_then}
 use Rattle.streetmap_store.specs.Serving.{KeepsState, HasShut, cause_in}
 
 -- a stop leaves what was committed last
@@ -50,7 +50,7 @@ pub record Spares (was : Option Shut) (count : ℕ) (old : Seen)
       LeavesStates new × (now ≡ None → LeavesLast new)
 
 -- the store failed since the first, where an error of the store shut the keeper by now
-pub record HasFailed (old : Seen) (now : Option Shut) (new : Seen) : Type 0 where
+pub record StoreHasFailed (old : Seen) (now : Option Shut) (new : Seen) : Type 0 where
   pub reason : HasCleanDisk new → HasShut old new now
 
 -- ---- the laws of a trait are given by terms, so what they rest on stands here
@@ -172,7 +172,7 @@ module _ (was mid now : Option Shut) (count amid later : ℕ) (old between new :
   }
 
   -- where the store failed later, it failed since the first
-  pub fails_later : HasFailed between now new → HasFailed old now new
+  pub fails_later : StoreHasFailed between now new → StoreHasFailed old now new
   fails_later fails = record { reason = λ clean. by clean now (fails.reason clean) }
     where
       by : HasCleanDisk new → (shut : Option Shut) → HasShut between new shut →
@@ -186,7 +186,7 @@ module _ (was mid now : Option Shut) (count amid later : ℕ) (old between new :
 -- where it failed before and shut the keeper, it failed up to the last
 pub fails_still : (mid now : Option Shut) (amid later : ℕ) (old between new : Seen)
     → Spares mid amid between now later new → IsSome mid
-    → HasFailed old mid between → HasFailed old now new
+    → StoreHasFailed old mid between → StoreHasFailed old now new
 fails_still mid now amid later old between new second shut fails = record {
   reason = λ clean.
       let came = by mid (fails.reason (second.clean clean)) in

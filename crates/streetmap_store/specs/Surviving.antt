@@ -8,7 +8,7 @@ use Rattle.streetmap_ledger.specs.State.{State}
 use Rattle.streetmap_rows.specs.Keeping.{Keeps}
 use Rattle.streetmap_web.specs.Standing.{of_state}
 use Rattle.streetmap_web.specs.Sight.{Sight}
-use Rattle.streetmap_web.specs.Exchanges.{Around, Serves, batches_of, last_of}
+use Rattle.streetmap_web.specs.Exchanges.{Around, ServesExchanges, batches_of, last_of}
 use Rattle.streetmap_web.specs.Beginnings.{IsAfterBeginning, batches_acted}
 use Rattle.streetmap_web.specs.declared.serving.End.{End}
 use Rattle.mio.specs.declared.net.stream.TcpStream.{TcpStream}
@@ -37,7 +37,7 @@ HoldsBeginning s batches acknowledged seen =
 -- of a beginning of the batches acted on that contains each that was answered without a fault.
 pub record ServesTables (root : Text) (end : End) (count : ℕ) (s : State) (a : Around)
     (seen : Seen) : Type 0 where
-  pub serves : Serves root end count (of_state s) a
+  pub serves : ServesExchanges root end count (of_state s) a
   pub survives : let last = last_of serves.turn root _ _ serves.ends in
       Survives s (batches_of serves.exchanges ++ batches_acted last)
       (length (batches_of serves.exchanges ++ batches_of last)) seen

@@ -7,7 +7,7 @@ use Rattle.streetmap_ledger.specs.Keep.{Acts}
 use Rattle.streetmap_rows.specs.Keeping.{MayLeave}
 use Rattle.streetmap_rows.specs.declared.failing.Shut.{Shut}
 use Rattle.streetmap_store.specs.Serving.{KeepsState, SparesOthers, cause_in}
-use Rattle.streetmap_store.specs.Sparing.{Spares, HasFailed}
+use Rattle.streetmap_store.specs.Sparing.{Spares, StoreHasFailed}
 use Rattle.streetmap_index.specs.Index.{IsIndexOf}
 use Rattle.streetmap_index.specs.declared.index.Index.{Index}
 use Rattle.streetmap_journal.specs.Written.{OfReply}
@@ -33,7 +33,7 @@ tables_sight tables shut seen count index = record {
   spares = λ k after. (IsSome (shut (tables k)) → tables after ≡ tables k)
       × Spares (shut (tables k)) (count (tables k)) (seen (tables k))
       (shut (tables after)) (count (tables after)) (seen (tables after));
-  fails = λ k after. HasFailed (seen (tables k)) (shut (tables after)) (seen (tables after));
+  fails = λ k after. StoreHasFailed (seen (tables k)) (shut (tables after)) (seen (tables after));
 }
 
 -- the same of a keeper with a journal, which is the state's; lines that are missing are looked up

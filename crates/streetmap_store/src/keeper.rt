@@ -72,7 +72,7 @@ fn fault_of(stop: Stop) -> Fault
 }
 
 /// Shuts a keeper for a stop, but for want of memory, and tells the stop.
-#[tactic(auto, using(crate::proofs::Standing::named_after))]
+#[tactic(auto, using(crate::proofs::StandsAfterLook::named_after))]
 fn shut_for(shut: &mut Option<Shut>, stop: Stop) -> Fault
     ensures value { result ≡ fault_by stop }
     ensures after { shut.new ≡ shut_by stop shut.old }
@@ -314,7 +314,7 @@ impl<S: Alter> Keeper for TableKeeper<S> {
     ghost use Rattle.streetmap_store.specs.Serving.{KeepsState, SparesOthers};
     ghost use Rattle.streetmap_store.specs.Serving.{never_shut, cause_in};
     ghost use Rattle.streetmap_store.specs.Sparing as sparing;
-    ghost use Rattle.streetmap_store.specs.Sparing.{Spares, HasFailed, is_shut};
+    ghost use Rattle.streetmap_store.specs.Sparing.{Spares, StoreHasFailed, is_shut};
 
     ghost stands = { λ k s. KeepsState k.shut (state S.Store k.conn) k.count s };
 
@@ -335,7 +335,7 @@ impl<S: Alter> Keeper for TableKeeper<S> {
         after.shut after.count (state S.Store after.conn) };
 
     ghost fails = { λ k after.
-        HasFailed (state S.Store k.conn) after.shut (state S.Store after.conn) };
+        StoreHasFailed (state S.Store k.conn) after.shut (state S.Store after.conn) };
 
     ghost one_state = { λ k s t p q. q.only s p.rests };
 

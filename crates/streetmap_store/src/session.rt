@@ -16,7 +16,7 @@ ghost use Rattle.streetmap_store.specs.Sparing.{Spares};
 ghost use Rattle.streetmap_routes.specs.BaseView.{root_of};
 ghost use Rattle.streetmap_web.specs.Coming.{around};
 ghost use Rattle.streetmap_web.specs.Standing.{of_state};
-ghost use Rattle.streetmap_web.specs.Exchanges.{Serves as ServesStream};
+ghost use Rattle.streetmap_web.specs.Exchanges.{ServesExchanges as ServesStream};
 ghost use Rattle.streetmap_web.specs.ServingClients.{ServesClients};
 ghost use Rattle.streetmap_connections.specs.Served.{ended_of, slots_of};
 ghost use Rattle.streetmap_store.specs.Surviving.{Survives, ServesTables, ServesTablesAtOnce};

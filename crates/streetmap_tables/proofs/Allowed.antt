@@ -20,8 +20,8 @@ use Rattle.sqlite_resolve.specs.Lowering.{Checked}
 use Rattle.sqlite_tied.specs.Compute.{everything}
 use Rattle.streetmap_rows.specs.Tables.{meta, meta_text, meta_name, collections, collections_text, collections_name, batches, batches_text, batches_name, features, features_text, features_name}
 use Rattle.streetmap_tables.specs.Made.{IsTableText}
-use Rattle.streetmap_tables.proofs.Texts.{meta_is, collections_is, batches_is, features_is}
-use Rattle.streetmap_tables.proofs.Refused.{IsAllowed}
+use Rattle.streetmap_tables.proofs.TableTexts.{meta_is, collections_is, batches_is, features_is}
+use Rattle.streetmap_tables.proofs.CreateRefused.{IsAllowed}
 
 -- ---- what is parsed of a text
 

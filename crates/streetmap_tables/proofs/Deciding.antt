@@ -10,7 +10,7 @@ use Rattle.std.specs.FinMap.{FinMap, insert, get-insert, get-remove, same_map}
 use Rattle.std.specs.Cmp.Lexicographic.{nat_list_cmp_total}
 use Rattle.streetmap_batch.specs.Text.{text_cmp}
 use Rattle.streetmap_rows.specs.Holds.{same_text}
-use Rattle.streetmap_rows.proofs.Keys.{one_text, text_self}
+use Rattle.streetmap_rows.proofs.TextKeys.{one_text, text_self}
 use Rattle.streetmap_ledger.specs.State.{State, Collection, Features, step, opened, deleted, timed, with_feature, with_features, absent, ◌>>=◌}
 use Rattle.streetmap_ledger.specs.declared.reply.Refusal.{Refusal}
 use Rattle.streetmap_ledger.specs.declared.reply.Refusal.TheVariants.{NoCollection, CollectionExists, FeatureExists, NoFeature}

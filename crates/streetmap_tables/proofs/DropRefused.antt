@@ -27,15 +27,15 @@ use Rattle.sqlite_trees.specs.Tree.{Trees, IsAscending}
 use Rattle.sqlite_catalog.specs.Change.{without_table}
 use Rattle.sqlite_resolve.specs.Compile.{planned, meaning, returning, command, timed, drop_table, is_reserved}
 use Rattle.streetmap_rows.specs.Failing.{IsOfStore}
-use Rattle.streetmap_rows.proofs.Finding.{stands_at}
-use Rattle.streetmap_rows.proofs.OfStore.{failure_is}
-use Rattle.streetmap_rows.proofs.Parts.{same_value}
-use Rattle.streetmap_rows.proofs.Refusing.{refused_as}
+use Rattle.streetmap_rows.proofs.NamedTables.{stands_at}
+use Rattle.streetmap_rows.proofs.StoreErrors.{failure_is}
+use Rattle.streetmap_rows.proofs.StatementParts.{same_value}
+use Rattle.streetmap_rows.proofs.FixedRefused.{refused_as}
 use Rattle.streetmap_rows.proofs.Resolving.{Means, means, command_is, is_plain, is_fit}
-use Rattle.streetmap_rows.proofs.Running.{never_misplaced, never_ends}
+use Rattle.streetmap_rows.proofs.InsertRuns.{never_misplaced, never_ends}
 use Rattle.streetmap_tables.specs.Dropping.{IsDropAlone, CanGo}
 use Rattle.streetmap_tables.proofs.Dropping.{idle}
-use Rattle.streetmap_tables.proofs.Lists.{find_left}
+use Rattle.streetmap_tables.proofs.LeftOutLists.{find_left}
 use Rattle.streetmap_tables.proofs.ViewNames.{no_such_view}
 
 -- ---- the references that are left point where they pointed

@@ -28,8 +28,8 @@ use Rattle.sqlite_resolve.specs.Lowering.{Checked, and_then}
 use Rattle.sqlite_resolve.specs.declared.compiled.Compiled.{Compiled}
 use Rattle.sqlite_resolve.specs.declared.error.CompileError.{CompileError}
 use Rattle.sqlite_resolve.specs.declared.error.CompileError.TheVariants.{Misuse, NoSuchTable}
-use Rattle.streetmap_rows.proofs.Finding.{stands_at}
-use Rattle.streetmap_rows.proofs.Parts.{went, same_value}
+use Rattle.streetmap_rows.proofs.NamedTables.{stands_at}
+use Rattle.streetmap_rows.proofs.StatementParts.{went, same_value}
 use Rattle.streetmap_tables.specs.Dropping.{IsDropText, CanGo, Dropped}
 
 -- ---- the plan of the text

@@ -19,9 +19,9 @@ use Rattle.streetmap_geojson.specs.FeatureValue.{FeatureValue}
 use Rattle.streetmap_ledger.specs.State.{State}
 use Rattle.streetmap_rows.specs.Holds.{Holds, KeyPair, pair_key, has_pair, same_text}
 use Rattle.streetmap_rows.specs.Queries.{over}
-use Rattle.streetmap_rows.proofs.Choosing.{staged, picked}
-use Rattle.streetmap_rows.proofs.Holding.{cells_of, there}
-use Rattle.streetmap_rows.proofs.Keys.{pair_is, pair_self, column_later, text_is, text_self}
+use Rattle.streetmap_rows.proofs.OneRowChosen.{staged, picked}
+use Rattle.streetmap_rows.proofs.HeldKeys.{cells_of, there}
+use Rattle.streetmap_rows.proofs.TextKeys.{pair_is, pair_self, column_later, text_is, text_self}
 use Rattle.streetmap_rows.specs.Rows.{feature_at}
 use Rattle.streetmap_tables.specs.Old.{old_cells}
 use Rattle.streetmap_tables.specs.Part.{pair_in, IsRowOf, AreRowsOf}

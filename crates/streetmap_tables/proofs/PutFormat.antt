@@ -25,24 +25,24 @@ use Rattle.sqlite_rules.specs.Edit.{next_rowid, is_taken, IsRefused, Applies}
 use Rattle.sqlite_rules.proofs.ListLemmas.{all_has}
 use Rattle.streetmap_ledger.specs.State.{State, opening_state}
 use Rattle.streetmap_rows.specs.Holds.{Holds, KeyPair, first_key, is_first, pair_key, has_pair}
-use Rattle.streetmap_rows.proofs.Casts.{cast_null, cast_int}
-use Rattle.streetmap_rows.proofs.Finding.{IsFound}
-use Rattle.streetmap_rows.proofs.Holding.{holds_put, holds_same}
-use Rattle.streetmap_rows.proofs.Keys.{first_is, first_self}
+use Rattle.streetmap_rows.proofs.ColumnCasts.{cast_null, cast_int}
+use Rattle.streetmap_rows.proofs.NamedTables.{IsFound}
+use Rattle.streetmap_rows.proofs.HeldKeys.{holds_put, holds_same}
+use Rattle.streetmap_rows.proofs.TextKeys.{first_is, first_self}
 use Rattle.streetmap_rows.proofs.Resolving.{command_is, is_plain, is_fit}
 use Rattle.streetmap_rows.proofs.Meaning.{Insertion, IsInsert, InsertMeans, quoted, terms_of}
 use Rattle.streetmap_rows.proofs.Meaning.{insert_means}
-use Rattle.streetmap_rows.proofs.Running as run
+use Rattle.streetmap_rows.proofs.InsertRuns as run
 use Rattle.sqlite.proofs.StateLemmas.{refers_if_sound}
 use Rattle.streetmap_rows.specs.Failing.{IsOfStore}
-use Rattle.streetmap_rows.proofs.Adding.{keeps_unique, refers_after}
+use Rattle.streetmap_rows.proofs.RowPut.{keeps_unique, refers_after}
 use Rattle.std.proofs.lemmas.Bool.{both_ways, true≢false, ne_eqb}
 use Rattle.streetmap_rows.specs.Tables.{Roots, IsOurs, meta, collections, batches, features, meta_name}
 use Rattle.streetmap_rows.specs.Rows.{feature_at, meta_cells}
 use Rattle.streetmap_rows.specs.Stands.{CanBeRead, StandsFor}
 use Rattle.streetmap_rows.specs.Elsewhere.{is_our_name, IsSameElsewhere}
-use Rattle.streetmap_rows.proofs.Elsewhere.{same_elsewhere}
-use Rattle.streetmap_rows.proofs.Placing as placing
+use Rattle.streetmap_rows.proofs.OtherTables.{same_elsewhere}
+use Rattle.streetmap_rows.proofs.TablesInSchema as placing
 use Rattle.streetmap_tables.specs.Making.{AreMade, LacksFormat, format_text}
 
 -- ---- what the text means

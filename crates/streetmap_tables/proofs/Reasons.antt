@@ -5,7 +5,7 @@ use Rattle.sqlite.specs.State.{State as Seen, HasCleanDisk, Survives}
 use Rattle.sqlite.specs.declared.error.Error.{Error}
 use Rattle.sqlite_trees.specs.Tree.{Trees}
 use Rattle.streetmap_rows.specs.Failing.{HasReason, is_memory}
-use Rattle.streetmap_rows.proofs.Reasons.{reason_still, reason_later}
+use Rattle.streetmap_rows.proofs.ErrorReasons.{reason_still, reason_later}
 use Rattle.streetmap_rows.specs.declared.fault.ReadFault.{ReadFault}
 use Rattle.streetmap_rows.specs.declared.fault.ReadFault.TheVariants as read
 use Rattle.streetmap_tables.specs.declared.opening.TablesFault.{TablesFault}

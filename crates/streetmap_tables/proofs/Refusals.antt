@@ -10,9 +10,9 @@ use Rattle.streetmap_rows.specs.Tables.{meta, collections, batches, features, me
 use Rattle.streetmap_tables.specs.Made.{Created}
 use Rattle.streetmap_tables.specs.Making.{is_taken}
 use Rattle.streetmap_tables.specs.Refusing.{IsOurText, our_tables, IsToldFor}
-use Rattle.streetmap_tables.proofs.Refused.{IsAllowed}
+use Rattle.streetmap_tables.proofs.CreateRefused.{IsAllowed}
 use Rattle.streetmap_tables.proofs.Allowed.{meta_allowed, collections_allowed, batches_allowed, features_allowed}
-use Rattle.streetmap_tables.proofs.Full.{IsOther, AreOther, used_same, told_before, told_first}
+use Rattle.streetmap_tables.proofs.FullSchemas.{IsOther, AreOther, used_same, told_before, told_first}
 
 pub allowed_if_ours : (sql : List ℕ) (table : Table) → IsOurText sql table → IsAllowed sql table
 allowed_if_ours sql table (inl it) = subst₂ IsAllowed (sym it.0) (sym it.1) meta_allowed

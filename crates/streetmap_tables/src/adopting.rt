@@ -79,7 +79,7 @@ enum Found {
 }
 
 /// The values of the format row.
-#[tactic(auto, using(streetmap_rows::proofs::Reasons::queried_inside))]
+#[tactic(auto, using(streetmap_rows::proofs::ErrorReasons::queried_inside))]
 fn read_format<S: Alter>(tx: &mut Transaction<'_, S>) -> Result<Vec<Row>, Error>
     ensures reason { HasCleanDisk (state S.Store tx.new.conn.now) →
         IfErr result (HasReason (state S.Store tx.old.conn.now) (state S.Store tx.new.conn.now)) }
@@ -105,7 +105,7 @@ fn read_format<S: Alter>(tx: &mut Transaction<'_, S>) -> Result<Vec<Row>, Error>
 }
 
 /// The serials of all batches, a row for each.
-#[tactic(auto, using(streetmap_rows::proofs::Reasons::queried_inside))]
+#[tactic(auto, using(streetmap_rows::proofs::ErrorReasons::queried_inside))]
 pub fn read_serials<S: Alter>(tx: &mut Transaction<'_, S>) -> Result<Vec<Row>, Error>
     ensures reason { HasCleanDisk (state S.Store tx.new.conn.now) →
         IfErr result (HasReason (state S.Store tx.old.conn.now) (state S.Store tx.new.conn.now)) }

@@ -64,7 +64,7 @@ pub fn take_rows<S: Alter>(tx: &mut Transaction<'_, S>) -> Result<Vec<Row>, Read
 }
 
 /// What is kept of a collection: a row of its title and its time property, or none.
-#[tactic(auto, using(streetmap_rows::proofs::Reasons::queried_inside))]
+#[tactic(auto, using(streetmap_rows::proofs::ErrorReasons::queried_inside))]
 fn head_rows<S: Alter>(tx: &mut Transaction<'_, S>, collection: &str) -> Result<Vec<Row>, Error>
     ensures reason { HasCleanDisk (state S.Store tx.new.conn.now) →
         IfErr result (HasReason (state S.Store tx.old.conn.now) (state S.Store tx.new.conn.now)) }

@@ -9,14 +9,14 @@ use Rattle.streetmap_ledger.specs.Batches.{after_all}
 use Rattle.streetmap_ledger.specs.Keep.{LeavesOnly}
 use Rattle.streetmap_ledger.proofs.Repeat.{after_append}
 use Rattle.streetmap_routes.specs.Ask.{AskValue}
-use Rattle.streetmap_web.specs.Standing.{Standing, RequestOutcome, told, starved, failed, looked, of_state, Leaves, LeavesUntouched}
+use Rattle.streetmap_web.specs.Standing.{Standing, RequestOutcome, as_asked, no_memory, device_failed, of_keeper, of_state, Leaves, LeavesUntouched}
 use Rattle.streetmap_web.specs.Standing.{StateLeaves}
-use Rattle.streetmap_web.specs.Exchanges.{Around, TurnSays, Serves, with_batch, with_answered, batches_of, last_of}
+use Rattle.streetmap_web.specs.Exchanges.{Around, TurnSays, ServesExchanges, with_batch, with_answered, batches_of, last_of}
 use Rattle.streetmap_web.specs.Beginnings.{LeavesBeginning, ServedLeaves, with_acted, batches_acted}
 use Rattle.streetmap_web.specs.declared.serving.End.{End}
 use Rattle.streetmap_web.specs.declared.serving.Turn.{Turn}
 use Rattle.streetmap_web.specs.declared.serving.Turn.TheVariants.{Open, Closed, Ended, Truncated, ReadFailed, WriteFailed}
-use Rattle.streetmap_web.proofs.Chains.{batch_acts}
+use Rattle.streetmap_web.proofs.ExchangesInTurn.{batch_acts}
 
 module _ (s : State) (bs : List BatchValue) (left : Option State → Type 0) where
   -- the state after the batches, and after one more request's
@@ -28,12 +28,12 @@ module _ (s : State) (bs : List BatchValue) (left : Option State → Type 0) whe
 
   -- a request that came out so
   last_leaves : (ask : AskValue) (o : RequestOutcome) → StateLeaves (after_all s bs) ask o left → LeavesBeginning s (bs ++ with_acted ask o []) (length (bs ++ with_answered ask o [])) left
-  last_leaves ask told only =
+  last_leaves ask as_asked only =
       let w = with_batch ask [] in
       λ o is. (_, only o is, record { len = length (bs ++ w); contains = omega arith; is = sym (batch_acts (after_all s bs) ask []) ∙ behind w })
-  last_leaves ask starved only = λ o is. (_, only o is, record { len = length (bs ++ []); contains = omega arith; is = behind [] })
-  last_leaves ask (looked shown) only = λ o is. (_, only o is, record { len = length (bs ++ []); contains = omega arith; is = behind [] })
-  last_leaves ask failed either =
+  last_leaves ask no_memory only = λ o is. (_, only o is, record { len = length (bs ++ []); contains = omega arith; is = behind [] })
+  last_leaves ask (of_keeper shown) only = λ o is. (_, only o is, record { len = length (bs ++ []); contains = omega arith; is = behind [] })
+  last_leaves ask device_failed either =
       let w = with_batch ask [] in
       let none : length (bs ++ []) ≡ length bs = ap length (append-nil bs) in
       let more : length (bs ++ w) ≡ length bs + length w = length-append bs w in
@@ -48,16 +48,16 @@ module _ (s : State) (bs : List BatchValue) (left : Option State → Type 0) whe
 
 -- the turn that ends a stream
 turn_leaves : (s : State) (bs : List BatchValue) (turn : Turn) (root : Text) (y : Standing) (a : Around) (says : TurnSays turn root y a) → y ≡ of_state (after_all s bs) → a.known
-    → LeavesBeginning s (bs ++ batches_acted (last_of turn root y a says)) (length (bs ++ batches_of (last_of turn root y a says))) a.new_leaves
+    → LeavesBeginning s (bs ++ batches_acted (last_of turn root y a says)) (length (bs ++ batches_of (last_of turn root y a says))) a.crash_after
 turn_leaves s bs turn root y a says is known = ends turn says
   where
-    acted : (ask : AskValue) (o : RequestOutcome) → Leaves y ask o a.known a.old_leaves a.new_leaves → LeavesBeginning s (bs ++ with_acted ask o []) (length (bs ++ with_answered ask o [])) a.new_leaves
-    acted ask o leaves = last_leaves s bs a.new_leaves ask o (subst (λ z. Leaves z ask o a.known a.old_leaves a.new_leaves) is leaves known)
+    acted : (ask : AskValue) (o : RequestOutcome) → Leaves y ask o a.known a.crash_before a.crash_after → LeavesBeginning s (bs ++ with_acted ask o []) (length (bs ++ with_answered ask o [])) a.crash_after
+    acted ask o leaves = last_leaves s bs a.crash_after ask o (subst (λ z. Leaves z ask o a.known a.crash_before a.crash_after) is leaves known)
 
-    rested : LeavesUntouched y a.known a.old_leaves a.new_leaves → LeavesBeginning s (bs ++ []) (length (bs ++ [])) a.new_leaves
-    rested leaves = none_leaves s bs a.new_leaves (subst (λ z. LeavesUntouched z a.known a.old_leaves a.new_leaves) is leaves known)
+    rested : LeavesUntouched y a.known a.crash_before a.crash_after → LeavesBeginning s (bs ++ []) (length (bs ++ [])) a.crash_after
+    rested leaves = none_leaves s bs a.crash_after (subst (λ z. LeavesUntouched z a.known a.crash_before a.crash_after) is leaves known)
 
-    ends : (turn : Turn) (says : TurnSays turn root y a) → LeavesBeginning s (bs ++ batches_acted (last_of turn root y a says)) (length (bs ++ batches_of (last_of turn root y a says))) a.new_leaves
+    ends : (turn : Turn) (says : TurnSays turn root y a) → LeavesBeginning s (bs ++ batches_acted (last_of turn root y a says)) (length (bs ++ batches_of (last_of turn root y a says))) a.crash_after
     ends Open says = acted says.0.request.ask says.0.outcome says.1.leaves
     ends Closed says = acted says.0.request.ask says.0.outcome says.1.leaves
     ends (WriteFailed begun) says = acted says.0.request.ask says.0.outcome says.1.leaves
@@ -66,5 +66,5 @@ turn_leaves s bs turn root y a says is known = ends turn says
     ends ReadFailed says = rested says.leaves
 
 -- what a stop may leave of what was served
-pub served_leaves : (root : Text) (end : End) (count : ℕ) (s : State) (a : Around) (serves : Serves root end count (of_state s) a) → a.known → ServedLeaves root end count s a serves a.new_leaves
+pub served_leaves : (root : Text) (end : End) (count : ℕ) (s : State) (a : Around) (serves : ServesExchanges root end count (of_state s) a) → a.known → ServedLeaves root end count s a serves a.crash_after
 served_leaves root end count s a serves known = turn_leaves s (batches_of serves.exchanges) serves.turn root _ _ serves.ends serves.batches known

@@ -10,13 +10,13 @@ use Rattle.streetmap_routes.specs.Ask.{ask_of, faulty, batch}
 use Rattle.streetmap_bodies.specs.declared.request_fault.RequestFault.{RequestFault}
 use Rattle.streetmap_bodies.specs.declared.request_fault.RequestFault.TheVariants.{Framing}
 use Rattle.streetmap_web.specs.Response.{ResponseValue, response_text}
-use Rattle.streetmap_web.specs.Standing.{Standing, told, starved}
+use Rattle.streetmap_web.specs.Standing.{Standing, as_asked, no_memory}
 use Rattle.streetmap_web.specs.Sight.{Sight}
-use Rattle.streetmap_web.specs.Responds.{Answers, BatchAnswers, TellsBatch, unasked_of}
+use Rattle.streetmap_web.specs.Responds.{AnswersAsk, BatchAnswers, TellsBatch, unasked_of}
 use Rattle.streetmap_web.specs.Exchanges.{HttpExchange, RequestValue, request_of, broken_request, closes, answer_bytes, response, standing_after, standing_after_all}
 use Rattle.streetmap_web.specs.Coming.{Comes, ComesAll}
-use Rattle.streetmap_web.proofs.Standings.{told_is_no_failure, starved_is_no_failure}
-use Rattle.streetmap_web.proofs.Outcomes.{starved_closes, starved_bytes, starved_response}
+use Rattle.streetmap_web.proofs.Standings.{as_asked_is_no_failure, no_memory_is_no_failure}
+use Rattle.streetmap_web.proofs.Outcomes.{no_memory_closes, no_memory_bytes, no_memory_response}
 use Rattle.streetmap_web.proofs.Statuses.{starved_well}
 
 -- the same answer in other words
@@ -35,25 +35,25 @@ bytes_of root x e text closing ends is = is ∙ ap (λ c. response_text c e.requ
 
 module _ {K : Type 0} (sight : Sight K) (root : Text) where
   -- memory was refused before the keeper was asked
-  pub starved_comes : (x : Standing) (k : K) (bytes : Text) (request : RequestValue) → Comes sight root x k (record { bytes = bytes; request = request; outcome = starved }) k
-  starved_comes x k bytes request = record {
-    told = λ b is. unasked_of refl (sym (starved_closes root x bytes request)) (sym (starved_bytes root x bytes request));
-    device = λ e. absurd (starved_is_no_failure e);
-    shuts = λ asks e. absurd (starved_well (ap (λ (p : ResponseValue). p.status) (sym (starved_response root x request.ask)) ∙ e));
+  pub no_memory_comes : (x : Standing) (k : K) (bytes : Text) (request : RequestValue) → Comes sight root x k (record { bytes = bytes; request = request; outcome = no_memory }) k
+  no_memory_comes x k bytes request = record {
+    told = λ b is. unasked_of refl (sym (no_memory_closes root x bytes request)) (sym (no_memory_bytes root x bytes request));
+    device = λ e. absurd (no_memory_is_no_failure e);
+    shuts = λ asks e. absurd (starved_well (ap (λ (p : ResponseValue). p.status) (sym (no_memory_response root x request.ask)) ∙ e));
   }
 
   -- a request that breaks a rule of framing asks no keeper
   pub broken_comes : (x : Standing) (k : K) (bytes : Text) (bare : Bool) (fault : FramingFault)
-      → Comes sight root x k (record { bytes = bytes; request = broken_request bare fault; outcome = told }) k
+      → Comes sight root x k (record { bytes = bytes; request = broken_request bare fault; outcome = as_asked }) k
   broken_comes x k bytes bare fault = record {
     told = λ b is. absurd (no_batch (Framing fault) b is);
-    device = λ e. absurd (told_is_no_failure e);
+    device = λ e. absurd (as_asked_is_no_failure e);
     shuts = λ asks e. absurd (let bad : false ≡ true = asks in cc);
   }
 
   -- a whole request
   pub whole_comes : (x : Standing) (old new : K) (h : HeadValue) (bytes body text : Text) (closing : Bool)
-      → (answers : Answers sight root x (ask_of h.method h.target body) h.closes (is_bare h.method) text closing old new)
+      → (answers : AnswersAsk sight root x (ask_of h.method h.target body) h.closes (is_bare h.method) text closing old new)
       → TellsBatch sight.applies (ask_of h.method h.target body) h.closes (is_bare h.method) text closing old new
       → Comes sight root x old (record { bytes = bytes; request = request_of h body; outcome = answers.outcome }) new
   whole_comes x old new h bytes body text closing answers tells =

@@ -11,20 +11,20 @@ use Rattle.streetmap_batch.specs.Text.{Text}
 use Rattle.streetmap_routes.specs.Ask.{ask_of, faulty}
 use Rattle.streetmap_bodies.specs.declared.request_fault.RequestFault.TheVariants.{Framing}
 use Rattle.streetmap_web.specs.Response.{fault_response, response_text}
-use Rattle.streetmap_web.specs.Standing.{Standing, told, starved}
+use Rattle.streetmap_web.specs.Standing.{Standing, as_asked, no_memory}
 use Rattle.streetmap_web.specs.Sight.{Sight, StandsSo}
-use Rattle.streetmap_web.specs.Responds.{Answers, RefusesBy, TellsBatch}
+use Rattle.streetmap_web.specs.Responds.{AnswersAsk, RefusesBy, TellsBatch}
 use Rattle.streetmap_web.specs.Exchanges.{HttpExchange, request_of, broken_request, whole, broken}
-use Rattle.streetmap_web.specs.Coming.{Answered}
-use Rattle.streetmap_web.proofs.Outcomes.{faulty_after, faulty_response, faulty_leaves, can_told, starved_after, starved_leaves, can_starve, starved_bytes, starved_closes}
-use Rattle.streetmap_web.proofs.Coming.{bytes_of, starved_comes, broken_comes, whole_comes}
+use Rattle.streetmap_web.specs.Coming.{AnswersRequest}
+use Rattle.streetmap_web.proofs.Outcomes.{faulty_after, faulty_response, faulty_leaves, can_be_as_asked, no_memory_after, no_memory_leaves, can_lack_memory, no_memory_bytes, no_memory_closes}
+use Rattle.streetmap_web.proofs.Coming.{bytes_of, no_memory_comes, broken_comes, whole_comes}
 
 module _ {K : Type 0} (sight : Sight K) (root : Text) (x : Standing) where
   -- a whole request
   pub whole_answered : (h : HeadValue) (bytes body text : Text) (closing : Bool) (old new : K) → IsRequest bytes h body
-      → Answers sight root x (ask_of h.method h.target body) h.closes (is_bare h.method) text closing old new
+      → AnswersAsk sight root x (ask_of h.method h.target body) h.closes (is_bare h.method) text closing old new
       → TellsBatch sight.applies (ask_of h.method h.target body) h.closes (is_bare h.method) text closing old new
-      → Answered sight root x bytes text closing old new
+      → AnswersRequest sight root x bytes text closing old new
   whole_answered h bytes body text closing old new is answers tells =
       let e : HttpExchange = record { bytes = bytes; request = request_of h body; outcome = answers.outcome } in
       record {
@@ -40,11 +40,11 @@ module _ {K : Type 0} (sight : Sight K) (root : Text) (x : Standing) where
 
   -- one that breaks a rule of framing
   pub broken_answered : (bytes text : Text) (bare : Bool) (fault : FramingFault) (k : K) → Breaks bytes bare fault → RefusesBy text bare fault → StandsSo sight k x
-      → Answered sight root x bytes text true k k
+      → AnswersRequest sight root x bytes text true k k
   broken_answered bytes text bare fault k breaks (answer, inl is, same) h = record {
-    exchange = record { bytes = bytes; request = broken_request bare fault; outcome = told };
+    exchange = record { bytes = bytes; request = broken_request bare fault; outcome = as_asked };
     bytes_are = refl;
-    is = record { asks = broken bare fault breaks refl; can = can_told x fault };
+    is = record { asks = broken bare fault breaks refl; can = can_be_as_asked x fault };
     text_is = same ∙ ap (λ f. response_text true bare (fault_response f)) is ∙ ap (response_text true bare) (sym (faulty_response root x fault));
     closing_is = refl;
     standing = faulty_after x (StandsSo sight k) fault h;
@@ -54,14 +54,14 @@ module _ {K : Type 0} (sight : Sight K) (root : Text) (x : Standing) where
   broken_answered bytes text bare fault k breaks (answer, inr is, same) h =
       let request = broken_request bare fault in
       record {
-        exchange = record { bytes = bytes; request = request; outcome = starved };
+        exchange = record { bytes = bytes; request = request; outcome = no_memory };
         bytes_are = refl;
-        is = record { asks = broken bare fault breaks refl; can = can_starve x request.ask };
-        text_is = same ∙ ap (λ f. response_text true bare (fault_response f)) is ∙ starved_bytes root x bytes request;
-        closing_is = starved_closes root x bytes request;
-        standing = starved_after x (StandsSo sight k) request.ask h;
-        leaves = starved_leaves x request.ask (sight.may_leave k);
-        comes = starved_comes sight root x k bytes request;
+        is = record { asks = broken bare fault breaks refl; can = can_lack_memory x request.ask };
+        text_is = same ∙ ap (λ f. response_text true bare (fault_response f)) is ∙ no_memory_bytes root x bytes request;
+        closing_is = no_memory_closes root x bytes request;
+        standing = no_memory_after x (StandsSo sight k) request.ask h;
+        leaves = no_memory_leaves x request.ask (sight.may_leave k);
+        comes = no_memory_comes sight root x k bytes request;
       }
 
 -- ---- bytes are one request

@@ -10,10 +10,10 @@ use Rattle.streetmap_ledger.specs.declared.reply.Fault.{Fault}
 use Rattle.streetmap_ledger.specs.declared.reply.Fault.TheVariants as faults
 use Rattle.streetmap_routes.specs.Ask.{AskValue}
 use Rattle.streetmap_web.specs.Response.{ResponseValue, asks_state, fault_response, closes_with, response_text}
-use Rattle.streetmap_web.specs.Standing.{Standing, of_state, shut, unknown, told, starved, failed, looked}
+use Rattle.streetmap_web.specs.Standing.{Standing, of_state, shut, unknown, as_asked, no_memory, device_failed, of_keeper}
 use Rattle.streetmap_web.specs.Standing.{LeavesAsBefore}
 use Rattle.streetmap_web.specs.Sight.{Sight, StandsSo}
-use Rattle.streetmap_web.specs.Responds.{Answers, TriesIn, TriesShut, TriesAny, AnswerLeaves}
+use Rattle.streetmap_web.specs.Responds.{AnswersAsk, TriesIn, TriesShut, TriesAny, AnswerLeaves}
 use Rattle.streetmap_web.proofs.Statuses.{told_well, starved_well}
 use Rattle.streetmap_connections.specs.Answers.{answer_text}
 use Rattle.streetmap_connections.specs.declared.service.Answer.{Answer}
@@ -31,14 +31,14 @@ fault_closes asked faults.Device = or_true asked
 fault_closes asked faults.Damaged = or_true asked
 fault_closes asked faults.Reopen = or_true asked
 
-pub told_is_no_failure : told ≡ failed → ⊥
-told_is_no_failure e = cc
+pub as_asked_is_no_failure : as_asked ≡ device_failed → ⊥
+as_asked_is_no_failure e = cc
 
-pub starved_is_no_failure : starved ≡ failed → ⊥
-starved_is_no_failure e = cc
+pub no_memory_is_no_failure : no_memory ≡ device_failed → ⊥
+no_memory_is_no_failure e = cc
 
-pub looked_is_no_failure : (shown : ResponseValue) → looked shown ≡ failed → ⊥
-looked_is_no_failure shown e = cc
+pub of_keeper_is_no_failure : (shown : ResponseValue) → of_keeper shown ≡ device_failed → ⊥
+of_keeper_is_no_failure shown e = cc
 
 is_shut : (cause : Option Cause) (why : Cause) → cause ≡ Some why → IsSome cause
 is_shut cause why e = subst (λ (o : Option Cause). IsSome o) (sym e) refl
@@ -60,91 +60,91 @@ module _ {K : Type 0} (sight : Sight K) (root : Text) (ask : AskValue) (asked ba
   abbrev pub SaysAny : Result (Answer × Bool) Fault → Type 0
   SaysAny result = TriesAny root ask asked bare result (sight.cause new)
 
-  ok_shown : (b : Bool) (r : Answer × Bool) → asks_state ask ≡ b → SaysAny (Ok r) → Answers sight root unknown ask asked bare (answer_text r.0) r.1 old new
+  ok_shown : (b : Bool) (r : Answer × Bool) → asks_state ask ≡ b → SaysAny (Ok r) → AnswersAsk sight root unknown ask asked bare (answer_text r.0) r.1 old new
   ok_shown false r plain any =
       let is = any.1.0 plain in
       record {
-        outcome = told;
+        outcome = as_asked;
         can = plain;
         closed = any.2 ∙ ap (closes_with asked) is;
         bytes = any.3 ∙ ap (response_text r.1 bare) is;
         standing = tt;
         leaves = tt;
-        device = λ e. absurd (told_is_no_failure e);
+        device = λ e. absurd (as_asked_is_no_failure e);
         shuts = λ asks e. absurd (let bad : false ≡ true = sym plain ∙ asks in cc);
       }
   ok_shown true r asking any =
       record {
-        outcome = looked any.0;
+        outcome = of_keeper any.0;
         can = asking;
         closed = any.2;
         bytes = any.3;
         standing = tt;
         leaves = tt;
-        device = λ e. absurd (looked_is_no_failure any.0 e);
+        device = λ e. absurd (of_keeper_is_no_failure any.0 e);
         shuts = λ asks e. absurd (any.1.1 asks e);
       }
 
   -- a fault of a keeper of which nothing is known
   fault_shown : (fault : Fault) (text : Text) → (asks_state ask ≡ true) × IsSome (sight.cause new) → text ≡ response_text true bare (fault_response (Keeper fault))
-      → Answers sight root unknown ask asked bare text true old new
+      → AnswersAsk sight root unknown ask asked bare text true old new
   fault_shown fault text any e = record {
-    outcome = looked (fault_response (Keeper fault));
+    outcome = of_keeper (fault_response (Keeper fault));
     can = any.0;
     closed = fault_closes asked fault;
     bytes = e;
     standing = tt;
     leaves = tt;
-    device = λ is. absurd (looked_is_no_failure (fault_response (Keeper fault)) is);
+    device = λ is. absurd (of_keeper_is_no_failure (fault_response (Keeper fault)) is);
     shuts = λ asks is. any.1;
   }
 
   pub ok_answers : (x : Standing) (r : Answer × Bool) → SaysIn (Ok r) → SaysShut (Ok r) → SaysAny (Ok r) → SaysLeft (Ok r) → StandsSo sight old x
-      → Answers sight root x ask asked bare (answer_text r.0) r.1 old new
+      → AnswersAsk sight root x ask asked bare (answer_text r.0) r.1 old new
   ok_answers (of_state s) r whole shuts any leaves h =
       let t = whole s h in
       record {
-        outcome = told;
+        outcome = as_asked;
         can = tt;
         closed = t.0;
         bytes = t.1;
         standing = t.2;
         leaves = leaves s h;
-        device = λ e. absurd (told_is_no_failure e);
+        device = λ e. absurd (as_asked_is_no_failure e);
         shuts = λ asks e. absurd (told_well root s ask asks e);
       }
   ok_answers (shut why) r whole shuts any leaves h =
       let t = shuts why h in
       record {
-        outcome = told;
+        outcome = as_asked;
         can = tt;
         closed = t.0.0;
         bytes = t.0.1;
         standing = t.1;
         leaves = t.2;
-        device = λ e. absurd (told_is_no_failure e);
+        device = λ e. absurd (as_asked_is_no_failure e);
         shuts = λ asks e. is_shut (sight.cause new) why t.1;
       }
   ok_answers unknown r whole shuts any leaves h = ok_shown (asks_state ask) r refl any
 
   pub err_answers : (x : Standing) (fault : Fault) (text : Text) → SaysIn (Err fault) → SaysShut (Err fault) → SaysAny (Err fault) → SaysLeft (Err fault)
       → ((s : State) → sight.stands old s → IsErrOf {T = Answer × Bool} (Err fault) faults.Device → sight.fails old new) → StandsSo sight old x
-      → text ≡ response_text true bare (fault_response (Keeper fault)) → Answers sight root x ask asked bare text true old new
+      → text ≡ response_text true bare (fault_response (Keeper fault)) → AnswersAsk sight root x ask asked bare text true old new
   err_answers (of_state s) faults.Memory text whole shuts any leaves fails h e =
       record {
-        outcome = starved;
+        outcome = no_memory;
         can = tt;
         closed = fault_closes asked faults.Memory;
         bytes = e;
         standing = whole s h;
         leaves = leaves s h;
-        device = λ e. absurd (starved_is_no_failure e);
+        device = λ e. absurd (no_memory_is_no_failure e);
         shuts = λ asks is. absurd (starved_well is);
       }
   err_answers (of_state s) faults.Device text whole shuts any leaves fails h e =
       let t = whole s h in
       record {
-        outcome = failed;
+        outcome = device_failed;
         can = t.0;
         closed = fault_closes asked faults.Device;
         bytes = e;
@@ -158,26 +158,26 @@ module _ {K : Type 0} (sight : Sight K) (root : Text) (ask : AskValue) (asked ba
   err_answers (shut why) faults.Memory text whole shuts any leaves fails h e =
       let t = shuts why h in
       record {
-        outcome = starved;
+        outcome = no_memory;
         can = tt;
         closed = fault_closes asked faults.Memory;
         bytes = e;
         standing = t.1;
         leaves = t.2;
-        device = λ e. absurd (starved_is_no_failure e);
+        device = λ e. absurd (no_memory_is_no_failure e);
         shuts = λ asks is. absurd (starved_well is);
       }
   err_answers (shut why) faults.Device text whole shuts any leaves fails h e = absurd (shuts why h).0
   err_answers (shut why) faults.Damaged text whole shuts any leaves fails h e = absurd (shuts why h).0
   err_answers unknown faults.Memory text whole shuts any leaves fails h e =
       record {
-        outcome = starved;
+        outcome = no_memory;
         can = tt;
         closed = fault_closes asked faults.Memory;
         bytes = e;
         standing = tt;
         leaves = tt;
-        device = λ e. absurd (starved_is_no_failure e);
+        device = λ e. absurd (no_memory_is_no_failure e);
         shuts = λ asks is. absurd (starved_well is);
       }
   err_answers unknown faults.Device text whole shuts any leaves fails h e = fault_shown faults.Device text any e
@@ -186,12 +186,12 @@ module _ {K : Type 0} (sight : Sight K) (root : Text) (ask : AskValue) (asked ba
   err_answers (shut why) faults.Reopen text whole shuts any leaves fails h e =
       let t = shuts why h in
       record {
-        outcome = told;
+        outcome = as_asked;
         can = tt;
         closed = fault_closes asked faults.Reopen ∙ ap (closes_with asked) (sym t.0);
         bytes = e ∙ ap (response_text true bare) (sym t.0);
         standing = t.1;
         leaves = t.2;
-        device = λ e. absurd (told_is_no_failure e);
+        device = λ e. absurd (as_asked_is_no_failure e);
         shuts = λ asks is. is_shut (sight.cause new) why t.1;
       }

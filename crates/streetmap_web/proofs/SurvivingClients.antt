@@ -6,8 +6,8 @@ use Rattle.streetmap_ledger.specs.State.{State}
 use Rattle.streetmap_ledger.specs.Keep.{LeavesOnly}
 use Rattle.streetmap_routes.specs.Ask.{AskValue, faulty, landing_page, api_text, conformance_classes, all_collections, one_collection, page, feature, batch}
 use Rattle.streetmap_web.specs.Response.{state_in}
-use Rattle.streetmap_web.specs.Standing.{Standing, RequestOutcome, of_state, shut, unknown, told, starved, failed}
-use Rattle.streetmap_web.specs.Standing.{looked, after, Leaves, LeavesAsBefore, StateLeaves, IsKnown}
+use Rattle.streetmap_web.specs.Standing.{Standing, RequestOutcome, of_state, shut, unknown, as_asked, no_memory, device_failed}
+use Rattle.streetmap_web.specs.Standing.{of_keeper, after, Leaves, LeavesAsBefore, StateLeaves, IsKnown}
 use Rattle.streetmap_web.specs.Exchanges as web
 use Rattle.streetmap_web.specs.Beginnings.{IsAfterBeginning, LeavesBeginning, with_acted}
 use Rattle.streetmap_web.specs.SurvivingClients.{acted_over, answered_over}
@@ -66,13 +66,13 @@ none_leaves unknown left = tt
 
 acted_leaves : (s : State) (ask : AskValue) (o : RequestOutcome) (ws : List web.HttpExchange) (middle new : Option State → Type 0) → StateLeaves s ask o middle → LeavesBehind (after (of_state s) ask o) ws middle new
     → LeavesBeginning s (with_acted ask o (acted_over (after (of_state s) ask o) ws)) (length (web.with_answered ask o (answered_over (after (of_state s) ask o) ws))) new
-acted_leaves s ask told ws middle new one behind = λ o is.
+acted_leaves s ask as_asked ws middle new one behind = λ o is.
     let it = behind one o is in
     let y = of_state (state_in s ask) in
     (it.0, it.1, batch_before s it.0 ask (acted_over y ws) (answered_over y ws) it.2)
-acted_leaves s ask starved ws middle new one behind = behind one
-acted_leaves s ask (looked shown) ws middle new one behind = behind one
-acted_leaves s ask failed ws middle new one behind = λ o is. elim (one o ((behind o).0 is)) [
+acted_leaves s ask no_memory ws middle new one behind = behind one
+acted_leaves s ask (of_keeper shown) ws middle new one behind = behind one
+acted_leaves s ask device_failed ws middle new one behind = λ o is. elim (one o ((behind o).0 is)) [
   | inl before ↦ (s, before, record { len = 0; contains = omega arith; is = refl })
   | inr acted ↦ (state_in s ask, acted, alone s ask)
 ]
@@ -90,10 +90,10 @@ AnsweredFirst x ws = take (length (answered_over x ws)) (acted_over x ws) ≡ an
 
 acted_first : (s : State) (ask : AskValue) (o : RequestOutcome) (ws : List web.HttpExchange) → AnsweredFirst (after (of_state s) ask o) ws
     → let y = after (of_state s) ask o in take (length (web.with_answered ask o (answered_over y ws))) (with_acted ask o (acted_over y ws)) ≡ web.with_answered ask o (answered_over y ws)
-acted_first s ask told ws is = let y = of_state (state_in s ask) in first_behind ask (acted_over y ws) (answered_over y ws) is
-acted_first s ask starved ws is = is
-acted_first s ask failed ws is = refl
-acted_first s ask (looked shown) ws is = is
+acted_first s ask as_asked ws is = let y = of_state (state_in s ask) in first_behind ask (acted_over y ws) (answered_over y ws) is
+acted_first s ask no_memory ws is = is
+acted_first s ask device_failed ws is = refl
+acted_first s ask (of_keeper shown) ws is = is
 
 pub answered_first : (x : Standing) (ws : List web.HttpExchange) → AnsweredFirst x ws
 answered_first (shut why) ws = refl

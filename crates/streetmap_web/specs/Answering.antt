@@ -5,14 +5,14 @@ use Rattle.streetmap_http.specs.Framing.{HeadValue, IsRequest, is_bare}
 use Rattle.streetmap_routes.specs.Ask.{ask_of}
 use Rattle.streetmap_web.specs.Standing.{Standing}
 use Rattle.streetmap_web.specs.Sight.{Sight, StandsSo}
-use Rattle.streetmap_web.specs.Coming.{Answered}
+use Rattle.streetmap_web.specs.Coming.{AnswersRequest}
 use Rattle.streetmap_web.specs.Responds.{TellsBatch}
 
 -- one request was answered over the first keeper, and the second was left
 pub record AnswersOne {K : Type 0} (sight : Sight K) (root : Text) (old : K) (bytes text : Text)
     (closing : Bool) (new : K) : Type 0 where
   pub answered : sight.is_clean new → (x : Standing) → StandsSo sight old x
-      → Answered sight root x bytes text closing old new
+      → AnswersRequest sight root x bytes text closing old new
   pub told : (h : HeadValue) (body : Text) → IsRequest bytes h body
       → TellsBatch sight.applies (ask_of h.method h.target body) h.closes (is_bare h.method) text
       closing old new

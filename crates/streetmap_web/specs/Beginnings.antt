@@ -5,18 +5,20 @@ use Rattle.streetmap_batch.specs.BatchValue.{BatchValue}
 use Rattle.streetmap_ledger.specs.State.{State}
 use Rattle.streetmap_ledger.specs.Batches.{after_all}
 use Rattle.streetmap_routes.specs.Ask.{AskValue}
-use Rattle.streetmap_web.specs.Standing.{RequestOutcome, told, starved, failed, looked, of_state}
-use Rattle.streetmap_web.specs.Exchanges.{HttpExchange, Around, Serves, with_batch, batches_of}
+use Rattle.streetmap_web.specs.Standing.{RequestOutcome, as_asked, no_memory, device_failed}
+use Rattle.streetmap_web.specs.Standing.{of_keeper, of_state}
+use Rattle.streetmap_web.specs.Exchanges.{HttpExchange, Around, ServesExchanges, with_batch}
+use Rattle.streetmap_web.specs.Exchanges.{batches_of}
 use Rattle.streetmap_web.specs.Exchanges.{last_of}
 use Rattle.streetmap_web.specs.declared.serving.End.{End}
 
 -- a batch before others, where the keeper acted on it: it was answered without a fault, or the
 -- device failed at it
 abbrev pub with_acted : AskValue → RequestOutcome → List BatchValue → List BatchValue
-with_acted ask told others = with_batch ask others
-with_acted ask starved others = others
-with_acted ask failed others = with_batch ask others
-with_acted ask (looked shown) others = others
+with_acted ask as_asked others = with_batch ask others
+with_acted ask no_memory others = others
+with_acted ask device_failed others = with_batch ask others
+with_acted ask (of_keeper shown) others = others
 
 abbrev pub batches_acted : List HttpExchange → List BatchValue
 batches_acted [] = []
@@ -38,7 +40,7 @@ LeavesBeginning s batches acknowledged left = (o : Option State) → left o → 
 -- Over what was served a stop may leave the state of a beginning of the batches acted on that
 -- contains each that was answered without a fault.
 abbrev pub ServedLeaves : (root : Text) (end : End) (count : ℕ) (s : State) (a : Around)
-    → Serves root end count (of_state s) a → (Option State → Type 0) → Type 0
+    → ServesExchanges root end count (of_state s) a → (Option State → Type 0) → Type 0
 ServedLeaves root end count s a serves left =
     let last = last_of serves.turn root _ _ serves.ends in
     LeavesBeginning s (batches_of serves.exchanges ++ batches_acted last)

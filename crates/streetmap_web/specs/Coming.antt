@@ -1,7 +1,7 @@
 -- How a keeper came along requests, and what it is between them.
 use Rattle.std.specs.Prelude.{◌≡◌, List, [], ◌∷◌, Bool, true, Option, IsSome}
 use Rattle.streetmap_batch.specs.Text.{Text}
-use Rattle.streetmap_web.specs.Standing.{Standing, failed, IsKnown, Leaves}
+use Rattle.streetmap_web.specs.Standing.{Standing, device_failed, IsKnown, Leaves}
 use Rattle.streetmap_web.specs.Sight.{Sight, StandsSo}
 use Rattle.streetmap_web.specs.Response.{asks_state}
 use Rattle.streetmap_web.specs.Responds.{TellsBatch}
@@ -11,17 +11,15 @@ use Rattle.streetmap_web.specs.Exchanges.{standing_after}
 
 -- A request was answered, and led from one keeper to another: a batch was answered by what `apply`
 -- came to between them, or the keeper was never asked and is as it was; where the answer is that
--- the
--- device failed, the store failed; and where what asks the state is answered by a failure (status
--- 500),
--- the keeper is shut.
+-- the device failed, the store failed; and where what asks the state is answered by a failure
+-- (status 500), the keeper is shut.
 pub record Comes {K : Type 0} (sight : Sight K) (root : Text) (x : Standing) (old : K)
     (e : HttpExchange)
     (new : K) : Type 0 where
   pub told :
       TellsBatch sight.applies e.request.ask e.request.closes e.request.bare (answer_bytes root x e)
       (closes root x e) old new
-  pub device : e.outcome ≡ failed → sight.fails old new
+  pub device : e.outcome ≡ device_failed → sight.fails old new
   pub shuts :
       asks_state e.request.ask ≡ true → (response root x e).status ≡ 500 → IsSome (sight.cause new)
 
@@ -38,23 +36,23 @@ ComesAll {K} sight root x old (e ∷ es) new =
 -- two keepers, with what a reader has left and a writer holds before and after
 abbrev pub around :
     {K : Type 0} (sight : Sight K) (root : Text) (x : Standing)
-    (old_left new_left old_held new_held : Option Text) (old new : K) → Around
-around sight root x old_left new_left old_held new_held old new = record {
-  old_left = old_left;
-  new_left = new_left;
-  old_held = old_held;
-  new_held = new_held;
+    (input_before input_after output_before output_after : Option Text) (old new : K) → Around
+around sight root x input_before input_after output_before output_after old new = record {
+  input_before = input_before;
+  input_after = input_after;
+  output_before = output_before;
+  output_after = output_after;
   stands = StandsSo sight new;
   known = IsKnown x (sight.may_leave old);
-  old_leaves = sight.may_leave old;
-  new_leaves = sight.may_leave new;
+  crash_before = sight.may_leave old;
+  crash_after = sight.may_leave new;
   comes = λ es. ComesAll sight root x old es new;
 }
 
 -- one request was answered between two keepers: these bytes are it and this text is its answer, the
 -- second keeper stands for what is after it, and a stop may leave that
-pub record Answered {K : Type 0} (sight : Sight K) (root : Text) (x : Standing) (bytes text : Text)
-    (closing : Bool) (old new : K) : Type 0 where
+pub record AnswersRequest {K : Type 0} (sight : Sight K) (root : Text) (x : Standing)
+    (bytes text : Text) (closing : Bool) (old new : K) : Type 0 where
   pub exchange : HttpExchange
   pub bytes_are : exchange.bytes ≡ bytes
   pub is : IsExchange x exchange

@@ -13,7 +13,8 @@ use Rattle.streetmap_ledger.specs.State.{State}
 use Rattle.streetmap_ledger.specs.Batches.{after_all}
 use Rattle.streetmap_routes.specs.Ask.{AskValue, faulty, batch, ask_of}
 use Rattle.streetmap_web.specs.Response.{ResponseValue, closes_with, response_text}
-use Rattle.streetmap_web.specs.Standing.{Standing, RequestOutcome, told, starved, failed, looked}
+use Rattle.streetmap_web.specs.Standing.{Standing, RequestOutcome, as_asked, no_memory}
+use Rattle.streetmap_web.specs.Standing.{device_failed, of_keeper}
 use Rattle.streetmap_web.specs.Standing.{CanBe, answer_by, after, Leaves, LeavesUntouched}
 use Rattle.streetmap_web.specs.Standing.{of_state, shut, unknown}
 use Rattle.streetmap_web.specs.Turns.{begun_in, end_of}
@@ -57,7 +58,7 @@ pub data Asks (e : HttpExchange) : Type 0 where
   broken : (bare : Bool) (fault : FramingFault) → Breaks e.bytes bare fault
       → e.request ≡ broken_request bare fault → Asks e
   no_room : (h : HeadValue) → IsHead e.bytes → Frames e.bytes (sized h)
-      → e.request ≡ request_of h [] → e.outcome ≡ starved → Asks e
+      → e.request ≡ request_of h [] → e.outcome ≡ no_memory → Asks e
 
 -- the answer, over a keeper that stands so
 abbrev pub response : Text → Standing → HttpExchange → ResponseValue
@@ -107,10 +108,10 @@ with_batch _ others = others
 
 -- the same, where it was answered as asked
 abbrev pub with_answered : AskValue → RequestOutcome → List BatchValue → List BatchValue
-with_answered ask told others = with_batch ask others
-with_answered ask starved others = others
-with_answered ask failed others = others
-with_answered ask (looked shown) others = others
+with_answered ask as_asked others = with_batch ask others
+with_answered ask no_memory others = others
+with_answered ask device_failed others = others
+with_answered ask (of_keeper shown) others = others
 
 -- the batches that the keeper answered without a fault, in order
 abbrev pub batches_of : List HttpExchange → List BatchValue
@@ -126,47 +127,46 @@ after_batches unknown bs = unknown
 -- ---- ends
 
 -- what a keeper, a reader and a writer are before and after; what was known of the states that a
--- stop
--- may leave; and along which exchanges the keeper came from the one to the other
+-- stop may leave; and along which exchanges the keeper came from the one to the other
 pub record Around : Type 1 where
-  pub old_left : Option Text
-  pub new_left : Option Text
-  pub old_held : Option Text
-  pub new_held : Option Text
+  pub input_before : Option Text
+  pub input_after : Option Text
+  pub output_before : Option Text
+  pub output_after : Option Text
   pub stands : Standing → Type 0
   pub known : Type 0
-  pub old_leaves : Option State → Type 0
-  pub new_leaves : Option State → Type 0
+  pub crash_before : Option State → Type 0
+  pub crash_after : Option State → Type 0
   pub comes : List HttpExchange → Type 0
 
 -- a request was read and acted on: its bytes are off the reader, the keeper stands for what is
 -- after it, and a stop may leave that
 pub record Acted (x : Standing) (e : HttpExchange) (a : Around) : Type 0 where
   pub is : IsExchange x e
-  pub read : Consumes a.old_left a.new_left e.bytes
+  pub read : Consumes a.input_before a.input_after e.bytes
   pub stands : a.stands (standing_after x e)
-  pub leaves : Leaves x e.request.ask e.outcome a.known a.old_leaves a.new_leaves
+  pub leaves : Leaves x e.request.ask e.outcome a.known a.crash_before a.crash_after
 
 -- nothing was acted on or written
-pub record Rested (x : Standing) (a : Around) : Type 0 where
-  pub written : Keeps a.old_held a.new_held
+pub record DoesNothing (x : Standing) (a : Around) : Type 0 where
+  pub written : Keeps a.output_before a.output_after
   pub stands : a.stands x
-  pub leaves : LeavesUntouched x a.known a.old_leaves a.new_leaves
+  pub leaves : LeavesUntouched x a.known a.crash_before a.crash_after
 
 -- what a turn did
 abbrev pub TurnSays : Turn → Text → Standing → Around → Type 0
 TurnSays Open root x a = (e : HttpExchange) × Acted x e a
-    × Appends a.old_held a.new_held (answer_bytes root x e) × (closes root x e ≡ false)
+    × Appends a.output_before a.output_after (answer_bytes root x e) × (closes root x e ≡ false)
 TurnSays Closed root x a = (e : HttpExchange) × Acted x e a
-    × Appends a.old_held a.new_held (answer_bytes root x e) × (closes root x e ≡ true)
+    × Appends a.output_before a.output_after (answer_bytes root x e) × (closes root x e ≡ true)
 TurnSays (WriteFailed begun) root x a = (e : HttpExchange) × Acted x e a × (n : ℕ)
     × (n < length (answer_bytes root x e)) × (begun ≡ nat_lt 0 n)
-    × Appends a.old_held a.new_held (take n (answer_bytes root x e))
-TurnSays Ended root x a = Rested x a × (bytes : Text) × IsBlank bytes
-    × Consumes a.old_left a.new_left bytes × IsAtEnd a.new_left
-TurnSays Truncated root x a = Rested x a × (bytes : Text) × IsUnfinished bytes
-    × Consumes a.old_left a.new_left bytes × IsAtEnd a.new_left
-TurnSays ReadFailed root x a = Rested x a
+    × Appends a.output_before a.output_after (take n (answer_bytes root x e))
+TurnSays Ended root x a = DoesNothing x a × (bytes : Text) × IsBlank bytes
+    × Consumes a.input_before a.input_after bytes × IsAtEnd a.input_after
+TurnSays Truncated root x a = DoesNothing x a × (bytes : Text) × IsUnfinished bytes
+    × Consumes a.input_before a.input_after bytes × IsAtEnd a.input_after
+TurnSays ReadFailed root x a = DoesNothing x a
 
 -- the request that was answered in a turn, where one was
 abbrev pub last_of :
@@ -186,18 +186,19 @@ TurnComes turn root x a =
 
 -- what was served: exchanges that leave the connection open, and then the turn that ends it; the
 -- keeper came along all of them
-pub record Serves (root : Text) (end : End) (count : ℕ) (x : Standing) (a : Around) : Type 0 where
+pub record ServesExchanges (root : Text) (end : End) (count : ℕ) (x : Standing) (a : Around)
+    : Type 0 where
   pub exchanges : List HttpExchange
   pub turn : Turn
   pub middle : Option Text
   pub written : Option Text
   pub go_on : GoOn root x exchanges
-  pub read : Consumes a.old_left middle (all_requests exchanges)
-  pub answered : Appends a.old_held written (all_answers root x exchanges)
+  pub read : Consumes a.input_before middle (all_requests exchanges)
+  pub answered : Appends a.output_before written (all_answers root x exchanges)
   pub batches : standing_after_all x exchanges ≡ after_batches x (batches_of exchanges)
   pub ends :
       TurnSays turn root (standing_after_all x exchanges)
-      (record a { old_left = middle; old_held = written })
+      (record a { input_before = middle; output_before = written })
   pub end_is : end ≡ end_of turn
   pub closed : turn ≢ Open
   pub counted : count ≡ (if begun_in turn then length exchanges + 1 else length exchanges)

@@ -15,7 +15,8 @@ use Rattle.streetmap_routes.specs.Ask.{AskValue, batch}
 use Rattle.streetmap_web.specs.Response.{ResponseValue, response_in, response_shut, state_in}
 use Rattle.streetmap_web.specs.Response.{asks_state, fault_response, closes_with, response_text}
 use Rattle.streetmap_web.specs.Response.{replied}
-use Rattle.streetmap_web.specs.Standing.{Standing, RequestOutcome, failed, answer_by, after, CanBe}
+use Rattle.streetmap_web.specs.Standing.{Standing, RequestOutcome, device_failed, answer_by, after}
+use Rattle.streetmap_web.specs.Standing.{CanBe}
 use Rattle.streetmap_web.specs.Standing.{Leaves, IsKnown}
 use Rattle.streetmap_web.specs.Sight.{Sight, StandsSo}
 use Rattle.streetmap_http.specs.declared.fault.FramingFault.{FramingFault}
@@ -96,7 +97,7 @@ AnswerLeaves s ask (Err faults.Reopen) left = LeavesOnly left (Some s)
 -- the connection closes, what the second keeper stands for, what a stop may leave, that the store
 -- failed where the device did, and that the keeper is shut where a failure is answered to what asks
 -- the state
-pub record Answers {K : Type 0} (sight : Sight K) (root : Text) (x : Standing) (ask : AskValue)
+pub record AnswersAsk {K : Type 0} (sight : Sight K) (root : Text) (x : Standing) (ask : AskValue)
     (asked bare : Bool) (text : Text) (closes : Bool) (old new : K) : Type 0 where
   pub outcome : RequestOutcome
   pub can : CanBe x ask outcome
@@ -106,7 +107,7 @@ pub record Answers {K : Type 0} (sight : Sight K) (root : Text) (x : Standing) (
   pub leaves :
       let left = sight.may_leave old in
       Leaves x ask outcome (IsKnown x left) left (sight.may_leave new)
-  pub device : outcome ≡ failed → sight.fails old new
+  pub device : outcome ≡ device_failed → sight.fails old new
   pub shuts : asks_state ask ≡ true → (answer_by root x ask outcome).status ≡ 500
       → IsSome (sight.cause new)
 

@@ -14,7 +14,8 @@ use Rattle.streetmap_web.specs.Sight.{Sight, StandsSo}
 use Rattle.streetmap_web.specs.Standing.{Standing}
 
 -- the exchange is this request of the web, answered over a keeper that stands so
-pub record IsAnswerTo (root : Text) (x : Standing) (e : Exchange) (w : web.HttpExchange) : Type 0 where
+pub record IsAnswerTo (root : Text) (x : Standing) (e : Exchange) (w : web.HttpExchange)
+    : Type 0 where
   pub is : web.IsExchange x w
   pub request : w.bytes ≡ e.request
   pub text : e.text ≡ web.answer_bytes root x w

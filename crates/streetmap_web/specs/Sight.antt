@@ -8,8 +8,8 @@ use Rattle.streetmap_ledger.specs.declared.reply.Reply.{Reply}
 use Rattle.streetmap_web.specs.Standing.{Standing, KeeperStands}
 
 -- the states that a keeper stands for, what shut it, what a stop may leave, and whether its store
--- is
--- clean; what `apply` came to from one keeper to another, what their store kept, and that it failed
+-- is clean; what `apply` came to from one keeper to another, what their store kept, and that it
+-- failed
 pub record Sight (K : Type 0) : Type 1 where
   pub stands : K → State → Type 0
   pub cause : K → Option Cause

@@ -18,63 +18,60 @@ pub data Standing : Type 0 where
   unknown : Standing
 
 -- the keeper that stands for these states, and that this shut, stands so; each one stands for
--- something
--- unknown
+-- something unknown
 abbrev pub KeeperStands : (State → Type 0) → Option Cause → Standing → Type 0
 KeeperStands stands cause (of_state s) = stands s
 KeeperStands stands cause (shut why) = cause ≡ Some why
 KeeperStands stands cause unknown = ⊤
 
 -- how a request came out: it was answered as asked, memory was refused, or the device failed; or
--- the
--- keeper answered so, of which nothing is known
+-- the keeper answered so, of which nothing is known
 pub data RequestOutcome : Type 0 where
-  told : RequestOutcome
-  starved : RequestOutcome
-  failed : RequestOutcome
-  looked : (shown : ResponseValue) → RequestOutcome
+  as_asked : RequestOutcome
+  no_memory : RequestOutcome
+  device_failed : RequestOutcome
+  of_keeper : (shown : ResponseValue) → RequestOutcome
 
 -- A device fails only where the state is asked of a keeper that is not shut. Where nothing is known
--- of
--- the keeper, what asks no state is answered as ever, and what asks it somehow.
+-- of the keeper, what asks no state is answered as ever, and what asks it somehow.
 abbrev pub CanBe : Standing → AskValue → RequestOutcome → Type 0
-CanBe (of_state s) ask told = ⊤
-CanBe (of_state s) ask starved = ⊤
-CanBe (of_state s) ask failed = asks_state ask ≡ true
-CanBe (of_state s) ask (looked shown) = ⊥
-CanBe (shut why) ask told = ⊤
-CanBe (shut why) ask starved = ⊤
-CanBe (shut why) ask failed = ⊥
-CanBe (shut why) ask (looked shown) = ⊥
-CanBe unknown ask told = asks_state ask ≡ false
-CanBe unknown ask starved = ⊤
-CanBe unknown ask failed = ⊥
-CanBe unknown ask (looked shown) = asks_state ask ≡ true
+CanBe (of_state s) ask as_asked = ⊤
+CanBe (of_state s) ask no_memory = ⊤
+CanBe (of_state s) ask device_failed = asks_state ask ≡ true
+CanBe (of_state s) ask (of_keeper shown) = ⊥
+CanBe (shut why) ask as_asked = ⊤
+CanBe (shut why) ask no_memory = ⊤
+CanBe (shut why) ask device_failed = ⊥
+CanBe (shut why) ask (of_keeper shown) = ⊥
+CanBe unknown ask as_asked = asks_state ask ≡ false
+CanBe unknown ask no_memory = ⊤
+CanBe unknown ask device_failed = ⊥
+CanBe unknown ask (of_keeper shown) = asks_state ask ≡ true
 
 -- the answer
 abbrev pub answer_by : Text → Standing → AskValue → RequestOutcome → ResponseValue
-answer_by root (of_state s) ask told = response_in root s ask
-answer_by root (shut why) ask told = response_shut root ask
-answer_by root unknown ask told = response_shut root ask
-answer_by root x ask starved = fault_response (Keeper Memory)
-answer_by root x ask failed = fault_response (Keeper Device)
-answer_by root x ask (looked shown) = shown
+answer_by root (of_state s) ask as_asked = response_in root s ask
+answer_by root (shut why) ask as_asked = response_shut root ask
+answer_by root unknown ask as_asked = response_shut root ask
+answer_by root x ask no_memory = fault_response (Keeper Memory)
+answer_by root x ask device_failed = fault_response (Keeper Device)
+answer_by root x ask (of_keeper shown) = shown
 
 -- what the keeper stands for afterwards
 abbrev pub after : Standing → AskValue → RequestOutcome → Standing
-after (of_state s) ask told = of_state (state_in s ask)
-after (of_state s) ask starved = of_state s
-after (of_state s) ask failed = shut causes.Device
-after (of_state s) ask (looked shown) = of_state s
+after (of_state s) ask as_asked = of_state (state_in s ask)
+after (of_state s) ask no_memory = of_state s
+after (of_state s) ask device_failed = shut causes.Device
+after (of_state s) ask (of_keeper shown) = of_state s
 after (shut why) ask outcome = shut why
 after unknown ask outcome = unknown
 
 -- what a stop may leave behind a request, where it could leave the state and no other before
 abbrev pub StateLeaves : State → AskValue → RequestOutcome → (Option State → Type 0) → Type 0
-StateLeaves s ask told left = LeavesOnly left (Some (state_in s ask))
-StateLeaves s ask starved left = LeavesOnly left (Some s)
-StateLeaves s ask failed left = LeavesEither left (Some s) (Some (state_in s ask))
-StateLeaves s ask (looked shown) left = LeavesOnly left (Some s)
+StateLeaves s ask as_asked left = LeavesOnly left (Some (state_in s ask))
+StateLeaves s ask no_memory left = LeavesOnly left (Some s)
+StateLeaves s ask device_failed left = LeavesEither left (Some s) (Some (state_in s ask))
+StateLeaves s ask (of_keeper shown) left = LeavesOnly left (Some s)
 
 -- exactly what it could leave before
 abbrev pub LeavesAsBefore : (old new : Option State → Type 0) → Type 0

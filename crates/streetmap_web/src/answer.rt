@@ -13,7 +13,7 @@ ghost use Rattle.streetmap_routes.specs.BaseView.{root_of};
 ghost use Rattle.streetmap_web.specs.Response.{response_text, closes_with, head_of, fault_response};
 ghost use Rattle.streetmap_web.specs.Standing.{Standing, KeeperStands, LeavesAsBefore};
 ghost use Rattle.streetmap_web.specs.Sight.{sight_of};
-ghost use Rattle.streetmap_web.specs.Responds.{response_value, Answers, TriesIn};
+ghost use Rattle.streetmap_web.specs.Responds.{response_value, AnswersAsk, TriesIn};
 ghost use Rattle.streetmap_web.specs.Responds.{TriesShut, TriesAny, AnswerLeaves, BatchTries};
 ghost use Rattle.streetmap_web.specs.Responds.{TellsBatch};
 ghost use Rattle.streetmap_web.specs.Responds.{RefusesBy};
@@ -182,7 +182,7 @@ pub(crate) fn answer_to<K: Keeper>(
     ensures began_clean { K.is_clean keeper.new → K.is_clean keeper.old }
     ensures answers { K.is_clean keeper.new → (x : Standing) →
         KeeperStands (K.stands keeper.old) (K.cause keeper.old) x →
-        Answers (sight_of K.stands K.cause K.may_leave K.is_clean K.applies K.spares K.fails)
+        AnswersAsk (sight_of K.stands K.cause K.may_leave K.is_clean K.applies K.spares K.fails)
         (root_of base.now) x
         (ask_of request.entry.method.now request.entry.target.now body.now)
         request.entry.closes (is_bare_of request.entry.method.now)

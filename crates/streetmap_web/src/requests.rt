@@ -5,7 +5,7 @@ ghost use Rattle.streetmap_http.specs.Framing.{HeadValue, IsRequest, is_bare as 
 ghost use Rattle.streetmap_batch.specs.Text.{Text};
 ghost use Rattle.streetmap_routes.specs.Ask.{ask_of};
 ghost use Rattle.streetmap_routes.specs.BaseView.{root_of};
-ghost use Rattle.streetmap_web.specs.Coming.{Answered};
+ghost use Rattle.streetmap_web.specs.Coming.{AnswersRequest};
 ghost use Rattle.streetmap_connections.specs.Answers.{answer_text};
 ghost use Rattle.streetmap_web.specs.Responds.{TellsBatch};
 ghost use Rattle.streetmap_web.specs.Sight.{sight_of};
@@ -35,7 +35,7 @@ pub fn answer_request<K: Keeper>(
     // afterwards. Want of memory (503) leaves the state as it was, and a 500 a keeper that is shut.
     ensures answers { K.is_clean keeper.new → (x : Standing) →
         KeeperStands (K.stands keeper.old) (K.cause keeper.old) x →
-        Answered (sight_of K.stands K.cause K.may_leave K.is_clean K.applies K.spares K.fails)
+        AnswersRequest (sight_of K.stands K.cause K.may_leave K.is_clean K.applies K.spares K.fails)
         (root_of base.now) x request.now (answer_text result.0) result.1 keeper.old keeper.new }
     // A batch is answered as the keeper answered it, whatever the reply is; 503 comes where the
     // keeper answered so, or was never asked.

@@ -12,7 +12,7 @@ ghost use Rattle.streetmap_web.specs.Coming.{around};
 ghost use Rattle.streetmap_connections.specs.Answers.{answer_text};
 ghost use Rattle.streetmap_web.specs.Sight.{sight_of};
 ghost use Rattle.streetmap_web.specs.Standing.{Standing, KeeperStands};
-ghost use Rattle.streetmap_web.specs.Exchanges.{TurnComes, Serves};
+ghost use Rattle.streetmap_web.specs.Exchanges.{TurnComes, ServesExchanges};
 ghost use Rattle.streetmap_web.specs.Turns.{turn_after, end_of, begun_in, FillSays, RefuseSays};
 
 use crate::answer::{answer_to, fixed, refused};
@@ -247,7 +247,7 @@ pub fn serve<K: Keeper, R: BufRead, W: Write>(
     // request that state or the one before it.
     ensures serves { K.is_clean keeper.new → (x : Standing) →
         KeeperStands (K.stands keeper.old) (K.cause keeper.old) x →
-        Serves (root_of base.now) result.end result.answers x
+        ServesExchanges (root_of base.now) result.end result.answers x
         (around (sight_of K.stands K.cause K.may_leave K.is_clean K.applies K.spares K.fails)
         (root_of base.now) x (R.remaining reader.old) (R.remaining reader.new)
         (W.contents writer.old) (W.contents writer.new) keeper.old keeper.new) }

@@ -2,7 +2,7 @@ use Rattle.std.proofs.Common.{◌≡◌, false, rules, length, IsTrue, string_by
 use Rattle.sqlite.specs.Order.{column}
 use Rattle.sqlite.specs.declared.types.Value.TheVariants.{Int}
 use Rattle.streetmap_batch.specs.Names.{is_key}
-use Rattle.streetmap_rows.proofs.Answering.{handed_on}
+use Rattle.streetmap_rows.proofs.ResultCases.{handed_on}
 use Rattle.streetmap_checking.specs.Good.{HasBatch}
 use Rattle.streetmap_checking.proofs.Taking.{no_key, has_batch, batch_of}
 use Rattle.streetmap_checking.proofs.batches.batch_in.Goals as goal

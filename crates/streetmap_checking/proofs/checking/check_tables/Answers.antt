@@ -1,11 +1,11 @@
 use Rattle.std.proofs.Common.{ap, subst}
 use Rattle.sqlite.specs.Held.{state}
-use Rattle.streetmap_tables.proofs.Stopping.{clean_back}
-use Rattle.streetmap_tables.proofs.Opened.{rests_same}
+use Rattle.streetmap_tables.proofs.BeforeCleanEnd.{clean_back}
+use Rattle.streetmap_tables.proofs.RestsAfterTables.{rests_same}
 use Rattle.streetmap_rows.specs.declared.failing.Stop.TheVariants.{Closed}
 use Rattle.streetmap_rows.specs.declared.failing.Shut.TheVariants.{Device}
 use Rattle.streetmap_rows.specs.Settling.{Settles}
-use Rattle.streetmap_rows.proofs.Reasons.{stops_settled}
+use Rattle.streetmap_rows.proofs.ErrorReasons.{stops_settled}
 use Rattle.streetmap_checking.proofs.Undone.{unchanged_was}
 use Rattle.streetmap_checking.proofs.OfState.{totals_of, never_damaged, damaged_told, refused_told}
 use Rattle.streetmap_checking.proofs.OfState.{refused_for}

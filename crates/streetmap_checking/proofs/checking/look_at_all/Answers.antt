@@ -1,10 +1,10 @@
 use Rattle.std.proofs.Common.{◌≡◌, [], sym, ◌∙◌, length, map, subst, rules}
 use Rattle.sqlite.specs.Held.{state}
 use Rattle.sqlite.proofs.Callers.{unchanged_then}
-use Rattle.streetmap_reading.proofs.Rests.{clean_before}
-use Rattle.streetmap_tables.proofs.Stopping.{is_handed}
+use Rattle.streetmap_reading.proofs.BetweenRows.{clean_before}
+use Rattle.streetmap_tables.proofs.BeforeCleanEnd.{is_handed}
 use Rattle.streetmap_rows.specs.Statements.{select_collections}
-use Rattle.streetmap_rows.proofs.Reasons.{counts_then}
+use Rattle.streetmap_rows.proofs.ErrorReasons.{counts_then}
 use Rattle.streetmap_checking.specs.Checking.{IsDamaged, by_format, by_collections, by_features, by_owners, by_batches}
 use Rattle.streetmap_checking.specs.Good.{AreCollectionRows, AreOwnerRows, AreBatchRows}
 use Rattle.streetmap_checking.specs.Held.{known}

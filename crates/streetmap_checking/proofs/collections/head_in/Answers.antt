@@ -1,7 +1,7 @@
 use Rattle.std.proofs.Common.{◌≡◌, rules, length, IsTrue, IsUtf8, string_bytes}
 use Rattle.std.proofs.lemmas.Str.{is_utf8-from_IsUtf8}
 use Rattle.streetmap_batch.specs.Names.{is_collection_id, is_title}
-use Rattle.streetmap_rows.proofs.Answering.{handed_on}
+use Rattle.streetmap_rows.proofs.ResultCases.{handed_on}
 use Rattle.streetmap_checking.proofs.RowCells.{head_row}
 use Rattle.streetmap_checking.proofs.Taking.{no_id, no_title, no_time}
 use Rattle.streetmap_checking.proofs.collections.head_in.Goals as goal

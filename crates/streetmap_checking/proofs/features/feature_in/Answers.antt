@@ -2,7 +2,7 @@ use Rattle.std.proofs.Common.{◌≡◌, rules, option_map, string_bytes}
 use Rattle.std.specs.Option.{option_copied}
 use Rattle.sqlite.specs.Order.{column}
 use Rattle.sqlite.specs.declared.types.Value.TheVariants.{Text as Words}
-use Rattle.streetmap_rows.proofs.Answering.{handed_on}
+use Rattle.streetmap_rows.proofs.ResultCases.{handed_on}
 use Rattle.streetmap_checking.proofs.Taking.{no_feature}
 use Rattle.streetmap_checking.proofs.features.feature_in.Goals as goal
 

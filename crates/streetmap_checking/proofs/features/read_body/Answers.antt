@@ -5,7 +5,7 @@ use Rattle.serde_json.specs.View.{view}
 use Rattle.streetmap_geojson.specs.Fault.{Fails}
 use Rattle.streetmap_geojson.specs.FeatureMeaning.{ReadsAs}
 use Rattle.streetmap_feature_text.specs.Written.{feature_data}
-use Rattle.streetmap_rows.proofs.Reading.{body_reads, body_is_json, no_fault}
+use Rattle.streetmap_rows.proofs.TextAgain.{body_reads, body_is_json, no_fault}
 use Rattle.streetmap_checking.proofs.Refusing.{time_is}
 use Rattle.streetmap_checking.proofs.features.read_body.Goals as goal
 

@@ -3,8 +3,8 @@ use Rattle.std.proofs.lemmas.List.{take_all}
 use Rattle.sqlite.specs.Held.{state}
 use Rattle.sqlite.proofs.Callers.{unchanged_then}
 use Rattle.sqlite.proofs.StateLemmas.{unchanged}
-use Rattle.streetmap_reading.proofs.Rests.{survives_still, survives_on, clean_before}
-use Rattle.streetmap_tables.proofs.Stopping.{is_handed}
+use Rattle.streetmap_reading.proofs.BetweenRows.{survives_still, survives_on, clean_before}
+use Rattle.streetmap_tables.proofs.BeforeCleanEnd.{is_handed}
 use Rattle.streetmap_checking.specs.Held.{known}
 use Rattle.streetmap_checking.specs.Looking.{known_of}
 use Rattle.streetmap_checking.specs.Telling.{SeesAllFeatures, NoFeatures, NoFeaturesOfAll}

@@ -1,7 +1,7 @@
 use Rattle.std.proofs.Common.{◌≡◌, [], None, false, refl, sym, subst, ◌∙◌, length, rules}
 use Rattle.std.proofs.lemmas.Result.{err_from_is_err_and}
 use Rattle.sqlite.specs.Held.{state}
-use Rattle.streetmap_tables.proofs.Stopping.{is_handed}
+use Rattle.streetmap_tables.proofs.BeforeCleanEnd.{is_handed}
 use Rattle.streetmap_checking.specs.Good.{AreBatchRows, AreSerials}
 use Rattle.streetmap_checking.specs.Held.{HoldsBatchRows, IsGoodBatches}
 use Rattle.streetmap_checking.specs.Statements.{select_batches}

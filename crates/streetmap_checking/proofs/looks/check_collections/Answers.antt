@@ -1,6 +1,6 @@
 use Rattle.std.proofs.Common.{[], refl, ap}
 use Rattle.sqlite.specs.Held.{state}
-use Rattle.streetmap_tables.proofs.Stopping.{is_handed}
+use Rattle.streetmap_tables.proofs.BeforeCleanEnd.{is_handed}
 use Rattle.streetmap_rows.specs.Statements.{select_collections}
 use Rattle.streetmap_checking.specs.Good.{AreCollectionRows}
 use Rattle.streetmap_checking.specs.Held.{HoldsCollectionRows, IsGoodCollections, known}

@@ -3,7 +3,7 @@ use Rattle.sqlite.specs.Held.{state}
 use Rattle.sqlite.specs.declared.types.Value.TheVariants.{Text as Words}
 use Rattle.sqlite.proofs.StateLemmas.{unchanged}
 use Rattle.std.proofs.lemmas.Result.{err_from_is_err_and}
-use Rattle.streetmap_tables.proofs.Stopping.{is_handed}
+use Rattle.streetmap_tables.proofs.BeforeCleanEnd.{is_handed}
 use Rattle.streetmap_checking.specs.Good.{AreFeatureRows}
 use Rattle.streetmap_checking.specs.Held.{HoldsFeatureRows, IsGoodFeatures}
 use Rattle.streetmap_checking.specs.Looking.{known_of}

@@ -1,6 +1,6 @@
 use Rattle.std.proofs.Common.{[], inl, refl, rules, arith}
 use Rattle.sqlite.specs.Held.{state}
-use Rattle.streetmap_tables.proofs.Stopping.{is_handed}
+use Rattle.streetmap_tables.proofs.BeforeCleanEnd.{is_handed}
 use Rattle.streetmap_checking.specs.Good.{AreFormatRows}
 use Rattle.streetmap_checking.specs.Held.{HoldsFormatRows, IsGoodFormat}
 use Rattle.streetmap_checking.specs.Statements.{select_formats}

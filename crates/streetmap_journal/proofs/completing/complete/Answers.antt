@@ -5,12 +5,12 @@ use Rattle.std.specs.Prelude.{Vec}
 use Rattle.std.specs.declared.alloc.Global.{Global}
 use Rattle.streetmap_ledger.specs.declared.reply.Fault.TheVariants.{Device, Reopen}
 use Rattle.streetmap_journal.specs.Completing.{IsKeptLine}
-use Rattle.streetmap_journal.specs.Telling.{IsTold}
+use Rattle.streetmap_journal.specs.Telling.{WriterIsTold}
 use Rattle.streetmap_journal.specs.Written.{position_of}
-use Rattle.streetmap_journal.proofs.Completed.{looks_fault, shut_further, reopen_further}
-use Rattle.streetmap_journal.proofs.Noted.{completed_holds, settled_holds}
+use Rattle.streetmap_journal.proofs.LooksInTurn.{looks_fault, shut_further, reopen_further}
+use Rattle.streetmap_journal.proofs.LineBehindBatch.{completed_holds, settled_holds}
 use Rattle.streetmap_journal.proofs.Telling.{still_told}
-use Rattle.streetmap_journal.proofs.Told.{opened_further}
+use Rattle.streetmap_journal.proofs.PartOfLine.{opened_further}
 use Rattle.streetmap_journal.proofs.completing.complete.Goals as goal
 
 pub loop-turn-preserved : goal.loop-turn-preserved
@@ -124,7 +124,7 @@ returns-in-Err g c =
           line k.stands k.may_leave fault same inv.opened says.faults (says.reopen (ap Err same));
       after = inv.after;
       told = inv.told;
-      whole = λ was is. absurd {A = IsTold W.told W.is_kept c.loop-turn.journal}
+      whole = λ was is. absurd {A = WriterIsTold W.told W.is_kept c.loop-turn.journal}
           (let no : true ≡ false = sym was ∙ (sym inv.behind ∙ is) in cc);
       goes = inv.goes;
       failed = λ ok was. absurd {A = W.fails c.args.journal.now.writer c.loop-turn.journal.writer}
@@ -160,7 +160,7 @@ returns g c =
           (Unit {0}) k.stands k.may_leave fault same inv.opened says.faults (says.reopen same);
       after = inv.after;
       told = inv.told;
-      whole = λ was is. absurd {A = IsTold W.told W.is_kept c.loop-turn.journal}
+      whole = λ was is. absurd {A = WriterIsTold W.told W.is_kept c.loop-turn.journal}
           (let no : true ≡ false = sym was ∙ (sym inv.behind ∙ is) in cc);
       goes = inv.goes;
       failed = λ ok was. absurd {A = W.fails c.args.journal.now.writer c.loop-turn.journal.writer}

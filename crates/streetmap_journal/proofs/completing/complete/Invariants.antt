@@ -1,8 +1,8 @@
 use Rattle.std.specs.Prelude.{◌≡◌, Some}
 use Rattle.streetmap_ledger.specs.Keep.{LeavesOnly}
 use Rattle.streetmap_ledger.specs.State.{State}
-use Rattle.streetmap_journal.specs.Completing.{StaysOpen}
-use Rattle.streetmap_journal.specs.Telling.{IsTold}
+use Rattle.streetmap_journal.specs.Completing.{StaysUnshut}
+use Rattle.streetmap_journal.specs.Telling.{WriterIsTold}
 use Rattle.streetmap_journal.specs.Written.{HoldsIn}
 use Rattle.streetmap_journal.proofs.completing.complete.Given as goal
 
@@ -15,9 +15,9 @@ invariant-loop-turn g l =
       clean : k.is_clean l.keeper → k.is_clean l.fn.keeper;
       after : l.journal.after ≡ l.fn.journal.after;
       behind : l.journal.is_behind ≡ l.fn.journal.is_behind;
-      told : IsTold g.W.JournalWriter.told g.W.JournalWriter.is_kept l.fn.journal → IsTold g.W.JournalWriter.told g.W.JournalWriter.is_kept l.journal;
+      told : WriterIsTold g.W.JournalWriter.told g.W.JournalWriter.is_kept l.fn.journal → WriterIsTold g.W.JournalWriter.told g.W.JournalWriter.is_kept l.journal;
       goes : g.W.JournalWriter.goes l.fn.journal.writer l.journal.writer;
-      opened : StaysOpen k.cause l.fn.keeper l.keeper;
+      opened : StaysUnshut k.cause l.fn.keeper l.keeper;
       stood : k.is_clean l.keeper → (s : State) → k.stands l.fn.keeper s → k.stands l.keeper s;
       leaves : k.is_clean l.keeper → (s : State) → k.stands l.fn.keeper s →
           LeavesOnly (k.may_leave l.fn.keeper) (Some s) →

@@ -2,7 +2,7 @@ use Rattle.std.proofs.Common.{rules, ◌≡◌, true, sym, ◌∙◌, ap}
 use Rattle.streetmap_batch.specs.BatchView.{batch_value}
 use Rattle.streetmap_ledger.specs.Laws.{is_accepted}
 use Rattle.streetmap_ledger.specs.Batches.{act}
-use Rattle.streetmap_journal.proofs.Noted.{accepted_holds, refused_leaves}
+use Rattle.streetmap_journal.proofs.LineBehindBatch.{accepted_holds, refused_leaves}
 use Rattle.streetmap_journal.proofs.keeper.apply_and_note.Goals as goal
 
 pub returns-in-Ok-Accepted-clause-acts : goal.returns-in-Ok-Accepted-clause-acts

@@ -2,7 +2,7 @@ use Rattle.std.proofs.Common.{◌≡◌, List, ℕ, Ok, Err, subst, arith}
 use Rattle.streetmap_text_lines.specs.declared.fault.LineFault.TheVariants.{ReadFailed}
 use Rattle.streetmap_journal.specs.Matching.{MatchesLine, Matches, serial_behind}
 use Rattle.streetmap_journal.specs.declared.matching.MatchEnd.TheVariants.{NotRead}
-use Rattle.streetmap_journal.proofs.Alike.{begins, further, line_ends, all_read, cut_off, unread}
+use Rattle.streetmap_journal.proofs.LinesSoFar.{begins, further, line_ends, all_read, cut_off, unread}
 use Rattle.streetmap_journal.proofs.matching.match_lines.Goals.{in-Ok-Line+in-Err-match_line}
 use Rattle.streetmap_journal.proofs.matching.match_lines.Goals.{in-Ok-Cut, in-Ok-End, in-Err}
 use Rattle.streetmap_journal.proofs.matching.match_lines.Goals as goal

@@ -1,5 +1,5 @@
 use Rattle.streetmap_ledger.specs.State.{State}
-use Rattle.streetmap_journal.proofs.Alike.{SoFar}
+use Rattle.streetmap_journal.proofs.LinesSoFar.{SoFar}
 use Rattle.streetmap_journal.proofs.matching.match_lines.Given as goal
 
 -- so many lines are those of the journal

@@ -1,7 +1,7 @@
 use Rattle.std.proofs.Common.{◌≡◌, ◌≤◌, ◌+◌, ◌-◌, ◌^◌, ℕ, min, sym, ap, subst, ◌∙◌, arith}
 use Rattle.streetmap_ledger.specs.Kept.{batch_count}
 use Rattle.streetmap_journal.specs.Written.{position_of}
-use Rattle.streetmap_journal.proofs.Completed.{begun_holds}
+use Rattle.streetmap_journal.proofs.LooksInTurn.{begun_holds}
 use Rattle.streetmap_journal.proofs.starting.start_journal.Goals as goal
 
 pub returns-in-Ok-begin-clause-starts : goal.returns-in-Ok-begin-clause-starts

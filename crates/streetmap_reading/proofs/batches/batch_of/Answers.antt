@@ -1,10 +1,10 @@
 use Rattle.std.proofs.Common.{Some, sym, ap, subst, ◌∙◌}
 use Rattle.sqlite.specs.Held.{state}
 use Rattle.streetmap_reading.specs.Taking.{Stopped}
-use Rattle.streetmap_rows.proofs.Answering.{handed_on}
+use Rattle.streetmap_rows.proofs.ResultCases.{handed_on}
 use Rattle.streetmap_ledger.specs.Kept.{batch_in}
 use Rattle.streetmap_reading.specs.Serials.{column_serial}
-use Rattle.streetmap_reading.proofs.Showing.{column_is, passed, row_is, no_row, key_read}
+use Rattle.streetmap_reading.proofs.SerialStatement.{column_is, passed, row_is, no_row, key_read}
 use Rattle.streetmap_reading.proofs.batches.batch_of.Goals as goal
 
 pub returns-in_default-clause-shows : goal.returns-in_default-clause-shows

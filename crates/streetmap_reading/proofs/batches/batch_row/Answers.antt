@@ -1,13 +1,13 @@
 use Rattle.std.proofs.Common.{sym, option_map, pos, [], ◌∷◌, ◌∙◌, to_z-of_z}
 use Rattle.sqlite.specs.Held.{state}
 use Rattle.sqlite.specs.declared.types.Value.TheVariants.{Int}
-use Rattle.streetmap_reading.proofs.Pages.{stays_by, popped, survives_any}
-use Rattle.streetmap_reading.proofs.Told.{told}
-use Rattle.streetmap_reading.proofs.Looks.{answered}
+use Rattle.streetmap_reading.proofs.PageStatements.{stays_by, popped, survives_any}
+use Rattle.streetmap_reading.proofs.QueryFails.{told}
+use Rattle.streetmap_reading.proofs.WholeQueries.{answered}
 use Rattle.streetmap_ledger.specs.Kept.{batch_in}
 use Rattle.streetmap_reading.specs.Serials.{row_of}
 use Rattle.streetmap_reading.specs.BatchStatements.{select_serial}
-use Rattle.streetmap_reading.proofs.Showing.{serial_at}
+use Rattle.streetmap_reading.proofs.SerialStatement.{serial_at}
 use Rattle.streetmap_reading.proofs.batches.batch_row.Goals as goal
 
 pub returns-in-Ok-clause-finds : goal.returns-in-Ok-clause-finds

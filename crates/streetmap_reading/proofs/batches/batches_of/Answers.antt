@@ -2,14 +2,14 @@ use Rattle.std.proofs.Common.{Vec, Global}
 use Rattle.sqlite.specs.Held.{state}
 use Rattle.sqlite.specs.State.{IsUnchanged}
 use Rattle.streetmap_reading.specs.Taking.{Stopped}
-use Rattle.streetmap_reading.proofs.Pages.{stays_by, survives_any}
+use Rattle.streetmap_reading.proofs.PageStatements.{stays_by, survives_any}
 use Rattle.streetmap_ledger.specs.Kept.{batches_behind}
 use Rattle.streetmap_ledger.specs.KeptView.{keyed_batches}
 use Rattle.streetmap_ledger.specs.declared.kept_batch.KeptBatch.{KeptBatch}
 use Rattle.streetmap_reading.specs.Serials.{most_serial}
 use Rattle.streetmap_reading.specs.BatchStatements.{select_behind}
-use Rattle.streetmap_reading.proofs.Behind.{behind_at}
-use Rattle.streetmap_reading.proofs.Nexts.{keys_behind, most_passed, next_of}
+use Rattle.streetmap_reading.proofs.BehindSerial.{behind_at}
+use Rattle.streetmap_reading.proofs.NextBatches.{keys_behind, most_passed, next_of}
 use Rattle.streetmap_reading.proofs.batches.batches_of.Goals as goal
 
 pub returns-clause-shows : goal.returns-clause-shows

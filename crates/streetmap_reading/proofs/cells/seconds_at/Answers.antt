@@ -1,5 +1,5 @@
 use Rattle.std.proofs.Common.{arith}
-use Rattle.streetmap_reading.proofs.Readings.{good_of}
+use Rattle.streetmap_reading.proofs.RowReadings.{good_of}
 use Rattle.streetmap_reading.proofs.cells.seconds_at.Goals as goal
 
 pub returns-clause-reads : goal.returns-clause-reads

@@ -6,15 +6,15 @@ use Rattle.sqlite.specs.Order.{Row}
 use Rattle.sqlite.specs.declared.types.Value.TheVariants.{Text as Words}
 use Rattle.streetmap_geojson.specs.FeatureValue.{FeatureValue}
 use Rattle.streetmap_ledger.specs.Summaries.{all_vertices}
-use Rattle.streetmap_rows.proofs.Answering.{handed_on}
+use Rattle.streetmap_rows.proofs.ResultCases.{handed_on}
 use Rattle.streetmap_reading.proofs.Folded.{folded}
-use Rattle.streetmap_reading.proofs.Pages.{stays_by, survives_any}
+use Rattle.streetmap_reading.proofs.PageStatements.{stays_by, survives_any}
 use Rattle.streetmap_reading.specs.Held.{HoldsBounds}
 use Rattle.streetmap_reading.specs.Statements.{select_extents}
 use Rattle.streetmap_reading.specs.Telling.{features_in}
 use Rattle.streetmap_reading.specs.Views.{extent_row, feature_extent, IsExtentRow}
-use Rattle.streetmap_reading.proofs.Boxes.{bounds_extent}
-use Rattle.streetmap_reading.proofs.Lists.{map_again, none_mapped}
+use Rattle.streetmap_reading.proofs.PositionBounds.{bounds_extent}
+use Rattle.streetmap_reading.proofs.RowsInTurn.{map_again, none_mapped}
 use Rattle.streetmap_reading.proofs.ShownOutlines.{extents_at, geometries_fine, extent_rows}
 use Rattle.streetmap_reading.proofs.extents.extent_of.Goals as goal
 

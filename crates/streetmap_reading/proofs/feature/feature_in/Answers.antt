@@ -1,7 +1,7 @@
 use Rattle.std.specs.FinMap.{get}
 use Rattle.sqlite.specs.Held.{state}
 use Rattle.sqlite.proofs.StateLemmas.{unchanged}
-use Rattle.streetmap_reading.proofs.Features.{some_cell, text_first, stored_at, timeless, holder, read_on}
+use Rattle.streetmap_reading.proofs.FeatureStatement.{some_cell, text_first, stored_at, timeless, holder, read_on}
 use Rattle.streetmap_reading.proofs.feature.feature_in.Goals as goal
 
 pub returns-then-is_timeless-clause-shows : goal.returns-then-is_timeless-clause-shows

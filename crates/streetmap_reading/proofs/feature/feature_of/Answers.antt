@@ -3,10 +3,10 @@ use Rattle.sqlite.specs.Held.{state}
 use Rattle.sqlite.specs.State.{HasCleanDisk}
 use Rattle.sqlite.proofs.Callers.{unchanged_then}
 use Rattle.streetmap_ledger.specs.Pages.{feature_in}
-use Rattle.streetmap_rows.proofs.Answering.{handed_on}
-use Rattle.streetmap_reading.proofs.Features.{text_is}
-use Rattle.streetmap_reading.proofs.Pages.{keeps_still, survives_both}
-use Rattle.streetmap_reading.proofs.Rests.{stopped_on}
+use Rattle.streetmap_rows.proofs.ResultCases.{handed_on}
+use Rattle.streetmap_reading.proofs.FeatureStatement.{text_is}
+use Rattle.streetmap_reading.proofs.PageStatements.{keeps_still, survives_both}
+use Rattle.streetmap_reading.proofs.BetweenRows.{stopped_on}
 use Rattle.streetmap_reading.proofs.feature.feature_of.Goals as goal
 
 pub returns-in_err-feature-clause-shows : goal.returns-in_err-feature-clause-shows

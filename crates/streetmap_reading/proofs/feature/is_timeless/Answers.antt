@@ -1,5 +1,5 @@
 use Rattle.std.proofs.Common.{rules}
-use Rattle.streetmap_reading.proofs.Features.{null_is}
+use Rattle.streetmap_reading.proofs.FeatureStatement.{null_is}
 use Rattle.streetmap_reading.proofs.feature.is_timeless.Goals as goal
 
 pub returns-in-Ok-Null : goal.returns-in-Ok-Null

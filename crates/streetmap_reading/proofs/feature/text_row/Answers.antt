@@ -4,10 +4,10 @@ use Rattle.streetmap_ledger.specs.Pages.{feature_in}
 use Rattle.streetmap_reading.specs.Statements.{select_text}
 use Rattle.streetmap_rows.proofs.Deleting.{keys_of}
 use Rattle.streetmap_reading.specs.Candidates.{dated_row}
-use Rattle.streetmap_reading.proofs.Features.{text_at}
-use Rattle.streetmap_reading.proofs.Pages.{stays_by, popped, survives_any}
-use Rattle.streetmap_reading.proofs.Told.{told}
-use Rattle.streetmap_reading.proofs.Looks.{answered}
+use Rattle.streetmap_reading.proofs.FeatureStatement.{text_at}
+use Rattle.streetmap_reading.proofs.PageStatements.{stays_by, popped, survives_any}
+use Rattle.streetmap_reading.proofs.QueryFails.{told}
+use Rattle.streetmap_reading.proofs.WholeQueries.{answered}
 use Rattle.streetmap_reading.proofs.feature.text_row.Goals as goal
 
 pub returns-in-Ok-clause-finds : goal.returns-in-Ok-clause-finds

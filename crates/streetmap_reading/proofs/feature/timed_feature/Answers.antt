@@ -3,9 +3,9 @@ use Rattle.std.specs.FinMap.{get}
 use Rattle.sqlite.specs.Held.{state}
 use Rattle.streetmap_rows.specs.Stored.{IsStored}
 use Rattle.streetmap_reading.specs.Taking.{Stopped}
-use Rattle.streetmap_rows.proofs.Answering.{handed_on}
-use Rattle.streetmap_reading.proofs.Features.{some_cell, text_first, stored_at, read_on}
-use Rattle.streetmap_reading.proofs.Pages.{there_is}
+use Rattle.streetmap_rows.proofs.ResultCases.{handed_on}
+use Rattle.streetmap_reading.proofs.FeatureStatement.{some_cell, text_first, stored_at, read_on}
+use Rattle.streetmap_reading.proofs.PageStatements.{there_is}
 use Rattle.streetmap_reading.proofs.feature.timed_feature.Goals as goal
 
 pub returns-in_err-time-clause-shows : goal.returns-in_err-time-clause-shows

@@ -2,7 +2,7 @@ use Rattle.std.proofs.Common.{rules}
 use Rattle.sqlite.specs.Held.{state}
 use Rattle.sqlite.specs.State.{HasCleanDisk}
 use Rattle.sqlite.specs.Values.{bound}
-use Rattle.streetmap_reading.proofs.Rests.{clean_before}
+use Rattle.streetmap_reading.proofs.BetweenRows.{clean_before}
 use Rattle.streetmap_reading.proofs.Seeing.{begun, simple_there}
 use Rattle.streetmap_reading.proofs.Stopping.{took_on, took_at, refused}
 use Rattle.streetmap_reading.proofs.fold.fold_rows.Goals as goal

@@ -1,6 +1,6 @@
 use Rattle.std.proofs.Common.{sym, ◌∙◌, ap}
 use Rattle.std.specs.Option.{option_copied}
-use Rattle.streetmap_rows.proofs.Answering.{handed_on}
+use Rattle.streetmap_rows.proofs.ResultCases.{handed_on}
 use Rattle.streetmap_reading.proofs.Stopping.{at_end, at_row, at_fault, stops_at}
 use Rattle.streetmap_reading.proofs.fold.take_next.Goals as goal
 

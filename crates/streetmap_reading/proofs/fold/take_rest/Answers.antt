@@ -3,10 +3,10 @@ use Rattle.sqlite.specs.Held.{state}
 use Rattle.sqlite.specs.declared.error.Error.TheVariants.{SqliteFailure}
 use Rattle.sqlite.specs.declared.error.ErrorCode.TheVariants.{TooBig}
 use Rattle.sqlite.proofs.Callers.{unchanged_then}
-use Rattle.streetmap_rows.proofs.Answering.{handed_on}
-use Rattle.streetmap_rows.proofs.Reasons.{other}
+use Rattle.streetmap_rows.proofs.ResultCases.{handed_on}
+use Rattle.streetmap_rows.proofs.ErrorReasons.{other}
 use Rattle.streetmap_reading.specs.Folding.{TookNext}
-use Rattle.streetmap_reading.proofs.Rests.{given_open, survives_still, survives_on, clean_before}
+use Rattle.streetmap_reading.proofs.BetweenRows.{given_open, survives_still, survives_on, clean_before}
 use Rattle.streetmap_reading.proofs.Seeing.{simple_there}
 use Rattle.streetmap_reading.proofs.Stopping.{stops_on, sees_on}
 use Rattle.streetmap_reading.proofs.fold.take_rest.Goals as goal

@@ -1,6 +1,6 @@
 use Rattle.std.proofs.Common.{ap, arith}
 use Rattle.sqlite.specs.Order.{Row, column}
-use Rattle.streetmap_reading.proofs.Readings.{good_of, no_err, within}
+use Rattle.streetmap_reading.proofs.RowReadings.{good_of, no_err, within}
 use Rattle.streetmap_reading.proofs.outlines.outline_in.Goals as goal
 
 pub returns-in_err-extent-clause-reads : goal.returns-in_err-extent-clause-reads

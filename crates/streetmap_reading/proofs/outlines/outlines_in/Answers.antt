@@ -5,14 +5,14 @@ use Rattle.sqlite.specs.Held.{state}
 use Rattle.sqlite.specs.declared.types.Value.TheVariants.{Text as Words}
 use Rattle.streetmap_ledger.specs.Outlines.{feature_outline_of}
 use Rattle.streetmap_ledger.specs.OutlineView.{feature_outline_values}
-use Rattle.streetmap_rows.proofs.Answering.{handed_on}
+use Rattle.streetmap_rows.proofs.ResultCases.{handed_on}
 use Rattle.streetmap_reading.proofs.Folded.{folded}
-use Rattle.streetmap_reading.proofs.Pages.{stays_by, survives_any}
+use Rattle.streetmap_reading.proofs.PageStatements.{stays_by, survives_any}
 use Rattle.streetmap_reading.specs.Held.{HoldsOutlines}
 use Rattle.streetmap_reading.specs.Statements.{select_outlines}
 use Rattle.streetmap_reading.specs.Telling.{features_in}
 use Rattle.streetmap_reading.specs.Views.{outline_row, IsOutlineRow}
-use Rattle.streetmap_reading.proofs.Lists.{map_again, none_mapped}
+use Rattle.streetmap_reading.proofs.RowsInTurn.{map_again, none_mapped}
 use Rattle.streetmap_reading.proofs.ShownOutlines.{outlines_at, outlines_fine, outline_rows}
 use Rattle.streetmap_reading.proofs.outlines.outlines_in.Goals as goal
 

@@ -3,10 +3,10 @@ use Rattle.std.specs.FinMap.{get}
 use Rattle.sqlite.specs.Held.{state}
 use Rattle.sqlite.specs.State.{HasCleanDisk}
 use Rattle.sqlite.proofs.Callers.{unchanged_then}
-use Rattle.streetmap_rows.proofs.Answering.{handed_on}
-use Rattle.streetmap_reading.proofs.Rests.{stopped_on}
-use Rattle.streetmap_reading.proofs.Pages.{keeps_still, survives_both}
-use Rattle.streetmap_reading.proofs.Taken.{outlines_told}
+use Rattle.streetmap_rows.proofs.ResultCases.{handed_on}
+use Rattle.streetmap_reading.proofs.BetweenRows.{stopped_on}
+use Rattle.streetmap_reading.proofs.PageStatements.{keeps_still, survives_both}
+use Rattle.streetmap_reading.proofs.OneRowMore.{outlines_told}
 use Rattle.streetmap_reading.proofs.outlines.outlines_of.Goals as goal
 
 pub returns-clause-shows : goal.returns-clause-shows

@@ -3,11 +3,11 @@ use Rattle.std.specs.FinMap.{get}
 use Rattle.sqlite.specs.Held.{state}
 use Rattle.sqlite.specs.declared.types.Value.TheVariants.{Text as Words}
 use Rattle.streetmap_rows.specs.Statements.{select_collection}
-use Rattle.streetmap_reading.proofs.Shown.{collection_at, select_collection_plain}
+use Rattle.streetmap_reading.proofs.PageRowsShown.{collection_at, select_collection_plain}
 use Rattle.streetmap_rows.specs.Views.{collection_view}
-use Rattle.streetmap_reading.proofs.Pages.{stays_by, popped, survives_any}
-use Rattle.streetmap_reading.proofs.Told.{told}
-use Rattle.streetmap_reading.proofs.Looks.{answered}
+use Rattle.streetmap_reading.proofs.PageStatements.{stays_by, popped, survives_any}
+use Rattle.streetmap_reading.proofs.QueryFails.{told}
+use Rattle.streetmap_reading.proofs.WholeQueries.{answered}
 use Rattle.streetmap_reading.proofs.page.collection_row.Goals as goal
 
 pub returns-in-Ok-clause-finds : goal.returns-in-Ok-clause-finds

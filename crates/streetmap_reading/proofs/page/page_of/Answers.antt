@@ -7,9 +7,9 @@ use Rattle.streetmap_query.specs.Views.{query_value}
 use Rattle.streetmap_ledger.specs.State.{Collection}
 use Rattle.streetmap_ledger.specs.Pages.{page_over}
 use Rattle.streetmap_reading.specs.Taking.{Stopped}
-use Rattle.streetmap_rows.proofs.Answering.{handed_on}
-use Rattle.streetmap_reading.proofs.Rests.{stopped_on}
-use Rattle.streetmap_reading.proofs.Pages.{there_is, keeps_still, survives_both}
+use Rattle.streetmap_rows.proofs.ResultCases.{handed_on}
+use Rattle.streetmap_reading.proofs.BetweenRows.{stopped_on}
+use Rattle.streetmap_reading.proofs.PageStatements.{there_is, keeps_still, survives_both}
 use Rattle.streetmap_reading.proofs.page.page_of.Goals as goal
 
 pub returns-in_err-time-clause-shows : goal.returns-in_err-time-clause-shows

@@ -3,8 +3,8 @@ use Rattle.std.specs.FinMap.{values}
 use Rattle.streetmap_query.specs.Views.{query_value}
 use Rattle.streetmap_ledger.specs.Pages.{interval_asked}
 use Rattle.streetmap_reading.specs.Choosing.{chosen_of}
-use Rattle.streetmap_reading.proofs.Shown.{stored}
-use Rattle.streetmap_reading.proofs.Pages.{page_is}
+use Rattle.streetmap_reading.proofs.PageRowsShown.{stored}
+use Rattle.streetmap_reading.proofs.PageStatements.{page_is}
 use Rattle.streetmap_reading.proofs.page.page_under.Goals as goal
 
 pub returns-in-Ok-clause-shows : goal.returns-in-Ok-clause-shows

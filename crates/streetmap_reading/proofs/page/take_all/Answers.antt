@@ -1,7 +1,7 @@
 use Rattle.std.proofs.Common.{None}
 use Rattle.streetmap_rows.specs.Statements.{select_all}
-use Rattle.streetmap_reading.proofs.Shown.{all_at, select_all_plain}
-use Rattle.streetmap_reading.proofs.Pages.{takes_by, stays_by, survives_any}
+use Rattle.streetmap_reading.proofs.PageRowsShown.{all_at, select_all_plain}
+use Rattle.streetmap_reading.proofs.PageStatements.{takes_by, stays_by, survives_any}
 use Rattle.streetmap_reading.proofs.page.take_all.Goals as goal
 
 pub returns-clause-takes : goal.returns-clause-takes

@@ -3,8 +3,8 @@ use Rattle.std.proofs.lemmas.Int.{to_z-of_z}
 use Rattle.streetmap_grid.specs.Views.{box_value}
 use Rattle.streetmap_moment.specs.Views.{interval_value}
 use Rattle.streetmap_rows.specs.Statements.{select_in_both}
-use Rattle.streetmap_reading.proofs.Shown.{both_at, select_in_both_plain}
-use Rattle.streetmap_reading.proofs.Pages.{takes_by, stays_by, survives_any}
+use Rattle.streetmap_reading.proofs.PageRowsShown.{both_at, select_in_both_plain}
+use Rattle.streetmap_reading.proofs.PageStatements.{takes_by, stays_by, survives_any}
 use Rattle.streetmap_reading.proofs.page.take_in_both.Goals as goal
 
 pub returns-clause-takes : goal.returns-clause-takes

@@ -2,8 +2,8 @@ use Rattle.std.proofs.Common.{None, Some, rules, SFits, w64}
 use Rattle.std.proofs.lemmas.Int.{to_z-of_z}
 use Rattle.streetmap_grid.specs.Views.{box_value}
 use Rattle.streetmap_rows.specs.Statements.{select_in_box}
-use Rattle.streetmap_reading.proofs.Shown.{box_at, select_in_box_plain}
-use Rattle.streetmap_reading.proofs.Pages.{takes_by, stays_by, survives_any}
+use Rattle.streetmap_reading.proofs.PageRowsShown.{box_at, select_in_box_plain}
+use Rattle.streetmap_reading.proofs.PageStatements.{takes_by, stays_by, survives_any}
 use Rattle.streetmap_reading.proofs.page.take_in_box.Goals as goal
 
 pub returns-clause-takes : goal.returns-clause-takes

@@ -2,8 +2,8 @@ use Rattle.std.proofs.Common.{None, Some, rules, SFits, w64}
 use Rattle.std.proofs.lemmas.Int.{to_z-of_z}
 use Rattle.streetmap_moment.specs.Views.{interval_value}
 use Rattle.streetmap_rows.specs.Statements.{select_in_time}
-use Rattle.streetmap_reading.proofs.Shown.{time_at, select_in_time_plain}
-use Rattle.streetmap_reading.proofs.Pages.{takes_by, stays_by, survives_any}
+use Rattle.streetmap_reading.proofs.PageRowsShown.{time_at, select_in_time_plain}
+use Rattle.streetmap_reading.proofs.PageStatements.{takes_by, stays_by, survives_any}
 use Rattle.streetmap_reading.proofs.page.take_in_time.Goals as goal
 
 pub returns-clause-takes : goal.returns-clause-takes

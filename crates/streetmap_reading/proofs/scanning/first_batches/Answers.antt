@@ -4,13 +4,13 @@ use Rattle.sqlite.specs.State.{HasCleanDisk, IsUnchanged}
 use Rattle.sqlite.specs.Values.{bound}
 use Rattle.sqlite.proofs.Callers.{begun_plain}
 use Rattle.streetmap_reading.specs.Taking.{Stopped}
-use Rattle.streetmap_reading.proofs.Rests.{clean_before}
-use Rattle.streetmap_reading.proofs.Told.{told}
-use Rattle.streetmap_reading.proofs.Given.{shows_still}
+use Rattle.streetmap_reading.proofs.BetweenRows.{clean_before}
+use Rattle.streetmap_reading.proofs.QueryFails.{told}
+use Rattle.streetmap_reading.proofs.NextRow.{shows_still}
 use Rattle.streetmap_ledger.specs.KeptView.{keyed_batches}
 use Rattle.streetmap_reading.specs.Scanning.{AreFirst}
 use Rattle.streetmap_reading.specs.Serials.{row_of}
-use Rattle.streetmap_reading.proofs.Nexts.{taken_on}
+use Rattle.streetmap_reading.proofs.NextBatches.{taken_on}
 use Rattle.streetmap_reading.proofs.scanning.first_batches.Goals as goal
 
 pub returns-in-Err-clause-takes : goal.returns-in-Err-clause-takes

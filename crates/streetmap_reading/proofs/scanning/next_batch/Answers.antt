@@ -2,13 +2,13 @@ use Rattle.std.proofs.Common.{◌++◌, ◌∷◌, [], map, sym, subst, ◌∙�
 use Rattle.std.specs.Option.{option_copied}
 use Rattle.sqlite.specs.Given.{HasGiven}
 use Rattle.sqlite.specs.Held.{state}
-use Rattle.streetmap_rows.proofs.Answering.{handed_on}
+use Rattle.streetmap_rows.proofs.ResultCases.{handed_on}
 use Rattle.streetmap_reading.specs.Taking.{Stopped}
-use Rattle.streetmap_reading.proofs.Given.{at_end, at_row, at_fault}
-use Rattle.streetmap_reading.proofs.Lists.{none_mapped}
+use Rattle.streetmap_reading.proofs.NextRow.{at_end, at_row, at_fault}
+use Rattle.streetmap_reading.proofs.RowsInTurn.{none_mapped}
 use Rattle.streetmap_reading.specs.Scanning.{HaveKeys}
 use Rattle.streetmap_reading.specs.Serials.{row_of}
-use Rattle.streetmap_reading.proofs.Scanned.{mapped_first}
+use Rattle.streetmap_reading.proofs.ScannedBatches.{mapped_first}
 use Rattle.streetmap_reading.proofs.scanning.next_batch.Goals as goal
 
 pub returns-in-Err-clause-takes : goal.returns-in-Err-clause-takes

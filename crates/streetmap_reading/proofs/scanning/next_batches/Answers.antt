@@ -1,13 +1,13 @@
 use Rattle.std.proofs.Common.{◌<◌, ◌^◌, length, refl, ap, subst, ◌∙◌}
 use Rattle.std.proofs.Common.{arith}
 use Rattle.sqlite.proofs.Callers.{unchanged_then}
-use Rattle.streetmap_rows.proofs.Answering.{handed_on}
-use Rattle.streetmap_reading.proofs.Rests.{survives_on, stopped_on, clean_before}
+use Rattle.streetmap_rows.proofs.ResultCases.{handed_on}
+use Rattle.streetmap_reading.proofs.BetweenRows.{survives_on, stopped_on, clean_before}
 use Rattle.streetmap_rows.specs.declared.fault.ReadFault.TheVariants.{Memory}
 use Rattle.streetmap_ledger.specs.KeptView.{keyed_batches}
 use Rattle.streetmap_reading.specs.Scanning.{TookBatch}
-use Rattle.streetmap_reading.proofs.Scanned.{begins, shows_rest, took_more, bytes_more, all_taken}
-use Rattle.streetmap_reading.proofs.Scanned.{some_taken}
+use Rattle.streetmap_reading.proofs.ScannedBatches.{begins, shows_rest, took_more, bytes_more, all_taken}
+use Rattle.streetmap_reading.proofs.ScannedBatches.{some_taken}
 use Rattle.streetmap_reading.proofs.scanning.next_batches.Goals as goal
 
 pub rows-init : goal.rows-init

@@ -1,6 +1,6 @@
 use Rattle.std.proofs.Common.{◌≡◌}
 use Rattle.streetmap_ledger.specs.KeptView.{keyed_batches}
-use Rattle.streetmap_reading.proofs.Scanned.{SoFar}
+use Rattle.streetmap_reading.proofs.ScannedBatches.{SoFar}
 use Rattle.streetmap_reading.proofs.scanning.next_batches.Given as goal
 
 -- some first batches were taken, whose texts fit

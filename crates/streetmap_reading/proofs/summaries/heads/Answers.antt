@@ -9,12 +9,12 @@ use Rattle.streetmap_ledger.specs.Summaries.{SummaryValue}
 use Rattle.streetmap_ledger.specs.SummaryView.{summary_values}
 use Rattle.streetmap_rows.specs.Rows.{collection_cells}
 use Rattle.streetmap_rows.specs.Statements.{select_collections}
-use Rattle.streetmap_rows.proofs.Answering.{handed_on}
+use Rattle.streetmap_rows.proofs.ResultCases.{handed_on}
 use Rattle.streetmap_reading.proofs.Folded.{folded}
-use Rattle.streetmap_reading.proofs.Pages.{stays_by, survives_any}
+use Rattle.streetmap_reading.proofs.PageStatements.{stays_by, survives_any}
 use Rattle.streetmap_reading.specs.Held.{head_of, HoldsHeads}
 use Rattle.streetmap_reading.specs.Views.{IsHeadRow}
-use Rattle.streetmap_reading.proofs.Lists.{none_mapped}
+use Rattle.streetmap_reading.proofs.RowsInTurn.{none_mapped}
 use Rattle.streetmap_reading.proofs.ShownOutlines.{collections_at, readable_each, head_rows}
 use Rattle.streetmap_reading.proofs.summaries.heads.Goals as goal
 

@@ -1,9 +1,9 @@
 use Rattle.std.proofs.Common.{◌∙◌, arith}
 use Rattle.sqlite.specs.Held.{state}
 use Rattle.sqlite.specs.State.{HasCleanDisk}
-use Rattle.streetmap_reading.proofs.Pages.{keeps_still, survives_both}
+use Rattle.streetmap_reading.proofs.PageStatements.{keeps_still, survives_both}
 use Rattle.streetmap_reading.specs.Telling.{AreTold, AreSummaries}
-use Rattle.streetmap_reading.proofs.ToldOutlines.{look_on}
+use Rattle.streetmap_reading.proofs.CollectionsInTurn.{look_on}
 use Rattle.streetmap_reading.proofs.summaries.summaries_of.Goals as goal
 
 pub returns-clause-shows : goal.returns-clause-shows

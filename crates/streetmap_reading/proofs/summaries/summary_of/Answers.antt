@@ -5,9 +5,9 @@ use Rattle.sqlite.specs.State.{HasCleanDisk}
 use Rattle.sqlite.proofs.Callers.{unchanged_then}
 use Rattle.streetmap_ledger.specs.Summaries.{summary_of}
 use Rattle.streetmap_reading.specs.Taking.{Stopped}
-use Rattle.streetmap_rows.proofs.Answering.{handed_on}
-use Rattle.streetmap_reading.proofs.Rests.{stopped_on}
-use Rattle.streetmap_reading.proofs.Pages.{there_is, keeps_still, survives_both}
+use Rattle.streetmap_rows.proofs.ResultCases.{handed_on}
+use Rattle.streetmap_reading.proofs.BetweenRows.{stopped_on}
+use Rattle.streetmap_reading.proofs.PageStatements.{there_is, keeps_still, survives_both}
 use Rattle.streetmap_reading.proofs.summaries.summary_of.Goals as goal
 
 pub returns-in_err-head-clause-shows : goal.returns-in_err-head-clause-shows

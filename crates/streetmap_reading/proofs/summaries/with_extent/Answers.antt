@@ -1,5 +1,5 @@
-use Rattle.streetmap_rows.proofs.Answering.{handed_on}
-use Rattle.streetmap_reading.proofs.Taken.{extended}
+use Rattle.streetmap_rows.proofs.ResultCases.{handed_on}
+use Rattle.streetmap_reading.proofs.OneRowMore.{extended}
 use Rattle.streetmap_reading.proofs.summaries.with_extent.Goals as goal
 
 pub returns-clause-shows : goal.returns-clause-shows

@@ -3,10 +3,10 @@ use Rattle.std.specs.Vec.Iter.{into_iter_items}
 use Rattle.std.proofs.lemmas.Result.{err_from_is_err_and}
 use Rattle.sqlite.specs.Held.{state}
 use Rattle.sqlite.proofs.Callers.{unchanged_then}
-use Rattle.streetmap_rows.proofs.Answering.{handed_on}
-use Rattle.streetmap_reading.proofs.Rests.{stopped_on}
-use Rattle.streetmap_reading.proofs.Pages.{survives_both}
-use Rattle.streetmap_reading.proofs.ToldOutlines.{SoFar, begins, goes_on, told_all, none_left, early, limited, kept}
+use Rattle.streetmap_rows.proofs.ResultCases.{handed_on}
+use Rattle.streetmap_reading.proofs.BetweenRows.{stopped_on}
+use Rattle.streetmap_reading.proofs.PageStatements.{survives_both}
+use Rattle.streetmap_reading.proofs.CollectionsInTurn.{SoFar, begins, goes_on, told_all, none_left, early, limited, kept}
 use Rattle.streetmap_reading.proofs.summaries.with_extents.Goals as goal
 
 pub loop-head-init : goal.loop-head-init

@@ -1,7 +1,7 @@
 use Rattle.std.proofs.Common.{◌≡◌, false, length}
 use Rattle.std.specs.Vec.Iter.{into_iter_items, into_iter_len}
 use Rattle.sqlite.specs.Held.{state}
-use Rattle.streetmap_reading.proofs.ToldOutlines.{SoFar}
+use Rattle.streetmap_reading.proofs.CollectionsInTurn.{SoFar}
 use Rattle.streetmap_reading.proofs.summaries.with_extents.Given as goal
 
 abbrev pub invariant-loop-head : goal.invariant-loop-head

@@ -1,5 +1,5 @@
 use Rattle.std.proofs.Common.{rules, sym, ◌∙◌}
-use Rattle.streetmap_replay.proofs.Told.{accepted_tells, repeated_tells}
+use Rattle.streetmap_replay.proofs.ToldBatches.{accepted_tells, repeated_tells}
 use Rattle.streetmap_replay.proofs.acting.apply.Goals as goal
 
 pub returns-in-Ok-Accepted-clause-follows : goal.returns-in-Ok-Accepted-clause-follows

@@ -2,7 +2,7 @@ use Rattle.std.proofs.Common.{rules, ◌≡◌, Bool, cond, Ok, Err, subst, sym,
 use Rattle.streetmap_batch.specs.BatchView.{batch_value}
 use Rattle.streetmap_replay.specs.Following.{acted, not_next, acted_next, is_next}
 use Rattle.streetmap_replay.specs.Acting.{OutcomeLeaves}
-use Rattle.streetmap_replay.proofs.Told.{look_leaves}
+use Rattle.streetmap_replay.proofs.ToldBatches.{look_leaves}
 use Rattle.streetmap_replay.proofs.acting.apply_next.Goals as goal
 
 pub returns-in-Ok-true-clause-leaves : goal.returns-in-Ok-true-clause-leaves

@@ -1,7 +1,7 @@
 use Rattle.std.proofs.Common.{Some}
 use Rattle.streetmap_batch.specs.BatchView.{batch_value}
 use Rattle.streetmap_ledger.specs.Keep.{LeavesOnly}
-use Rattle.streetmap_replay.proofs.Told.{not_read, read_on, read_stopped}
+use Rattle.streetmap_replay.proofs.ToldBatches.{not_read, read_on, read_stopped}
 use Rattle.streetmap_replay.proofs.acting.follow_line.Goals as goal
 
 pub returns-in-Err-clause-follows : goal.returns-in-Err-clause-follows

@@ -1,9 +1,9 @@
 use Rattle.std.proofs.Common.{◌≡◌, ℕ, ◌+◌, ◌<◌, length, refl, ap, ◌∙◌, arith}
 use Rattle.streetmap_ledger.specs.KeptView.{keyed_batch}
 use Rattle.streetmap_ledger.proofs.Serials.{found_under}
-use Rattle.streetmap_replay.proofs.Ended.{row_true, row_false, row_stop}
+use Rattle.streetmap_replay.proofs.ReplayEnds.{row_true, row_false, row_stop}
 use Rattle.streetmap_replay.specs.Given.{state_by, read_of}
-use Rattle.streetmap_replay.proofs.Rows.{at_count, in_part, goes_further, stops}
+use Rattle.streetmap_replay.proofs.BatchesGivenAgain.{at_count, in_part, goes_further, stops}
 use Rattle.streetmap_replay.proofs.batches.give_each.Goals as goal
 
 pub loop-batch-init : goal.loop-batch-init

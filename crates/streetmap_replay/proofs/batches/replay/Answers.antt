@@ -5,8 +5,8 @@ use Rattle.streetmap_ledger.specs.Kept.{AreNext}
 use Rattle.streetmap_ledger.specs.KeptView.{keyed_batches}
 use Rattle.streetmap_ledger.specs.declared.kept_batch.KeptBatch.{KeptBatch}
 use Rattle.streetmap_ledger.specs.State.{opening_state}
-use Rattle.streetmap_replay.proofs.Ended.{part_fault, stays_but, stays_by, kept_ends, no_device}
-use Rattle.streetmap_replay.proofs.Rows.{begins, ends, part_are, none_last, last_serial, at_count}
+use Rattle.streetmap_replay.proofs.ReplayEnds.{part_fault, stays_but, stays_by, kept_ends, no_device}
+use Rattle.streetmap_replay.proofs.BatchesGivenAgain.{begins, ends, part_are, none_last, last_serial, at_count}
 use Rattle.streetmap_replay.proofs.batches.replay.Goals as goal
 
 pub loop-turn-init : goal.loop-turn-init

@@ -2,8 +2,8 @@ use Rattle.std.proofs.Common.{◌≡◌, refl, ap, ◌∙◌}
 use Rattle.std.specs.FinMap.{entries}
 use Rattle.streetmap_ledger.specs.SummaryView.{summary_values}
 use Rattle.streetmap_replay.specs.Alike.{AreSame}
-use Rattle.streetmap_replay.proofs.Same.{alone_differs, all_the_same, compares_as}
-use Rattle.streetmap_replay.proofs.Same.{unlike_compares}
+use Rattle.streetmap_replay.proofs.SameCollections.{alone_differs, all_the_same, compares_as}
+use Rattle.streetmap_replay.proofs.SameCollections.{unlike_compares}
 use Rattle.streetmap_replay.proofs.collections.compare_collections.Goals as goal
 
 pub returns-in-Some-clause-compares : goal.returns-in-Some-clause-compares

@@ -3,8 +3,8 @@ use Rattle.std.specs.Prelude.{string_bytes}
 use Rattle.std.specs.Bool.{Decides}
 use Rattle.std.specs.FinMap.{entries}
 use Rattle.streetmap_replay.specs.Alike.{AreSame, IsSame}
-use Rattle.streetmap_replay.proofs.Same.{place_of, differs_at, unlike_compares, stop_compares}
-use Rattle.streetmap_replay.proofs.Same.{one_more, all_places, stop_stays, unlike_stays}
+use Rattle.streetmap_replay.proofs.SameCollections.{place_of, differs_at, unlike_compares, stop_compares}
+use Rattle.streetmap_replay.proofs.SameCollections.{one_more, all_places, stop_stays, unlike_stays}
 use Rattle.streetmap_replay.proofs.collections.compare_each.Goals as goal
 
 pub returns-in-Ok-false-clause-compares : goal.returns-in-Ok-false-clause-compares

@@ -5,7 +5,7 @@ use Rattle.std.specs.FinMap.{get, values}
 use Rattle.streetmap_ledger.specs.Summaries.{summary_in}
 use Rattle.streetmap_ledger.specs.SummaryView.{summary_value}
 use Rattle.streetmap_replay.specs.Alike.{IsSame}
-use Rattle.streetmap_replay.proofs.Same.{told_of, same_by_features, looks_as}
+use Rattle.streetmap_replay.proofs.SameCollections.{told_of, same_by_features, looks_as}
 use Rattle.streetmap_replay.proofs.collections.is_alike.Goals as goal
 
 pub returns-then-is_declared_alike-clause-compares : goal.returns-then-is_declared_alike-clause-compares

@@ -4,7 +4,7 @@ use Rattle.streetmap_ledger.specs.PageView.{page_value}
 use Rattle.streetmap_ledger.specs.Pages.{page_in}
 use Rattle.streetmap_ledger.specs.declared.page.Page.{Page}
 use Rattle.streetmap_query.specs.Views.{query_value}
-use Rattle.streetmap_replay.proofs.Ended.{stays_but}
+use Rattle.streetmap_replay.proofs.ReplayEnds.{stays_but}
 use Rattle.streetmap_replay.proofs.Pages.{begins, last_same, next_same}
 use Rattle.streetmap_replay.proofs.features.has_same_features.Goals as goal
 

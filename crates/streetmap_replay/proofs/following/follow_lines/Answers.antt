@@ -7,9 +7,9 @@ use Rattle.streetmap_replay.specs.Ends.{Follows}
 use Rattle.streetmap_replay.specs.LineReading.{FollowsLine}
 use Rattle.streetmap_replay.specs.declared.following.End.TheVariants as ends
 use Rattle.streetmap_replay.proofs.Beginning.{follower_by}
-use Rattle.streetmap_replay.proofs.Endings.{is_told, further, not_told, stopped, all, cut}
-use Rattle.streetmap_replay.proofs.Endings.{unread}
-use Rattle.streetmap_replay.proofs.Underway.{begins}
+use Rattle.streetmap_replay.proofs.FollowingEnds.{is_told, further, not_told, stopped, all, cut}
+use Rattle.streetmap_replay.proofs.FollowingEnds.{unread}
+use Rattle.streetmap_replay.proofs.FollowedSoFar.{begins}
 use Rattle.streetmap_replay.proofs.following.follow_lines.Goals.{in-Ok-Line, in-Ok+else-is_ok}
 use Rattle.streetmap_replay.proofs.following.follow_lines.Goals.{in-Err-follow_line, in-Ok-Cut}
 use Rattle.streetmap_replay.proofs.following.follow_lines.Goals.{in-Ok-End, in-Err}

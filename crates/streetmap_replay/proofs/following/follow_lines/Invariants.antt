@@ -1,5 +1,5 @@
 use Rattle.streetmap_ledger.specs.State.{State}
-use Rattle.streetmap_replay.proofs.Underway.{Underway}
+use Rattle.streetmap_replay.proofs.FollowedSoFar.{Underway}
 use Rattle.streetmap_replay.proofs.following.follow_lines.Given as goal
 
 -- so many lines were followed, and their replies told

@@ -1,4 +1,4 @@
-use Rattle.streetmap_replay.proofs.Lined.{journal_reads_in_lines}
+use Rattle.streetmap_replay.proofs.LineBytes.{journal_reads_in_lines}
 use Rattle.streetmap_replay.proofs.laws.journal_reads_in_lines.Goals as goal
 
 pub returns : goal.returns

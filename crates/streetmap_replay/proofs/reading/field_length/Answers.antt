@@ -1,5 +1,5 @@
 use Rattle.std.proofs.Common.{MatchOption, subst, length, ◌≡◌, Option, ℕ}
-use Rattle.streetmap_replay.proofs.Tabs.{found_length, before_tab}
+use Rattle.streetmap_replay.proofs.FirstTab.{found_length, before_tab}
 use Rattle.streetmap_replay.proofs.reading.field_length.Goals as goal
 
 pub returns-in-Some : goal.returns-in-Some

@@ -2,7 +2,7 @@ use Rattle.std.proofs.Common.{◌≡◌, ℕ, List, ◌∷◌, ◌++◌, ◌+◌
 use Rattle.std.proofs.Common.{decimal}
 use Rattle.std.proofs.Common.{refl, sym, ap, subst, ◌∙◌, arith}
 use Rattle.std.proofs.lemmas.List.{take_all, length-drop}
-use Rattle.streetmap_replay.proofs.Tabs.{serial_first, cut_tab, before_tab}
+use Rattle.streetmap_replay.proofs.FirstTab.{serial_first, cut_tab, before_tab}
 use Rattle.streetmap_replay.proofs.reading.read_line.Goals as goal
 
 pub returns-then-tab-bytes : goal.returns-then-tab-bytes

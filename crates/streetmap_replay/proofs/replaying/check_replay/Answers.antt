@@ -1,4 +1,4 @@
-use Rattle.streetmap_replay.proofs.Ended.{compared, not_given}
+use Rattle.streetmap_replay.proofs.ReplayEnds.{compared, not_given}
 use Rattle.streetmap_replay.proofs.replaying.check_replay.Goals as goal
 
 pub returns-in-Ok-clause-checks : goal.returns-in-Ok-clause-checks

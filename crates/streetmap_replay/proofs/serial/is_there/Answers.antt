@@ -3,7 +3,7 @@ use Rattle.std.specs.Prelude.{bytes_eq}
 use Rattle.std.specs.Option.{option_map}
 use Rattle.streetmap_batch.specs.BatchView.{batch_value}
 use Rattle.streetmap_ledger.specs.KeptView.{keyed_batch}
-use Rattle.streetmap_replay.proofs.Under.{key_under, none_under}
+use Rattle.streetmap_replay.proofs.KeysAndSerials.{key_under, none_under}
 use Rattle.streetmap_replay.proofs.serial.is_there.Goals as goal
 
 pub returns-in-Ok-Some-clause-tells : goal.returns-in-Ok-Some-clause-tells

@@ -7,7 +7,7 @@ use Rattle.streetmap_feature_text.specs.Written.{feature_data}
 use Rattle.streetmap_geojson.specs.Fault.{Gives}
 use Rattle.streetmap_geojson.specs.FeatureView.{feature_value}
 use Rattle.streetmap_rows.specs.Stored.{TextReadsAs}
-use Rattle.streetmap_rows.proofs.Reading.{body_reads, body_is_json, err_is, no_fault, text_reads}
+use Rattle.streetmap_rows.proofs.TextAgain.{body_reads, body_is_json, err_is, no_fault, text_reads}
 use Rattle.streetmap_rows.proofs.bodies.read_body.Goals as goal
 
 pub returns-in_err-value-clause-again : goal.returns-in_err-value-clause-again

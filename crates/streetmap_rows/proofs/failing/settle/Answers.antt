@@ -1,5 +1,5 @@
 use Rattle.sqlite.specs.Held.{state}
-use Rattle.streetmap_rows.proofs.Settled.{closes}
+use Rattle.streetmap_rows.proofs.EndsByCause.{closes}
 use Rattle.streetmap_rows.proofs.failing.settle.Goals as goal
 
 pub returns-then-not-is_memory-clause-ends : goal.returns-then-not-is_memory-clause-ends

@@ -1,6 +1,6 @@
 use Rattle.sqlite.specs.Held.{state}
-use Rattle.streetmap_rows.proofs.Answering.{by_result}
-use Rattle.streetmap_rows.proofs.Looking.{collection_shown, collection_told_inside}
+use Rattle.streetmap_rows.proofs.ResultCases.{by_result}
+use Rattle.streetmap_rows.proofs.KeyLooks.{collection_shown, collection_told_inside}
 use Rattle.streetmap_rows.proofs.looks.collection_rows.Goals as goal
 
 pub returns-clause-looks : goal.returns-clause-looks

@@ -3,9 +3,9 @@ use Rattle.sqlite.specs.Held.{state}
 use Rattle.sqlite.specs.declared.types.Value.TheVariants.{Text as Words}
 use Rattle.streetmap_geojson.specs.FeatureValue.{FeatureValue}
 use Rattle.streetmap_rows.specs.Rows.{feature_at}
-use Rattle.streetmap_rows.proofs.Answering.{handed_on}
-use Rattle.streetmap_rows.proofs.Choosing.{none_empty}
-use Rattle.streetmap_rows.proofs.Looking.{id_shown, id_told}
+use Rattle.streetmap_rows.proofs.ResultCases.{handed_on}
+use Rattle.streetmap_rows.proofs.OneRowChosen.{none_empty}
+use Rattle.streetmap_rows.proofs.KeyLooks.{id_shown, id_told}
 use Rattle.streetmap_rows.proofs.looks.has_feature.Goals as goal
 
 pub returns-clause-looks : goal.returns-clause-looks

@@ -1,7 +1,7 @@
 use Rattle.std.proofs.Common.{inl, inr}
 use Rattle.sqlite.specs.Held.{state}
-use Rattle.streetmap_rows.proofs.Answering.{by_result}
-use Rattle.streetmap_rows.proofs.Looking.{kept_shown, kept_told, kept_commits_nothing}
+use Rattle.streetmap_rows.proofs.ResultCases.{by_result}
+use Rattle.streetmap_rows.proofs.KeyLooks.{kept_shown, kept_told, kept_commits_nothing}
 use Rattle.streetmap_rows.proofs.looks.kept_rows.Goals as goal
 
 pub returns-clause-looks : goal.returns-clause-looks

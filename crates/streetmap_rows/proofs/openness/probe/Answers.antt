@@ -1,9 +1,9 @@
 use Rattle.std.proofs.Common.{inl, []}
 use Rattle.sqlite.specs.Held.{state}
 use Rattle.sqlite.proofs.InsideLemmas.{unchanged_keeps}
-use Rattle.streetmap_rows.proofs.Answering.{by_either, if_err}
-use Rattle.streetmap_rows.proofs.Committing.{commit_text, commit_fails, commit_keeps}
-use Rattle.streetmap_rows.proofs.Reasons.{not_run}
+use Rattle.streetmap_rows.proofs.ResultCases.{by_either, if_err}
+use Rattle.streetmap_rows.proofs.OpennessFails.{commit_text, commit_fails, commit_keeps}
+use Rattle.streetmap_rows.proofs.ErrorReasons.{not_run}
 use Rattle.streetmap_rows.proofs.openness.probe.Goals as goal
 
 pub returns-clause-failed : goal.returns-clause-failed

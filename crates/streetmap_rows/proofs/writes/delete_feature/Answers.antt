@@ -2,9 +2,9 @@ use Rattle.std.proofs.Common.{sym, subst}
 use Rattle.sqlite.specs.Held.{state}
 use Rattle.streetmap_rows.specs.Stands.{StandsFor}
 use Rattle.streetmap_rows.specs.Elsewhere.{IsSameElsewhere}
-use Rattle.streetmap_rows.proofs.Answering.{handed_on, err_handed_on}
-use Rattle.streetmap_rows.proofs.Reasons.{run_inside}
-use Rattle.streetmap_rows.proofs.Writing.{delete_stands, delete_told}
+use Rattle.streetmap_rows.proofs.ResultCases.{handed_on, err_handed_on}
+use Rattle.streetmap_rows.proofs.ErrorReasons.{run_inside}
+use Rattle.streetmap_rows.proofs.StateWrites.{delete_stands, delete_told}
 use Rattle.streetmap_rows.proofs.writes.delete_feature.Goals as goal
 
 pub returns-clause-writes : goal.returns-clause-writes

@@ -6,10 +6,10 @@ use Rattle.sqlite.specs.declared.types.Value.TheVariants.{Int}
 use Rattle.streetmap_rows.specs.Stands.{StandsFor}
 use Rattle.streetmap_rows.specs.Elsewhere.{IsSameElsewhere}
 use Rattle.streetmap_rows.specs.Statements.{insert_batch}
-use Rattle.streetmap_rows.proofs.Answering.{handed_on, err_handed_on}
-use Rattle.streetmap_rows.proofs.Reasons.{run_inside}
-use Rattle.streetmap_rows.proofs.Writing.{keep_stands, keep_told}
-use Rattle.streetmap_rows.proofs.Bound.{seven}
+use Rattle.streetmap_rows.proofs.ResultCases.{handed_on, err_handed_on}
+use Rattle.streetmap_rows.proofs.ErrorReasons.{run_inside}
+use Rattle.streetmap_rows.proofs.StateWrites.{keep_stands, keep_told}
+use Rattle.streetmap_rows.proofs.BoundParameters.{seven}
 use Rattle.streetmap_rows.proofs.writes.insert_batch.Goals as goal
 
 pub returns-clause-writes : goal.returns-clause-writes

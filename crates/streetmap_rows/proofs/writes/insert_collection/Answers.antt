@@ -2,10 +2,10 @@ use Rattle.std.proofs.Common.{sym, subst}
 use Rattle.sqlite.specs.Held.{state}
 use Rattle.streetmap_rows.specs.Stands.{StandsFor}
 use Rattle.streetmap_rows.specs.Elsewhere.{IsSameElsewhere}
-use Rattle.streetmap_rows.proofs.Answering.{handed_on, err_handed_on}
-use Rattle.streetmap_rows.proofs.Reasons.{run_inside}
-use Rattle.streetmap_rows.proofs.Writing.{open_stands, open_told}
-use Rattle.streetmap_rows.proofs.Bound.{text_bound}
+use Rattle.streetmap_rows.proofs.ResultCases.{handed_on, err_handed_on}
+use Rattle.streetmap_rows.proofs.ErrorReasons.{run_inside}
+use Rattle.streetmap_rows.proofs.StateWrites.{open_stands, open_told}
+use Rattle.streetmap_rows.proofs.BoundParameters.{text_bound}
 use Rattle.streetmap_rows.proofs.writes.insert_collection.Goals as goal
 
 pub returns-clause-writes : goal.returns-clause-writes

@@ -8,10 +8,10 @@ use Rattle.streetmap_grid.specs.Views.{box_value}
 use Rattle.streetmap_rows.specs.Stands.{StandsFor}
 use Rattle.streetmap_rows.specs.Elsewhere.{IsSameElsewhere}
 use Rattle.streetmap_rows.specs.Statements.{insert_feature}
-use Rattle.streetmap_rows.proofs.Answering.{handed_on, err_handed_on}
-use Rattle.streetmap_rows.proofs.Reasons.{run_inside}
-use Rattle.streetmap_rows.proofs.Writing.{insert_stands, insert_told}
-use Rattle.streetmap_rows.proofs.Bound.{nine, feature_bound}
+use Rattle.streetmap_rows.proofs.ResultCases.{handed_on, err_handed_on}
+use Rattle.streetmap_rows.proofs.ErrorReasons.{run_inside}
+use Rattle.streetmap_rows.proofs.StateWrites.{insert_stands, insert_told}
+use Rattle.streetmap_rows.proofs.BoundParameters.{nine, feature_bound}
 use Rattle.streetmap_rows.proofs.writes.insert_feature.Goals as goal
 
 pub returns-clause-writes : goal.returns-clause-writes

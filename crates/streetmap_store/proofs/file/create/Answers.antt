@@ -1,7 +1,7 @@
 use Rattle.std.proofs.Common.{subst}
 use Rattle.sqlite.specs.State.{HasCleanDisk}
 use Rattle.sqlite.specs.Files.{file_state}
-use Rattle.streetmap_store.proofs.Opened.{ready, taken}
+use Rattle.streetmap_store.proofs.JustOpened.{ready, taken}
 use Rattle.streetmap_store.proofs.Refusals.{unopened_to_create, still_held, not_connected_to_create, not_made_for, new_spared}
 use Rattle.streetmap_store.proofs.file.create.Goals as goal
 

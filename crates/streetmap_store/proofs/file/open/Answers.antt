@@ -1,6 +1,6 @@
 use Rattle.sqlite.specs.State.{HasCleanDisk}
 use Rattle.sqlite.specs.Files.{file_state}
-use Rattle.streetmap_store.proofs.Opened.{rests, rests_old}
+use Rattle.streetmap_store.proofs.JustOpened.{rests, rests_old}
 use Rattle.streetmap_store.proofs.Refusals.{unopened_to_open, not_connected, not_adopted_for, ours_spared, old_spared}
 use Rattle.streetmap_store.proofs.file.open.Goals as goal
 

@@ -5,7 +5,7 @@ use Rattle.sqlite.proofs.StateLemmas.{unchanged}
 use Rattle.streetmap_store.specs.Serving.{EndsLook, HasSettled, HasShut, GaveUp, LeavesCommitted}
 use Rattle.streetmap_store.specs.Serving.{fault_by, shut_by}
 use Rattle.streetmap_rows.specs.declared.fault.ReadFault.TheVariants as read
-use Rattle.streetmap_store.proofs.Standing.{settled_so, shut_settled}
+use Rattle.streetmap_store.proofs.StandsAfterLook.{settled_so, shut_settled}
 use Rattle.streetmap_store.proofs.keeper.give_up.Goals as goal
 use Rattle.streetmap_store.proofs.keeper.give_up.Goals.{in-Memory, in-Store, in-Unread}
 

@@ -1,7 +1,7 @@
 use Rattle.std.proofs.Common.{◌≡◌, ◌⊎◌}
 use Rattle.sqlite.specs.Held.{state}
-use Rattle.streetmap_store.proofs.Reopened.{opens_only, opens_some, opens_standing, within_one}
-use Rattle.streetmap_store.proofs.Reopened.{within_two}
+use Rattle.streetmap_store.proofs.IndexesListed.{opens_only, opens_some, opens_standing, within_one}
+use Rattle.streetmap_store.proofs.IndexesListed.{within_two}
 use Rattle.streetmap_store.proofs.keeper.what_a_stop_leaves_opens.Goals as goal
 
 pub returns-clause-one : goal.returns-clause-one

@@ -8,9 +8,9 @@ use Rattle.streetmap_ledger.specs.Batches.{Outcome, act, kept_for, counts_of, ed
 use Rattle.streetmap_ledger.specs.declared.reply.Reply.TheVariants.{Accepted}
 use Rattle.streetmap_tables.specs.Editing.{AnsweredAll}
 use Rattle.streetmap_rows.specs.Calls.{KeepsBatch}
-use Rattle.streetmap_rows.proofs.Answering.{handed_on}
+use Rattle.streetmap_rows.proofs.ResultCases.{handed_on}
 use Rattle.streetmap_tables.proofs.Accepting.{act_is, leads, keeps_act}
-use Rattle.streetmap_tables.proofs.Joining.{keeps_then, rest_then}
+use Rattle.streetmap_tables.proofs.CallsInTransaction.{keeps_then, rest_then}
 use Rattle.streetmap_tables.proofs.acting.act_inside.Goals as goal
 
 pub returns-in_err-place-clause-acts : goal.returns-in_err-place-clause-acts

@@ -1,9 +1,9 @@
 use Rattle.std.proofs.Common.{rules, ◌∙◌, sym}
 use Rattle.std.specs.FinMap.{len}
 use Rattle.sqlite.specs.Held.{state}
-use Rattle.streetmap_rows.proofs.Leaving.{leaves_only}
-use Rattle.streetmap_tables.proofs.Stopping.{clean_back, may_leave_it, leaves_same}
-use Rattle.streetmap_tables.proofs.Opened.{rests_same, same_unchanged, one_count}
+use Rattle.streetmap_rows.proofs.CrashLeaves.{leaves_only}
+use Rattle.streetmap_tables.proofs.BeforeCleanEnd.{clean_back, may_leave_it, leaves_same}
+use Rattle.streetmap_tables.proofs.RestsAfterTables.{rests_same, same_unchanged, one_count}
 use Rattle.streetmap_tables.proofs.adopting.adopt_tables.Goals as goal
 
 pub returns-in-Ok-clause-adopts : goal.returns-in-Ok-clause-adopts

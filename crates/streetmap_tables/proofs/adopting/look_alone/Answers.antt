@@ -1,8 +1,8 @@
 use Rattle.std.proofs.Common.{rules, refl}
 use Rattle.sqlite.specs.Held.{state}
 use Rattle.sqlite.specs.State.{HasCleanDisk}
-use Rattle.streetmap_tables.proofs.Stopping.{clean_back}
-use Rattle.streetmap_tables.proofs.Telling.{found_there}
+use Rattle.streetmap_tables.proofs.BeforeCleanEnd.{clean_back}
+use Rattle.streetmap_tables.proofs.LooksTell.{found_there}
 use Rattle.streetmap_tables.proofs.adopting.look_alone.Goals as goal
 
 pub returns-clause-tells : goal.returns-clause-tells

@@ -2,11 +2,11 @@ use Rattle.std.proofs.Common.{rules, ◌≡◌, ◌∙◌, Some, pos, sym, subst
 use Rattle.sqlite.specs.Held.{state}
 use Rattle.sqlite.specs.State.{HasCleanDisk}
 use Rattle.streetmap_tables.specs.Telling.{format_in, IsFoundIn}
-use Rattle.streetmap_tables.proofs.Stopping.{clean_back, is_handed}
+use Rattle.streetmap_tables.proofs.BeforeCleanEnd.{clean_back, is_handed}
 use Rattle.streetmap_rows.specs.Keeping.{Keeps}
-use Rattle.streetmap_rows.proofs.Reasons.{reason_later}
-use Rattle.streetmap_tables.proofs.Telling.{serials_there, unseen_serials_there, unread_found}
-use Rattle.streetmap_tables.proofs.Telling.{unread_never, unread_reason}
+use Rattle.streetmap_rows.proofs.ErrorReasons.{reason_later}
+use Rattle.streetmap_tables.proofs.LooksTell.{serials_there, unseen_serials_there, unread_found}
+use Rattle.streetmap_tables.proofs.LooksTell.{unread_never, unread_reason}
 use Rattle.streetmap_tables.proofs.adopting.look_inside.Goals as goal
 
 pub returns-in_err-rows-clause-tells : goal.returns-in_err-rows-clause-tells

@@ -1,9 +1,9 @@
 use Rattle.std.proofs.Common.{[]}
 use Rattle.sqlite.specs.Held.{state}
 use Rattle.streetmap_rows.specs.Statements.{select_format}
-use Rattle.streetmap_rows.proofs.Answering.{by_result, by_either, on_ok}
-use Rattle.streetmap_tables.proofs.Reading.{format_shown, format_told, keeps_shown, keeps_failed, inside_shown}
-use Rattle.streetmap_tables.proofs.Telling.{format_bare, looked}
+use Rattle.streetmap_rows.proofs.ResultCases.{by_result, by_either, on_ok}
+use Rattle.streetmap_tables.proofs.FormatAndSerials.{format_shown, format_told, keeps_shown, keeps_failed, inside_shown}
+use Rattle.streetmap_tables.proofs.LooksTell.{format_bare, looked}
 use Rattle.streetmap_tables.proofs.adopting.read_format.Goals as goal
 
 pub returns-clause-finds : goal.returns-clause-finds

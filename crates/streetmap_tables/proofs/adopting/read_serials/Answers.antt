@@ -1,9 +1,9 @@
 use Rattle.std.proofs.Common.{[]}
 use Rattle.sqlite.specs.Held.{state}
-use Rattle.streetmap_rows.proofs.Answering.{by_result, by_either, on_ok}
+use Rattle.streetmap_rows.proofs.ResultCases.{by_result, by_either, on_ok}
 use Rattle.streetmap_tables.specs.Adopting.{serials_text}
-use Rattle.streetmap_tables.proofs.Reading.{serials_shown, serials_told, keeps_shown, keeps_failed, inside_shown}
-use Rattle.streetmap_tables.proofs.Telling.{serials_bare, looked}
+use Rattle.streetmap_tables.proofs.FormatAndSerials.{serials_shown, serials_told, keeps_shown, keeps_failed, inside_shown}
+use Rattle.streetmap_tables.proofs.LooksTell.{serials_bare, looked}
 use Rattle.streetmap_tables.proofs.adopting.read_serials.Goals as goal
 
 pub returns-clause-finds : goal.returns-clause-finds

@@ -2,7 +2,7 @@ use Rattle.std.proofs.Common.{arith}
 use Rattle.sqlite.specs.Held.{state}
 use Rattle.sqlite.specs.State.{HasCleanDisk}
 use Rattle.sqlite.proofs.StateLemmas.{survives_then}
-use Rattle.streetmap_rows.proofs.Reasons.{reason_later, stops_by_cause}
+use Rattle.streetmap_rows.proofs.ErrorReasons.{reason_later, stops_by_cause}
 use Rattle.streetmap_tables.proofs.batch.apply_batch.Goals as goal
 
 pub returns-in-Ok-act_by_key-clause-reason : goal.returns-in-Ok-act_by_key-clause-reason

@@ -1,11 +1,11 @@
 use Rattle.std.proofs.Common.{rules, refl}
 use Rattle.sqlite.specs.Held.{state}
 use Rattle.sqlite.specs.State.{HasCleanDisk}
-use Rattle.streetmap_tables.proofs.Stopping.{clean_back}
+use Rattle.streetmap_tables.proofs.BeforeCleanEnd.{clean_back}
 use Rattle.streetmap_tables.specs.Old.{KeepsOld}
 use Rattle.streetmap_tables.specs.Carrying.{CarryingRefusedFor}
-use Rattle.streetmap_tables.proofs.Closing.{same_after_rollback}
-use Rattle.streetmap_tables.proofs.Telling.{carried_there}
+use Rattle.streetmap_tables.proofs.CarryingEnds.{same_after_rollback}
+use Rattle.streetmap_tables.proofs.LooksTell.{carried_there}
 use Rattle.streetmap_tables.proofs.carrying.carry_alone.Goals as goal
 
 pub returns-in-Err-clause-carries : goal.returns-in-Err-clause-carries

@@ -1,13 +1,13 @@
 use Rattle.std.proofs.Common.{rules, ◌≡◌, sym, subst, ◌∙◌, length}
 use Rattle.sqlite.specs.Held.{state}
 use Rattle.streetmap_rows.specs.Keeping.{Keeps}
-use Rattle.streetmap_rows.proofs.Answering.{handed_on}
-use Rattle.streetmap_tables.proofs.Others.{others_then, others_same, others_elsewhere}
-use Rattle.streetmap_tables.proofs.Stopping.{clean_back}
+use Rattle.streetmap_rows.proofs.ResultCases.{handed_on}
+use Rattle.streetmap_tables.proofs.OtherTables.{others_then, others_same, others_elsewhere}
+use Rattle.streetmap_tables.proofs.BeforeCleanEnd.{clean_back}
 use Rattle.streetmap_tables.specs.Old.{KeepsOld}
 use Rattle.streetmap_tables.specs.Part.{emptied, IsSpared, PutsEach}
-use Rattle.streetmap_tables.proofs.Parts.{lacks_all}
-use Rattle.streetmap_tables.proofs.Closing.{held_back}
+use Rattle.streetmap_tables.proofs.PartOfState.{lacks_all}
+use Rattle.streetmap_tables.proofs.CarryingEnds.{held_back}
 use Rattle.streetmap_tables.specs.Carrying.{IsToldOld}
 use Rattle.sqlite.specs.Effect.{Database}
 use Rattle.streetmap_tables.proofs.carrying.carry_inside.Goals as goal

@@ -1,10 +1,10 @@
 use Rattle.std.proofs.Common.{◌∙◌, sym, subst, inl, inr}
 use Rattle.sqlite.specs.Held.{state}
-use Rattle.streetmap_rows.proofs.Leaving.{leaves_only}
-use Rattle.streetmap_tables.proofs.Opened.{same_settled}
-use Rattle.streetmap_tables.proofs.Stopping.{clean_back, may_leave_it, leaves_same}
+use Rattle.streetmap_rows.proofs.CrashLeaves.{leaves_only}
+use Rattle.streetmap_tables.proofs.RestsAfterTables.{same_settled}
+use Rattle.streetmap_tables.proofs.BeforeCleanEnd.{clean_back, may_leave_it, leaves_same}
 use Rattle.streetmap_tables.specs.Reasons.{IsOwn}
-use Rattle.streetmap_tables.proofs.Closing.{old_same, refused_old}
+use Rattle.streetmap_tables.proofs.CarryingEnds.{old_same, refused_old}
 use Rattle.streetmap_tables.proofs.carrying.carry_tables.Goals as goal
 
 pub returns-in-Ok-clause-carries : goal.returns-in-Ok-clause-carries

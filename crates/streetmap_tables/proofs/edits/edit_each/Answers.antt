@@ -6,9 +6,9 @@ use Rattle.sqlite.proofs.StateLemmas.{survives_then}
 use Rattle.streetmap_batch.specs.BatchView.{edit_value}
 use Rattle.streetmap_ledger.specs.Batches.{edited}
 use Rattle.streetmap_tables.specs.Editing.{Answered}
-use Rattle.streetmap_rows.proofs.Answering.{handed_on}
+use Rattle.streetmap_rows.proofs.ResultCases.{handed_on}
 use Rattle.streetmap_tables.proofs.Editing.{edited_more, edited_stops}
-use Rattle.streetmap_tables.proofs.Joining.{same_all, keeps_then, rest_then}
+use Rattle.streetmap_tables.proofs.CallsInTransaction.{same_all, keeps_then, rest_then}
 use Rattle.streetmap_tables.proofs.edits.edit_each.Goals as goal
 
 pub edits-init : goal.edits-init

@@ -1,8 +1,8 @@
 use Rattle.std.proofs.Common.{rules}
 use Rattle.std.specs.FinMap.{get}
 use Rattle.streetmap_rows.specs.Views.{collection_view}
-use Rattle.streetmap_rows.proofs.Choosing.{none_empty}
-use Rattle.streetmap_rows.proofs.Answering.{handed_on}
+use Rattle.streetmap_rows.proofs.OneRowChosen.{none_empty}
+use Rattle.streetmap_rows.proofs.ResultCases.{handed_on}
 use Rattle.streetmap_tables.proofs.edits.has_collection.Goals as goal
 
 pub returns-clause-looks : goal.returns-clause-looks

@@ -2,8 +2,8 @@ use Rattle.std.proofs.Common.{rules, ◌∙◌, arith, IsTrue}
 use Rattle.std.specs.Option.{option_copied}
 use Rattle.sqlite.specs.Held.{state}
 use Rattle.sqlite.specs.State.{HasCleanDisk}
-use Rattle.streetmap_rows.proofs.Answering.{handed_on}
-use Rattle.streetmap_tables.proofs.Joining.{keeps, keeps_then, keeps_rest, rest_then, stands_still}
+use Rattle.streetmap_rows.proofs.ResultCases.{handed_on}
+use Rattle.streetmap_tables.proofs.CallsInTransaction.{keeps, keeps_then, keeps_rest, rest_then, stands_still}
 use Rattle.streetmap_tables.proofs.Deciding.{may_open}
 use Rattle.streetmap_tables.proofs.edits.open_in.Goals as goal
 

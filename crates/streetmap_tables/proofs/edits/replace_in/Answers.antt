@@ -7,9 +7,9 @@ use Rattle.streetmap_ledger.specs.State.{Collection}
 use Rattle.streetmap_rows.specs.Rows.{feature_at}
 use Rattle.streetmap_tables.specs.Editing.{Answered}
 use Rattle.streetmap_tables.specs.Storing.{WasPut}
-use Rattle.streetmap_rows.proofs.Answering.{handed_on}
-use Rattle.streetmap_tables.proofs.Joining.{keeps, keeps_then, keeps_rest, rest_then, stands_still, answered_on}
-use Rattle.streetmap_tables.proofs.Timed.{same_id}
+use Rattle.streetmap_rows.proofs.ResultCases.{handed_on}
+use Rattle.streetmap_tables.proofs.CallsInTransaction.{keeps, keeps_then, keeps_rest, rest_then, stands_still, answered_on}
+use Rattle.streetmap_tables.proofs.TimedFeature.{same_id}
 use Rattle.streetmap_tables.proofs.Deciding.{is_there, not_there, no_replace, is_missing, is_found, without, between, between_has, without_lacks, cuts, was_replaced}
 use Rattle.streetmap_tables.proofs.edits.replace_in.Goals as goal
 

@@ -4,7 +4,7 @@ use Rattle.streetmap_ledger.specs.State.{Collection}
 use Rattle.streetmap_rows.specs.Failing.{is_memory}
 use Rattle.streetmap_rows.specs.Views.{collection_view}
 use Rattle.streetmap_rows.specs.declared.fault.ReadFault.TheVariants.{Memory, Unread}
-use Rattle.streetmap_tables.proofs.Resting.{the_row}
+use Rattle.streetmap_tables.proofs.RestsAfterLook.{the_row}
 use Rattle.streetmap_tables.specs.Part.{IsSpared}
 use Rattle.streetmap_tables.proofs.features.find_time.Goals as goal
 

@@ -1,10 +1,10 @@
 use Rattle.sqlite.specs.Held.{state}
-use Rattle.streetmap_rows.proofs.Answering.{by_result, by_either, on_ok}
-use Rattle.streetmap_rows.proofs.Looking.{collection_shown, collection_told_inside}
-use Rattle.streetmap_tables.proofs.Reading.{keeps_shown, keeps_failed, inside_shown}
+use Rattle.streetmap_rows.proofs.ResultCases.{by_result, by_either, on_ok}
+use Rattle.streetmap_rows.proofs.KeyLooks.{collection_shown, collection_told_inside}
+use Rattle.streetmap_tables.proofs.FormatAndSerials.{keeps_shown, keeps_failed, inside_shown}
 use Rattle.streetmap_rows.specs.Statements.{select_collection}
-use Rattle.streetmap_tables.proofs.Seeing.{leaves_unchanged}
-use Rattle.streetmap_tables.proofs.Telling.{head_bare}
+use Rattle.streetmap_tables.proofs.SameDatabase.{leaves_unchanged}
+use Rattle.streetmap_tables.proofs.LooksTell.{head_bare}
 use Rattle.streetmap_tables.proofs.features.head_rows.Goals as goal
 
 pub returns-clause-looks : goal.returns-clause-looks

@@ -6,13 +6,13 @@ use Rattle.streetmap_geojson.specs.FeatureValue.{FeatureValue}
 use Rattle.streetmap_ledger.specs.State.{timed, with_feature, with_features}
 use Rattle.streetmap_rows.specs.Stands.{StandsFor}
 use Rattle.streetmap_rows.specs.Elsewhere.{IsSameElsewhere}
-use Rattle.streetmap_rows.proofs.Answering.{handed_on}
+use Rattle.streetmap_rows.proofs.ResultCases.{handed_on}
 use Rattle.streetmap_rows.specs.Stored.{IsStored}
-use Rattle.streetmap_tables.proofs.Joining.{stands_still}
+use Rattle.streetmap_tables.proofs.CallsInTransaction.{stands_still}
 use Rattle.streetmap_rows.specs.Calls.{RanInsert}
 use Rattle.streetmap_rows.specs.Rows.{feature_text}
 use Rattle.streetmap_tables.specs.Part.{IsSpared}
-use Rattle.streetmap_tables.proofs.Parts.{to_put, after, lacks_after, put_is, never_untimed}
+use Rattle.streetmap_tables.proofs.PartOfState.{to_put, after, lacks_after, put_is, never_untimed}
 use Rattle.streetmap_tables.proofs.Reasons.{reason_in, reason_in_later}
 use Rattle.streetmap_tables.proofs.features.put_row.Goals as goal
 

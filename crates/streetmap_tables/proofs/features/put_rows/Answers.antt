@@ -4,11 +4,11 @@ use Rattle.sqlite.specs.Held.{state}
 use Rattle.sqlite.specs.State.{HasCleanDisk}
 use Rattle.sqlite.proofs.StateLemmas.{survives_then}
 use Rattle.streetmap_rows.specs.Stands.{StandsFor}
-use Rattle.streetmap_rows.proofs.Answering.{handed_on}
-use Rattle.streetmap_tables.proofs.Joining.{same_all, keeps_then}
+use Rattle.streetmap_rows.proofs.ResultCases.{handed_on}
+use Rattle.streetmap_tables.proofs.CallsInTransaction.{same_all, keeps_then}
 use Rattle.streetmap_tables.specs.Part.{Lacks, PutsEach}
-use Rattle.streetmap_tables.proofs.Ended.{elsewhere_then}
-use Rattle.streetmap_tables.proofs.Parts.{lacks_none}
+use Rattle.streetmap_tables.proofs.EndedCalls.{elsewhere_then}
+use Rattle.streetmap_tables.proofs.PartOfState.{lacks_none}
 use Rattle.streetmap_tables.proofs.Reasons.{reason_in_later, handed_in}
 use Rattle.streetmap_tables.proofs.features.put_rows.Goals as goal
 

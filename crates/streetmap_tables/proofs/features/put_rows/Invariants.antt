@@ -6,7 +6,7 @@ use Rattle.streetmap_ledger.specs.WellFormed.{IsState}
 use Rattle.streetmap_rows.specs.Stands.{StandsFor}
 use Rattle.streetmap_rows.specs.Elsewhere.{IsSameElsewhere}
 use Rattle.streetmap_tables.specs.Part.{Lacks}
-use Rattle.streetmap_tables.proofs.Parts.{Continues}
+use Rattle.streetmap_tables.proofs.PartOfState.{Continues}
 use Rattle.streetmap_tables.proofs.features.put_rows.Given as goal
 
 abbrev pub invariant-rows : goal.invariant-rows

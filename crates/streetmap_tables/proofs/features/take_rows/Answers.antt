@@ -1,12 +1,12 @@
 use Rattle.std.proofs.Common.{[], sym, subst}
 use Rattle.sqlite.specs.Held.{state}
-use Rattle.streetmap_tables.proofs.Reading.{keeps_shown, keeps_failed, inside_shown}
+use Rattle.streetmap_tables.proofs.FormatAndSerials.{keeps_shown, keeps_failed, inside_shown}
 use Rattle.streetmap_tables.specs.Part.{IsSpared}
 use Rattle.streetmap_tables.proofs.SelectOld.{rows_text}
-use Rattle.streetmap_tables.proofs.Taken.{rows_shown, rows_told}
-use Rattle.streetmap_rows.proofs.Reasons.{queried_inside}
+use Rattle.streetmap_tables.proofs.OldRowsLook.{rows_shown, rows_told}
+use Rattle.streetmap_rows.proofs.ErrorReasons.{queried_inside}
 use Rattle.streetmap_tables.proofs.Reasons.{reason_in}
-use Rattle.streetmap_tables.proofs.Telling.{seen, rows_bare}
+use Rattle.streetmap_tables.proofs.LooksTell.{seen, rows_bare}
 use Rattle.streetmap_tables.proofs.features.take_rows.Goals as goal
 
 pub returns-in-Ok-clause-takes : goal.returns-in-Ok-clause-takes

@@ -3,7 +3,7 @@ use Rattle.std.specs.FinMap.{get}
 use Rattle.sqlite.specs.Held.{state}
 use Rattle.streetmap_rows.specs.Views.{kept_view}
 use Rattle.streetmap_tables.specs.Acting.{kept_answer}
-use Rattle.streetmap_tables.proofs.Resting.{rests_still, rests_if_open, the_row, no_row}
+use Rattle.streetmap_tables.proofs.RestsAfterLook.{rests_still, rests_if_open, the_row, no_row}
 use Rattle.streetmap_tables.proofs.kept.kept_reply.Goals as goal
 
 pub returns-in-Err-clause-looks : goal.returns-in-Err-clause-looks

@@ -1,10 +1,10 @@
 use Rattle.sqlite.specs.Held.{state}
 use Rattle.streetmap_tables.proofs.Creating.{created_by}
-use Rattle.streetmap_tables.proofs.Refused.{told_created}
+use Rattle.streetmap_tables.proofs.CreateRefused.{told_created}
 use Rattle.streetmap_tables.proofs.Refusals.{allowed_if_ours}
-use Rattle.streetmap_tables.proofs.Stopping.{is_handed}
-use Rattle.streetmap_rows.proofs.Answering.{err_handed_on}
-use Rattle.streetmap_rows.proofs.Reasons.{run_inside}
+use Rattle.streetmap_tables.proofs.BeforeCleanEnd.{is_handed}
+use Rattle.streetmap_rows.proofs.ResultCases.{err_handed_on}
+use Rattle.streetmap_rows.proofs.ErrorReasons.{run_inside}
 use Rattle.streetmap_tables.proofs.making.create_table.Goals as goal
 
 pub returns-clause-created : goal.returns-clause-created

@@ -1,8 +1,8 @@
 use Rattle.sqlite.specs.Held.{state}
 use Rattle.streetmap_tables.proofs.PutFormat.{format_put, format_told}
-use Rattle.streetmap_tables.proofs.Stopping.{is_handed}
-use Rattle.streetmap_rows.proofs.Answering.{err_handed_on}
-use Rattle.streetmap_rows.proofs.Reasons.{run_inside}
+use Rattle.streetmap_tables.proofs.BeforeCleanEnd.{is_handed}
+use Rattle.streetmap_rows.proofs.ResultCases.{err_handed_on}
+use Rattle.streetmap_rows.proofs.ErrorReasons.{run_inside}
 use Rattle.streetmap_tables.proofs.making.insert_format.Goals as goal
 
 pub returns-clause-put : goal.returns-clause-put

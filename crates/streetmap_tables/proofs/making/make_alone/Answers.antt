@@ -1,7 +1,7 @@
 use Rattle.std.proofs.Common.{rules, refl}
 use Rattle.sqlite.specs.Held.{state}
 use Rattle.sqlite.specs.State.{HasCleanDisk}
-use Rattle.streetmap_tables.proofs.Stopping.{clean_back, same_after_commit, is_handed}
+use Rattle.streetmap_tables.proofs.BeforeCleanEnd.{clean_back, same_after_commit, is_handed}
 use Rattle.streetmap_tables.proofs.making.make_alone.Goals as goal
 
 pub returns-in_err-commit-in-Ok-clause-made : goal.returns-in_err-commit-in-Ok-clause-made

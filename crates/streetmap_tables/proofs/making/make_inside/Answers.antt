@@ -3,13 +3,13 @@ use Rattle.sqlite.specs.Held.{state}
 use Rattle.streetmap_ledger.specs.State.{opening_state}
 use Rattle.streetmap_ledger.proofs.StatesStay.{opening_sound}
 use Rattle.streetmap_rows.specs.Tables.{meta, collections, batches, features}
-use Rattle.streetmap_tables.proofs.Texts.{meta_is, collections_is, batches_is, features_is}
-use Rattle.streetmap_tables.proofs.Grown.{meta_counts, collections_counts, batches_counts, features_counts, room_one, room_two, room_three, are_made}
+use Rattle.streetmap_tables.proofs.TableTexts.{meta_is, collections_is, batches_is, features_is}
+use Rattle.streetmap_tables.proofs.OurTablesMade.{meta_counts, collections_counts, batches_counts, features_counts, room_one, room_two, room_three, are_made}
 use Rattle.streetmap_tables.proofs.PutFormat.{lacks_format}
-use Rattle.streetmap_tables.proofs.Stopping.{clean_back, ok_then, err_then, is_handed}
+use Rattle.streetmap_tables.proofs.BeforeCleanEnd.{clean_back, ok_then, err_then, is_handed}
 use Rattle.streetmap_tables.proofs.Refusals.{meta_free, told_one, collections_free, told_two, batches_free, told_three, features_free, told_four}
-use Rattle.streetmap_tables.proofs.Others.{others_then, others_elsewhere}
-use Rattle.streetmap_tables.proofs.Growing.{others_kept}
+use Rattle.streetmap_tables.proofs.OtherTables.{others_then, others_elsewhere}
+use Rattle.streetmap_tables.proofs.OneTableMore.{others_kept}
 use Rattle.streetmap_tables.proofs.making.make_inside.Goals as goal
 
 pub returns-clause-made : goal.returns-clause-made

@@ -1,8 +1,8 @@
 use Rattle.std.proofs.Common.{rules}
 use Rattle.sqlite.specs.Held.{state}
 use Rattle.streetmap_ledger.specs.State.{opening_state}
-use Rattle.streetmap_rows.proofs.Leaving.{leaves_only}
-use Rattle.streetmap_tables.proofs.Stopping.{clean_back, may_leave_it, same_if_settled}
+use Rattle.streetmap_rows.proofs.CrashLeaves.{leaves_only}
+use Rattle.streetmap_tables.proofs.BeforeCleanEnd.{clean_back, may_leave_it, same_if_settled}
 use Rattle.streetmap_tables.proofs.making.make_tables.Goals as goal
 
 pub returns-in_default-clause-made : goal.returns-in_default-clause-made

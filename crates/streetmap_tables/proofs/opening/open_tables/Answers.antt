@@ -4,13 +4,13 @@ use Rattle.sqlite.specs.State.{HasCleanDisk}
 use Rattle.sqlite.specs.Effect.{Database}
 use Rattle.streetmap_tables.specs.Adopting.{LeavesTheSame}
 use Rattle.streetmap_tables.specs.Making.{KeepsOtherTables}
-use Rattle.streetmap_tables.proofs.Stopping.{leaves_same}
-use Rattle.streetmap_tables.proofs.Closing.{old_same, carries_on, fewer_on, never_counted}
-use Rattle.streetmap_tables.proofs.Closing.{never_foreign, never_lost, never_new}
+use Rattle.streetmap_tables.proofs.BeforeCleanEnd.{leaves_same}
+use Rattle.streetmap_tables.proofs.CarryingEnds.{old_same, carries_on, fewer_on, never_counted}
+use Rattle.streetmap_tables.proofs.CarryingEnds.{never_foreign, never_lost, never_new}
 use Rattle.std.proofs.Common.{rules}
 use Rattle.streetmap_tables.specs.Telling.{TellsFault}
 use Rattle.streetmap_tables.specs.declared.adopting.AdoptFault.TheVariants as adopting
-use Rattle.streetmap_tables.proofs.Telling.{told_open, if_carried}
+use Rattle.streetmap_tables.proofs.LooksTell.{told_open, if_carried}
 use Rattle.streetmap_tables.proofs.opening.open_tables.Goals as goal
 
 pub returns-in-Ok-clause-carries : goal.returns-in-Ok-clause-carries

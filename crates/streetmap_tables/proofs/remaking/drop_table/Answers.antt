@@ -1,9 +1,9 @@
 use Rattle.sqlite.specs.Held.{state}
-use Rattle.streetmap_tables.proofs.Stopping.{is_handed}
+use Rattle.streetmap_tables.proofs.BeforeCleanEnd.{is_handed}
 use Rattle.streetmap_tables.proofs.Dropping.{dropped_by}
 use Rattle.streetmap_tables.proofs.DropRefused.{told_dropped}
-use Rattle.streetmap_rows.proofs.Answering.{err_handed_on}
-use Rattle.streetmap_rows.proofs.Reasons.{run_inside}
+use Rattle.streetmap_rows.proofs.ResultCases.{err_handed_on}
+use Rattle.streetmap_rows.proofs.ErrorReasons.{run_inside}
 use Rattle.streetmap_tables.proofs.remaking.drop_table.Goals as goal
 
 pub returns-clause-dropped : goal.returns-clause-dropped

@@ -1,17 +1,17 @@
 use Rattle.std.proofs.Common.{◌∙◌, inl, inr, refl}
 use Rattle.sqlite.specs.Held.{state}
 use Rattle.streetmap_rows.specs.Tables.{meta, features, meta_name, features_name}
-use Rattle.streetmap_tables.proofs.Texts.{meta_is, features_is}
-use Rattle.streetmap_tables.proofs.Grown.{meta_counts, features_counts}
-use Rattle.streetmap_tables.proofs.Others.{others_then, others_elsewhere}
-use Rattle.streetmap_tables.proofs.Stopping.{clean_back, ok_then, err_then, is_handed}
+use Rattle.streetmap_tables.proofs.TableTexts.{meta_is, features_is}
+use Rattle.streetmap_tables.proofs.OurTablesMade.{meta_counts, features_counts}
+use Rattle.streetmap_tables.proofs.OtherTables.{others_then, others_elsewhere}
+use Rattle.streetmap_tables.proofs.BeforeCleanEnd.{clean_back, ok_then, err_then, is_handed}
 use Rattle.streetmap_tables.specs.Old.{KeepsOld, old_features}
 use Rattle.streetmap_tables.specs.Making.{format_text}
 use Rattle.streetmap_tables.specs.Part.{emptied, Ran}
 use Rattle.streetmap_tables.proofs.DropTexts.{drops_features, drops_meta, features_alone, meta_alone}
-use Rattle.streetmap_tables.proofs.Anew.{meta_free, features_free, told_meta, told_features}
-use Rattle.streetmap_tables.proofs.Remade.{features_go, meta_goes, rest1, rest2, rest3, lacks_format, others_remade}
-use Rattle.streetmap_tables.proofs.Ended.{each_state}
+use Rattle.streetmap_tables.proofs.RemakeRefused.{meta_free, features_free, told_meta, told_features}
+use Rattle.streetmap_tables.proofs.RemadeTables.{features_go, meta_goes, rest1, rest2, rest3, lacks_format, others_remade}
+use Rattle.streetmap_tables.proofs.EndedCalls.{each_state}
 use Rattle.streetmap_tables.proofs.remaking.remake_tables.Goals as goal
 
 pub returns-clause-made : goal.returns-clause-made

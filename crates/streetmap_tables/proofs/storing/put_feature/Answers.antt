@@ -5,8 +5,8 @@ use Rattle.streetmap_grid.specs.Views.{box_value}
 use Rattle.std.proofs.Common.{subst₂}
 use Rattle.sqlite.specs.Held.{state}
 use Rattle.streetmap_rows.specs.Calls.{IsWritten, PutsFeature, RanInsert}
-use Rattle.streetmap_rows.proofs.Answering.{handed_on}
-use Rattle.streetmap_tables.proofs.Timed.{extent_is}
+use Rattle.streetmap_rows.proofs.ResultCases.{handed_on}
+use Rattle.streetmap_tables.proofs.TimedFeature.{extent_is}
 use Rattle.streetmap_tables.proofs.storing.put_feature.Goals as goal
 
 pub returns-clause-puts : goal.returns-clause-puts

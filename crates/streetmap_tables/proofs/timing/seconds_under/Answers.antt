@@ -1,7 +1,7 @@
 use Rattle.std.proofs.Common.{Some, None, ap, subst, sym}
 use Rattle.std.specs.Option.{option_copied}
 use Rattle.streetmap_tables.specs.Storing.{IsTimed}
-use Rattle.streetmap_tables.proofs.Timed.{timed_as}
+use Rattle.streetmap_tables.proofs.TimedFeature.{timed_as}
 use Rattle.streetmap_tables.proofs.timing.seconds_under.Goals as goal
 
 pub returns-in-Some-clause-told : goal.returns-in-Some-clause-told

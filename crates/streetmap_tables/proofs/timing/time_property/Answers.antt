@@ -3,9 +3,9 @@ use Rattle.std.specs.FinMap.{get}
 use Rattle.sqlite.specs.Held.{state}
 use Rattle.streetmap_rows.specs.Failing.{is_of_store}
 use Rattle.streetmap_rows.specs.Views.{collection_view}
-use Rattle.streetmap_rows.proofs.Answering.{handed_on}
-use Rattle.streetmap_tables.proofs.Joining.{keeps}
-use Rattle.streetmap_tables.proofs.Resting.{the_row, no_row}
+use Rattle.streetmap_rows.proofs.ResultCases.{handed_on}
+use Rattle.streetmap_tables.proofs.CallsInTransaction.{keeps}
+use Rattle.streetmap_tables.proofs.RestsAfterLook.{the_row, no_row}
 use Rattle.streetmap_tables.proofs.timing.time_property.Goals as goal
 
 pub returns-in_err-rows-clause-finds : goal.returns-in_err-rows-clause-finds

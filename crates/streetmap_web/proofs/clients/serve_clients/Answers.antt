@@ -1,7 +1,7 @@
 use Rattle.std.proofs.Common.{rules}
 use Rattle.streetmap_connections.specs.Served.{slots_of}
 use Rattle.streetmap_web.specs.Sight.{Sight, sight_of}
-use Rattle.streetmap_web.proofs.Turns.{base_kept, clean_back, rest_spared, serves_clients, survives_clients}
+use Rattle.streetmap_web.proofs.RequestsInTurn.{base_kept, clean_back, rest_spared, serves_clients, survives_clients}
 use Rattle.streetmap_web.proofs.clients.serve_clients.Given.{Over}
 use Rattle.streetmap_web.proofs.clients.serve_clients.Goals as goal
 

@@ -1,5 +1,5 @@
 use Rattle.std.proofs.Common.{rules, arith}
-use Rattle.streetmap_web.proofs.Waiting.{none_in_head, none_in_body, none_before_head, none_before_body}
+use Rattle.streetmap_web.proofs.NoRequestYet.{none_in_head, none_in_body, none_before_head, none_before_body}
 use Rattle.streetmap_web.proofs.keeper_service.cut_of.Goals as goal
 
 pub returns-in-Head-clause-none : goal.returns-in-Head-clause-none

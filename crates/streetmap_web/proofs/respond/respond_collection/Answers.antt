@@ -1,6 +1,6 @@
 use Rattle.std.proofs.Common.{refl, Err}
 use Rattle.streetmap_routes.specs.Ask.{one_collection}
-use Rattle.streetmap_web.proofs.Looks.{look_shown, look_leaves}
+use Rattle.streetmap_web.proofs.LookOutcomes.{look_shown, look_leaves}
 use Rattle.streetmap_web.proofs.Statuses.{collection_well}
 use Rattle.streetmap_web.proofs.respond.respond_collection.Goals as goal
 

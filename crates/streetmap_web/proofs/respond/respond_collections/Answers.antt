@@ -1,6 +1,6 @@
 use Rattle.std.proofs.Common.{refl, Err}
 use Rattle.streetmap_routes.specs.Ask.{all_collections}
-use Rattle.streetmap_web.proofs.Looks.{look_leaves}
+use Rattle.streetmap_web.proofs.LookOutcomes.{look_leaves}
 use Rattle.streetmap_web.proofs.respond.respond_collections.Goals as goal
 
 pub returns-in-Ok-clause-leaves : goal.returns-in-Ok-clause-leaves

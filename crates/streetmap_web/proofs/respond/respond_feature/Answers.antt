@@ -1,7 +1,7 @@
 use Rattle.std.proofs.Common.{refl, Err, ap}
 use Rattle.streetmap_routes.specs.Ask.{feature}
 use Rattle.streetmap_web.specs.Response.{found_feature}
-use Rattle.streetmap_web.proofs.Looks.{look_shown, look_leaves, found_responds, no_device}
+use Rattle.streetmap_web.proofs.LookOutcomes.{look_shown, look_leaves, found_responds, no_device}
 use Rattle.streetmap_web.proofs.Statuses.{feature_well}
 use Rattle.streetmap_web.proofs.respond.respond_feature.Goals as goal
 

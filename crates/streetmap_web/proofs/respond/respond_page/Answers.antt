@@ -1,7 +1,7 @@
 use Rattle.std.proofs.Common.{refl, Err}
 use Rattle.streetmap_query.specs.Views.{query_value}
 use Rattle.streetmap_routes.specs.Ask.{page}
-use Rattle.streetmap_web.proofs.Looks.{look_shown, look_leaves}
+use Rattle.streetmap_web.proofs.LookOutcomes.{look_shown, look_leaves}
 use Rattle.streetmap_web.proofs.Statuses.{page_well}
 use Rattle.streetmap_web.proofs.respond.respond_page.Goals as goal
 

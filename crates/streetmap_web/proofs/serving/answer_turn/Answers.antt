@@ -14,7 +14,7 @@ use Rattle.streetmap_web.specs.Turns.{FillSays}
 use Rattle.streetmap_web.specs.Exchanges.{request_of, no_room}
 use Rattle.streetmap_web.specs.Coming.{around}
 use Rattle.streetmap_bodies.specs.declared.request_fault.RequestFault.TheVariants.{Keeper}
-use Rattle.streetmap_web.proofs.Turning.{turn_of, starved_turn, answered_turn, truncated_turn, unread_turn, unfinished_body}
+use Rattle.streetmap_web.proofs.OneTurn.{turn_of, starved_turn, answered_turn, truncated_turn, unread_turn, unfinished_body}
 use Rattle.streetmap_web.proofs.serving.answer_turn.Goals as goal
 
 pub returns-in_default-clause-says : goal.returns-in_default-clause-says

@@ -1,6 +1,6 @@
 use Rattle.std.proofs.Common.{◌++◌, ap, ◌∙◌}
 use Rattle.streetmap_connections.specs.Answers.{answer_text, head_bytes}
-use Rattle.streetmap_web.proofs.Filling.{sent_kept}
+use Rattle.streetmap_web.proofs.BodyRead.{sent_kept}
 use Rattle.streetmap_web.proofs.serving.write_answer.Goals as goal
 
 pub returns : goal.returns

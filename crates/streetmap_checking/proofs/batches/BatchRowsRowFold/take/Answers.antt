@@ -1,6 +1,6 @@
 use Rattle.std.proofs.Common.{◌≡◌, true, false, option_map, string_bytes, rules, subst, sym, ◌∙◌}
 use Rattle.std.specs.Option.{option_copied}
-use Rattle.streetmap_rows.proofs.Answering.{handed_on}
+use Rattle.streetmap_rows.proofs.ResultCases.{handed_on}
 use Rattle.streetmap_rows.specs.Rows.{batch_cells}
 use Rattle.streetmap_checking.specs.Good.{IsAccepted}
 use Rattle.streetmap_checking.specs.Held.{StandsBehind, last_key}

@@ -1,5 +1,5 @@
 use Rattle.std.proofs.Common.{◌≡◌, true, false, string_bytes, rules, subst, sym, ◌∙◌}
-use Rattle.streetmap_rows.proofs.Answering.{handed_on}
+use Rattle.streetmap_rows.proofs.ResultCases.{handed_on}
 use Rattle.streetmap_checking.specs.Good.{head_cells, IsCollectionHead}
 use Rattle.std.specs.Option.{option_copied}
 use Rattle.streetmap_checking.specs.Held.{StandsBehind, last_key, known}

@@ -1,6 +1,6 @@
 use Rattle.std.proofs.Common.{◌≡◌, Some, suc, true, false, option_map, string_bytes, rules, subst, sym, ap, ◌∙◌, ◌∷◌, [], length-append, arith}
 use Rattle.std.specs.Option.{option_copied}
-use Rattle.streetmap_rows.proofs.Answering.{handed_on}
+use Rattle.streetmap_rows.proofs.ResultCases.{handed_on}
 use Rattle.streetmap_ledger.specs.WellFormed.{IsPlaced}
 use Rattle.streetmap_checking.specs.Good.{feature_view}
 use Rattle.streetmap_checking.specs.Held.{StandsBehind, property_of, last_key}

@@ -1,5 +1,5 @@
 use Rattle.std.proofs.Common.{rules, refl, arith}
-use Rattle.streetmap_journal.proofs.Told.{lacking_put}
+use Rattle.streetmap_journal.proofs.PartOfLine.{lacking_put}
 use Rattle.streetmap_journal.proofs.journal.Journal.put.Goals as goal
 
 pub returns-in-Err : goal.returns-in-Err

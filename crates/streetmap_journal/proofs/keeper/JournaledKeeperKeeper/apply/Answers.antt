@@ -1,9 +1,9 @@
 use Rattle.std.proofs.Common.{Some, refl}
 use Rattle.streetmap_batch.specs.BatchView.{batch_value}
 use Rattle.streetmap_journal.specs.Telling.{IsWholeUnless, ReachesUnless}
-use Rattle.streetmap_journal.proofs.Completed.{of_reply}
+use Rattle.streetmap_journal.proofs.LooksInTurn.{of_reply}
 use Rattle.streetmap_journal.proofs.Telling.{fails_through, with_reply}
-use Rattle.streetmap_journal.proofs.Noted.{refused_leaves}
+use Rattle.streetmap_journal.proofs.LineBehindBatch.{refused_leaves}
 use Rattle.streetmap_journal.proofs.keeper.JournaledKeeperKeeper.apply.Goals as goal
 
 pub returns-in-Err-clause-leaves : goal.returns-in-Err-clause-leaves

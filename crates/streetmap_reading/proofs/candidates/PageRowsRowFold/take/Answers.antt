@@ -1,8 +1,8 @@
 use Rattle.std.proofs.Common.{refl}
-use Rattle.streetmap_rows.proofs.Answering.{handed_on}
+use Rattle.streetmap_rows.proofs.ResultCases.{handed_on}
 use Rattle.streetmap_reading.specs.Held.{IsCandidate}
-use Rattle.streetmap_reading.proofs.Rests.{first_cell, first_text}
-use Rattle.streetmap_reading.proofs.Taken.{not_taken, page_more, read_so}
+use Rattle.streetmap_reading.proofs.BetweenRows.{first_cell, first_text}
+use Rattle.streetmap_reading.proofs.OneRowMore.{not_taken, page_more, read_so}
 use Rattle.streetmap_reading.proofs.candidates.PageRowsRowFold.take.Goals as goal
 
 pub returns-in-Ok : goal.returns-in-Ok

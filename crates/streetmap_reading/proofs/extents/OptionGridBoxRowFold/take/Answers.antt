@@ -1,7 +1,7 @@
-use Rattle.streetmap_rows.proofs.Answering.{handed_on}
+use Rattle.streetmap_rows.proofs.ResultCases.{handed_on}
 use Rattle.streetmap_reading.specs.Views.{feature_extent, IsExtentRow}
-use Rattle.streetmap_reading.proofs.Boxes.{extent_is_box}
-use Rattle.streetmap_reading.proofs.Taken.{not_taken, wider_bounds}
+use Rattle.streetmap_reading.proofs.PositionBounds.{extent_is_box}
+use Rattle.streetmap_reading.proofs.OneRowMore.{not_taken, wider_bounds}
 use Rattle.streetmap_reading.proofs.extents.OptionGridBoxRowFold.take.Goals as goal
 
 pub returns : goal.returns

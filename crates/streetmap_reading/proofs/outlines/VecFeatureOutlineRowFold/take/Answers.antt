@@ -1,7 +1,7 @@
-use Rattle.streetmap_rows.proofs.Answering.{handed_on}
+use Rattle.streetmap_rows.proofs.ResultCases.{handed_on}
 use Rattle.streetmap_ledger.specs.OutlineView.{feature_outline_value}
 use Rattle.streetmap_reading.specs.Views.{outline_row, IsOutline, IsOutlineRow}
-use Rattle.streetmap_reading.proofs.Taken.{not_taken, one_more}
+use Rattle.streetmap_reading.proofs.OneRowMore.{not_taken, one_more}
 use Rattle.streetmap_reading.proofs.outlines.VecFeatureOutlineRowFold.take.Goals as goal
 
 pub returns : goal.returns

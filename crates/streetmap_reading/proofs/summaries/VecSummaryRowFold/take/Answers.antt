@@ -1,6 +1,6 @@
-use Rattle.streetmap_rows.proofs.Answering.{handed_on}
+use Rattle.streetmap_rows.proofs.ResultCases.{handed_on}
 use Rattle.streetmap_reading.specs.Views.{IsHeadRow}
-use Rattle.streetmap_reading.proofs.Taken.{not_taken, one_head_more}
+use Rattle.streetmap_reading.proofs.OneRowMore.{not_taken, one_head_more}
 use Rattle.streetmap_reading.proofs.summaries.VecSummaryRowFold.take.Goals as goal
 
 pub returns : goal.returns

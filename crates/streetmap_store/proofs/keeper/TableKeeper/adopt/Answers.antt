@@ -1,7 +1,7 @@
 use Rattle.std.proofs.Common.{refl, sym, rules}
 use Rattle.sqlite.specs.Held.{state}
-use Rattle.streetmap_tables.proofs.Stopping.{leaves_same}
-use Rattle.streetmap_store.proofs.Standing.{serves}
+use Rattle.streetmap_tables.proofs.BeforeCleanEnd.{leaves_same}
+use Rattle.streetmap_store.proofs.StandsAfterLook.{serves}
 use Rattle.streetmap_store.proofs.keeper.TableKeeper.adopt.Goals as goal
 
 pub returns-in-Ok-clause-adopted : goal.returns-in-Ok-clause-adopted

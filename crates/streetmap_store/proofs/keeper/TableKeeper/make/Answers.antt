@@ -2,8 +2,8 @@ use Rattle.std.proofs.Common.{refl, sym, rules}
 use Rattle.std.specs.FinMap.{len-empty}
 use Rattle.sqlite.specs.Held.{state}
 use Rattle.streetmap_ledger.specs.State.{opening_state}
-use Rattle.streetmap_tables.proofs.Stopping.{leaves_same}
-use Rattle.streetmap_store.proofs.Standing.{serves}
+use Rattle.streetmap_tables.proofs.BeforeCleanEnd.{leaves_same}
+use Rattle.streetmap_store.proofs.StandsAfterLook.{serves}
 use Rattle.streetmap_store.proofs.keeper.TableKeeper.make.Goals as goal
 
 pub returns-in-Ok-clause-made : goal.returns-in-Ok-clause-made

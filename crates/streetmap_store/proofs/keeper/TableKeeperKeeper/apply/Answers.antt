@@ -3,11 +3,11 @@ use Rattle.std.specs.FinMap.{len}
 use Rattle.sqlite.specs.Held.{state}
 use Rattle.streetmap_batch.specs.BatchView.{batch_value}
 use Rattle.streetmap_ledger.specs.Batches.{act}
-use Rattle.streetmap_rows.proofs.Leaving.{leaves_only}
+use Rattle.streetmap_rows.proofs.CrashLeaves.{leaves_only}
 use Rattle.streetmap_store.specs.Serving.{count_after}
-use Rattle.streetmap_store.proofs.Counting.{count_is}
-use Rattle.streetmap_store.proofs.Standing.{serves, acts, leaves, shut_stopped, spares_acted}
-use Rattle.streetmap_store.proofs.Standing.{unless_stopped}
+use Rattle.streetmap_store.proofs.BatchesCounted.{count_is}
+use Rattle.streetmap_store.proofs.StandsAfterLook.{serves, acts, leaves, shut_stopped, spares_acted}
+use Rattle.streetmap_store.proofs.StandsAfterLook.{unless_stopped}
 use Rattle.streetmap_store.proofs.keeper.TableKeeperKeeper.apply.Goals as goal
 
 pub returns-in-Ok-clause-acts : goal.returns-in-Ok-clause-acts

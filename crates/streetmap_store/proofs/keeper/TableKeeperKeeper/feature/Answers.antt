@@ -1,7 +1,7 @@
 use Rattle.std.proofs.Common.{IsSome, rules}
 use Rattle.sqlite.specs.Held.{state}
-use Rattle.streetmap_store.proofs.Standing.{serves_still, leaves_still, fewer, clean_before, ended}
-use Rattle.streetmap_store.proofs.Standing.{gave_up, spares_answered, spares_given_up}
+use Rattle.streetmap_store.proofs.StandsAfterLook.{serves_still, leaves_still, fewer, clean_before, ended}
+use Rattle.streetmap_store.proofs.StandsAfterLook.{gave_up, spares_answered, spares_given_up}
 use Rattle.streetmap_store.proofs.keeper.TableKeeperKeeper.feature.Goals as goal
 
 pub returns-in-Ok-clause-finds : goal.returns-in-Ok-clause-finds

@@ -1,0 +1,54 @@
+-- What is written of a line stays, where the writer is told something; and what lacks of a line is
+-- written.
+use Rattle.std.proofs.Common.{◌≡◌, ◌≤◌, ◌<◌, ◌+◌, ◌-◌, ◌^◌, ℕ, min, Bool, true, false, List, Option}
+use Rattle.std.proofs.Common.{None, take, drop, length, sym, ap, subst, ◌∙◌, inl, inr}
+use Rattle.std.proofs.Common.{arith}
+use Rattle.std.specs.Io.KnownBytes.{Appends, Keeps}
+use Rattle.std.proofs.KnownBytes.{Appends-kept}
+use Rattle.std.proofs.lemmas.List.{drop-take, length-drop}
+use Rattle.streetmap_ledger.specs.declared.reply.Cause.{Cause}
+use Rattle.streetmap_journal.specs.Completing.{StaysUnshut}
+use Rattle.streetmap_journal.specs.Written.{Position, PutsBy}
+
+pub told_behind : (a b c : Option (List ℕ)) (bytes : List ℕ) → Appends a b bytes → Keeps b c →
+    Appends a c bytes
+told_behind a b c bytes h k = Appends-kept a b c bytes h k
+
+-- a beginning of what lacks of a line
+pub lacking_put : (part written sum : ℕ) (line : List ℕ) (old new : Option (List ℕ)) →
+    part ≤ length line → length line < 2 ^ 64 → written ≤ length (drop part line) →
+    sum ≡ min (part + written) (2 ^ 64 - 1) → Appends old new (take written (drop part line)) →
+    (part ≤ sum) × (sum ≤ length line) × Appends old new (drop part (take sum line))
+lacking_put part written sum line old new low small few is puts =
+    let long = length-drop part line in
+    let both : sum ≡ part + written = omega (arith, is, low, small, few, long) in (
+      omega (arith, both),
+      omega (arith, both, few, long, low),
+      subst (Appends old new) (sym (ap (λ (n : ℕ). drop part (take n line)) both
+          ∙ drop-take part written line)) puts,
+    )
+
+-- where the writer is told behind a put
+pub put_told : (whole : Bool) (p q r : Position) (a b c : Option (List ℕ)) (line : List ℕ) →
+    r.after ≡ q.after → r.next ≡ q.next → r.part ≡ q.part → Keeps b c →
+    PutsBy whole p q a b line → PutsBy whole p r a c line
+put_told true p q r a b c line after next part keeps h = (
+  after ∙ h.0,
+  next ∙ h.1,
+  part ∙ h.2,
+  Appends-kept a b c (drop p.part line) h.3 keeps,
+)
+put_told false p q r a b c line after next part keeps h = (
+  after ∙ h.0,
+  next ∙ h.1,
+  subst (λ (n : ℕ). p.part ≤ n) (sym part) h.2,
+  subst (λ (n : ℕ). n ≤ length line) (sym part) h.3,
+  subst (λ (n : ℕ). Appends a c (drop p.part (take n line))) (sym part)
+      (Appends-kept a b c (drop p.part (take q.part line)) h.4 keeps),
+)
+
+-- a further look at a keeper that was not shut
+pub opened_further : {K : Type 0} (cause : K → Option Cause) (old now new : K) →
+    StaysUnshut cause old now → cause now ≡ None → cause new ≡ None → StaysUnshut cause old new
+opened_further cause old now new (inl same) is ends = inr (ap cause (sym same) ∙ is, ends)
+opened_further cause old now new (inr both) is ends = inr (both.0, ends)

@@ -1,0 +1,111 @@
+-- What the statement of one feature shows of the database of a state.
+use Rattle.std.proofs.Common.{◌≡◌, Result, MatchResult, Ok, Err, [], ◌∷◌, codes, find, Option}
+use Rattle.std.proofs.Common.{Some, None, option_map, refl, sym, ap, ◌∙◌, ℤ, ◌<◌, length, arith}
+use Rattle.std.proofs.Common.{subst}
+use Rattle.std.specs.FinMap.{get}
+use Rattle.std.specs.Option.{option_and_then, option_to_list}
+use Rattle.sqlite.specs.declared.types.Value.TheVariants.{Null, Int, Text as Words}
+use Rattle.sqlite.specs.Order.{Row, column}
+use Rattle.sqlite.specs.Values.{or_null}
+use Rattle.sqlite.specs.Term.{col}
+use Rattle.sqlite.specs.Effect.{Database}
+use Rattle.sqlite.specs.State.{State as Seen, IsUnchanged}
+use Rattle.streetmap_geojson.specs.FeatureValue.{FeatureValue}
+use Rattle.streetmap_moment.specs.IntervalValue.{IntervalValue}
+use Rattle.streetmap_moment.specs.Meeting.{seconds_of}
+use Rattle.streetmap_batch.specs.Text.{Text}
+use Rattle.streetmap_ledger.specs.State.{State, Collection}
+use Rattle.streetmap_ledger.specs.Pages.{feature_in}
+use Rattle.streetmap_rows.specs.Holds.{KeyPair, pair_key, has_pair}
+use Rattle.streetmap_rows.specs.Queries.{over}
+use Rattle.streetmap_rows.proofs.NamedTables.{IsFound}
+use Rattle.streetmap_rows.proofs.OneRowChosen.{chosen, shown_as, staged}
+use Rattle.streetmap_rows.proofs.HeldKeys.{filter_one}
+use Rattle.streetmap_rows.proofs.TextKeys.{pair_is, pair_self, column_later}
+use Rattle.streetmap_rows.specs.Keeping.{Keeps}
+use Rattle.streetmap_rows.specs.Rows.{AreOf, feature_cells, feature_text, seconds_in}
+use Rattle.streetmap_reading.specs.Statements.{select_text}
+use Rattle.streetmap_rows.specs.Tables.{Roots, features, features_name}
+use Rattle.streetmap_rows.proofs.Compiles.{both}
+use Rattle.streetmap_reading.proofs.Compiles.{select_text_means, select_text_never}
+use Rattle.streetmap_rows.proofs.Deleting.{both_is, keys_of}
+use Rattle.streetmap_rows.proofs.TablesInSchema as placing
+use Rattle.streetmap_rows.specs.declared.fault.ReadFault.{ReadFault}
+use Rattle.streetmap_rows.specs.declared.fault.ReadFault.TheVariants.{Memory}
+use Rattle.streetmap_reading.specs.Candidates.{dated_row, ShowsOf}
+use Rattle.streetmap_rows.specs.Stored.{IsStored}
+use Rattle.streetmap_reading.specs.Taking.{Stopped}
+use Rattle.streetmap_reading.proofs.PageRowsShown.{shows_by}
+
+module _ (db : Database) (s : State) (keeps : Keeps s db) (name id : Text) where
+  abbrev roots : Roots
+  roots = keeps.rows.roots
+
+  abbrev of : AreOf s roots db.trees
+  of = keeps.rows.of
+
+  abbrev key : KeyPair
+  key = (name, id)
+
+  in_features : IsFound db.schema features_name (features roots.features)
+  in_features = placing.features_found roots db keeps.rows.ours keeps.rows.sound
+
+  -- the row of a feature
+  pub text_at : ShowsOf select_text (keys_of key) db (option_to_list (option_map dated_row (feature_in s name id)))
+  text_at =
+      let found = find (has_pair key) (db.trees roots.features) in
+      shows_by select_text (keys_of key) db (over roots.features both (col 1 3 ∷ col 1 8 ∷ [])) (codes "body" ∷ codes "s0" ∷ []) _ (select_text_means db.schema roots.features in_features) (select_text_never db.schema roots.features in_features db.trees name id)
+      (λ rows a. chosen db.trees roots.features both (col 1 3 ∷ col 1 8 ∷ []) (keys_of key) (staged db.trees roots.features both (keys_of key) in_features.low) (has_pair key) (both_is s roots db.trees of key)
+      found (filter_one pair_key has_pair pair_is pair_self _ (db.trees roots.features) of.features key) rows a
+      ∙ ap option_to_list (shown_as (feature_cells key) dated_row _ found (feature_in s name id) (of.features.found key) (λ r f same.
+      let text = column_later r 2 ∙ ap (λ x. column x 2) same in
+      let start = column_later r 7 ∙ ap (λ x. column x 7) same in
+      λ i. text i ∷ start i ∷ [])))
+
+  -- a feature of a state has the time that its collection's property tells
+  pub stored_at : (c : Collection) → get s.collections name ≡ Some c → (f : FeatureValue) → feature_in s name id ≡ Some f → IsStored c.time f
+  stored_at c there f is =
+      let under : get c.features id ≡ Some f = sym (ap (option_and_then (λ (d : Collection). get d.features id)) there) ∙ is in
+      record { kept = keeps.rows.readable.features key f is; timed = ((keeps.well.made name c there).holds id f under).timed }
+
+-- ---- looks, one after the other
+
+pub text_is : (o : Option FeatureValue) (row : Row) → Some row ≡ option_map dated_row o → (f : FeatureValue) × (o ≡ Some f) × (row ≡ dated_row f)
+text_is None row e = absurd (cc)
+text_is (Some f) row e = (f, refl, let same : row ≡ dated_row f = cc in same)
+
+pub no_text : (o : Option FeatureValue) → None ≡ option_map dated_row o → o ≡ None
+no_text None e = refl
+no_text (Some f) e = absurd (cc)
+
+-- ---- the row of a feature
+
+pub some_cell : (f : FeatureValue) (row : Row) → row ≡ dated_row f → 0 < length row
+some_cell f row is = subst (λ r. 0 < length r) (sym is) (omega arith)
+
+pub text_first : (f : FeatureValue) (row : Row) → row ≡ dated_row f → column row 0 ≡ Words (feature_text f)
+text_first f row is = ap (λ r. column r 0) is
+
+no_second : (t : Option IntervalValue) → or_null Int (option_map (λ (p : ℤ × ℤ). p.0) (option_map seconds_of t)) ≡ Null → t ≡ None
+no_second None e = refl
+no_second (Some i) e = absurd (cc)
+
+-- a feature has a time where it has a first second
+pub null_is : (f : FeatureValue) (row : Row) → row ≡ dated_row f → column row 1 ≡ Null → f.time ≡ None
+unfolding seconds_in
+null_is f row is null = no_second f.time (sym (ap (λ r. column r 1) is) ∙ null)
+
+-- a feature without a time is the same under any time property
+pub timeless : (property : Option Text) (f : FeatureValue) → IsStored property f → f.time ≡ None → IsStored None f
+timeless property f h none = record { kept = h.kept; timed = ap Ok (sym none) }
+
+pub read_on : (a b : Seen) (f : FeatureValue) (r : Result FeatureValue ReadFault) → IsUnchanged a b
+    → MatchResult r (λ g. g ≡ f) (λ fault. fault ≡ Memory)
+    → MatchResult r (λ g. (g ≡ f) × IsUnchanged a b) (Stopped a b)
+read_on a b f (Ok g) same h = (h, same)
+read_on a b f (Err e) same h = subst (Stopped a b) (sym h) same
+
+-- the collection of a feature that is there
+pub holder : (o : Option Collection) (id : Text) (f : FeatureValue) → option_and_then (λ (d : Collection). get d.features id) o ≡ Some f → (d : Collection) × (o ≡ Some d)
+holder None id f e = absurd (cc)
+holder (Some d) id f e = (d, refl)

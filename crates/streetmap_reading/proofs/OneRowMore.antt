@@ -1,0 +1,124 @@
+-- One row more.
+use Rattle.std.proofs.Common.{refl, ◌≡◌, List, [], ◌∷◌, ◌++◌, map, Option, Some, None, option_map, sym, ap, subst, ◌∙◌}
+use Rattle.std.specs.List.{AllByRecursion}
+use Rattle.std.specs.Option.{option_copied, option_map_or}
+use Rattle.std.specs.FinMap.{values, entries, empty}
+use Rattle.std.proofs.lemmas.List.{flat_map_more}
+use Rattle.sqlite.specs.Order.{Row}
+use Rattle.streetmap_grid.specs.declared.grid_box.GridBox.{GridBox}
+use Rattle.streetmap_grid.specs.Values.{PositionValue}
+use Rattle.streetmap_grid.specs.Views.{box_value}
+use Rattle.streetmap_grid.specs.Bounds.{AreBounds}
+use Rattle.streetmap_geojson.specs.FeatureValue.{FeatureValue}
+use Rattle.streetmap_geojson.specs.FeatureInvariant.{IsGeometryIf}
+use Rattle.streetmap_batch.specs.Text.{Text}
+use Rattle.streetmap_ledger.specs.State.{State, Collection}
+use Rattle.streetmap_ledger.specs.Outlines.{FeatureOutlineValue, feature_outline_of, feature_outlines_of}
+use Rattle.streetmap_ledger.specs.Summaries.{SummaryValue, feature_vertices, all_vertices, extent_if}
+use Rattle.streetmap_ledger.specs.SummaryView.{summary_value, summary_values}
+use Rattle.streetmap_ledger.specs.declared.summary.Summary.{Summary}
+use Rattle.streetmap_query.specs.QueryValue.{QueryValue}
+use Rattle.streetmap_ledger.specs.Folds.{Holds}
+use Rattle.streetmap_rows.specs.Rows.{collection_cells}
+use Rattle.streetmap_rows.specs.Stored.{IsStored}
+use Rattle.streetmap_rows.specs.Stands.{IsReadable}
+use Rattle.streetmap_rows.specs.Views.{collection_view}
+use Rattle.streetmap_rows.specs.declared.fault.ReadFault.{ReadFault}
+use Rattle.streetmap_rows.specs.declared.fault.ReadFault.TheVariants.{Memory, Store, Unread}
+use Rattle.streetmap_reading.proofs.BetweenRows.{map_append}
+use Rattle.streetmap_reading.specs.Candidates.{candidate_row}
+use Rattle.streetmap_reading.specs.Folding.{IsForMemory, Refuses}
+use Rattle.streetmap_reading.specs.declared.candidates.PageRows.{PageRows}
+use Rattle.streetmap_reading.specs.Held.{head_of, property_of, IsCandidate, HoldsPage}
+use Rattle.streetmap_reading.specs.Telling.{features_in, IsExtentIn, CompletesHead}
+use Rattle.streetmap_reading.specs.Views.{extent_row, feature_extent}
+use Rattle.streetmap_reading.proofs.PositionBounds.{feature_bounds}
+use Rattle.streetmap_reading.proofs.RowsInTurn.{ends_with, all_before, none_mapped, one_of}
+
+-- a list with one value more, where the rows end with the row of that value
+pub one_more : {A B : Type 0} (value : A → B) (row_of : B → Row) (Fine : B → Type 0) (items next : List A) (item : A) (rows : List Row) (row : Row) → next ≡ items ++ item ∷ []
+    → ((vs : List B) → rows ≡ map row_of vs → AllByRecursion Fine vs → map value items ≡ vs) → ((v : B) → row ≡ row_of v → Fine v → value item ≡ v)
+    → (vs : List B) → rows ++ row ∷ [] ≡ map row_of vs → AllByRecursion Fine vs → map value next ≡ vs
+one_more value row_of Fine items next item rows row more held reads vs is fine =
+    let end = ends_with row_of rows row vs is in
+    let all = all_before Fine end.before end.last (subst (AllByRecursion Fine) end.is fine) in
+    let front : map value items ≡ end.before = held end.before end.rest all.0 in
+    let last : value item ≡ end.last = reads end.last end.same all.1 in
+    ap (map value) more ∙ map_append value items (item ∷ []) ∙ (λ i. front i ++ last i ∷ []) ∙ sym end.is
+
+-- bounds of features, with one feature more
+pub wider_bounds : (rows : List Row) (row : Row) (old extent new : Option GridBox) → ((fs : List FeatureValue) → rows ≡ map (λ f. extent_row (feature_extent f)) fs → AllByRecursion (λ f. IsGeometryIf f.geometry) fs → AreBounds (all_vertices fs) old)
+    → ((f : FeatureValue) → row ≡ extent_row (feature_extent f) → IsGeometryIf f.geometry → option_map box_value extent ≡ feature_extent f) → ((ps qs : List PositionValue) → AreBounds ps old → AreBounds qs extent → AreBounds (ps ++ qs) new)
+    → (fs : List FeatureValue) → rows ++ row ∷ [] ≡ map (λ f. extent_row (feature_extent f)) fs → AllByRecursion (λ f. IsGeometryIf f.geometry) fs → AreBounds (all_vertices fs) new
+wider_bounds rows row old extent new held reads both fs is fine =
+    let end = ends_with (λ (f : FeatureValue). extent_row (feature_extent f)) rows row fs is in
+    let all = all_before (λ (f : FeatureValue). IsGeometryIf f.geometry) end.before end.last (subst (AllByRecursion (λ (f : FeatureValue). IsGeometryIf f.geometry)) end.is fine) in
+    let own : AreBounds (feature_vertices end.last) extent = feature_bounds extent end.last.geometry all.1 (reads end.last end.same all.1) in
+    let P : List PositionValue → Type 0 = λ vs. AreBounds vs new in
+    subst P (flat_map_more feature_vertices [] end.before end.last ∙ ap all_vertices (sym end.is)) (both (all_vertices end.before) (feature_vertices end.last) (held end.before end.rest all.0) own)
+
+-- a row is not taken that no readable rows have
+pub not_taken : (IsReadable : Row → Type 0) (rows : List Row) (row : Row) (fault : ReadFault)
+    → Refuses (Unit {0}) fault → (IsReadable row → IsForMemory fault)
+    → Refuses ((later : List Row) → AllByRecursion IsReadable ((rows ++ row ∷ []) ++ later) → ⊥)
+    fault
+not_taken IsReadable rows row Memory refuses reads = tt
+not_taken IsReadable rows row Unread refuses reads = λ later all.
+    absurd (let clash = reads (one_of IsReadable rows row later all) in cc)
+not_taken IsReadable rows row (Store e) refuses reads = refuses
+
+-- ---- what is told of a collection
+
+pub extended : (s : State) (h : Summary) (key : Text) (e : Option GridBox) → key ≡ (summary_value h).id → IsExtentIn key s e → CompletesHead h s (record { id = h.id; title = h.title; time = h.time; extent = e })
+extended s h key e is extent name c there head =
+    let id : (summary_value h).id ≡ name = ap (λ (v : SummaryValue). v.id) head in
+    let title : (summary_value h).title ≡ c.title = ap (λ (v : SummaryValue). v.title) head in
+    let time : (summary_value h).time ≡ c.time = ap (λ (v : SummaryValue). v.time) head in
+    let at : features_in s key ≡ c.features = ap (features_in s) (is ∙ id) ∙ ap (λ o. option_map_or (λ (d : Collection). d.features) o empty) there in
+    let bounds = extent ∙ ap (λ fs. extent_if (all_vertices (values fs))) at in
+    λ i. record { id = id i; title = title i; time = time i; extent = bounds i }
+
+pub outlines_told : (o : Option Collection) (row : Row) (os : List FeatureOutlineValue) → Some row ≡ option_map collection_view o → os ≡ map (λ e. feature_outline_of e.0 e.1) (entries (option_map_or (λ (c : Collection). c.features) o empty)) → Some os ≡ option_map feature_outlines_of o
+outlines_told None row os there is = absurd (cc)
+outlines_told (Some c) row os there is = ap Some is
+
+-- heads, with one head more
+pub one_head_more : (items next : List Summary) (item : Summary) (rows : List Row) (row : Row) → next ≡ items ++ item ∷ []
+    → ((es : List (Text × Collection)) → rows ≡ map (λ e. collection_cells e.0 e.1) es → AllByRecursion (λ e. IsReadable e.0 e.1) es → summary_values items ≡ map (λ e. head_of e.0 e.1) es)
+    → ((id : Text) (c : Collection) → row ≡ collection_cells id c → IsReadable id c → summary_value item ≡ head_of id c)
+    → (es : List (Text × Collection)) → rows ++ row ∷ [] ≡ map (λ e. collection_cells e.0 e.1) es → AllByRecursion (λ e. IsReadable e.0 e.1) es → summary_values next ≡ map (λ e. head_of e.0 e.1) es
+one_head_more items next item rows row more held reads es is fine =
+    let end = ends_with (λ (e : Text × Collection). collection_cells e.0 e.1) rows row es is in
+    let all = all_before (λ (e : Text × Collection). IsReadable e.0 e.1) end.before end.last (subst (AllByRecursion (λ (e : Text × Collection). IsReadable e.0 e.1)) end.is fine) in
+    let front : summary_values items ≡ map (λ e. head_of e.0 e.1) end.before = held end.before end.rest all.0 in
+    let last : summary_value item ≡ head_of end.last.0 end.last.1 = reads end.last.0 end.last.1 end.same all.1 in
+    ap summary_values more ∙ map_append summary_value items (item ∷ []) ∙ (λ i. front i ++ last i ∷ []) ∙ sym (map_append (λ (e : Text × Collection). head_of e.0 e.1) end.before (end.last ∷ [])) ∙ ap (map (λ (e : Text × Collection). head_of e.0 e.1)) (sym end.is)
+
+-- ---- a page
+
+-- what reads under the time property of the page as it was begun reads so under that of the page
+pub read_so : (start now : PageRows) (rows : List Row) → HoldsPage start now rows → (f : FeatureValue) → IsStored (property_of start) f → IsStored (property_of now) f
+read_so start now rows held f fine = subst (λ p. IsStored (option_copied p) f) (sym held.property) fine
+
+-- a page with one candidate more
+pub page_more : (start before after : PageRows) (feature : FeatureValue) (rows : List Row) (row : Row) → HoldsPage start before rows → after.property ≡ before.property
+    → ((f : FeatureValue) → row ≡ candidate_row f → IsStored (property_of before) f → feature ≡ f)
+    → ((q : QueryValue) (fs : List FeatureValue) → Holds q before.fold fs → Holds q after.fold (fs ++ feature ∷ []))
+    → HoldsPage start after (rows ++ row ∷ [])
+page_more start before after feature rows row held same reads takes = record {
+  property = same ∙ held.property;
+  page = λ q fs begun is fine.
+      let end = ends_with candidate_row rows row fs is in
+      let all = all_before (IsStored (property_of start)) end.before end.last (subst (AllByRecursion (IsStored (property_of start))) end.is fine) in
+      let last : feature ≡ end.last = reads end.last end.same (read_so start before rows held end.last all.1) in
+      subst (Holds q after.fold) ((λ i. end.before ++ last i ∷ []) ∙ sym end.is) (takes q end.before (held.page q end.before begun end.rest all.0));
+}
+
+-- a page as it was begun
+pub page_begun : (page : PageRows) → HoldsPage page page []
+page_begun page = record { property = refl; page = λ q fs begun is fine. subst (Holds q page.fold) (sym (none_mapped candidate_row fs is)) begun }
+
+-- rows of features that read under the page's time property are candidates
+pub candidates_fine : (page : PageRows) (fs : List FeatureValue) → AllByRecursion (IsStored (property_of page)) fs → AllByRecursion (IsCandidate page) (map candidate_row fs)
+candidates_fine page [] h = tt
+candidates_fine page (f ∷ fs) h = (record { feature = f; fine = h.0; is = refl }, candidates_fine page fs h.1)

@@ -1,0 +1,225 @@
+-- Where the error of a statement comes from, whatever its text and the tables are.
+use Rattle.std.proofs.Common.{◌≡◌, ◌⊎◌, inl, inr, ℕ, ◌≤◌, Bool, false, List, Option, None, Some}
+use Rattle.std.proofs.Common.{Result, Ok, Err, IfErr, IsErrAnd, IsTrue, sym, ap, subst, arith}
+use Rattle.std.proofs.lemmas.Bool.{cases_Bool}
+use Rattle.sqlite.specs.declared.error.Error.{Error}
+use Rattle.sqlite.specs.declared.error.Error.TheVariants.{SqliteFailure, ExecuteReturnedResults}
+use Rattle.sqlite.specs.declared.error.ErrorCode.TheVariants.{TransactionState}
+use Rattle.sqlite.specs.Order.{Row}
+use Rattle.sqlite.specs.Tree.{Trees}
+use Rattle.sqlite.specs.Command.{Command}
+use Rattle.sqlite.specs.Command.TheVariants.{Select, Insert, InsertOr, Update, Delete, CreateTable}
+use Rattle.sqlite.specs.Command.TheVariants.{CreateIndex, DropTable, DropIndex, Rows, Begin, Commit}
+use Rattle.sqlite.specs.Command.TheVariants.{Rollback, Savepoint, Release, RollbackTo, Nothing}
+use Rattle.sqlite.specs.Command.TheVariants.{CreateView, DropView}
+use Rattle.sqlite_schema.specs.declared.command.Returning.{Returning}
+use Rattle.sqlite_resolve.specs.declared.compiled.Compiled.{Compiled}
+use Rattle.sqlite_trees.specs.declared.error.StoreError.{StoreError}
+use Rattle.sqlite_trees.specs.declared.error.StoreError.TheVariants as store
+use Rattle.sqlite.specs.Effect.{Database, RefusesToRead}
+use Rattle.sqlite.specs.Steps.{FailsToCommit}
+use Rattle.sqlite_disk.specs.Disk.{MoreFaults}
+use Rattle.sqlite.specs.State.{State as Seen, HasCleanDisk, Survives, store_error, HasCause, Fails}
+use Rattle.sqlite.specs.State.{IsMisplaced, IsNoStatement, IsNotRun, RunsCommand, RunsAlone}
+use Rattle.sqlite.specs.State.{ExecutesIn, ExecutesInsideIn, FailsToShow, FailsToQuery, IsTooLate}
+use Rattle.sqlite.specs.State.{mode_of, shows_rows}
+use Rattle.streetmap_rows.specs.Failing.{tells_disk, SparesDisk, HasReason}
+use Rattle.streetmap_rows.specs.Settling.{IsCause, Settles, StopsFor}
+use Rattle.streetmap_rows.specs.declared.failing.Stop.{Stop}
+use Rattle.streetmap_rows.specs.declared.failing.Stop.TheVariants as stop
+use Rattle.streetmap_rows.specs.declared.failing.Shut.{Shut}
+use Rattle.streetmap_rows.specs.declared.failing.Shut.TheVariants as shut
+use Rattle.sqlite.specs.Reading.{IsReadError}
+use Rattle.sqlite.specs.declared.types.Value.{Value}
+use Rattle.streetmap_rows.proofs.DiskUntouched.{does, read_query}
+
+-- a cell that cannot be read tells nothing of the disk
+pub read_spared : (at : ℕ) (value : Value) (e : Error) → IsReadError at value e → SparesDisk e
+read_spared at value e (inl is) = ap tells_disk is
+read_spared at value e (inr (inl is)) = ap tells_disk is
+read_spared at value e (inr (inr (inl is))) = ap tells_disk is
+read_spared at value e (inr (inr (inr (inl is)))) = ap tells_disk is
+read_spared at value e (inr (inr (inr (inr is)))) = ap tells_disk is
+
+-- an error that tells nothing of the disk
+pub other : (old new : Seen) (e : Error) → SparesDisk e → HasReason old new e
+other old new e spared live tells = absurd (let never = subst IsTrue spared tells in cc)
+
+module _ (old new : Seen) where
+  pub failed : (too_big : Type 0) (e : Error) → Fails old new too_big e → HasReason old new e
+  failed too_big e h = by h.0 h.1 h.2
+    where
+      by : (cause : StoreError) → e ≡ store_error cause → HasCause old new too_big cause
+          → HasReason old new e
+      by store.OutOfMemory is has = other old new e (ap tells_disk is)
+      by store.Io is has = λ live tells. has
+      by store.Corrupt is has = λ live tells. has
+      by store.Full is has = λ live tells. has
+      by store.Broken is has = λ live tells. absurd (let never = subst IsTrue has live in cc)
+      by store.Unstorable is has = other old new e (ap tells_disk is)
+
+  no_statement : (sql : List ℕ) (params : Row) (e : Error) → IsNoStatement old sql params e
+      → tells_disk e ≡ false
+  no_statement sql params e (inl missing) = ap tells_disk missing.2
+  no_statement sql params e (inr other) = elim other.2 [ inl cut ↦ ap tells_disk cut.1 | inr more ↦ elim more [ inl few ↦ ap tells_disk few.1 | inr timeless ↦ ap tells_disk timeless.1 ] ]
+
+  pub not_run : (sql : List ℕ) (params : Row) (e : Error) → IsNotRun old new sql params e
+      → HasReason old new e
+  unfolding IsNotRun
+  not_run sql params e (inl refused) = other old new e (no_statement sql params e refused.0)
+  not_run sql params e (inr failing) = failed ⊥ e failing
+
+  misplaced : (command : Command) (e : Error) → IsMisplaced old command e → tells_disk e ≡ false
+  misplaced command e (inl state) = ap tells_disk state.0
+  misplaced command e (inr none) = ap tells_disk none.0
+
+  ran : (sql : List ℕ) (c : Compiled) (params : Row) (e : Error)
+      → RunsCommand old new sql c params (Err e) → HasReason old new e
+  ran sql c params e (inl refused) = elim refused.0 [
+    | inl wrong ↦ other old new e (misplaced c.command e wrong)
+    | inr done ↦ other old new e ((does old.step_limit (mode_of old) params old.now _ c.returning c.command).spares e done.1)
+  ]
+  ran sql c params e (inr failing) = failed _ e failing
+
+  alone : (in_batch : Bool) (sql : List ℕ) (c : Compiled) (params : Row) (e : Error)
+      → RunsAlone in_batch old new sql c params (Err e) → HasReason old new e
+  alone in_batch sql c params e h = elim (cases_Bool (shows_rows in_batch c)) [
+    | inl shows ↦ let it = rw shows at h in let same : e ≡ ExecuteReturnedResults = let is = it.0 in cc in other old new e (ap tells_disk same)
+    | inr runs ↦ ran sql c params e (rw runs at h)
+  ]
+
+  pub executed : (in_batch : Bool) (sql : List ℕ) (params : Row) (e : Error)
+      → ExecutesIn in_batch sql params old new (Err e) → HasReason old new e
+  unfolding ExecutesIn
+  executed in_batch sql params e (inl unrun) = not_run sql params e unrun
+  executed in_batch sql params e (inr it) = alone in_batch sql it.0 _ e it.2
+
+  pub executed_inside : (in_batch : Bool) (held : ℕ) (sql : List ℕ) (params : Row) (e : Error)
+      → ExecutesInsideIn in_batch held sql params old new (Err e) → HasReason old new e
+  executed_inside in_batch held sql params e (inl it) = executed in_batch sql params e it.0
+  executed_inside in_batch held sql params e (inr ended) = other old new e (ap tells_disk ended.1)
+
+  refused : (limit : Option ℕ) (command : Command) (db : Database) (params : Row) (e : Error)
+      → RefusesToRead limit command db params e → tells_disk e ≡ false
+  refused limit (Select q names) db params e h = read_query limit db q params e h
+  refused limit (Rows values width names) db params e h = ap tells_disk h.0
+  refused limit (Insert at from) db params e h = ap tells_disk h
+  refused limit (InsertOr at way from clauses) db params e h = ap tells_disk h
+  refused limit (Update at q) db params e h = ap tells_disk h
+  refused limit (Delete at q) db params e h = ap tells_disk h
+  refused limit CreateTable db params e h = ap tells_disk h
+  refused limit (CreateIndex at) db params e h = ap tells_disk h
+  refused limit (DropTable at) db params e h = ap tells_disk h
+  refused limit (DropIndex at) db params e h = ap tells_disk h
+  refused limit Begin db params e h = ap tells_disk h
+  refused limit Commit db params e h = ap tells_disk h
+  refused limit Rollback db params e h = ap tells_disk h
+  refused limit (Savepoint name) db params e h = ap tells_disk h
+  refused limit (Release name) db params e h = ap tells_disk h
+  refused limit (RollbackTo name) db params e h = ap tells_disk h
+  refused limit Nothing db params e h = ap tells_disk h
+  refused limit CreateView db params e h = ap tells_disk h
+  refused limit (DropView at) db params e h = ap tells_disk h
+
+  shown : (sql : List ℕ) (c : Compiled) (params : Row) (e : Error) (returning : Option Returning)
+      → FailsToShow old new sql c params e returning → HasReason old new e
+  shown sql c params e None h = other old new e (refused old.step_limit c.command h.0 params e h.2)
+  shown sql c params e (Some what) h = ran sql c params e h
+
+  pub queried : (sql : List ℕ) (params : Row) (e : Error) → FailsToQuery sql params old new e
+      → HasReason old new e
+  unfolding FailsToQuery
+  queried sql params e (inl unrun) = not_run sql params e unrun
+  queried sql params e (inr it) = shown sql it.0 _ e it.0.returning it.2
+
+  pub queried_inside : (sql : List ℕ) (params : Row) (e : Error)
+      → FailsToQuery sql params old new e ⊎ IsTooLate sql params old new e → HasReason old new e
+  queried_inside sql params e (inl it) = queried sql params e it
+  queried_inside sql params e (inr late) = other old new e (ap tells_disk late.4)
+
+  -- of a statement in a transaction, or in one that a failure ended
+  pub run_inside : {Same : Type 0} (sql : List ℕ) (params : Row) (e : Error) → (old.in_transaction ≡ false → (◌≡◌ {A = Result ℕ Error} (Err e) (Err (SqliteFailure TransactionState))) × Same)
+      → (IsTrue old.in_transaction → ExecutesInsideIn false 0 sql params old new (Err e)) → HasReason old new e
+  run_inside sql params e ended runs = elim (cases_Bool old.in_transaction) [
+    | inl inside ↦ executed_inside false 0 sql params e (runs inside)
+    | inr outside ↦ let same : e ≡ SqliteFailure TransactionState = let is = (ended outside).0 in cc in other old new e (ap tells_disk same)
+  ]
+
+  pub failed_commit : (e : Error) → FailsToCommit old new e → HasReason old new e
+  failed_commit e (inl failing) = failed ⊥ e failing
+  failed_commit e (inr ended) = other old new e (ap tells_disk ended.0)
+
+  -- by the result of a call
+  pub if_executed_inside : (in_batch : Bool) (held : ℕ) (sql : List ℕ) (params : Row) (r : Result ℕ Error)
+      → ExecutesInsideIn in_batch held sql params old new r → IfErr r (HasReason old new)
+  if_executed_inside in_batch held sql params (Ok count) h = tt
+  if_executed_inside in_batch held sql params (Err e) h = executed_inside in_batch held sql params e h
+
+  pub if_queried : {A : Type 0} (sql : List ℕ) (params : Row) (r : Result A Error)
+      → IfErr r (FailsToQuery sql params old new) → IfErr r (HasReason old new)
+  if_queried sql params (Ok a) h = tt
+  if_queried sql params (Err e) h = queried sql params e h
+
+  pub if_queried_inside : {A : Type 0} (sql : List ℕ) (params : Row) (r : Result A Error)
+      → IfErr r (λ e. FailsToQuery sql params old new e ⊎ IsTooLate sql params old new e)
+      → IfErr r (HasReason old new)
+  if_queried_inside sql params (Ok a) h = tt
+  if_queried_inside sql params (Err e) h = queried_inside sql params e h
+
+-- no fault is forgotten
+pub more_before : (old mid new : ℕ) → MoreFaults old mid → mid ≤ new → MoreFaults old new
+more_before old mid new more counts = omega (arith, more, counts)
+
+-- what came about by the end of a call has come about by the end of a later one
+pub reason_still : (old mid new : Seen) (e : Error) → HasReason old mid e → mid.faults ≤ new.faults
+    → HasReason old new e
+reason_still old mid new e come counts live tells = omega (arith, come live tells, counts)
+
+-- nor is one that is met later
+pub more_later : (old mid new : ℕ) → old ≤ mid → MoreFaults mid new → MoreFaults old new
+more_later old mid new counts more = omega (arith, counts, more)
+
+pub counts_then : (old mid new : ℕ) → old ≤ mid → mid ≤ new → old ≤ new
+counts_then old mid new first second = omega (arith, first, second)
+
+-- an error that came about later, where only a fault closes the connection before
+pub reason_on : (old mid new : Seen) (e : Error) → old.faults ≤ mid.faults
+    → (IsTrue old.is_open → IsTrue mid.is_open ⊎ MoreFaults old.faults mid.faults)
+    → mid.faults ≤ new.faults → HasReason mid new e → HasReason old new e
+reason_on old mid new e first closes second come live tells = elim (closes live) [
+  | inl still ↦ more_later old.faults mid.faults new.faults first (come still tells)
+  | inr more ↦ more_before old.faults mid.faults new.faults more second
+]
+
+-- what came about in the second of two calls has come about in the two
+pub reason_later : (old mid new : Seen) (e : Error) (Commits : Trees → Type 0)
+    → Survives old mid Commits → HasCleanDisk mid → mid.faults ≤ new.faults → HasReason mid new e
+    → HasReason old new e
+reason_later old mid new e Commits survives clean counts come =
+    reason_on old mid new e survives.counts (survives.closes clean) counts come
+
+-- the error that a `?` hands on of the second of two calls
+pub if_later : {A : Type 0} (r : Result A Error) (old mid new : Seen) (e : Error) (Commits After : Trees → Type 0)
+    → IsErrAnd r (λ x. x ≡ e) → Survives old mid Commits → Survives mid new After → HasCleanDisk new
+    → HasReason mid new e → IfErr r (HasReason old new)
+if_later (Ok a) old mid new e Commits After is first second clean come = absurd is
+if_later (Err x) old mid new e Commits After is first second clean come =
+    let early : HasCleanDisk mid = omega (arith, clean, second.clean) in
+    subst (HasReason old new) (sym is) (reason_later old mid new e Commits first early second.counts come)
+
+-- ---- how a call ends that met an error
+
+pub stops_by_cause : (old new : Seen) (e : Error) (cause : Shut) → IsCause e cause
+    → HasReason old new e → StopsFor old new (stop.Closed cause)
+stops_by_cause old new e (shut.Device x) is come = subst (HasReason old new) (sym is.0) come
+stops_by_cause old new e shut.Damaged is come = tt
+
+pub stops_settled : (old mid new : Seen) (e : Error) (it : Stop) (Commits After : Trees → Type 0)
+    → Survives old mid Commits → Survives mid new After → HasCleanDisk new → HasReason old mid e
+    → Settles e mid new it → StopsFor old new it
+stops_settled old mid new e stop.Memory Commits After first second clean come ends = tt
+stops_settled old mid new e (stop.Closed (shut.Device x)) Commits After first second clean come ends = elim ends.1 [
+  | inl same ↦ subst (HasReason old new) (sym same) (reason_still old mid new e come second.counts)
+  | inr again ↦ let early : HasCleanDisk mid = omega (arith, clean, second.clean) in reason_later old mid new x Commits first early second.counts again.1
+]
+stops_settled old mid new e (stop.Closed shut.Damaged) Commits After first second clean come ends = tt
