@@ -77,7 +77,7 @@ def serve(folder: Path, port: int, seconds: int) -> int:
     words = ["rt", "try", "--steps", "1", "--seconds", str(seconds)]
     words += ["--data", f"{FILE}={folder / FILE}"]
     words += ["--", "serve", FILE, "--port", str(port)]
-    print("Compiling the program with no proof, which takes some two minutes.", flush=True)
+    print("Compiling the program with no proof, which takes some three minutes.", flush=True)
     with (
         (folder / "log").open("wb") as log,
         subprocess.Popen(
