@@ -19,7 +19,7 @@ use Rattle.streetmap_batch.specs.BatchValue as value
 use Rattle.streetmap_batch.specs.BatchValue.{EditValue, BatchValue}
 use Rattle.streetmap_batch.specs.BatchFaults.{Gives}
 use Rattle.streetmap_batch.specs.BatchReading.{◌>>=◌, unless, text_at, array_at, has_only, shaped, operation_of, operation_at, collection_at, title_of, time_of, as_shape, as_cause, told_feature, told_id, open_at, feature_at, delete_at, edit_as, edit_at, and_more, edits_after, keyed, batch, as_whole, batch_of, most_edits}
-use Rattle.streetmap_batch.specs.BatchMeaning.{HasText, IsEditOf, IsTitleOf, IsTimeOf, HasMember, IsEdit, AreEdits, IsBatch, IsBatchText}
+use Rattle.streetmap_batch.specs.BatchMeaning.{HasText, IsEditOf, IsTitleOf, IsTimeMember, HasMember, IsEdit, AreEdits, IsBatch, IsBatchText}
 use Rattle.streetmap_batch.specs.declared.batch_fault.BatchFault.{BatchFault}
 use Rattle.streetmap_batch.specs.declared.batch_fault.BatchFault.TheVariants.{BadBatch, BadKey, TooManyEdits}
 use Rattle.streetmap_batch.specs.declared.format.Format.{Format}
@@ -135,14 +135,14 @@ some_found : (o : Option Text) (time : Option Text) → option_map (λ (t : Text
 some_found None time e = absurd cc
 some_found (Some t) time e = let same : Some t ≡ time = cc in (t, refl, sym same)
 
-time_found : (place : ℕ) (o : Option Data) (time : Option Text) → time_of place o ≡ Ok time → IsTimeOf o time
+time_found : (place : ℕ) (o : Option Data) (time : Option Text) → time_of place o ≡ Ok time → IsTimeMember o time
 time_found place None time e = sym (ok_is None time e)
 time_found place (Some d) time e =
     let s = some_found (option_and_then (passing is_time_property) (as_str d)) time (or_ok _ (BadBatch (Some place)) time e) in
     let p = passed_text is_time_property (as_str d) s.0 s.1 in
     (s.0, str_found d s.0 p.0, p.1, s.2)
 
-time_again : (place : ℕ) (o : Option Data) (time : Option Text) → IsTimeOf o time → time_of place o ≡ Ok time
+time_again : (place : ℕ) (o : Option Data) (time : Option Text) → IsTimeMember o time → time_of place o ≡ Ok time
 time_again place None time h = ap (λ (w : Option Text). Ok w) (sym h)
 time_again place (Some d) time h = rw (h.1, h.2, h.3) refl
 

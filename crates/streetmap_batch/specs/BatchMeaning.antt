@@ -30,9 +30,10 @@ IsTitleOf None collection title = title ≡ collection
 IsTitleOf (Some d) collection title = (d ≡ string title) × IsTrue (is_title title)
 
 -- the time property, where there is one
-abbrev pub IsTimeOf : Option Data → Option Text → Type 0
-IsTimeOf None time = time ≡ None
-IsTimeOf (Some d) time = (t : Text) × (d ≡ string t) × IsTrue (is_time_property t) × (time ≡ Some t)
+abbrev pub IsTimeMember : Option Data → Option Text → Type 0
+IsTimeMember None time = time ≡ None
+IsTimeMember (Some d) time = (t : Text) × (d ≡ string t) × IsTrue (is_time_property t)
+    × (time ≡ Some t)
 
 -- the member of that name stands for it
 abbrev pub HasMember : {A : Type 0} → Text → (Data → A → Type 0) → Data → A → Type 0
@@ -42,7 +43,7 @@ HasMember name R d a = (told : Data) × (get name d ≡ Some told) × R told a
 abbrev pub IsEdit : Data → EditValue → Type 0
 IsEdit d (value.«open» collection title time) =
     IsEditOf formats.Open (codes "open") collection d
-    × IsTitleOf (get (codes "title") d) collection title × IsTimeOf (get (codes "time") d) time
+    × IsTitleOf (get (codes "title") d) collection title × IsTimeMember (get (codes "time") d) time
 IsEdit d (value.insert collection f) = IsEditOf formats.Feature (codes "insert") collection d
     × HasMember (codes "feature") (ReadsAs None) d f
 IsEdit d (value.replace collection f) = IsEditOf formats.Feature (codes "replace") collection d

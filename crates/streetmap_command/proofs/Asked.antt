@@ -13,7 +13,7 @@ use Rattle.streetmap_command.specs.declared.command.CommandFault.{CommandFault}
 use Rattle.streetmap_command.specs.declared.command.CommandFault.TheVariants.{Memory}
 use Rattle.streetmap_command.specs.CommandView.{command_value}
 use Rattle.streetmap_command.specs.Program.{CommandValue, version_command, program, asked_by, command_by}
-use Rattle.streetmap_command.specs.Program.{Finds, IsFoundIn}
+use Rattle.streetmap_command.specs.Program.{FindsCommand, IsCommandOf}
 
 -- words that are taken, and ask for something
 parts : (b : Bool) (o : Option CommandValue) → IsSome (if b then o else None) → (b ≡ true) × IsSome o
@@ -30,10 +30,10 @@ found_asked a words m e h =
     (subst P e h refl).1
 
 pub read_asked : (r : Result Command CommandFault) (words : List Text) (found : Option (Text × List Row)) → found ≡ subcommand_of program words
-    → fault_of program words ≡ [] → IfOk r (λ c. Some (command_value c) ≡ command_by found) → IfOk r (λ c. IsFoundIn words (command_value c))
+    → fault_of program words ≡ [] → IfOk r (λ c. Some (command_value c) ≡ command_by found) → IfOk r (λ c. IsCommandOf words (command_value c))
 read_asked (Ok c) words found eq none h =
     let P : Option (Text × List Row) → Type 0 = λ f. Some (command_value c) ≡ command_by f in
-    let Q : Kinds → Type 0 = λ ks. Finds ks (command_by (subcommand_of program words)) (command_value c) in
+    let Q : Kinds → Type 0 = λ ks. FindsCommand ks (command_by (subcommand_of program words)) (command_value c) in
     subst Q (sym none) (subst P eq h)
 read_asked (Err e) words found eq none h = tt
 
@@ -51,14 +51,14 @@ not_version (Err e) words none = λ is. absurd (let no : DisplayVersion ∷ [] �
 
 -- the request for the version is among the faults that are found
 among : (kinds : Kinds) (k : ErrorKind) (asked : Option CommandValue) (command : CommandValue) → k ≡ DisplayVersion
-    → (k ≡ OutOfMemory) ⊎ IsAmong k kinds → command ≡ version_command → Finds kinds asked command
+    → (k ≡ OutOfMemory) ⊎ IsAmong k kinds → command ≡ version_command → FindsCommand kinds asked command
 among kinds k asked command is (inl other) same = absurd (let bad : DisplayVersion ≡ OutOfMemory = sym is ∙ other in cc)
 among [] k asked command is (inr h) same = absurd h
 among (x ∷ xs) k asked command is (inr h) same = (subst (λ y. IsAmong y (x ∷ xs)) is h, same)
 
 pub version_found : (r : Result Command CommandFault) (words : List Text) (e : Error) (a : App) → a ≡ program
     → (is_simple_and_free a ≡ true → HasKind (fault_of a words) e)
-    → IfOk r (λ c. (c ≡ Version) × (kind_of e ≡ DisplayVersion)) → IfOk r (λ c. IsFoundIn words (command_value c))
+    → IfOk r (λ c. (c ≡ Version) × (kind_of e ≡ DisplayVersion)) → IfOk r (λ c. IsCommandOf words (command_value c))
 version_found (Ok c) words e a is h found =
     let P : App → Type 0 = λ x. is_simple_and_free x ≡ true → HasKind (fault_of x words) e in
     among (fault_of program words) (kind_of e) _ (command_value c) found.1 (subst P is h refl) (ap command_value found.0)

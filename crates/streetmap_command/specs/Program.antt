@@ -358,14 +358,14 @@ command_by found = option_and_then (λ p. command_named p.0 p.1) found
 
 -- `clap` finds no fault in the words, and this is the command that they ask for; or it finds one,
 -- the request for the version, and this is it
-abbrev pub Finds : Kinds → Option CommandValue → CommandValue → Type 0
-Finds [] asked command = Some command ≡ asked
-Finds (k ∷ ks) asked command =
+abbrev pub FindsCommand : Kinds → Option CommandValue → CommandValue → Type 0
+FindsCommand [] asked command = Some command ≡ asked
+FindsCommand (k ∷ ks) asked command =
     IsAmong kinds.DisplayVersion (k ∷ ks) × (command ≡ version_command)
 
-abbrev pub IsFoundIn : List Text → CommandValue → Type 0
-IsFoundIn words command =
-    Finds (fault_of program words) (command_by (subcommand_of program words)) command
+abbrev pub IsCommandOf : List Text → CommandValue → Type 0
+IsCommandOf words command =
+    FindsCommand (fault_of program words) (command_by (subcommand_of program words)) command
 
 -- what the words ask for, of which the first is the program's name: nothing where `clap` does not
 -- take them, or where they name no command

@@ -9,7 +9,7 @@ ghost use Rattle.streetmap_command.specs.Program.{program, command_by, create_by
 ghost use Rattle.streetmap_command.specs.Program.{serve_by, connections_by};
 ghost use Rattle.streetmap_command.specs.Program.{import_by, export_by, check_by, number_up_to};
 ghost use Rattle.streetmap_command.specs.Program.{port_given, count_given, clients_given, is_set};
-ghost use Rattle.streetmap_command.specs.Program.{asked_by, IsFoundIn};
+ghost use Rattle.streetmap_command.specs.Program.{asked_by, IsCommandOf};
 ghost use Rattle.streetmap_command.specs.CommandView.{command_value, connections_value};
 
 use crate::parser::make_parser;
@@ -394,7 +394,7 @@ pub fn read_command<'a>(alloc: Global, words: &'a [String]) -> Result<Command<'a
     // What is read is what the words ask for, and `clap` finds no fault in them; or it is the
     // version, and `clap` finds that the words ask for it.
     ensures found { IfOk result (λ c.
-        IsFoundIn (map string_bytes words.entry.now) (command_value c)) }
+        IsCommandOf (map string_bytes words.entry.now) (command_value c)) }
     // Words that ask for a command are refused for memory alone.
     ensures asked { IfErr result (λ e.
         IsSome (asked_by (map string_bytes words.entry.now)) → e ≡ CommandFault.Memory) }

@@ -4,7 +4,7 @@ use Rattle.std.specs.Prelude.{if◌then◌else◌}
 use Rattle.streetmap_connections.specs.declared.client.Client.{Client}
 use Rattle.streetmap_connections.specs.declared.client.TheConstants.{LAST_PATIENCE}
 use Rattle.streetmap_connections.specs.Connections.{history}
-use Rattle.streetmap_connections.specs.History.{Exchange, IsInOrder}
+use Rattle.streetmap_connections.specs.History.{Exchange, FitsStream}
 use Rattle.streetmap_connections.specs.Moves.{Place}
 
 module _ {S : Type 0} where
@@ -21,7 +21,7 @@ module _ {S : Type 0} where
 
   -- what the client sent is answered in order, and what was answered is what it is sent
   abbrev pub IsOrderly : Client S → Type 0
-  IsOrderly c = ∥ IsInOrder (history c.connection) ∥₁
+  IsOrderly c = ∥ FitsStream (history c.connection) ∥₁
 
   -- nothing that came waits for an answer, and no answer waits to be sent
   abbrev pub IsAtRest : Client S → Type 0
@@ -40,8 +40,8 @@ module _ {S : Type 0} where
   }
 
   -- the time from which its patience is counted is now, or the one before
-  abbrev pub IsTimed : ℕ → Client S → Client S → Type 0
-  IsTimed now old new = (new.since ≡ now) ⊎ (new.since ≡ old.since)
+  abbrev pub IsTimedFrom : ℕ → Client S → Client S → Type 0
+  IsTimedFrom now old new = (new.since ≡ now) ⊎ (new.since ≡ old.since)
 
   -- the client took longer than the patience, or than the last one where all was sent
   abbrev pub IsLate : ℕ → ℕ → Client S → Type 0

@@ -44,7 +44,7 @@ pub struct Client<S> {
 impl<S: Stream> Client<S> {
     ghost use Rattle.streetmap_connections.specs.History.{new_history};
     ghost use Rattle.streetmap_connections.specs.Clients.{place_of, exchanges_of, woken, IsIdle};
-    ghost use Rattle.streetmap_connections.specs.Clients.{IsLate, IsTimed};
+    ghost use Rattle.streetmap_connections.specs.Clients.{IsLate, IsTimedFrom};
 
     /// A client of this stream, from this time on, in milliseconds.
     pub fn new(alloc: Global, stream: S, now: u64) -> Client<S>
@@ -125,7 +125,7 @@ impl<S: Stream> Client<S> {
             (place_of S.remaining S.contents self.new) }
         ensures calls { Calls V.answers service.old service.new (exchanges_of self.old)
             (exchanges_of self.new) }
-        ensures timed { IsTimed now self.old self.new }
+        ensures timed { IsTimedFrom now self.old self.new }
     {
         for _step in 0..STEPS {
             match self.step(service, now, most_input) {
@@ -141,7 +141,7 @@ impl<S: Stream> Client<S> {
             (place_of S.remaining S.contents self.new) }
         ensures calls { Calls V.answers service.old service.new (exchanges_of self.old)
             (exchanges_of self.new) }
-        ensures timed { IsTimed now self.old self.new }
+        ensures timed { IsTimedFrom now self.old self.new }
     {
         if self.finishes {
             return self.await_end();
@@ -162,7 +162,7 @@ impl<S: Stream> Client<S> {
         ensures moves { Moves 0 (place_of S.remaining S.contents self.old)
             (place_of S.remaining S.contents self.new) }
         ensures unanswered { exchanges_of self.new ≡ exchanges_of self.old }
-        ensures timed { IsTimed now self.old self.new }
+        ensures timed { IsTimedFrom now self.old self.new }
     {
         if !self.writable {
             return Work::Rests;
@@ -174,7 +174,7 @@ impl<S: Stream> Client<S> {
     fn note_sent(&mut self, sent: io::Result<usize>, now: u64) -> Work
         ensures same { place_of S.remaining S.contents self.new
             ≡ place_of S.remaining S.contents self.old }
-        ensures timed { IsTimed now self.old self.new }
+        ensures timed { IsTimedFrom now self.old self.new }
     {
         match sent {
             Ok(0) => Work::Ends,
@@ -196,7 +196,7 @@ impl<S: Stream> Client<S> {
             (place_of S.remaining S.contents self.new) }
         ensures calls { Calls V.answers service.old service.new (exchanges_of self.old)
             (exchanges_of self.new) }
-        ensures timed { IsTimed now self.old self.new }
+        ensures timed { IsTimedFrom now self.old self.new }
     {
         let answered = self.connection.answer(service);
         self.note_answered(answered, now)
@@ -205,7 +205,7 @@ impl<S: Stream> Client<S> {
     fn note_answered(&mut self, answered: bool, now: u64) -> Work
         ensures same { place_of S.remaining S.contents self.new
             ≡ place_of S.remaining S.contents self.old }
-        ensures timed { IsTimed now self.old self.new }
+        ensures timed { IsTimedFrom now self.old self.new }
     {
         if answered {
             self.since = now;
@@ -250,7 +250,7 @@ impl<S: Stream> Client<S> {
         ensures moves { Moves 0 (place_of S.remaining S.contents self.old)
             (place_of S.remaining S.contents self.new) }
         ensures unanswered { exchanges_of self.new ≡ exchanges_of self.old }
-        ensures timed { IsTimed now self.old self.new }
+        ensures timed { IsTimedFrom now self.old self.new }
     {
         if self.connection.has_ended() {
             return Work::Ends;

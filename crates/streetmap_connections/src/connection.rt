@@ -4,7 +4,7 @@ ghost use Rattle.std.specs.Prelude.{OnErr, IsTrue};
 ghost use Rattle.std.specs.Bool.{OnTrue, OnFalse};
 ghost use Rattle.std.specs.Io.KnownBytes.{Appends, Consumes, Keeps};
 ghost use Rattle.streetmap_connections.specs.Buffers.{history_of};
-ghost use Rattle.streetmap_connections.specs.History.{Exchange, IsInOrder, MayFollow, new_history};
+ghost use Rattle.streetmap_connections.specs.History.{Exchange, FitsStream, MayFollow, new_history};
 ghost use Rattle.streetmap_connections.specs.History.{after_receive, after_answer, after_send};
 
 use crate::buffers::Buffers;
@@ -19,7 +19,7 @@ use std::io;
 #[derive(Drop)]
 pub struct Connection {
     buffers: Buffers,
-    pub ghost in_order: { ∥ IsInOrder (history_of buffers) ∥₁ },
+    pub ghost in_order: { ∥ FitsStream (history_of buffers) ∥₁ },
 }
 
 impl Connection {

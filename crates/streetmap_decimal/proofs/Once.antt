@@ -9,7 +9,7 @@ use Rattle.streetmap_decimal.specs.declared.fault.DecimalFault.TheVariants.{NotA
 use Rattle.streetmap_decimal.specs.declared.rounding.Rounding.{Rounding}
 use Rattle.streetmap_decimal.specs.declared.rounding.Rounding.TheVariants.{Exact, Nearest}
 use Rattle.streetmap_decimal.specs.NumberText.{Means, mantissa, exponent}
-use Rattle.streetmap_decimal.specs.Decimal.{Reads, ReadsCount, IsShifted, Counts, IsFloor, IsCeiling, Sides, Encloses, with_sign_of}
+use Rattle.streetmap_decimal.specs.Decimal.{ReadsDecimal, ReadsCount, IsShifted, Counts, IsFloor, IsCeiling, Sides, Encloses, with_sign_of}
 use Rattle.streetmap_decimal.specs.Grid.{IsNearest, IsWholeNumber, RoundsTo, Stands, Agrees, Places, PlacesText, placed}
 use Rattle.streetmap_decimal.proofs.Grammar.{components_again}
 use Rattle.streetmap_decimal.proofs.Powers.{pow_some, between_multiples}
@@ -29,7 +29,7 @@ means_once text m e n f h k =
           ∙ sym k.exponent_is,
     )
 
-reads_once : (text : List ℕ) (r s : Result (ℤ × ℤ) DecimalFault) → Reads text r → Reads text s
+reads_once : (text : List ℕ) (r s : Result (ℤ × ℤ) DecimalFault) → ReadsDecimal text r → ReadsDecimal text s
     → r ≡ s
 reads_once text (Ok a) (Ok b) h k =
     let same = means_once text a.0 a.1 b.0 b.1 h.1 k.1 in
@@ -130,7 +130,7 @@ agrees_once y z (Err Fraction) s i j = absurd i
 pub count_once : (places : ℕ) (text : List ℕ) (r s : Result ℤ DecimalFault)
     → ReadsCount places text r → ReadsCount places text s → r ≡ s
 count_once places text =
-    then_once (Reads text) (λ d. Counts places d.0 d.1) (reads_once text)
+    then_once (ReadsDecimal text) (λ d. Counts places d.0 d.1) (reads_once text)
     (λ d. counts_once places d.0 d.1)
 
 pub counts_same : (places : ℕ) (text : List ℕ) (u v : ℤ) → ReadsCount places text (Ok u)
@@ -225,7 +225,7 @@ pub placed_once : (shift scale : ℤ) (rounding : Rounding) (text : List ℕ)
     (r s : Result ℤ DecimalFault) → PlacesText shift scale rounding text r
     → PlacesText shift scale rounding text s → r ≡ s
 placed_once shift scale rounding text =
-    then_once (Reads text) (λ d. Places shift scale rounding d.0 d.1) (reads_once text)
+    then_once (ReadsDecimal text) (λ d. Places shift scale rounding d.0 d.1) (reads_once text)
     (λ d. places_once shift scale rounding d.0 d.1)
 
 -- a whole number, counted

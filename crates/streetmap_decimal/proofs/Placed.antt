@@ -12,7 +12,7 @@ use Rattle.streetmap_decimal.specs.declared.rounding.Rounding.{Rounding}
 use Rattle.streetmap_decimal.specs.declared.rounding.Rounding.TheVariants.{Exact, Nearest}
 use Rattle.streetmap_decimal.specs.NumberText.{NumberComponents}
 use Rattle.streetmap_decimal.specs.Reading.{components_of}
-use Rattle.streetmap_decimal.specs.Decimal.{Then, Reads, Shifts, Counts, Sides, Encloses, with_sign_of}
+use Rattle.streetmap_decimal.specs.Decimal.{Then, ReadsDecimal, Shifts, Counts, Sides, Encloses, with_sign_of}
 use Rattle.streetmap_decimal.specs.Grid.{IsWholeNumber, RoundsTo, Stands, Agrees, Places, PlacesText, placed}
 use Rattle.streetmap_decimal.specs.Placing.{◌>>=◌, decimal_of, read_decimal, limited, shifted, count_of, ceiling, sides_of, counts_around, nearest_of, coordinate_at, whole_coordinate, agreed, placed_decimal, placed_text}
 use Rattle.streetmap_decimal.proofs.Grammar.{components_take, components_again}
@@ -34,7 +34,7 @@ then_is First Next (Err f) next h k = inl h
 -- ---- a text
 
 decimal_reads : (text : List ℕ) (o : Option NumberComponents) → components_of text ≡ o
-    → length text ≤ 38 → Reads text (decimal_of o)
+    → length text ≤ 38 → ReadsDecimal text (decimal_of o)
 decimal_reads text None e short = (
   short,
   λ m x h. none-some _ (sym e ∙ components_again text h.components h.is_text),
@@ -50,13 +50,13 @@ decimal_reads text (Some n) e short = (
 )
 
 reads_by : (text : List ℕ) (b : Bool) → nat_lt 38 (length text) ≡ b
-    → Reads text (if b then Err TooManyDigits else decimal_of (components_of text))
+    → ReadsDecimal text (if b then Err TooManyDigits else decimal_of (components_of text))
 reads_by text true e = grind (arith, nat_tests)
 reads_by text false e =
     let short : length text ≤ 38 = grind (arith, nat_tests) in
     decimal_reads text (components_of text) refl short
 
-reads_is : (text : List ℕ) → Reads text (read_decimal text)
+reads_is : (text : List ℕ) → ReadsDecimal text (read_decimal text)
 reads_is text = reads_by text (nat_lt 38 (length text)) refl
 
 -- ---- a count
@@ -204,6 +204,6 @@ places_is shift scale Nearest m e =
 pub placed_is : (shift scale : ℤ) (rounding : Rounding) (text : List ℕ)
     → PlacesText shift scale rounding text (placed_text shift scale rounding text)
 placed_is shift scale rounding text =
-    then_is (Reads text) (λ d. Places shift scale rounding d.0 d.1) (read_decimal text)
+    then_is (ReadsDecimal text) (λ d. Places shift scale rounding d.0 d.1) (read_decimal text)
     (λ d. placed_decimal shift scale rounding d.0 d.1) (reads_is text)
     (λ d. places_is shift scale rounding d.0 d.1)

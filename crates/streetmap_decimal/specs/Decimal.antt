@@ -24,12 +24,12 @@ abbrev pub IsNoNumber : List ℕ → Type 0
 IsNoNumber text = (m e : ℤ) → Means text m e → ⊥
 
 -- a text is read as m * 10 ^ e, or refused
-abbrev pub Reads : List ℕ → Result (ℤ × ℤ) DecimalFault → Type 0
-Reads text (Ok d) = (length text ≤ max_len) × Means text d.0 d.1
-Reads text (Err TooManyDigits) = max_len < length text
-Reads text (Err NotANumber) = (length text ≤ max_len) × IsNoNumber text
-Reads text (Err OutOfGrid) = ⊥
-Reads text (Err Fraction) = ⊥
+abbrev pub ReadsDecimal : List ℕ → Result (ℤ × ℤ) DecimalFault → Type 0
+ReadsDecimal text (Ok d) = (length text ≤ max_len) × Means text d.0 d.1
+ReadsDecimal text (Err TooManyDigits) = max_len < length text
+ReadsDecimal text (Err NotANumber) = (length text ≤ max_len) × IsNoNumber text
+ReadsDecimal text (Err OutOfGrid) = ⊥
+ReadsDecimal text (Err Fraction) = ⊥
 
 -- ---- a count: m * 10 ^ e, in units of 10 ^ -places
 
@@ -76,7 +76,7 @@ Shifts n k (Err Fraction) = ⊥
 
 -- the count of a text's number
 abbrev pub ReadsCount : (places : ℕ) → List ℕ → Result ℤ DecimalFault → Type 0
-ReadsCount places text = Then (Reads text) (λ d. Counts places d.0 d.1)
+ReadsCount places text = Then (ReadsDecimal text) (λ d. Counts places d.0 d.1)
 
 -- ---- the counts on both sides of a number
 

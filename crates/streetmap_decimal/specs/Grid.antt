@@ -8,7 +8,7 @@ use Rattle.streetmap_decimal.specs.declared.fault.DecimalFault.TheVariants.{TooM
 use Rattle.streetmap_decimal.specs.declared.fault.DecimalFault.TheVariants.{OutOfGrid, Fraction}
 use Rattle.streetmap_decimal.specs.declared.rounding.Rounding.{Rounding}
 use Rattle.streetmap_decimal.specs.declared.rounding.Rounding.TheVariants.{Exact, Nearest}
-use Rattle.streetmap_decimal.specs.Decimal.{Then, Reads, Counts, Encloses, coordinate_places}
+use Rattle.streetmap_decimal.specs.Decimal.{Then, ReadsDecimal, Counts, Encloses, coordinate_places}
 
 -- (n - shift) * scale, counted in 10 ^ -27
 abbrev pub placed : (shift scale n : ℤ) → ℤ
@@ -70,4 +70,4 @@ Places shift scale Nearest m e =
 -- the number of the grid that a text comes to
 abbrev pub PlacesText : (shift scale : ℤ) → Rounding → List ℕ → Result ℤ DecimalFault → Type 0
 PlacesText shift scale rounding text =
-    Then (Reads text) (λ d. Places shift scale rounding d.0 d.1)
+    Then (ReadsDecimal text) (λ d. Places shift scale rounding d.0 d.1)

@@ -22,7 +22,8 @@ pub(crate) struct Decimal {
 
 impl Decimal {
     ghost use Rattle.std.specs.Prelude.{◌<◌, ◌^◌};
-    ghost use Rattle.streetmap_decimal.specs.Decimal.{Counts, Encloses, Reads, ReadsCount, Shifts};
+    ghost use Rattle.streetmap_decimal.specs.Decimal.{Counts, Encloses, Shifts};
+    ghost use Rattle.streetmap_decimal.specs.Decimal.{ReadsDecimal, ReadsCount};
     ghost use Rattle.streetmap_decimal.specs.Decimal.{Sides};
     ghost use Rattle.streetmap_decimal.specs.DecimalViews.{decimal_view};
     ghost use Rattle.streetmap_decimal.specs.NumberText.{mantissa, exponent};
@@ -36,7 +37,7 @@ impl Decimal {
     /// `TooManyDigits` where the text has more than 38 characters, else `NotANumber` where it is no
     /// number.
     pub fn read(text: &[u8]) -> Result<Decimal, DecimalFault>
-        ensures { Reads text.now (decimal_view result) }
+        ensures { ReadsDecimal text.now (decimal_view result) }
     {
         if text.len() > MAX_LEN {
             return Err(DecimalFault::TooManyDigits);

@@ -29,7 +29,7 @@ unfoldable pub unpacked : List ℕ → Option IntervalValue → FeatureValue
 unpacked text time = retimed (or_nothing (feature_in_text text)) time
 
 -- the part of the text is this
-pub record StandsAt (part : Part) (text part_text : List ℕ) : Type 0 where
+pub record IsPartOf (part : Part) (text part_text : List ℕ) : Type 0 where
   pub forward : part.start ≤ part.end
   pub within : part.end ≤ length text
   pub is : slice_range text part.start part.end ≡ part_text
@@ -40,4 +40,4 @@ pub record IsPacked (text : List ℕ) (extent : Option BoxValue) (id : Option Pa
   pub is : IsFeature packed
   pub written : text ≡ compact_text (feature_data packed)
   pub reaches : extent ≡ option_map extent_of packed.geometry
-  pub named : IfSome id (λ part. StandsAt part text packed.id)
+  pub named : IfSome id (λ part. IsPartOf part text packed.id)

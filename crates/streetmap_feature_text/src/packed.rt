@@ -10,7 +10,7 @@ ghost use Rattle.streetmap_geojson.specs.FeatureView.{feature_value};
 ghost use Rattle.streetmap_geojson.specs.FeatureInvariant.{IsFeature};
 ghost use Rattle.streetmap_feature_text.specs.Written.{feature_data};
 ghost use Rattle.streetmap_feature_text.specs.Outlines.{outline_of};
-ghost use Rattle.streetmap_feature_text.specs.Packed.{feature_in_text, StandsAt};
+ghost use Rattle.streetmap_feature_text.specs.Packed.{feature_in_text, IsPartOf};
 
 use crate::outline::Outline;
 use crate::packed_interval::PackedInterval;
@@ -69,7 +69,7 @@ const BEFORE_THE_ID: &[u8] = b"\"id\":\"";
 
 /// Where the id stands in a feature's text, if it stands there as it is.
 fn id_in(text: &[u8], id: &[u8]) -> Option<Part>
-    ensures { IfSome result (λ part. StandsAt part text.now id.now) }
+    ensures { IfSome result (λ part. IsPartOf part text.now id.now) }
 {
     let start = memmem::find(text, BEFORE_THE_ID)?.checked_add(BEFORE_THE_ID.len())?;
     let end = start.checked_add(id.len())?;

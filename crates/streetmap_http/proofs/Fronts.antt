@@ -15,7 +15,7 @@ use Rattle.streetmap_http.specs.declared.fault.FramingFault.TheVariants.{HeadToo
 use Rattle.streetmap_http.specs.Head.{IsHead, HasNoHead}
 use Rattle.streetmap_http.specs.Progress.{StandsAt}
 use Rattle.streetmap_http.specs.Framing.{HeadValue, Framing, broken, sized, Frames, many, unread, read, framing_in, Breaks, no_end, rule}
-use Rattle.streetmap_http.specs.Streams.{Request, IsWhole, BeginsWith, IsUnfinished, in_head, in_body, StreamEnd, refused, ended, truncated, EndsAs, Front, request, stops, IsFront, BeginsWithAll, IsCut}
+use Rattle.streetmap_http.specs.Streams.{Request, IsWholeRequest, BeginsWith, IsUnfinished, in_head, in_body, StreamEnd, refused, ended, truncated, EndsAs, Front, request, stops, IsFront, BeginsWithAll, IsCut}
 use Rattle.streetmap_http.proofs.Heads.{progress_after}
 use Rattle.streetmap_http.proofs.ByLines.{stands_is, stands}
 use Rattle.streetmap_http.proofs.OneHead.{not_ended, head_unique}
@@ -123,7 +123,7 @@ request_same r q a b c =
 abbrev FrontShape : List ℕ → Front → Type 0
 FrontShape stream front = Shape front_by_head front_by_limit front_by_progress stream front
 
-request_shape : (stream : List ℕ) (r : Request) → IsWhole r → BeginsWith stream r.bytes → FrontShape stream (request r)
+request_shape : (stream : List ℕ) (r : Request) → IsWholeRequest r → BeginsWith stream r.bytes → FrontShape stream (request r)
 request_shape stream r whole (rest, e) =
     let behind : List ℕ = r.body ++ rest in
     let front : take r.head.len behind ≡ r.body = take_front behind r.body rest r.head.len refl whole.len in
@@ -168,10 +168,10 @@ bytes_of requests = flat_map (λ r. r.bytes) requests
 
 -- a list that begins with a request
 first_is : (stream : List ℕ) (r : Request) (rs : List Request) (rest : List ℕ) → BeginsWithAll stream (r ∷ rs) rest → IsFront stream (request r)
-first_is stream r rs rest b = (All-head IsWhole r rs b.whole, (bytes_of rs ++ rest, b.joined ∙ append_assoc r.bytes (bytes_of rs) rest))
+first_is stream r rs rest b = (All-head IsWholeRequest r rs b.whole, (bytes_of rs ++ rest, b.joined ∙ append_assoc r.bytes (bytes_of rs) rest))
 
 others_are : (stream behind : List ℕ) (r : Request) (rs : List Request) (rest : List ℕ) → behind ≡ bytes_of rs ++ rest → BeginsWithAll stream (r ∷ rs) rest → BeginsWithAll behind rs rest
-others_are stream behind r rs rest e b = record { whole = All-tail IsWhole r rs b.whole; joined = e }
+others_are stream behind r rs rest e b = record { whole = All-tail IsWholeRequest r rs b.whole; joined = e }
 
 nothing_more : (stream : List ℕ) (requests : List Request) (x y : List ℕ) → BeginsWithAll stream [] x → BeginsWithAll stream requests y → BeginsWithAll x requests y
 nothing_more stream requests x y a b = record { whole = b.whole; joined = sym a.joined ∙ b.joined }

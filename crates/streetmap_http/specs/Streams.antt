@@ -14,8 +14,8 @@ pub record Request : Type 0 where
   pub body : List ℕ
 
 -- the bytes are the head and the body
-abbrev pub IsWhole : Request → Type 0
-IsWhole r = IsRequest r.bytes r.head r.body
+abbrev pub IsWholeRequest : Request → Type 0
+IsWholeRequest r = IsRequest r.bytes r.head r.body
 
 -- the stream begins with these bytes
 abbrev pub BeginsWith : List ℕ → List ℕ → Type 0
@@ -57,12 +57,12 @@ pub data Front : Type 0 where
 
 -- the stream begins with this request, or goes on so
 abbrev pub IsFront : List ℕ → Front → Type 0
-IsFront stream (request r) = IsWhole r × BeginsWith stream r.bytes
+IsFront stream (request r) = IsWholeRequest r × BeginsWith stream r.bytes
 IsFront stream (stops end) = EndsAs stream end
 
 -- the stream is these requests, one behind the other, and then the rest
 pub record BeginsWithAll (stream : List ℕ) (requests : List Request) (rest : List ℕ) : Type 0 where
-  pub whole : All IsWhole requests
+  pub whole : All IsWholeRequest requests
   pub joined : stream ≡ flat_map (λ r. r.bytes) requests ++ rest
 
 -- the stream is these requests, one behind the other, and then goes on so

@@ -17,7 +17,7 @@ use Rattle.streetmap_query.specs.declared.queries.Query.{Query}
 use Rattle.streetmap_ledger.specs.State.{Features}
 use Rattle.streetmap_ledger.specs.Outlines.{FeatureOutlineValue}
 use Rattle.streetmap_ledger.specs.Pages.{passes, extent_overlaps, interval_asked, selects, selected, comes_after, is_candidate, candidates}
-use Rattle.streetmap_ledger.specs.Folds.{Holds, AreHidden}
+use Rattle.streetmap_ledger.specs.Folds.{IsFoldOf, AreHidden}
 use Rattle.streetmap_ledger.specs.declared.fold.PageFold.{PageFold}
 use Rattle.streetmap_ledger.specs.declared.outline.FeatureOutline.{FeatureOutline}
 use Rattle.streetmap_ledger.proofs.Examining.{selected_are_candidates, candidates_selected}
@@ -113,7 +113,7 @@ all_behind q b features (o ∷ os) (f ∷ fs) pairs after =
 
 -- the fold holds the page of the candidates of a chunk too, if it holds that of the hidden features that they are
 pub takes_chunk : (q : Query) (old new : PageFold) (chunk : Chunk) (count : ℕ) (b : Bool) → CountsWhole (query_value q) chunk count → AllComeAfter (query_value q) b chunk.outlines.items
-    → ((fs gs : List FeatureValue) → Holds (query_value q) old fs → AreHidden (query_value q) b gs → length gs ≡ count → Holds (query_value q) new (fs ++ gs)) → TakesChunk (query_value q) chunk old new
+    → ((fs gs : List FeatureValue) → IsFoldOf (query_value q) old fs → AreHidden (query_value q) b gs → length gs ≡ count → IsFoldOf (query_value q) new (fs ++ gs)) → TakesChunk (query_value q) chunk old new
 takes_chunk q old new chunk count b counted after takes features met fs pairs held =
     let v = query_value q in
     let of = counted features fs pairs in
@@ -121,7 +121,7 @@ takes_chunk q old new chunk count b counted after takes features met fs pairs he
     let hidden : AreHidden v b (candidates v fs) = λ k d within. (of.selected k d within, behind k d within) in
     let same : candidates v (met ++ fs) ≡ candidates v met ++ candidates v fs = filter-append (is_candidate v) met fs in
     record {
-      holds = subst (Holds v new) (sym same) (takes (candidates v met) (candidates v fs) held.holds hidden of.count);
+      holds = subst (IsFoldOf v new) (sym same) (takes (candidates v met) (candidates v fs) held.holds hidden of.count);
       whole =
           ap (selected v) same ∙ (filter-append (selects v) (candidates v met) (candidates v fs)
           ∙ (ap (λ l. l ++ selected v (candidates v fs)) held.whole ∙ (ap (λ l. selected v met ++ l) (candidates_selected q fs (made_all features chunk.outlines.items fs pairs)) ∙ sym (filter-append (selects v) met fs))));

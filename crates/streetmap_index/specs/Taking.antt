@@ -9,7 +9,7 @@ use Rattle.streetmap_ledger.specs.State.{State, Collection, Features}
 use Rattle.streetmap_ledger.specs.Pages.{feature_in, page_over, comes_after, selects, is_candidate}
 use Rattle.streetmap_ledger.specs.Pages.{candidates}
 use Rattle.streetmap_ledger.specs.PageView.{page_value}
-use Rattle.streetmap_ledger.specs.Folds.{Holds, HoldsCandidates}
+use Rattle.streetmap_ledger.specs.Folds.{IsFoldOf, HoldsCandidates}
 use Rattle.streetmap_ledger.specs.declared.fold.PageFold.{PageFold}
 use Rattle.streetmap_ledger.specs.declared.outline.FeatureOutline.{FeatureOutline}
 use Rattle.streetmap_ledger.specs.declared.page.Page.{Page}
@@ -24,7 +24,8 @@ use Rattle.streetmap_index.specs.declared.chunks.Chunks.{Chunks}
 abbrev pub TakesRead : State → Text → Text → PageFold → PageFold → Bool → Type 0
 TakesRead s name id old new taken =
     (f : FeatureValue) → feature_in s name id ≡ Some f → IsTrue taken
-    × ((q : QueryValue) (fs : List FeatureValue) → Holds q old fs → Holds q new (fs ++ f ∷ []))
+    × ((q : QueryValue) (fs : List FeatureValue) → IsFoldOf q old fs
+    → IsFoldOf q new (fs ++ f ∷ []))
 
 -- if all were taken, the features with these outlines were met behind those met before
 abbrev pub TakesOutlined : State → Text → QueryValue → List FeatureOutline → PageFold → PageFold

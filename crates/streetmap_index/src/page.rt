@@ -7,7 +7,7 @@ ghost use Rattle.streetmap_geojson.specs.FeatureInvariant.{IsFeature};
 ghost use Rattle.streetmap_query.specs.Views.{query_value};
 ghost use Rattle.streetmap_ledger.specs.State.{State};
 ghost use Rattle.streetmap_ledger.specs.Pages.{is_candidate as is_candidate_of};
-ghost use Rattle.streetmap_ledger.specs.Folds.{Holds, HoldsCandidates, IsFull};
+ghost use Rattle.streetmap_ledger.specs.Folds.{IsFoldOf, HoldsCandidates, IsFull};
 ghost use Rattle.streetmap_ledger.specs.Keep.{Looks, Shows, LeavesOnly, ShutsBy, AsBefore};
 ghost use Rattle.streetmap_index.specs.Chunks.{AreInOrder};
 ghost use Rattle.streetmap_index.specs.Index.{IsOutlineOf, IsBounded, IsOutlinedIf};
@@ -34,8 +34,8 @@ const MOST_READ: usize = 2000;
 /// does not show it, and answers whether it did.
 fn count_unread(query: &Query, fold: &mut PageFold<'_>, outline: &FeatureOutline) -> bool
     ensures counted { IsTrue result → (fs : List FeatureValue) (f : FeatureValue)
-        → IsOutlineOf outline.now f → IsFeature f → Holds (query_value query.now) fold.old fs
-        → Holds (query_value query.now) fold.new (fs ++ f ∷ []) }
+        → IsOutlineOf outline.now f → IsFeature f → IsFoldOf (query_value query.now) fold.old fs
+        → IsFoldOf (query_value query.now) fold.new (fs ++ f ∷ []) }
     ensures unchanged { result ≡ false → fold.new ≡ fold.old }
 {
     if !is_selected(query, outline) {

@@ -19,7 +19,7 @@ use Rattle.streetmap_query.specs.Views.{query_value, datetime_value}
 use Rattle.streetmap_query.specs.declared.datetimes.Datetime.{Datetime}
 use Rattle.streetmap_query.specs.declared.queries.Query.{Query}
 use Rattle.streetmap_ledger.specs.Pages.{PageValue, passes, selects, selected, extent_overlaps, is_candidate, candidates, behind, last_id, saturated, page_of}
-use Rattle.streetmap_ledger.specs.Folds.{Holds, HoldsCandidates}
+use Rattle.streetmap_ledger.specs.Folds.{IsFoldOf, HoldsCandidates}
 use Rattle.streetmap_ledger.specs.Laws.{SelectedAreCandidates}
 use Rattle.streetmap_ledger.specs.declared.fold.PageFold.{PageFold}
 
@@ -60,16 +60,16 @@ left_out q fold fs f h e held =
     let same : candidates v (fs ++ f ∷ []) ≡ candidates v fs = last_is (is_candidate v) fs f false e ∙ append-nil (candidates v fs) in
     let shown : selected v (fs ++ f ∷ []) ≡ selected v fs = last_is (selects v) fs f false no ∙ append-nil (selected v fs) in
     record {
-      holds = subst (Holds v fold) (sym same) held.holds;
+      holds = subst (IsFoldOf v fold) (sym same) held.holds;
       whole = ap (selected v) same ∙ (held.whole ∙ sym shown);
     }
 
 -- a candidate is taken
-pub taken : (v : QueryValue) (fold : PageFold) (fs : List FeatureValue) (f : FeatureValue) → is_candidate v f ≡ true → selected v (candidates v fs) ≡ selected v fs → Holds v fold (candidates v fs ++ f ∷ []) → HoldsCandidates v fold (fs ++ f ∷ [])
+pub taken : (v : QueryValue) (fold : PageFold) (fs : List FeatureValue) (f : FeatureValue) → is_candidate v f ≡ true → selected v (candidates v fs) ≡ selected v fs → IsFoldOf v fold (candidates v fs ++ f ∷ []) → HoldsCandidates v fold (fs ++ f ∷ [])
 taken v fold fs f e whole held =
     let same : candidates v (fs ++ f ∷ []) ≡ candidates v fs ++ f ∷ [] = last_is (is_candidate v) fs f true e in
     record {
-      holds = subst (Holds v fold) (sym same) held;
+      holds = subst (IsFoldOf v fold) (sym same) held;
       whole = ap (selected v) same ∙ (filter-append (selects v) (candidates v fs) (f ∷ []) ∙ (ap (λ l. l ++ selected v (f ∷ [])) whole ∙ sym (filter-append (selects v) fs (f ∷ []))));
     }
 
@@ -98,7 +98,7 @@ pub left_out_of : (fold : PageFold) (q : QueryValue) (fs : List FeatureValue) (f
 left_out_of fold q fs f made e held =
     subst (λ v. HoldsCandidates v fold fs → HoldsCandidates v fold (fs ++ f ∷ [])) held.holds.asks (left_out fold.query.now fold fs f made e) held
 
-pub passed_on : (old new : PageFold) (q : QueryValue) (fs : List FeatureValue) (f : FeatureValue) → is_candidate (query_value old.query.now) f ≡ true → (Holds q old (candidates q fs) → Holds q new (candidates q fs ++ f ∷ [])) → HoldsCandidates q old fs → HoldsCandidates q new (fs ++ f ∷ [])
+pub passed_on : (old new : PageFold) (q : QueryValue) (fs : List FeatureValue) (f : FeatureValue) → is_candidate (query_value old.query.now) f ≡ true → (IsFoldOf q old (candidates q fs) → IsFoldOf q new (candidates q fs ++ f ∷ [])) → HoldsCandidates q old fs → HoldsCandidates q new (fs ++ f ∷ [])
 passed_on old new q fs f e takes held = taken q new fs f (ap (λ v. is_candidate v f) (sym held.holds.asks) ∙ e) held.whole (takes held.holds)
 
 known : (b : Bool) → (b ≡ true) ⊎ (b ≡ false)

@@ -8,7 +8,7 @@ use Rattle.streetmap_geojson.specs.FeatureValue.{FeatureValue}
 use Rattle.streetmap_query.specs.QueryValue.{QueryValue}
 use Rattle.streetmap_query.specs.Views.{query_value}
 use Rattle.streetmap_ledger.specs.Pages.{selects, selected, comes_after, behind, rest_of, saturated}
-use Rattle.streetmap_ledger.specs.Folds.{Holds, IsFull, AreHidden}
+use Rattle.streetmap_ledger.specs.Folds.{IsFoldOf, IsFull, AreHidden}
 use Rattle.streetmap_ledger.specs.declared.fold.PageFold.{PageFold}
 
 filter_all : {X : Type 0} (p : X → Bool) (xs : List X) → All (λ x. p x ≡ true) xs → filter p xs ≡ xs
@@ -60,9 +60,9 @@ counted : (n : ℕ) (xs gs : List FeatureValue) → n ≡ saturated (length xs) 
 counted n xs gs is = let e = length-append xs gs in omega (arith, e, is)
 
 -- the fold holds the page of the hidden features too
-pub all_hidden : (q : QueryValue) (old new : PageFold) (b : Bool) (fs gs : List FeatureValue) → Holds q old fs → AreHidden q b gs → (IsTrue b → IsFull old)
+pub all_hidden : (q : QueryValue) (old new : PageFold) (b : Bool) (fs gs : List FeatureValue) → IsFoldOf q old fs → AreHidden q b gs → (IsTrue b → IsFull old)
     → new.query ≡ old.query → new.features ≡ old.features → new.more ≡ (old.more || (b && nat_lt 0 (length gs))) → new.matched ≡ saturated (old.matched + length gs) → new.examined ≡ saturated (old.examined + length gs)
-    → Holds q new (fs ++ gs)
+    → IsFoldOf q new (fs ++ gs)
 all_hidden q old new b fs gs held hidden full query features more matched examined =
     let limit : old.query.now.limit ≡ q.limit = ap (λ (v : QueryValue). v.limit) held.asks in
     let shown : length old.features.items ≤ length (rest_of q fs) =

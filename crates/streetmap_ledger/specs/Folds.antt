@@ -8,7 +8,7 @@ use Rattle.streetmap_ledger.specs.Pages.{saturated}
 use Rattle.streetmap_ledger.specs.declared.fold.PageFold.{PageFold}
 
 -- the page of these features, as far as it is known
-pub record Holds (q : QueryValue) (fold : PageFold) (fs : List FeatureValue) : Type 0 where
+pub record IsFoldOf (q : QueryValue) (fold : PageFold) (fs : List FeatureValue) : Type 0 where
   pub asks : query_value fold.query.now ≡ q
   pub shown : fold.features.items ≡ take q.limit (rest_of q fs)
   pub matched : fold.matched ≡ saturated (length (selected q fs))
@@ -18,7 +18,7 @@ pub record Holds (q : QueryValue) (fold : PageFold) (fs : List FeatureValue) : T
 -- the page of the candidates among these features, of which no selected one is left out
 pub record HoldsCandidates (q : QueryValue) (fold : PageFold) (fs : List FeatureValue) : Type 0
   where
-    pub holds : Holds q fold (candidates q fs)
+    pub holds : IsFoldOf q fold (candidates q fs)
     pub whole : selected q (candidates q fs) ≡ selected q fs
 
 -- the page shows as many features as the query asks for at most

@@ -35,11 +35,11 @@ impl<'a> PageFold<'a> {
     ghost use Rattle.streetmap_ledger.specs.Pages.{comes_after as comes_after_of};
     ghost use Rattle.streetmap_ledger.specs.Pages.{is_candidate as is_candidate_of};
     ghost use Rattle.streetmap_ledger.specs.PageView.{page_value};
-    ghost use Rattle.streetmap_ledger.specs.Folds.{Holds, HoldsCandidates, IsFull, AreHidden};
+    ghost use Rattle.streetmap_ledger.specs.Folds.{IsFoldOf, HoldsCandidates, IsFull, AreHidden};
 
     /// Holds the page of no feature.
     pub fn new(alloc: Global, query: &'a Query) -> Self
-        ensures { Holds (query_value query.now) result [] }
+        ensures { IsFoldOf (query_value query.now) result [] }
     {
         PageFold {
             query,
@@ -67,10 +67,10 @@ impl<'a> PageFold<'a> {
     /// Takes the feature that comes next, and keeps it where the page shows it. Where memory is
     /// refused for that, it is not counted.
     pub fn take(&mut self, feature: Feature) -> Result<(), AllocError>
-        ensures ok { (q : QueryValue) (fs : List FeatureValue) → Holds q self.old fs
-            → OnOk result (Holds q self.new (fs ++ feature ∷ [])) }
-        ensures err { (q : QueryValue) (fs : List FeatureValue) → Holds q self.old fs
-            → OnErr result (Holds q self.new fs) }
+        ensures ok { (q : QueryValue) (fs : List FeatureValue) → IsFoldOf q self.old fs
+            → OnOk result (IsFoldOf q self.new (fs ++ feature ∷ [])) }
+        ensures err { (q : QueryValue) (fs : List FeatureValue) → IsFoldOf q self.old fs
+            → OnErr result (IsFoldOf q self.new fs) }
     {
         if self.pass_hidden(&feature) {
             return Ok(());
@@ -82,7 +82,7 @@ impl<'a> PageFold<'a> {
     /// did.
     fn pass_hidden(&mut self, feature: &Feature) -> bool
         ensures passed { IsTrue result → (q : QueryValue) (fs : List FeatureValue)
-            → Holds q self.old fs → Holds q self.new (fs ++ feature.now ∷ []) }
+            → IsFoldOf q self.old fs → IsFoldOf q self.new (fs ++ feature.now ∷ []) }
         ensures unchanged { result ≡ false → self.new ≡ self.old }
         ensures selected { result ≡ false
             → selects_of (query_value self.old.query.now) feature.now ≡ true }
@@ -105,11 +105,11 @@ impl<'a> PageFold<'a> {
     /// Shows the feature that comes next.
     fn show(&mut self, feature: Feature) -> Result<(), AllocError>
         requires { length self.old.features.items < self.old.query.now.limit }
-        ensures ok { (q : QueryValue) (fs : List FeatureValue) → Holds q self.old fs
+        ensures ok { (q : QueryValue) (fs : List FeatureValue) → IsFoldOf q self.old fs
             → selects_of q feature ≡ true → comes_after_of q.after feature ≡ true
-            → OnOk result (Holds q self.new (fs ++ feature ∷ [])) }
-        ensures err { (q : QueryValue) (fs : List FeatureValue) → Holds q self.old fs
-            → OnErr result (Holds q self.new fs) }
+            → OnOk result (IsFoldOf q self.new (fs ++ feature ∷ [])) }
+        ensures err { (q : QueryValue) (fs : List FeatureValue) → IsFoldOf q self.old fs
+            → OnErr result (IsFoldOf q self.new fs) }
     {
         self.features.push(feature)?;
         self.count(true);
@@ -126,9 +126,9 @@ impl<'a> PageFold<'a> {
     /// Counts the feature that comes next, which is selected and not shown: either it is `behind`
     /// the id asked, and the page is full, or it does not come after that id.
     pub fn count_hidden(&mut self, behind: bool)
-        ensures { (q : QueryValue) (fs : List FeatureValue) (f : FeatureValue) → Holds q self.old fs
-            → selects_of q f ≡ true → comes_after_of q.after f ≡ behind
-            → (IsTrue behind → IsFull self.old) → Holds q self.new (fs ++ f ∷ []) }
+        ensures { (q : QueryValue) (fs : List FeatureValue) (f : FeatureValue)
+            → IsFoldOf q self.old fs → selects_of q f ≡ true → comes_after_of q.after f ≡ behind
+            → (IsTrue behind → IsFull self.old) → IsFoldOf q self.new (fs ++ f ∷ []) }
     {
         if behind {
             self.more = true;
@@ -151,9 +151,9 @@ impl<'a> PageFold<'a> {
     /// Counts the features that come next, `count` of them, which are selected and not shown:
     /// either all are `behind` the id asked, and the page is full, or none comes after that id.
     pub fn count_all_hidden(&mut self, count: u64, behind: bool)
-        ensures { (q : QueryValue) (fs gs : List FeatureValue) → Holds q self.old fs →
+        ensures { (q : QueryValue) (fs gs : List FeatureValue) → IsFoldOf q self.old fs →
             AreHidden q behind gs → length gs ≡ count → (IsTrue behind → IsFull self.old) →
-            Holds q self.new (fs ++ gs) }
+            IsFoldOf q self.new (fs ++ gs) }
     {
         self.more = more_after(self.more, behind, count);
         self.add(count);
@@ -161,8 +161,9 @@ impl<'a> PageFold<'a> {
 
     /// Counts the feature that comes next, which is not selected.
     pub fn skip_unselected(&mut self)
-        ensures { (q : QueryValue) (fs : List FeatureValue) (f : FeatureValue) → Holds q self.old fs
-            → selects_of q f ≡ false → Holds q self.new (fs ++ f ∷ []) }
+        ensures { (q : QueryValue) (fs : List FeatureValue) (f : FeatureValue)
+            → IsFoldOf q self.old fs → selects_of q f ≡ false
+            → IsFoldOf q self.new (fs ++ f ∷ []) }
     {
         self.count(false);
     }
@@ -173,7 +174,7 @@ impl<'a> PageFold<'a> {
         ensures passed { IsTrue result
             → (q : QueryValue) (fs : List FeatureValue) (f : FeatureValue)
             → outline.now ≡ outline_of f → IsFeature f → IfSome id.entry (λ known. known.now ≡ f.id)
-            → Holds q self.old fs → Holds q self.new (fs ++ f ∷ []) }
+            → IsFoldOf q self.old fs → IsFoldOf q self.new (fs ++ f ∷ []) }
         ensures unchanged { result ≡ false → self.new ≡ self.old }
     {
         match selects_unread(self.query, outline) {
@@ -208,7 +209,7 @@ impl<'a> PageFold<'a> {
 
     /// The page of the features taken.
     pub fn end(self, alloc: Global) -> Result<Page, AllocError>
-        ensures { (q : QueryValue) (fs : List FeatureValue) → Holds q self.entry fs
+        ensures { (q : QueryValue) (fs : List FeatureValue) → IsFoldOf q self.entry fs
             → IfOk result (λ page. page_value page ≡ page_of q (length fs) fs) }
     {
         let next = if self.more {

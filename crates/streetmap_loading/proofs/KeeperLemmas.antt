@@ -19,12 +19,12 @@ use Rattle.streetmap_ledger.specs.declared.reply.Reply.TheVariants as replies
 use Rattle.streetmap_loading.specs.Places.{PlacedValue, edits_of, places_of, text_place}
 use Rattle.streetmap_loading.specs.Sources.{Item, TakesOff, HasNoItem}
 use Rattle.streetmap_loading.specs.Sinks.{SinkTakesAll}
-use Rattle.streetmap_loading.specs.Ends.{AreLeft, EndsAt, EndsWithin, ByEnd, EndsBy, end_of_stop}
-use Rattle.streetmap_loading.specs.Loads.{Loads, AreRead, ItemsBeginWith, items_of}
+use Rattle.streetmap_loading.specs.Ends.{AreLeft, EndsAt, EndsWithinBatch, ByEnd, EndsBy, end_of_stop}
+use Rattle.streetmap_loading.specs.Loads.{Loads, AreTakenOff, ItemsBeginWith, items_of}
 use Rattle.streetmap_loading.specs.Applying.{Applies, taken_of}
 use Rattle.streetmap_loading.specs.KeeperLoads.{keeper_fault, IsRead, AreAcknowledged, serial_of}
-use Rattle.streetmap_loading.specs.KeeperLoads.{last_serial, Rests, StopsAt, EndsAtBatch}
-use Rattle.streetmap_loading.specs.KeeperLoads.{EndsBefore, EndsIn, LoadsTo}
+use Rattle.streetmap_loading.specs.KeeperLoads.{last_serial, RestsAt, StopsAt, EndsAtBatch}
+use Rattle.streetmap_loading.specs.KeeperLoads.{LeavesUnsent, EndsIn, LoadsTo}
 use Rattle.streetmap_loading.specs.declared.keeper_sink.KeeperSink.{KeeperSink}
 use Rattle.streetmap_loading.specs.declared.sink.Stop.{Stop}
 use Rattle.streetmap_loading.specs.declared.sink.Stop.TheVariants as stops
@@ -53,7 +53,7 @@ fault_known : (items : List Item) (xs : List Item) (e : Item) →
 fault_known items xs e h = (h.0, h.1 ∙ append_assoc xs (e ∷ []) h.0)
 
 pub is_read : (old new : Option (List Item)) (read : List PlacedValue) (end : End) →
-    AreRead old new read end → IsRead old read end
+    AreTakenOff old new read end → IsRead old read end
 is_read None new read end are = tt
 is_read (Some items) new read All are = all_known items new (items_of read) are.0 are.1
 is_read (Some items) new read (AtFault fault) are = fault_known items (items_of read) (Err fault)
@@ -162,7 +162,7 @@ module _ {S K : Type 0} (keeper : S → K) (is_clean : K → Type 0) (cause : K 
         (loaded : Loaded) (it : Loads takes each key first last old new loaded)
         (clean : is_clean (keeper last)) (h : stands (keeper first) s) where
       abbrev rests : State → Type 0
-      rests t = Rests s (may_leave (keeper first)) (stands (keeper last))
+      rests t = RestsAt s (may_leave (keeper first)) (stands (keeper last))
           (may_leave (keeper last)) t
 
       abbrev t : State
@@ -288,8 +288,8 @@ module _ {S K : Type 0} (keeper : S → K) (is_clean : K → Type 0) (cause : K 
                 acts).0)).0));
           }
 
-      abbrev within : EndsWithin takes each key it.read it.ends.sent it.ends.mid last →
-          EndsBefore s (may_leave (keeper first)) (stands (keeper last)) (may_leave (keeper last))
+      abbrev within : EndsWithinBatch takes each key it.read it.ends.sent it.ends.mid last →
+          LeavesUnsent s (may_leave (keeper first)) (stands (keeper last)) (may_leave (keeper last))
           each key it.read it.ends.sent t
       within e = record { rest = e.left; are_left = e.are_left; rests = still_rests e.still }
 

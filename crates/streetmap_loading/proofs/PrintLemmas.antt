@@ -8,7 +8,7 @@ use Rattle.streetmap_batch.specs.BatchValue.{BatchValue}
 use Rattle.streetmap_loading.specs.Places.{places_of}
 use Rattle.streetmap_loading.specs.Sources.{Item}
 use Rattle.streetmap_loading.specs.Sinks.{SinkTakesAll}
-use Rattle.streetmap_loading.specs.Ends.{ByEnd, EndsAt, EndsWithin, end_of_stop}
+use Rattle.streetmap_loading.specs.Ends.{ByEnd, EndsAt, EndsWithinBatch, end_of_stop}
 use Rattle.streetmap_loading.specs.Loads.{Loads}
 use Rattle.streetmap_loading.specs.Checking.{IsOfText}
 use Rattle.streetmap_loading.specs.Printing.{line_of, IsWriteStop, Prints}
@@ -46,7 +46,7 @@ module _ {S : Type 0} (contents : S → Option (List ℕ)) where
     still e = subst (λ (x : S). Appends (contents first) (contents x) (lines_of it.ends.sent))
         (sym e) written
 
-    within : EndsWithin prints each key it.read it.ends.sent it.ends.mid last →
+    within : EndsWithinBatch prints each key it.read it.ends.sent it.ends.mid last →
         PrintsBefore each key it.read it.ends.sent (contents first) (contents last)
     within e = record { rest = e.left; are_left = e.are_left; written = still e.still }
 

@@ -12,7 +12,7 @@ use Rattle.streetmap_loading.specs.Sources.{Item, TakesOff, HasNoItem, FirstIs, 
 use Rattle.streetmap_loading.specs.Ends.{EndsBy, end_of_unread}
 use Rattle.streetmap_loading.specs.Sending.{Begins, IsSending, SendsWhenFull, TakesEdit, SendsTheRest, EndsAtEdit}
 use Rattle.streetmap_loading.specs.Sending.{IsBehind}
-use Rattle.streetmap_loading.specs.Loads.{Loads, AreRead, ItemsBeginWith, items_of}
+use Rattle.streetmap_loading.specs.Loads.{Loads, AreTakenOff, ItemsBeginWith, items_of}
 use Rattle.streetmap_loading.specs.declared.sink.Stop.{Stop}
 use Rattle.streetmap_loading.specs.declared.source.Unread.{Unread}
 use Rattle.streetmap_loading.specs.declared.source.Unread.TheVariants as unread
@@ -62,7 +62,7 @@ items_more (x ∷ ps) p = ap (λ t. Ok x ∷ t) (items_more ps p)
 
 -- an end within is one at which the edits that were read are those that were taken off
 are_within : (old now : Option (List Item)) (read : List PlacedValue) (end : End) → EndsAtEdit end →
-    TakesOff old now (items_of read) → AreRead old now read end
+    TakesOff old now (items_of read) → AreTakenOff old now read end
 are_within old now read All within taken = absurd within
 are_within old now read (AtFault fault) within taken = absurd within
 are_within old now read ReadFailed within taken = absurd within
@@ -72,7 +72,7 @@ are_within old now read (Stopped fault) within taken = taken
 are_within old now read WriteFailed within taken = taken
 
 are_behind : (old now : Option (List Item)) (read : List PlacedValue) (end : End) → IsBehind end →
-    TakesOff old now (items_of read) → HasNoItem old now → AreRead old now read end
+    TakesOff old now (items_of read) → HasNoItem old now → AreTakenOff old now read end
 are_behind old now read All behind taken none = (taken, none)
 are_behind old now read (AtFault fault) behind taken none = absurd behind
 are_behind old now read ReadFailed behind taken none = absurd behind

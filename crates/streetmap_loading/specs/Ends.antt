@@ -62,8 +62,8 @@ module _ {S : Type 0} (takes : S → BatchValue → Result (Option ℕ) Stop →
     pub told : end ≡ end_of_stop (take (length batch.edits) (places_of left)) stop
 
   -- the edits that are left are part of a batch, and none of them was sent
-  pub record EndsWithin (each : ℕ) (key : Text) (read : List PlacedValue) (sent : List BatchValue)
-      (mid last : S) : Type 0 where
+  pub record EndsWithinBatch (each : ℕ) (key : Text) (read : List PlacedValue)
+      (sent : List BatchValue) (mid last : S) : Type 0 where
     pub left : List PlacedValue
     pub are_left : AreLeft each key read sent left
     pub still : last ≡ mid
@@ -75,10 +75,10 @@ module _ {S : Type 0} (takes : S → BatchValue → Result (Option ℕ) Stop →
       End → Type 0
   ByEnd each key read sent mid last All = Packs each key (edits_of read) sent × (last ≡ mid)
   ByEnd each key read sent mid last (AtFault fault) =
-      (within : EndsWithin each key read sent mid last) × IsShort each key (1 + length sent)
+      (within : EndsWithinBatch each key read sent mid last) × IsShort each key (1 + length sent)
       (edits_of within.left)
-  ByEnd each key read sent mid last ReadFailed = EndsWithin each key read sent mid last
-  ByEnd each key read sent mid last Memory = EndsWithin each key read sent mid last
+  ByEnd each key read sent mid last ReadFailed = EndsWithinBatch each key read sent mid last
+  ByEnd each key read sent mid last Memory = EndsWithinBatch each key read sent mid last
   ByEnd each key read sent mid last (Refused why place) = EndsAt each key read sent mid last
       (Refused why place)
   ByEnd each key read sent mid last (Stopped fault) = EndsAt each key read sent mid last

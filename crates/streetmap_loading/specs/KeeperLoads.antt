@@ -54,14 +54,14 @@ last_serial before s (b ∷ bs) = last_serial (serial_of (act s b).reply) (act s
 module _ (s : State) (before : Option State → Type 0) (stands : State → Type 0)
     (left : Option State → Type 0) where
   -- the keeper stands for a state, and a stop may leave that alone
-  pub record Rests (t : State) : Type 0 where
+  pub record RestsAt (t : State) : Type 0 where
     pub stood : stands t
     pub leaves : LeavesOnly before (Some s) → LeavesOnly left (Some t)
 
   -- the keeper did not answer this batch: a want of memory changes nothing, a failed device may
   -- have left the batch or not
   abbrev pub LeavesUnanswered : State → BatchValue → Fault → Type 0
-  LeavesUnanswered t b faults.Memory = Rests t
+  LeavesUnanswered t b faults.Memory = RestsAt t
   LeavesUnanswered t b faults.Device = LeavesOnly before (Some s) → LeavesEither left (Some t)
       (Some (act t b).state)
   LeavesUnanswered t b faults.Damaged = ⊥
@@ -72,7 +72,7 @@ module _ (s : State) (before : Option State → Type 0) (stands : State → Type
   abbrev pub StopsAt : State → List PlacedValue → BatchValue → End → Type 0
   StopsAt t placed b (Refused why place) =
       (inner : Option ℕ) × ((act t b).reply ≡ replies.Refused why inner) ×
-      (place ≡ text_place (take (length b.edits) (places_of placed)) inner) × Rests t
+      (place ≡ text_place (take (length b.edits) (places_of placed)) inner) × RestsAt t
   StopsAt t placed b (Stopped fault) = LeavesUnanswered t b fault
   StopsAt t placed b _ = ⊥
 
@@ -87,20 +87,20 @@ module _ (s : State) (before : Option State → Type 0) (stands : State → Type
     pub stops : StopsAt t rest batch end
 
   -- what is left of the edits that were read is part of a batch, and was not sent
-  pub record EndsBefore (each : ℕ) (key : Text) (read : List PlacedValue) (sent : List BatchValue)
+  pub record LeavesUnsent (each : ℕ) (key : Text) (read : List PlacedValue) (sent : List BatchValue)
       (t : State) : Type 0 where
     pub rest : List PlacedValue
     pub are_left : AreLeft each key read sent rest
-    pub rests : Rests t
+    pub rests : RestsAt t
 
   abbrev pub EndsIn : (each : ℕ) (key : Text) (read : List PlacedValue) (sent : List BatchValue) →
       State → End → Type 0
-  EndsIn each key read sent t All = Packs each key (edits_of read) sent × Rests t
+  EndsIn each key read sent t All = Packs each key (edits_of read) sent × RestsAt t
   EndsIn each key read sent t (AtFault fault) =
-      (ends : EndsBefore each key read sent t) × IsShort each key (1 + length sent)
+      (ends : LeavesUnsent each key read sent t) × IsShort each key (1 + length sent)
       (edits_of ends.rest)
-  EndsIn each key read sent t ReadFailed = EndsBefore each key read sent t
-  EndsIn each key read sent t Memory = EndsBefore each key read sent t
+  EndsIn each key read sent t ReadFailed = LeavesUnsent each key read sent t
+  EndsIn each key read sent t Memory = LeavesUnsent each key read sent t
   EndsIn each key read sent t WriteFailed = ⊥
   EndsIn each key read sent t end = EndsAtBatch each key read sent t end
 

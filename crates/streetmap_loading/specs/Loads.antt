@@ -23,12 +23,12 @@ ItemsBeginWith (Some items) read = (rest : List Item) × (items ≡ read ++ rest
 
 -- the edits are those that were taken off the source: all of it; those in front of the item at
 -- fault; or its first
-abbrev pub AreRead : Option (List Item) → Option (List Item) → List PlacedValue → End → Type 0
-AreRead old new read All = TakesOff old new (items_of read) × HasNoItem old new
-AreRead old new read (AtFault fault) = ItemsBeginWith old (items_of read ++ Err fault ∷ [])
-AreRead old new read ReadFailed = ItemsBeginWith old (items_of read)
-AreRead old new read Memory = ItemsBeginWith old (items_of read)
-AreRead old new read end = TakesOff old new (items_of read)
+abbrev pub AreTakenOff : Option (List Item) → Option (List Item) → List PlacedValue → End → Type 0
+AreTakenOff old new read All = TakesOff old new (items_of read) × HasNoItem old new
+AreTakenOff old new read (AtFault fault) = ItemsBeginWith old (items_of read ++ Err fault ∷ [])
+AreTakenOff old new read ReadFailed = ItemsBeginWith old (items_of read)
+AreTakenOff old new read Memory = ItemsBeginWith old (items_of read)
+AreTakenOff old new read end = TakesOff old new (items_of read)
 
 -- these edits were read, and their batches were sent from the first sink to the last, up to the end
 pub record Loads {S : Type 0} (takes : S → BatchValue → Result (Option ℕ) Stop → S → Type 0)
@@ -37,6 +37,6 @@ pub record Loads {S : Type 0} (takes : S → BatchValue → Result (Option ℕ) 
     0 where
   pub read : List PlacedValue
   pub counted : length read ≡ loaded.edits
-  pub are : AreRead old new read loaded.end
+  pub are : AreTakenOff old new read loaded.end
   pub ends :
       EndsBy takes each key first last read loaded.batches loaded.taken loaded.serial loaded.end

@@ -25,7 +25,7 @@ pub record Begins (each : ℕ) (key : Text) (l : Sending) : Type 0 where
   pub serial : l.serial ≡ None
 
 -- the numbers do not overflow
-pub record HasRoom (l : Sending) : Type 0 where
+pub record HasNumbersLeft (l : Sending) : Type 0 where
   pub number : (packing l.packer).number + 1 < 2 ^ 63
   pub batches : l.batches + 1 < 2 ^ 64
   pub taken : l.taken + 10000 < 2 ^ 64

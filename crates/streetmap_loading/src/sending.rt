@@ -8,7 +8,7 @@ ghost use Rattle.streetmap_loading.specs.Places.{PlacedValue};
 ghost use Rattle.streetmap_loading.specs.Sources.{placed_value};
 ghost use Rattle.streetmap_loading.specs.Sending.{Begins, IsSending, Sends, SendsWhenFull};
 ghost use Rattle.streetmap_loading.specs.Sending.{TakesEdit, SendsTheRest};
-ghost use Rattle.streetmap_loading.specs.Sending.{HasRoom, FewMore};
+ghost use Rattle.streetmap_loading.specs.Sending.{HasNumbersLeft, FewMore};
 
 use crate::end::{End, Loaded};
 use crate::sink::Sink;
@@ -83,7 +83,7 @@ impl Sending {
 
     /// Sends the batch under way where it has as many edits as a batch may have.
     pub(crate) fn fill<S: Sink>(&mut self, alloc: Global, sink: &mut S) -> Result<(), End>
-        requires { HasRoom self.old }
+        requires { HasNumbersLeft self.old }
         ensures few { OnOk result (FewMore self.old self.new) }
         ensures fills { (each : ℕ) (key : Text) (first : S) (read : List PlacedValue) →
             IsSending S.takes each key first read self.old sink.old →
@@ -106,7 +106,7 @@ impl Sending {
         sink: &mut S,
         placed: PlacedEdit,
     ) -> Result<(), End>
-        requires { HasRoom self.old }
+        requires { HasNumbersLeft self.old }
         ensures few { OnOk result (FewMore self.old self.new) }
         ensures puts { (each : ℕ) (key : Text) (first : S) (read : List PlacedValue) →
             IsSending S.takes each key first read self.old sink.old →
@@ -128,7 +128,7 @@ impl Sending {
 
     /// Sends the last batch, where an edit is left.
     pub(crate) fn finish<S: Sink>(self, alloc: Global, sink: &mut S, edits: u64) -> Loaded
-        requires { HasRoom self }
+        requires { HasNumbersLeft self }
         ensures edits { result.edits ≡ edits }
         ensures finishes { (each : ℕ) (key : Text) (first : S) (read : List PlacedValue) →
             IsSending S.takes each key first read self sink.old →

@@ -20,7 +20,7 @@ ghost use Rattle.streetmap_ledger.specs.OutlineView.{feature_outline_value, feat
 ghost use Rattle.serde_json.specs.Written.{compact_text};
 ghost use Rattle.streetmap_geojson.specs.FeatureValue.{FeatureValue};
 ghost use Rattle.streetmap_feature_text.specs.Written.{feature_data};
-ghost use Rattle.streetmap_ledger.specs.Folds.{Holds, HoldsCandidates};
+ghost use Rattle.streetmap_ledger.specs.Folds.{IsFoldOf, HoldsCandidates};
 ghost use Rattle.streetmap_ledger.specs.Pages.{page_over as page_over_of};
 ghost use Rattle.streetmap_ledger.specs.PageView.{page_value};
 
@@ -256,8 +256,8 @@ fn take_unpacked(
     fold: &mut PageFold<'_>,
     feature: &PackedFeature,
 ) -> Result<(), AllocError>
-    ensures { (q : QueryValue) (fs : List FeatureValue) → Holds q fold.old fs
-        → OnOk result (Holds q fold.new (fs ++ feature.now ∷ [])) }
+    ensures { (q : QueryValue) (fs : List FeatureValue) → IsFoldOf q fold.old fs
+        → OnOk result (IsFoldOf q fold.new (fs ++ feature.now ∷ [])) }
 {
     fold.take(feature.unpack(alloc)?)
 }

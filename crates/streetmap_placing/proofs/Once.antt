@@ -6,7 +6,7 @@ use Rattle.streetmap_decimal.specs.Axes.{shift_of}
 use Rattle.streetmap_decimal.specs.declared.axis.Axis.{Axis}
 use Rattle.streetmap_decimal.specs.declared.placement.Placement.{Placement}
 use Rattle.streetmap_decimal.proofs.Once.{placed_once}
-use Rattle.streetmap_placing.specs.Placed.{Then, Made, IsPlaced, NumberBy, Becomes, ItemsBecome, MembersBecome, items_count, coordinate_or_fault}
+use Rattle.streetmap_placing.specs.Placed.{Then, Made, IsPlacedCoordinate, NumberBy, Becomes, ItemsBecome, MembersBecome, items_count, coordinate_or_fault}
 use Rattle.streetmap_placing.specs.Roles.{member_role, element_role}
 use Rattle.streetmap_placing.specs.Text.{IsReadAs, ReadsBy, TextBecomes, asks, utf8_tree}
 use Rattle.streetmap_placing.specs.declared.fault.PlacingFault.{PlacingFault}
@@ -65,7 +65,7 @@ made_once : {A B : Type 0} (make : A → B) (First : Result A PlacingFault → T
 made_once make First first = then_once First (λ a r. r ≡ Ok (make a)) first
     (λ a. is_once (Ok (make a)))
 
-coordinate_once : (p : Placement) (axis : Axis) (text : List ℕ) → Once (IsPlaced p axis text)
+coordinate_once : (p : Placement) (axis : Axis) (text : List ℕ) → Once (IsPlacedCoordinate p axis text)
 coordinate_once p axis text r s h k =
     h.1.1 ∙ ap coordinate_or_fault
     (placed_once (shift_of axis p.shift) p.scale.count p.rounding text h.0 k.0 h.1.0 k.1.0)

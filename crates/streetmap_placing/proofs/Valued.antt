@@ -7,7 +7,7 @@ use Rattle.streetmap_decimal.specs.Placing.{placed_text}
 use Rattle.streetmap_decimal.specs.declared.axis.Axis.{Axis}
 use Rattle.streetmap_decimal.specs.declared.placement.Placement.{Placement}
 use Rattle.streetmap_decimal.proofs.Placed.{placed_is}
-use Rattle.streetmap_placing.specs.Placed.{Then, Made, Answers, IsPlaced, NumberBy, Becomes, ItemsBecome, MembersBecome, items_count}
+use Rattle.streetmap_placing.specs.Placed.{Then, Made, Answers, IsPlacedCoordinate, NumberBy, Becomes, ItemsBecome, MembersBecome, items_count}
 use Rattle.streetmap_placing.specs.Roles.{member_role, element_role}
 use Rattle.streetmap_placing.specs.Text.{IsReadAs, ReadsBy, TextBecomes, asks, utf8_tree}
 use Rattle.streetmap_placing.specs.Value.{◌>>=◌, placed_number, number_by, value_in, items_in, members_in, value_of_tree, value_by, value_of, Gives}
@@ -38,7 +38,7 @@ made_is : {A B : Type 0} (make : A → B) (First : Result A PlacingFault → Typ
 made_is make First r h = then_is First (λ a s. s ≡ Ok (make a)) r (λ a. Ok (make a)) h (λ a. refl)
 
 coordinate_is : (p : Placement) (axis : Axis) (text : List ℕ)
-    → IsPlaced p axis text (placed_number p axis text)
+    → IsPlacedCoordinate p axis text (placed_number p axis text)
 coordinate_is p axis text = (
   placed_text (shift_of axis p.shift) p.scale.count p.rounding text,
   (placed_is (shift_of axis p.shift) p.scale.count p.rounding text, refl),

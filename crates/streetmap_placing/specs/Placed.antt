@@ -61,8 +61,8 @@ coordinate_or_fault (Ok g) = Ok (number (of_integer g))
 coordinate_or_fault (Err f) = Err (fault_of f)
 
 -- a coordinate, placed in the grid
-abbrev pub IsPlaced : Placement → Axis → List ℕ → Result Data PlacingFault → Type 0
-IsPlaced p axis text r =
+abbrev pub IsPlacedCoordinate : Placement → Axis → List ℕ → Result Data PlacingFault → Type 0
+IsPlacedCoordinate p axis text r =
     (g : Result ℤ DecimalFault)
     × (PlacesText (shift_of axis p.shift) p.scale.count p.rounding text g
     × (r ≡ coordinate_or_fault g))
@@ -88,7 +88,7 @@ KeptAs text r = r ≡ Ok (kept text (json_value text))
 abbrev pub NumberBy : Option Placement → Fractions → Role → List ℕ
     → Result Data PlacingFault → Type 0
 NumberBy None fractions (Coordinate axis) text = StaysAs text
-NumberBy (Some p) fractions (Coordinate axis) text = IsPlaced p axis text
+NumberBy (Some p) fractions (Coordinate axis) text = IsPlacedCoordinate p axis text
 NumberBy placement Number Properties text = StaysAs text
 NumberBy placement Text Properties text = KeptAs text
 NumberBy placement fractions Feature text = StaysAs text

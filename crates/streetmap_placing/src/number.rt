@@ -1,7 +1,8 @@
 //! What becomes of a number of a feature.
 ghost use Rattle.std.specs.Prelude.{◌≡◌};
 ghost use Rattle.serde_json.specs.View.{view};
-ghost use Rattle.streetmap_placing.specs.Placed.{Answers, IsPlaced, StaysAs, KeptAs, NumberBecomes};
+ghost use Rattle.streetmap_placing.specs.Placed.{Answers, IsPlacedCoordinate, StaysAs, KeptAs};
+ghost use Rattle.streetmap_placing.specs.Placed.{NumberBecomes};
 
 use crate::fault::PlacingFault;
 use crate::numbers::{Fractions, Numbers};
@@ -29,7 +30,7 @@ pub(crate) fn number_value(
 
 // A coordinate, placed in the grid.
 fn placed_number(placement: &Placement, axis: Axis, text: &str) -> Result<Value, PlacingFault>
-    ensures { Answers view result (IsPlaced placement.now axis text.now) }
+    ensures { Answers view result (IsPlacedCoordinate placement.now axis text.now) }
 {
     match placement.grid_of_text(axis, text.as_bytes()) {
         Ok(millimetres) => Ok(Value::Number(Number::from(millimetres))),

@@ -19,7 +19,7 @@ use Rattle.streetmap_grid.specs.Values.{BoxValue}
 use Rattle.streetmap_grid.specs.Views.{box_value}
 use Rattle.streetmap_grid.specs.WellFormed.{IsBox}
 use Rattle.streetmap_query.specs.Box.{box_of, box_text}
-use Rattle.streetmap_query.specs.BoxText.{NumberText, IsNumberText, zeros_spelled, number_spelled, signed, number_meant, IsBoxText}
+use Rattle.streetmap_query.specs.BoxText.{NumberText, HasFewDigits, zeros_spelled, number_spelled, signed, number_meant, IsBoxText}
 use Rattle.streetmap_query.specs.Number.{digit_at, digits_at, whole_at, zeros_from, some_zeros, fraction_at, unsigned_at, bound_at, comma_at, reach, ◌>>=◌}
 use Rattle.streetmap_query.proofs.LimitFacts.{digit_counts}
 
@@ -131,7 +131,7 @@ mapped : {A B P : Type 0} (f : A → B) (o : Option A) (y : B) → option_map f 
 mapped f None y e k = absurd (none-some y e)
 mapped f (Some x) y e k = k x refl (same_Some (f x) y e)
 
-bound_takes : (text : List ℕ) (z : ℤ) (rest : List ℕ) → bound_at text ≡ Some (z, rest) → (n : NumberText) × IsNumberText n × (text ≡ number_spelled n ++ rest) × (z ≡ number_meant n) × IsBound z
+bound_takes : (text : List ℕ) (z : ℤ) (rest : List ℕ) → bound_at text ≡ Some (z, rest) → (n : NumberText) × HasFewDigits n × (text ≡ number_spelled n ++ rest) × (z ≡ number_meant n) × IsBound z
 unfolding bound_at
 bound_takes [] z rest e = absurd (none-some (z, rest) e)
 bound_takes (b ∷ text) z rest e =
@@ -271,7 +271,7 @@ reach_of : (minus : Bool) (m : ℕ) → IsBound (signed minus m) → m ≤ reach
 reach_of true m h = omega (arith, ints, h.0, h.1)
 reach_of false m h = omega (arith, ints, h.0, h.1)
 
-bound_again : (n : NumberText) (rest : List ℕ) → IsNumberText n → IsBound (number_meant n) → IsStop rest → bound_at (number_spelled n ++ rest) ≡ Some (number_meant n, rest)
+bound_again : (n : NumberText) (rest : List ℕ) → HasFewDigits n → IsBound (number_meant n) → IsStop rest → bound_at (number_spelled n ++ rest) ≡ Some (number_meant n, rest)
 bound_again n rest is within stop = number_again n.minus n.digits n.zeros rest is.decimal is.some is.few stop (reach_of n.minus (digits_value 10 n.digits) within)
 
 le_true : (a b : ℤ) → a ≤ℤ b → int_le a b ≡ true
@@ -311,7 +311,7 @@ small_of : (z : ℤ) → IsBound z → magnitude z ≤ reach
 small_of (pos n) within = omega (arith, ints)
 small_of (negsuc n) within = omega (arith, ints)
 
-written_is : (z : ℤ) → IsBound z → IsNumberText (written z)
+written_is : (z : ℤ) → IsBound z → HasFewDigits (written z)
 written_is z within =
     let few : magnitude z ≤ reach = small_of z within in
     let small : magnitude z < 2 ^ 64 = omega arith in

@@ -14,7 +14,7 @@ pub record NumberText : Type 0 where
   pub zeros : ℕ
 
 -- 1 to 19 decimal digits
-pub record IsNumberText (n : NumberText) : Type 0 where
+pub record HasFewDigits (n : NumberText) : Type 0 where
   pub decimal : IsTrue (all_ascii_digits n.digits)
   pub some : 1 ≤ length n.digits
   pub few : length n.digits ≤ 19
@@ -44,10 +44,10 @@ pub record IsBoxText (text : List ℕ) (b : BoxValue) : Type 0 where
   pub y0 : NumberText
   pub x1 : NumberText
   pub y1 : NumberText
-  pub x0_is : IsNumberText x0
-  pub y0_is : IsNumberText y0
-  pub x1_is : IsNumberText x1
-  pub y1_is : IsNumberText y1
+  pub x0_is : HasFewDigits x0
+  pub y0_is : HasFewDigits y0
+  pub x1_is : HasFewDigits x1
+  pub y1_is : HasFewDigits y1
   pub spelled : text ≡ number_spelled x0 ++ 44
       ∷ (number_spelled y0 ++ 44 ∷ (number_spelled x1 ++ 44 ∷ number_spelled y1))
   pub meant : b ≡ record {

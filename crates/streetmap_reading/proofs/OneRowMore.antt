@@ -18,10 +18,10 @@ use Rattle.streetmap_ledger.specs.Summaries.{SummaryValue, feature_vertices, all
 use Rattle.streetmap_ledger.specs.SummaryView.{summary_value, summary_values}
 use Rattle.streetmap_ledger.specs.declared.summary.Summary.{Summary}
 use Rattle.streetmap_query.specs.QueryValue.{QueryValue}
-use Rattle.streetmap_ledger.specs.Folds.{Holds}
+use Rattle.streetmap_ledger.specs.Folds.{IsFoldOf}
 use Rattle.streetmap_rows.specs.Rows.{collection_cells}
 use Rattle.streetmap_rows.specs.Stored.{IsStored}
-use Rattle.streetmap_rows.specs.Stands.{IsReadable}
+use Rattle.streetmap_rows.specs.Stands.{HasTextNames}
 use Rattle.streetmap_rows.specs.Views.{collection_view}
 use Rattle.streetmap_rows.specs.declared.fault.ReadFault.{ReadFault}
 use Rattle.streetmap_rows.specs.declared.fault.ReadFault.TheVariants.{Memory, Store, Unread}
@@ -58,14 +58,14 @@ wider_bounds rows row old extent new held reads both fs is fine =
     subst P (flat_map_more feature_vertices [] end.before end.last ∙ ap all_vertices (sym end.is)) (both (all_vertices end.before) (feature_vertices end.last) (held end.before end.rest all.0) own)
 
 -- a row is not taken that no readable rows have
-pub not_taken : (IsReadable : Row → Type 0) (rows : List Row) (row : Row) (fault : ReadFault)
-    → Refuses (Unit {0}) fault → (IsReadable row → IsForMemory fault)
-    → Refuses ((later : List Row) → AllByRecursion IsReadable ((rows ++ row ∷ []) ++ later) → ⊥)
+pub not_taken : (HasTextNames : Row → Type 0) (rows : List Row) (row : Row) (fault : ReadFault)
+    → Refuses (Unit {0}) fault → (HasTextNames row → IsForMemory fault)
+    → Refuses ((later : List Row) → AllByRecursion HasTextNames ((rows ++ row ∷ []) ++ later) → ⊥)
     fault
-not_taken IsReadable rows row Memory refuses reads = tt
-not_taken IsReadable rows row Unread refuses reads = λ later all.
-    absurd (let clash = reads (one_of IsReadable rows row later all) in cc)
-not_taken IsReadable rows row (Store e) refuses reads = refuses
+not_taken HasTextNames rows row Memory refuses reads = tt
+not_taken HasTextNames rows row Unread refuses reads = λ later all.
+    absurd (let clash = reads (one_of HasTextNames rows row later all) in cc)
+not_taken HasTextNames rows row (Store e) refuses reads = refuses
 
 -- ---- what is told of a collection
 
@@ -84,12 +84,12 @@ outlines_told (Some c) row os there is = ap Some is
 
 -- heads, with one head more
 pub one_head_more : (items next : List Summary) (item : Summary) (rows : List Row) (row : Row) → next ≡ items ++ item ∷ []
-    → ((es : List (Text × Collection)) → rows ≡ map (λ e. collection_cells e.0 e.1) es → AllByRecursion (λ e. IsReadable e.0 e.1) es → summary_values items ≡ map (λ e. head_of e.0 e.1) es)
-    → ((id : Text) (c : Collection) → row ≡ collection_cells id c → IsReadable id c → summary_value item ≡ head_of id c)
-    → (es : List (Text × Collection)) → rows ++ row ∷ [] ≡ map (λ e. collection_cells e.0 e.1) es → AllByRecursion (λ e. IsReadable e.0 e.1) es → summary_values next ≡ map (λ e. head_of e.0 e.1) es
+    → ((es : List (Text × Collection)) → rows ≡ map (λ e. collection_cells e.0 e.1) es → AllByRecursion (λ e. HasTextNames e.0 e.1) es → summary_values items ≡ map (λ e. head_of e.0 e.1) es)
+    → ((id : Text) (c : Collection) → row ≡ collection_cells id c → HasTextNames id c → summary_value item ≡ head_of id c)
+    → (es : List (Text × Collection)) → rows ++ row ∷ [] ≡ map (λ e. collection_cells e.0 e.1) es → AllByRecursion (λ e. HasTextNames e.0 e.1) es → summary_values next ≡ map (λ e. head_of e.0 e.1) es
 one_head_more items next item rows row more held reads es is fine =
     let end = ends_with (λ (e : Text × Collection). collection_cells e.0 e.1) rows row es is in
-    let all = all_before (λ (e : Text × Collection). IsReadable e.0 e.1) end.before end.last (subst (AllByRecursion (λ (e : Text × Collection). IsReadable e.0 e.1)) end.is fine) in
+    let all = all_before (λ (e : Text × Collection). HasTextNames e.0 e.1) end.before end.last (subst (AllByRecursion (λ (e : Text × Collection). HasTextNames e.0 e.1)) end.is fine) in
     let front : summary_values items ≡ map (λ e. head_of e.0 e.1) end.before = held end.before end.rest all.0 in
     let last : summary_value item ≡ head_of end.last.0 end.last.1 = reads end.last.0 end.last.1 end.same all.1 in
     ap summary_values more ∙ map_append summary_value items (item ∷ []) ∙ (λ i. front i ++ last i ∷ []) ∙ sym (map_append (λ (e : Text × Collection). head_of e.0 e.1) end.before (end.last ∷ [])) ∙ ap (map (λ (e : Text × Collection). head_of e.0 e.1)) (sym end.is)
@@ -103,7 +103,7 @@ read_so start now rows held f fine = subst (λ p. IsStored (option_copied p) f) 
 -- a page with one candidate more
 pub page_more : (start before after : PageRows) (feature : FeatureValue) (rows : List Row) (row : Row) → HoldsPage start before rows → after.property ≡ before.property
     → ((f : FeatureValue) → row ≡ candidate_row f → IsStored (property_of before) f → feature ≡ f)
-    → ((q : QueryValue) (fs : List FeatureValue) → Holds q before.fold fs → Holds q after.fold (fs ++ feature ∷ []))
+    → ((q : QueryValue) (fs : List FeatureValue) → IsFoldOf q before.fold fs → IsFoldOf q after.fold (fs ++ feature ∷ []))
     → HoldsPage start after (rows ++ row ∷ [])
 page_more start before after feature rows row held same reads takes = record {
   property = same ∙ held.property;
@@ -111,12 +111,12 @@ page_more start before after feature rows row held same reads takes = record {
       let end = ends_with candidate_row rows row fs is in
       let all = all_before (IsStored (property_of start)) end.before end.last (subst (AllByRecursion (IsStored (property_of start))) end.is fine) in
       let last : feature ≡ end.last = reads end.last end.same (read_so start before rows held end.last all.1) in
-      subst (Holds q after.fold) ((λ i. end.before ++ last i ∷ []) ∙ sym end.is) (takes q end.before (held.page q end.before begun end.rest all.0));
+      subst (IsFoldOf q after.fold) ((λ i. end.before ++ last i ∷ []) ∙ sym end.is) (takes q end.before (held.page q end.before begun end.rest all.0));
 }
 
 -- a page as it was begun
 pub page_begun : (page : PageRows) → HoldsPage page page []
-page_begun page = record { property = refl; page = λ q fs begun is fine. subst (Holds q page.fold) (sym (none_mapped candidate_row fs is)) begun }
+page_begun page = record { property = refl; page = λ q fs begun is fine. subst (IsFoldOf q page.fold) (sym (none_mapped candidate_row fs is)) begun }
 
 -- rows of features that read under the page's time property are candidates
 pub candidates_fine : (page : PageRows) (fs : List FeatureValue) → AllByRecursion (IsStored (property_of page)) fs → AllByRecursion (IsCandidate page) (map candidate_row fs)

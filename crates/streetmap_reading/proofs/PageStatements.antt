@@ -18,7 +18,7 @@ use Rattle.streetmap_query.specs.declared.queries.Query.{Query}
 use Rattle.streetmap_batch.specs.Text.{Text}
 use Rattle.streetmap_ledger.specs.State.{State, Collection}
 use Rattle.streetmap_ledger.specs.Pages.{selects, selected, is_candidate, candidates, page_of, page_over}
-use Rattle.streetmap_ledger.specs.Folds.{Holds}
+use Rattle.streetmap_ledger.specs.Folds.{IsFoldOf}
 use Rattle.streetmap_ledger.proofs.Examining.{selected_are_candidates, same_page}
 use Rattle.streetmap_rows.specs.Keeping.{Keeps}
 use Rattle.streetmap_rows.specs.declared.fault.ReadFault.{ReadFault}
@@ -50,9 +50,9 @@ takes_by sql params box interval name old new before after r all shows q s c lim
     (candidates_fine before fs stored) r all (page_begun before) in
     result_map r (λ h. h.page q fs held refl stored) took
   where
-    result_map : (r : Result (Unit {0}) ReadFault) → (HoldsPage before after (map candidate_row (chosen_of box interval c)) → Holds q after.fold (chosen_of box interval c))
+    result_map : (r : Result (Unit {0}) ReadFault) → (HoldsPage before after (map candidate_row (chosen_of box interval c)) → IsFoldOf q after.fold (chosen_of box interval c))
         → MatchResult r (λ _. HoldsPage before after (map candidate_row (chosen_of box interval c)) × IsUnchanged old new) (Stopped old new)
-        → MatchResult r (λ _. Holds q after.fold (chosen_of box interval c) × IsUnchanged old new) (Stopped old new)
+        → MatchResult r (λ _. IsFoldOf q after.fold (chosen_of box interval c) × IsUnchanged old new) (Stopped old new)
     result_map (Ok u) f h = (f h.0, h.1)
     result_map (Err fault) f h = h
 

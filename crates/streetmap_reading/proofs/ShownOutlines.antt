@@ -26,7 +26,7 @@ use Rattle.streetmap_rows.proofs.TextKeys.{first_is, first_self, column_later}
 use Rattle.streetmap_rows.proofs.OrderedRows.{Says, AreRowsOf, keeps, ordered_query, shows_entries, passing, mapped_has, find_has}
 use Rattle.streetmap_rows.specs.Keeping.{Keeps}
 use Rattle.streetmap_rows.specs.Rows.{AreOf, feature_at, feature_cells, collection_cells, extent_in, seconds_in}
-use Rattle.streetmap_rows.specs.Stands.{IsReadable}
+use Rattle.streetmap_rows.specs.Stands.{HasTextNames}
 use Rattle.streetmap_rows.specs.Statements.{select_collections}
 use Rattle.streetmap_rows.specs.Tables.{Roots, features, collections, features_name, collections_name}
 use Rattle.streetmap_rows.proofs.Compiles.{select_collections_means, select_collections_never}
@@ -172,7 +172,7 @@ module _ (db : Database) (s : State) (kept : Keeps s db) where
   pub found_each : AllByRecursion (λ (e : Text × Collection). get s.collections e.0 ≡ Some e.1) (entries s.collections)
   found_each = all_from _ (entries s.collections) (λ e h. get-entries s.collections e.0 ∙ find_has (entries s.collections) e.0 e.1 (entries_sorted s.collections) h)
 
-  pub readable_each : AllByRecursion (λ (e : Text × Collection). IsReadable e.0 e.1) (entries s.collections)
+  pub readable_each : AllByRecursion (λ (e : Text × Collection). HasTextNames e.0 e.1) (entries s.collections)
   readable_each = all_from _ (entries s.collections) (λ e h. kept.rows.readable.collections e.0 e.1 (all_has _ (entries s.collections) e found_each h))
 
   pub head_rows : AllByRecursion IsHeadRow (map (λ e. collection_cells e.0 e.1) (entries s.collections))

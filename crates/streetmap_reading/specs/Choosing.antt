@@ -11,7 +11,7 @@ use Rattle.streetmap_query.specs.QueryValue.{QueryValue}
 use Rattle.streetmap_batch.specs.Text.{Text}
 use Rattle.streetmap_ledger.specs.State.{State, Collection}
 use Rattle.streetmap_ledger.specs.Pages.{passes, extent_overlaps, interval_asked}
-use Rattle.streetmap_ledger.specs.Folds.{Holds}
+use Rattle.streetmap_ledger.specs.Folds.{IsFoldOf}
 use Rattle.streetmap_rows.specs.Keeping.{Keeps}
 use Rattle.streetmap_rows.specs.declared.fault.ReadFault.{ReadFault}
 use Rattle.streetmap_reading.specs.declared.candidates.PageRows.{PageRows}
@@ -37,6 +37,6 @@ abbrev pub TakesChosen : (Collection → List FeatureValue) → Text → Seen �
     → PageRows → Result (Unit {0}) ReadFault → Type 0
 TakesChosen chosen name old new before after result =
     (q : QueryValue) (s : State) (c : Collection) → old.step_limit ≡ None → Keeps s old.now
-    → get s.collections name ≡ Some c → c.time ≡ property_of before → Holds q before.fold []
-    → MatchResult result (λ _. Holds q after.fold (chosen c) × IsUnchanged old new)
+    → get s.collections name ≡ Some c → c.time ≡ property_of before → IsFoldOf q before.fold []
+    → MatchResult result (λ _. IsFoldOf q after.fold (chosen c) × IsUnchanged old new)
     (Stopped old new)

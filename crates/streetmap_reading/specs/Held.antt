@@ -17,10 +17,10 @@ use Rattle.streetmap_ledger.specs.SummaryView.{summary_values}
 use Rattle.streetmap_ledger.specs.declared.outline.FeatureOutline.{FeatureOutline}
 use Rattle.streetmap_ledger.specs.declared.summary.Summary.{Summary}
 use Rattle.streetmap_query.specs.QueryValue.{QueryValue}
-use Rattle.streetmap_ledger.specs.Folds.{Holds}
+use Rattle.streetmap_ledger.specs.Folds.{IsFoldOf}
 use Rattle.streetmap_rows.specs.Rows.{collection_cells}
 use Rattle.streetmap_rows.specs.Stored.{IsStored}
-use Rattle.streetmap_rows.specs.Stands.{IsReadable}
+use Rattle.streetmap_rows.specs.Stands.{HasTextNames}
 use Rattle.streetmap_reading.specs.declared.candidates.PageRows.{PageRows}
 use Rattle.streetmap_reading.specs.Candidates.{candidate_row}
 use Rattle.streetmap_reading.specs.Views.{outline_row, extent_row, feature_extent, IsOutline}
@@ -43,7 +43,7 @@ head_of id c = record { id = id; title = c.title; time = c.time; extent = None }
 -- what is told of the collections that the rows are of, before their extents are known
 abbrev pub HoldsHeads : Vec Summary Global → List Row → Type 0
 HoldsHeads ss rows = (es : List (Text × Collection)) → rows ≡ map (λ e. collection_cells e.0 e.1) es
-    → AllByRecursion (λ e. IsReadable e.0 e.1) es
+    → AllByRecursion (λ e. HasTextNames e.0 e.1) es
     → summary_values ss.items ≡ map (λ e. head_of e.0 e.1) es
 
 -- the time property by which a page's rows are read
@@ -59,6 +59,6 @@ pub record IsCandidate (page : PageRows) (row : Row) : Type 0 where
 -- the page, where it held none as it was begun, of the features whose texts the rows show
 pub record HoldsPage (start now : PageRows) (rows : List Row) : Type 0 where
   pub property : now.property ≡ start.property
-  pub page : (q : QueryValue) (fs : List FeatureValue) → Holds q start.fold []
+  pub page : (q : QueryValue) (fs : List FeatureValue) → IsFoldOf q start.fold []
       → rows ≡ map candidate_row fs → AllByRecursion (IsStored (property_of start)) fs
-      → Holds q now.fold fs
+      → IsFoldOf q now.fold fs

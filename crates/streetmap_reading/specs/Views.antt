@@ -12,7 +12,7 @@ use Rattle.streetmap_batch.specs.Text.{Text}
 use Rattle.streetmap_ledger.specs.State.{Collection}
 use Rattle.streetmap_ledger.specs.Outlines.{FeatureOutlineValue}
 use Rattle.streetmap_rows.specs.Rows.{collection_cells}
-use Rattle.streetmap_rows.specs.Stands.{IsReadable}
+use Rattle.streetmap_rows.specs.Stands.{HasTextNames}
 
 -- the four bounds of an extent, or NULLs
 abbrev pub extent_row : Option BoxValue → Row
@@ -57,5 +57,5 @@ pub record IsExtentRow (row : Row) : Type 0 where
 pub record IsHeadRow (row : Row) : Type 0 where
   pub id : Text
   pub collection : Collection
-  pub fine : IsReadable id collection
+  pub fine : HasTextNames id collection
   pub is : row ≡ collection_cells id collection

@@ -8,7 +8,7 @@ ghost use Rattle.streetmap_grid.specs.Views.{box_value};
 ghost use Rattle.streetmap_moment.specs.Views.{interval_value};
 ghost use Rattle.streetmap_query.specs.Views.{query_value};
 ghost use Rattle.streetmap_ledger.specs.State.{Collection};
-ghost use Rattle.streetmap_rows.specs.Stands.{IsReadable};
+ghost use Rattle.streetmap_rows.specs.Stands.{HasTextNames};
 ghost use Rattle.streetmap_reading.specs.Choosing.{TakesChosen, chosen_of, candidates_of};
 ghost use Rattle.streetmap_reading.specs.Looking.{LooksInto, Stays, IsCollectionRow, IsPageOf};
 ghost use Rattle.streetmap_reading.specs.Looking.{IsPageUnder};
@@ -164,7 +164,7 @@ pub fn collection_row<S: Alter>(
 
 /// The time property in the row of a collection.
 pub fn property_in(row: &Row) -> Result<Option<String>, ReadFault>
-    ensures { (name : _) (c : Collection) → row.now ≡ collection_view c → IsReadable name c
+    ensures { (name : _) (c : Collection) → row.now ≡ collection_view c → HasTextNames name c
         → MatchResult result (λ time. option_map string_bytes time ≡ c.time) (λ fault. fault
         ≡ ReadFault.Memory) }
 {

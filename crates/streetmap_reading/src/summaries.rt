@@ -7,7 +7,7 @@ ghost use Rattle.streetmap_ledger.specs.State.{Collection};
 ghost use Rattle.streetmap_ledger.specs.SummaryView.{summary_value};
 ghost use Rattle.streetmap_reading.specs.Looking.{LooksInto, Stays};
 ghost use Rattle.streetmap_rows.specs.Rows.{collection_cells};
-ghost use Rattle.streetmap_rows.specs.Stands.{IsReadable};
+ghost use Rattle.streetmap_rows.specs.Stands.{HasTextNames};
 ghost use Rattle.streetmap_rows.specs.Views.{collection_view};
 ghost use Rattle.streetmap_reading.specs.Folding.{IsForMemory, Refuses};
 ghost use Rattle.streetmap_reading.specs.Held.{head_of};
@@ -26,7 +26,7 @@ use streetmap_rows::ReadFault;
 
 /// What is told of a collection before its extent is known, from its row without its id.
 fn head_under(alloc: Global, id: &str, row: &Row) -> Result<Summary, ReadFault>
-    ensures { (c : Collection) → row.now ≡ collection_view c → IsReadable id.now c
+    ensures { (c : Collection) → row.now ≡ collection_view c → HasTextNames id.now c
         → MatchResult result (λ head. summary_value head ≡ head_of id.now c) IsForMemory }
 {
     let title = text_at(row, 0)?;
@@ -43,7 +43,7 @@ fn head_under(alloc: Global, id: &str, row: &Row) -> Result<Summary, ReadFault>
 /// What is told of a collection before its extent is known, from its row.
 fn head_in(row: &Row) -> Result<Summary, ReadFault>
     ensures reads { (id : Text) (c : Collection) → row.now ≡ collection_cells id c
-        → IsReadable id c → MatchResult result (λ head. summary_value head ≡ head_of id c)
+        → HasTextNames id c → MatchResult result (λ head. summary_value head ≡ head_of id c)
         IsForMemory }
     ensures refuses { IfErr result (Refuses (Unit {0})) }
 {

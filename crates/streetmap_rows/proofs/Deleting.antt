@@ -22,7 +22,7 @@ use Rattle.streetmap_batch.specs.Text.{Text}
 use Rattle.streetmap_rows.specs.Holds.{KeyPair, pair_key, has_pair}
 use Rattle.streetmap_geojson.specs.FeatureValue.{FeatureValue}
 use Rattle.streetmap_ledger.specs.State.{State, Collection, with_features}
-use Rattle.streetmap_rows.specs.Holds.{Holds, same_text, first_key, is_first}
+use Rattle.streetmap_rows.specs.Holds.{HoldsByKey, same_text, first_key, is_first}
 use Rattle.streetmap_rows.specs.Rows.{AreOf, feature_at, feature_cells, collection_cells}
 use Rattle.streetmap_rows.specs.Queries.{over, program}
 use Rattle.streetmap_rows.proofs.Compiles.{both}
@@ -151,6 +151,6 @@ module _ (s : State) (schema : Schema) (roots : Roots) (ours : IsOurs roots sche
     format = holds_same first_key is_first _ _ (db roots.meta) (next roots.meta) two (λ _. refl) of.format;
     collections = holds_same first_key is_first _ _ (db roots.collections) (next roots.collections) zero collections_after of.collections;
     batches = holds_same first_key is_first _ _ (db roots.batches) (next roots.batches) four (λ _. refl) of.batches;
-    features = subst (Holds pair_key has_pair (λ q. option_map (feature_cells q) (feature_at after q))) (sym rows)
+    features = subst (HoldsByKey pair_key has_pair (λ q. option_map (feature_cells q) (feature_at after q))) (sym rows)
         (holds_cut pair_key has_pair pair_is pair_self _ (db roots.features) of.features the_row.0 _ the_row.1 (λ q. features_after q ∙ ap (λ (x : KeyPair). cond (same_text q.0 x.0 && same_text q.1 x.1) None (option_map (feature_cells q) (feature_at s q))) (sym the_row.2)));
   }

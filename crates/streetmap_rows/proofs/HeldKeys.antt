@@ -21,7 +21,7 @@ use Rattle.sqlite_catalog.proofs.LayoutLemmas.{ascending_filter}
 use Rattle.sqlite_rules.specs.Edit.{id_in}
 use Rattle.sqlite_rules.proofs.ListLemmas.{has_filtered}
 use Rattle.sqlite_rules.proofs.TableLemmas.{int_is}
-use Rattle.streetmap_rows.specs.Holds.{Holds}
+use Rattle.streetmap_rows.specs.Holds.{HoldsByKey}
 
 pub equal_is : (o : Ordering) → is_eq o ≡ true → o ≡ Equal
 equal_is Less h = absurd (cc)
@@ -72,7 +72,7 @@ module _ {K : Type 0} (key : Row → K) (is_at : K → Row → Bool) (sound : (k
     | inr other ↦ rw (other, find_own rows r apart.1 later)
   ]
 
-  module _ (cells : K → Option Row) (rows : List Row) (holds : Holds key is_at cells rows) where
+  module _ (cells : K → Option Row) (rows : List Row) (holds : HoldsByKey key is_at cells rows) where
     pub missing : (k : K) → cells k ≡ None → find (is_at k) rows ≡ None
     missing k none = no_value (drop 1) _ (holds.found k ∙ none)
 
@@ -91,7 +91,7 @@ module _ {K : Type 0} (key : Row → K) (is_at : K → Row → Bool) (sound : (k
             (r, had.0, sound k r had.1, had.1, cc)
 
     pub holds_put : (row : Row) (now : K → Option Row) → is_taken rows row ≡ false → IsTrue (is_int (rowid row)) → cells (key row) ≡ None
-        → ((k : K) → now k ≡ cond (is_at k row) (Some (drop 1 row)) (cells k)) → Holds key is_at now (put_row row rows)
+        → ((k : K) → now k ≡ cond (is_at k row) (Some (drop 1 row)) (cells k)) → HoldsByKey key is_at now (put_row row rows)
     holds_put row now free int none is = record {
       table = IsTable-put_row row rows holds.table;
       keyed = all_from _ (put_row row rows) (λ x h. elim (put_has row rows x h) [ inl same ↦ subst (λ y. IsTrue (is_int (rowid y))) (sym same) int | inr was ↦ all_has _ rows x holds.keyed was ]);
@@ -134,10 +134,10 @@ same_row (r ∷ rows) a b up (inr h) (inl k) same = absurd (let e = sym (all_has
 same_row (r ∷ rows) a b up (inr h) (inr k) same = same_row rows a b up.1 h k same
 
 -- other rows that are the same, for cells that are the same
-pub holds_same : {K : Type 0} (key : Row → K) (is_at : K → Row → Bool) (cells now : K → Option Row) (rows next : List Row) → next ≡ rows → ((k : K) → now k ≡ cells k) → Holds key is_at cells rows → Holds key is_at now next
-holds_same key is_at cells now rows next same is holds = subst (Holds key is_at now) (sym same) (record { table = holds.table; keyed = holds.keyed; apart = holds.apart; found = λ k. holds.found k ∙ sym (is k) })
+pub holds_same : {K : Type 0} (key : Row → K) (is_at : K → Row → Bool) (cells now : K → Option Row) (rows next : List Row) → next ≡ rows → ((k : K) → now k ≡ cells k) → HoldsByKey key is_at cells rows → HoldsByKey key is_at now next
+holds_same key is_at cells now rows next same is holds = subst (HoldsByKey key is_at now) (sym same) (record { table = holds.table; keyed = holds.keyed; apart = holds.apart; found = λ k. holds.found k ∙ sym (is k) })
 
-module _ {K : Type 0} (key : Row → K) (is_at : K → Row → Bool) (sound : (k : K) (r : Row) → is_at k r ≡ true → key r ≡ k) (self : (r : Row) → is_at (key r) r ≡ true) (cells : K → Option Row) (rows : List Row) (holds : Holds key is_at cells rows) where
+module _ {K : Type 0} (key : Row → K) (is_at : K → Row → Bool) (sound : (k : K) (r : Row) → is_at k r ≡ true → key r ≡ k) (self : (r : Row) → is_at (key r) r ≡ true) (cells : K → Option Row) (rows : List Row) (holds : HoldsByKey key is_at cells rows) where
   -- what passes the test for a key is the row that is found
   pub filter_one : (k : K) → filter (is_at k) rows ≡ option_to_list (find (is_at k) rows)
   filter_one k = go rows holds.apart
@@ -153,7 +153,7 @@ module _ {K : Type 0} (key : Row → K) (is_at : K → Row → Bool) (sound : (k
         | inr other ↦ rw (other, go xs apart.1)
       ]
 
-  pub holds_cut : (row : Row) (now : K → Option Row) → Has rows row → ((k : K) → now k ≡ cond (is_at k row) None (cells k)) → Holds key is_at now (without_rowid (id_in (rowid row)) rows)
+  pub holds_cut : (row : Row) (now : K → Option Row) → Has rows row → ((k : K) → now k ≡ cond (is_at k row) None (cells k)) → HoldsByKey key is_at now (without_rowid (id_in (rowid row)) rows)
   holds_cut row now there is = record {
     table = ascending_filter _ _ rows holds.table;
     keyed = all_from _ _ (λ x h. all_has _ rows x holds.keyed (has_filtered _ rows x h).0);

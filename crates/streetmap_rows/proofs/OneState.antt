@@ -29,7 +29,7 @@ use Rattle.sqlite.specs.Table.{Table}
 use Rattle.sqlite_schema.specs.Names.{same_name}
 use Rattle.streetmap_rows.proofs.Schemas.{one_schema}
 use Rattle.streetmap_rows.specs.Tables.{Roots, IsNamed, IsOurs, meta, collections, batches, features, meta_name, collections_name, batches_name, features_name}
-use Rattle.streetmap_rows.specs.Keeping.{Keeps, Tells}
+use Rattle.streetmap_rows.specs.Keeping.{Keeps, AreTreesOf}
 use Rattle.streetmap_rows.proofs.TextKeys.{one_text}
 
 abbrev nat_in : Value → ℕ
@@ -128,6 +128,6 @@ one_kept s t a b trees p q =
     one_state s t q.rows.roots trees (subst (λ r. AreOf s r trees) roots p.rows.of) q.rows.of p.well q.well (λ x f at. untimed_is f (p.rows.readable.features x f at)) (λ x f at. untimed_is f (q.rows.readable.features x f at))
 
 -- what trees of a state tell
-pub tells_it : (s : State) (schema : Schema) (trees : Trees) → Keeps s (record { schema = schema; trees = trees }) → (o : Option State) → Tells trees o → o ≡ Some s
+pub tells_it : (s : State) (schema : Schema) (trees : Trees) → Keeps s (record { schema = schema; trees = trees }) → (o : Option State) → AreTreesOf trees o → o ≡ Some s
 tells_it s schema trees kept None none = absurd (none s schema kept)
 tells_it s schema trees kept (Some t) it = ap Some (one_kept t s it.0 schema trees it.1 kept)

@@ -22,7 +22,8 @@ use Rattle.sqlite_value.proofs.OrderLemmas.{value_cmp-Text}
 use Rattle.sqlite_trees.specs.Tree.{Trees, IsAscending}
 use Rattle.sqlite_rules.specs.Lists.{Has}
 use Rattle.sqlite_rules.proofs.ListLemmas.{all_has, all_from, has_contained, contains_had}
-use Rattle.streetmap_rows.specs.Holds.{Text, text_cmp, same_text}
+use Rattle.streetmap_batch.specs.Text.{Text, text_cmp}
+use Rattle.streetmap_rows.specs.Holds.{same_text}
 use Rattle.streetmap_rows.specs.Queries.{over_in}
 use Rattle.streetmap_rows.proofs.OneRowChosen.{picked, staged}
 use Rattle.streetmap_rows.proofs.TextKeys.{one_text, text_is, text_self}

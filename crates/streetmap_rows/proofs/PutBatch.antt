@@ -32,7 +32,7 @@ use Rattle.streetmap_batch.specs.Text.{Text}
 use Rattle.streetmap_rows.specs.Holds.{pair_key, has_pair}
 use Rattle.streetmap_ledger.specs.State.{State, AcceptedBatch}
 use Rattle.streetmap_rows.specs.Tables.{Roots, batches, IsOurs}
-use Rattle.streetmap_rows.specs.Holds.{Holds, first_key, is_first, same_text}
+use Rattle.streetmap_rows.specs.Holds.{HoldsByKey, first_key, is_first, same_text}
 use Rattle.streetmap_rows.specs.Rows.{AreOf, batch_cells}
 use Rattle.streetmap_rows.proofs.HeldKeys.{equal_is, cells_of, holds_put, holds_same}
 use Rattle.streetmap_rows.proofs.TextKeys.{text_is, first_is, first_self, agree_one, column_later, truth_is}
@@ -117,6 +117,6 @@ module _ (s : State) (schema : Schema) (roots : Roots) (ours : IsOurs roots sche
   of_after next rows zero two seven = record {
     format = holds_same first_key is_first _ _ (db roots.meta) (next roots.meta) two (λ _. refl) of.format;
     collections = holds_same first_key is_first _ _ (db roots.collections) (next roots.collections) zero (λ _. refl) of.collections;
-    batches = subst (Holds first_key is_first (λ q. option_map (batch_cells q) (get after.keys q))) (sym rows) (holds_put first_key is_first first_is first_self _ (db roots.batches) of.batches row _ free refl (rw new refl) batches_after);
+    batches = subst (HoldsByKey first_key is_first (λ q. option_map (batch_cells q) (get after.keys q))) (sym rows) (holds_put first_key is_first first_is first_self _ (db roots.batches) of.batches row _ free refl (rw new refl) batches_after);
     features = holds_same pair_key has_pair _ _ (db roots.features) (next roots.features) seven (λ _. refl) of.features;
   }

@@ -27,7 +27,7 @@ use Rattle.streetmap_batch.specs.Text.{Text}
 use Rattle.streetmap_rows.specs.Holds.{KeyPair, pair_key, has_pair}
 use Rattle.streetmap_ledger.specs.State.{State, Collection, opened}
 use Rattle.streetmap_rows.specs.Tables.{Roots, collections, IsOurs}
-use Rattle.streetmap_rows.specs.Holds.{Holds, first_key, is_first, same_text}
+use Rattle.streetmap_rows.specs.Holds.{HoldsByKey, first_key, is_first, same_text}
 use Rattle.streetmap_rows.specs.Rows.{AreOf, feature_at, feature_cells, collection_cells}
 use Rattle.streetmap_rows.proofs.ColumnCasts.{word_null}
 use Rattle.streetmap_rows.proofs.HeldKeys.{cells_of, holds_put, holds_same}
@@ -102,7 +102,7 @@ module _ (s : State) (schema : Schema) (roots : Roots) (ours : IsOurs roots sche
   pub of_after : (next : Trees) → next roots.collections ≡ put_row row (db roots.collections) → next roots.meta ≡ db roots.meta → next roots.batches ≡ db roots.batches → next roots.features ≡ db roots.features → AreOf after roots next
   of_after next rows two four seven = record {
     format = holds_same first_key is_first _ _ (db roots.meta) (next roots.meta) two (λ _. refl) of.format;
-    collections = subst (Holds first_key is_first (λ q. option_map (collection_cells q) (get after.collections q))) (sym rows) (holds_put first_key is_first first_is first_self _ (db roots.collections) of.collections row _ free refl (rw new refl) collections_after);
+    collections = subst (HoldsByKey first_key is_first (λ q. option_map (collection_cells q) (get after.collections q))) (sym rows) (holds_put first_key is_first first_is first_self _ (db roots.collections) of.collections row _ free refl (rw new refl) collections_after);
     batches = holds_same first_key is_first _ _ (db roots.batches) (next roots.batches) four (λ _. refl) of.batches;
     features = holds_same pair_key has_pair _ _ (db roots.features) (next roots.features) seven (λ q. ap (option_map (feature_cells q)) (features_same q)) of.features;
   }

@@ -26,7 +26,7 @@ use Rattle.streetmap_rows.specs.Holds.{KeyPair, pair_key, has_pair}
 use Rattle.streetmap_geojson.specs.FeatureValue.{FeatureValue}
 use Rattle.streetmap_ledger.specs.State.{State, Collection, with_features}
 use Rattle.streetmap_rows.specs.Tables.{Roots, features, to_collections, to_key, IsOurs}
-use Rattle.streetmap_rows.specs.Holds.{Holds, first_key, is_first, same_text}
+use Rattle.streetmap_rows.specs.Holds.{HoldsByKey, first_key, is_first, same_text}
 use Rattle.streetmap_rows.specs.Rows.{AreOf, feature_at, feature_cells, collection_cells, extent_in, seconds_in}
 use Rattle.streetmap_grid.specs.Values.{BoxValue}
 use Rattle.streetmap_rows.proofs.ColumnCasts.{whole_null}
@@ -147,5 +147,5 @@ module _ (s : State) (schema : Schema) (roots : Roots) (ours : IsOurs roots sche
     format = holds_same first_key is_first _ _ (db roots.meta) (next roots.meta) two (λ _. refl) of.format;
     collections = holds_same first_key is_first _ _ (db roots.collections) (next roots.collections) zero collections_after of.collections;
     batches = holds_same first_key is_first _ _ (db roots.batches) (next roots.batches) four (λ _. refl) of.batches;
-    features = subst (Holds pair_key has_pair (λ q. option_map (feature_cells q) (feature_at after q))) (sym rows) (holds_put pair_key has_pair pair_is pair_self _ (db roots.features) of.features row _ free refl none_there features_after);
+    features = subst (HoldsByKey pair_key has_pair (λ q. option_map (feature_cells q) (feature_at after q))) (sym rows) (holds_put pair_key has_pair pair_is pair_self _ (db roots.features) of.features row _ free refl none_there features_after);
   }

@@ -8,16 +8,16 @@ use Rattle.streetmap_batch.specs.Text.{Text, text_cmp}
 use Rattle.streetmap_rows.specs.Holds.{KeyPair}
 use Rattle.streetmap_ledger.specs.State.{State, Collection, Features, with_features, opened}
 use Rattle.streetmap_ledger.proofs.StatesStay.{put_or_there, was_there}
-use Rattle.streetmap_rows.specs.Stands.{IsReadable, CanBeRead}
+use Rattle.streetmap_rows.specs.Stands.{HasTextNames, CanBeRead}
 
 -- each feature of a collection can
 abbrev pub AllRead : Features → Type 0
 AllRead features = (id : Text) (f : FeatureValue) → get features id ≡ Some f → IsFeature f
 
-module _ (s : State) (read : CanBeRead s) (name : Text) (c : Collection) (here : IsReadable name c) (all : AllRead c.features) where
-  put_collections : (q : Text) (d : Collection) → get (insert s.collections name c) q ≡ Some d → IsReadable q d
+module _ (s : State) (read : CanBeRead s) (name : Text) (c : Collection) (here : HasTextNames name c) (all : AllRead c.features) where
+  put_collections : (q : Text) (d : Collection) → get (insert s.collections name c) q ≡ Some d → HasTextNames q d
   put_collections q d e = elim (put_or_there s.collections name c q d e) [
-    | inl p ↦ subst (λ x. IsReadable x d) (sym p.0) (subst (IsReadable name) (sym p.1) here)
+    | inl p ↦ subst (λ x. HasTextNames x d) (sym p.0) (subst (HasTextNames name) (sym p.1) here)
     | inr h ↦ read.collections q d h
   ]
 
@@ -38,7 +38,7 @@ module _ (s : State) (read : CanBeRead s) (name : Text) (c : Collection) (collec
   own : AllRead c.features
   own id f e = read.features (name, id) f (ap (option_and_then (λ (x : Collection). get x.features id)) collected ∙ e)
 
-  same : (features : Features) → IsReadable name (record c { features = features })
+  same : (features : Features) → HasTextNames name (record c { features = features })
   same features = let r = read.collections name c collected in record { id = r.id; title = r.title; time = r.time }
 
   pub insert_read : (id : Text) (f : FeatureValue) → IsFeature f → CanBeRead (with_features s name c (insert c.features id f))

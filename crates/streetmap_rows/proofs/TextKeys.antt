@@ -12,7 +12,7 @@ use Rattle.sqlite_value.proofs.OrderLemmas.{value_cmp-Text}
 use Rattle.sqlite_value.specs.Keys.{plain, first_key as key_at}
 use Rattle.sqlite_sql.specs.Ops.{binary, is_true, from_truth}
 use Rattle.sqlite_schema.specs.Rules.{equal, agree}
-use Rattle.streetmap_rows.specs.Holds.{Text, text_cmp}
+use Rattle.streetmap_batch.specs.Text.{Text, text_cmp}
 use Rattle.streetmap_rows.specs.Holds.{same_text, first_key, is_first, KeyPair, pair_key, has_pair}
 
 pub one_text : IsAntisymmetric text_cmp

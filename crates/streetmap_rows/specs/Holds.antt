@@ -1,24 +1,15 @@
 -- A table by what is found in it at each key.
-use Rattle.std.specs.Prelude.{◌≡◌, ◌≢◌, ℕ, Bool, ◌&&◌, List, find, drop, Option, option_map, IsTrue}
+use Rattle.std.specs.Prelude.{◌≡◌, ◌≢◌, Bool, ◌&&◌, List, find, drop, Option, option_map, IsTrue}
 use Rattle.std.specs.List.{AllByRecursion}
-use Rattle.std.specs.Ordering.{nat_cmp, eq_by_cmp}
-use Rattle.std.specs.Cmp.Lexicographic.{slice_cmp}
-use Rattle.std.specs.declared.cmp.Ordering.{Ordering}
+use Rattle.std.specs.Ordering.{eq_by_cmp}
 use Rattle.sqlite.specs.Order.{Row, column, bytes}
 use Rattle.sqlite_trees.specs.Tree.{IsTable, IsAscending, rowid}
 use Rattle.sqlite_trees.specs.View.{is_int}
-
--- the bytes of a text in UTF-8
-abbrev pub Text : Type 0
-Text = List ℕ
-
--- texts are ordered by their bytes, as BINARY orders them
-abbrev pub text_cmp : Text → Text → Ordering
-text_cmp = slice_cmp nat_cmp
+use Rattle.streetmap_batch.specs.Text.{Text, text_cmp}
 
 -- Each row stands at another key, and what follows the rowid of the row at a key is what this
 -- function has there.
-pub record Holds {K : Type 0} (key : Row → K) (is_at : K → Row → Bool) (cells : K
+pub record HoldsByKey {K : Type 0} (key : Row → K) (is_at : K → Row → Bool) (cells : K
     → Option Row) (rows : List Row) : Type 0 where
   pub table : IsTable rows
   pub keyed : AllByRecursion (λ r. IsTrue (is_int (rowid r))) rows

@@ -14,7 +14,8 @@ use Rattle.streetmap_geojson.specs.FeatureValue.{FeatureValue}
 use Rattle.streetmap_feature_text.specs.Written.{feature_data}
 use Rattle.streetmap_batch.specs.Text.{Text}
 use Rattle.streetmap_ledger.specs.State.{State, Collection, AcceptedBatch}
-use Rattle.streetmap_rows.specs.Holds.{Holds, same_text, first_key, is_first, KeyPair, pair_key}
+use Rattle.streetmap_rows.specs.Holds.{HoldsByKey, same_text, first_key, is_first}
+use Rattle.streetmap_rows.specs.Holds.{KeyPair, pair_key}
 use Rattle.streetmap_rows.specs.Holds.{has_pair}
 use Rattle.streetmap_rows.specs.Tables.{Roots}
 
@@ -64,10 +65,10 @@ meta_cells name = if same_text name (codes "format")
 
 -- the format, and the three lists of a state, in the trees of the tables
 pub record AreOf (s : State) (roots : Roots) (db : Trees) : Type 0 where
-  pub format : Holds first_key is_first meta_cells (db roots.meta)
-  pub collections : Holds first_key is_first (λ name.
+  pub format : HoldsByKey first_key is_first meta_cells (db roots.meta)
+  pub collections : HoldsByKey first_key is_first (λ name.
       option_map (collection_cells name) (get s.collections name)) (db roots.collections)
-  pub batches : Holds first_key is_first (λ key. option_map (batch_cells key) (get s.keys key))
+  pub batches : HoldsByKey first_key is_first (λ key. option_map (batch_cells key) (get s.keys key))
       (db roots.batches)
-  pub features : Holds pair_key has_pair (λ p. option_map (feature_cells p) (feature_at s p))
+  pub features : HoldsByKey pair_key has_pair (λ p. option_map (feature_cells p) (feature_at s p))
       (db roots.features)

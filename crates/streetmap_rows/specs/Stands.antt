@@ -14,7 +14,7 @@ use Rattle.streetmap_rows.specs.Tables.{Roots, IsOurs}
 use Rattle.streetmap_rows.specs.Rows.{feature_at, AreOf}
 
 -- the names of a collection are texts
-pub record IsReadable (name : Text) (c : Collection) : Type 0 where
+pub record HasTextNames (name : Text) (c : Collection) : Type 0 where
   pub id : IsUtf8 name
   pub title : IsUtf8 c.title
   pub time : IfSome c.time IsUtf8
@@ -22,7 +22,7 @@ pub record IsReadable (name : Text) (c : Collection) : Type 0 where
 -- what is kept of a state can be read again
 pub record CanBeRead (s : State) : Type 0 where
   pub collections : (name : Text) (c : Collection) → get s.collections name ≡ Some c
-      → IsReadable name c
+      → HasTextNames name c
   pub features : (p : KeyPair) (f : FeatureValue) → feature_at s p ≡ Some f → IsFeature f
 
 -- Its tables are ours, and their rows are those of the state.
@@ -34,6 +34,6 @@ pub record StandsFor (s : State) (db : Database) : Type 0 where
   pub sound : IsDatabase db
 
 -- a look into the rows of a state, which leaves them
-abbrev pub Looks : {A : Type 0} → (State → A) → Seen → Seen → Result A Error → Type 0
-Looks f old new r = old.step_limit ≡ None → (s : State) → StandsFor s old.now
+abbrev pub LooksIntoRows : {A : Type 0} → (State → A) → Seen → Seen → Result A Error → Type 0
+LooksIntoRows f old new r = old.step_limit ≡ None → (s : State) → StandsFor s old.now
     → MatchResult r (λ a. (a ≡ f s) × IsUnchanged old new) (λ e. IsOfStore e × KeepsCommit old new)

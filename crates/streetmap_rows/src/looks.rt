@@ -9,7 +9,7 @@ ghost use Rattle.streetmap_rows.specs.Failing.{IsMemory, HasReason, SparesDisk};
 ghost use Rattle.sqlite.specs.Held.{state};
 ghost use Rattle.sqlite.specs.State.{HasCleanDisk, Survives};
 ghost use Rattle.streetmap_rows.specs.Rows.{feature_at};
-ghost use Rattle.streetmap_rows.specs.Stands.{StandsFor, IsReadable, Looks};
+ghost use Rattle.streetmap_rows.specs.Stands.{StandsFor, HasTextNames, LooksIntoRows};
 ghost use Rattle.streetmap_rows.specs.Calls.{LooksAll};
 ghost use Rattle.streetmap_rows.specs.Views as views;
 
@@ -67,7 +67,7 @@ pub fn collection_rows<S: Alter>(
 pub fn time_in(row: &Row) -> Result<Option<String>, Error>
     ensures spared { IfErr result SparesDisk }
     ensures reads { (name : Text) (c : Collection) → row.now ≡ views.collection_view c →
-        IsReadable name c →
+        HasTextNames name c →
         MatchResult result (λ time. option_map string_bytes time ≡ c.time) IsMemory }
 {
     row.get(1)
@@ -82,7 +82,7 @@ pub fn has_feature<S: Alter>(
 ) -> Result<bool, Error>
     ensures same_reference { tx.new.conn.ghost_name ≡ tx.old.conn.ghost_name }
     ensures looks { HasCleanDisk (state S.Store tx.new.conn.now)
-        → Looks (λ s. is_some (feature_at s (collection.now, id.now)))
+        → LooksIntoRows (λ s. is_some (feature_at s (collection.now, id.now)))
         (state S.Store tx.old.conn.now) (state S.Store tx.new.conn.now) result }
     ensures reason { HasCleanDisk (state S.Store tx.new.conn.now) →
         IfErr result (HasReason (state S.Store tx.old.conn.now) (state S.Store tx.new.conn.now)) }

@@ -21,7 +21,7 @@ use Rattle.streetmap_ledger.specs.Keep.{LeavesOnly, LeavesEither}
 use Rattle.streetmap_rows.proofs.Schemas.{one_schema}
 use Rattle.streetmap_rows.specs.Tables.{Roots, IsOurs, IsNamed, meta_name, features_name}
 use Rattle.sqlite.specs.State.{State as Seen}
-use Rattle.streetmap_rows.specs.Keeping.{Keeps, MayLeave, Rests, Tells}
+use Rattle.streetmap_rows.specs.Keeping.{Keeps, MayLeave, Rests, AreTreesOf}
 use Rattle.streetmap_tables.specs.Old.{KeepsOld}
 use Rattle.streetmap_store.specs.Reopening.{IsJustOpened, OpensWithin}
 use Rattle.streetmap_store.specs.Sparing.{LeavesLast, LeavesStates, tells_last}
@@ -144,7 +144,7 @@ pub within_two : (seen : Seen) (s t : State) → LeavesEither (MayLeave seen) (S
 within_two seen s t only o left = elim (only o left) [ inl is ↦ (s, is, inl refl) | inr is ↦ (t, is, inr refl) ]
 
 -- trees of a state that are opened again
-rests_again : (new : Seen) (s : State) → Tells new.now.trees (Some s) → IsJustOpened new → Rests new s
+rests_again : (new : Seen) (s : State) → AreTreesOf new.now.trees (Some s) → IsJustOpened new → Rests new s
 rests_again new s tells fresh = record {
   kept = keeps_too s tells.0 new.now.schema new.now.trees fresh.sound tells.1;
   settled = fresh.settled;

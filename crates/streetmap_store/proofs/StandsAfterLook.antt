@@ -16,7 +16,7 @@ use Rattle.streetmap_tables.proofs.BeforeCleanEnd.{may_leave_it}
 use Rattle.sqlite.proofs.Callers.{unchanged_then}
 use Rattle.streetmap_batch.specs.BatchValue.{BatchValue}
 use Rattle.streetmap_ledger.specs.Keep.{Looks, Acts, ShutsBy, LeavesOnly, ApplyLeaves}
-use Rattle.streetmap_rows.specs.Keeping.{MayBecome, Tells}
+use Rattle.streetmap_rows.specs.Keeping.{MayBecome, AreTreesOf}
 use Rattle.streetmap_ledger.specs.Batches.{act}
 use Rattle.streetmap_rows.proofs.CrashLeaves.{leaves_only, leaves_either}
 use Rattle.streetmap_reading.specs.Taking.{Stopped}
@@ -237,7 +237,7 @@ leaves_become : (s : State) (b : BatchValue) (old new : Seen) → Rests old s �
     → MayBecome s b old new → LeavesStates new
 leaves_become s b old new rests sole becomes trees may = elim (becomes trees may) [
   | inl was ↦ leaves_states old s rests sole trees was
-  | inr it ↦ ((act s b).state, subst (λ (x : Trees). Tells x (Some (act s b).state)) (sym it.2) (it.0.schema, it.1))
+  | inr it ↦ ((act s b).state, subst (λ (x : Trees). AreTreesOf x (Some (act s b).state)) (sym it.2) (it.0.schema, it.1))
 ]
 
 module _ (was now : Option Shut) (count later : ℕ) (old new : Seen) (b : BatchValue)

@@ -11,7 +11,7 @@ use Rattle.sqlite.specs.Held.{Held, IsNew}
 use Rattle.sqlite.specs.Start.{FindsIn}
 use Rattle.sqlite.specs.Files.{HoldsDatabase, AreFoundIn, IsOpened, file_state}
 use Rattle.streetmap_ledger.specs.State.{State}
-use Rattle.streetmap_rows.specs.Keeping.{Tells}
+use Rattle.streetmap_rows.specs.Keeping.{AreTreesOf}
 use Rattle.streetmap_tables.specs.Making.{HasRoom}
 use Rattle.streetmap_tables.specs.Old.{KeepsOld}
 
@@ -25,7 +25,7 @@ pub record IsJustOpenedOn {D : Type 0} {g : disk.Ghosts D} (image : Image)
 
 -- the files hold a database with the tables of a state
 abbrev pub HoldsState : Image → State → Type 0
-HoldsState image s = (db : Trees) × HoldsDatabase image db × Tells db (Some s)
+HoldsState image s = (db : Trees) × HoldsDatabase image db × AreTreesOf db (Some s)
 
 -- the files hold a database with the tables of a state in format 1
 abbrev pub HoldsOldState : Image → State → Type 0

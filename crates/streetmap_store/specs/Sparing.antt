@@ -9,7 +9,7 @@ use Rattle.sqlite.specs.State.{State as Seen, HasCleanDisk}
 use Rattle.streetmap_ledger.specs.State.{State}
 use Rattle.streetmap_rows.specs.declared.failing.Shut.{Shut}
 use Rattle.streetmap_rows.specs.declared.failing.Shut.TheVariants.{Device, Damaged}
-use Rattle.streetmap_rows.specs.Keeping.{Rests, Tells}
+use Rattle.streetmap_rows.specs.Keeping.{Rests, AreTreesOf}
 use Rattle.streetmap_rows.proofs.ErrorReasons.{counts_then, more_before, more_later, reason_on}
 use Rattle.streetmap_rows.proofs.ErrorReasons.{reason_still}
 use Rattle.streetmap_rows.specs.Elsewhere.{IsSameElsewhere}
@@ -23,7 +23,7 @@ LeavesLast seen = (trees : Trees) → seen.may_leave trees → trees ≡ seen.co
 
 -- each database that a stop may leave is a state's
 abbrev pub LeavesStates : Seen → Type 0
-LeavesStates seen = (trees : Trees) → seen.may_leave trees → (t : State) × Tells trees (Some t)
+LeavesStates seen = (trees : Trees) → seen.may_leave trees → (t : State) × AreTreesOf trees (Some t)
 
 -- a shut keeper stays as it is
 pub record StaysShut (was : Option Shut) (old : Seen)
@@ -66,11 +66,11 @@ is_shut (Some why) is = refl
 -- of a connection that rests at a state a stop leaves that state, where it leaves what was
 -- committed
 pub tells_last : (seen : Seen) (s : State) → Rests seen s → LeavesLast seen → (trees : Trees)
-    → seen.may_leave trees → Tells trees (Some s)
+    → seen.may_leave trees → AreTreesOf trees (Some s)
 tells_last seen s rests last trees may =
     let same : seen.now.trees ≡ trees =
     ap (λ (d : Database). d.trees) rests.settled ∙ sym (last trees may) in
-    subst (λ (x : Trees). Tells x (Some s)) same (seen.now.schema, rests.kept)
+    subst (λ (x : Trees). AreTreesOf x (Some s)) same (seen.now.schema, rests.kept)
 
 pub leaves_states : (seen : Seen) (s : State) → Rests seen s → LeavesLast seen → LeavesStates seen
 leaves_states seen s rests last trees may = (s, tells_last seen s rests last trees may)

@@ -9,7 +9,7 @@ use Rattle.sqlite_trees.specs.Tree.{IsAscending}
 use Rattle.sqlite_rules.proofs.ListLemmas.{has_found}
 use Rattle.streetmap_batch.specs.Text.{Text, text_cmp}
 use Rattle.streetmap_ledger.specs.State.{State, AcceptedBatch}
-use Rattle.streetmap_rows.specs.Holds.{Holds, first_key, is_first, same_text}
+use Rattle.streetmap_rows.specs.Holds.{HoldsByKey, first_key, is_first, same_text}
 use Rattle.streetmap_rows.proofs.TextKeys.{first_is, one_text}
 use Rattle.streetmap_rows.specs.Rows.{batch_cells}
 
@@ -44,7 +44,7 @@ abbrev or_this : AcceptedBatch → Option AcceptedBatch → AcceptedBatch
 or_this k None = k
 or_this k (Some x) = x
 
-module _ (s : State) (rows : List Row) (holds : Holds first_key is_first (λ key. option_map (batch_cells key) (get s.keys key)) rows) (some : AcceptedBatch) where
+module _ (s : State) (rows : List Row) (holds : HoldsByKey first_key is_first (λ key. option_map (batch_cells key) (get s.keys key)) rows) (some : AcceptedBatch) where
   abbrev kept_of : Row → AcceptedBatch
   kept_of r = or_this some (get s.keys (first_key r))
 
@@ -61,5 +61,5 @@ module _ (s : State) (rows : List Row) (holds : Holds first_key is_first (λ key
       sym (gathered_len kept_of rows holds.apart)
       ∙ ap len (same_map nat_list_cmp_total one_text (gathered kept_of rows) s.keys (λ k. gathered_has kept_of k rows ∙ same_at k (find (is_first k) rows) (get s.keys k) refl refl (holds.found k)))
 
-pub rows_counted : (s : State) (rows : List Row) → Holds first_key is_first (λ key. option_map (batch_cells key) (get s.keys key)) rows → length rows ≡ len s.keys
+pub rows_counted : (s : State) (rows : List Row) → HoldsByKey first_key is_first (λ key. option_map (batch_cells key) (get s.keys key)) rows → length rows ≡ len s.keys
 rows_counted s rows holds = counted_by s rows holds (record { text = []; counts = record { opened = 0; inserted = 0; replaced = 0; deleted = 0 }; serial = 0 })

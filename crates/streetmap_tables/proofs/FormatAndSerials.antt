@@ -23,7 +23,7 @@ use Rattle.streetmap_batch.specs.Text.{Text}
 use Rattle.streetmap_ledger.specs.State.{State}
 use Rattle.std.specs.FinMap.{len}
 use Rattle.streetmap_rows.specs.Failing.{IsOfStore}
-use Rattle.streetmap_rows.specs.Holds.{Holds, first_key, is_first, same_text}
+use Rattle.streetmap_rows.specs.Holds.{HoldsByKey, first_key, is_first, same_text}
 use Rattle.streetmap_rows.specs.Queries.{over, program}
 use Rattle.streetmap_rows.proofs.OneRowChosen.{chosen, staged, picked}
 use Rattle.streetmap_rows.proofs.NamedTables.{IsFound}
@@ -85,7 +85,7 @@ module _ (old new : Seen) (tree : ℕ) (in_meta : IsFound old.now.schema meta_na
   format_means : Means old.now.schema select_format 0 (Select (program (over tree tests (col 1 2 ∷ []))) (codes "value" ∷ []))
   format_means = select_format_means old.now.schema tree in_meta
 
-  module _ (n : ℤ) (has : Holds first_key is_first (cells_for n) (old.now.trees tree)) where
+  module _ (n : ℤ) (has : HoldsByKey first_key is_first (cells_for n) (old.now.trees tree)) where
     named_is : (r : Row) → Has (old.now.trees tree) r → list_all (holds ([] ∷ r ∷ [])) tests ≡ is_first name r
     named_is r h =
         let one = cell_one n (first_key r) r (same_text (first_key r) name) refl (cells_of first_key is_first first_is first_self _ (old.now.trees tree) has r h) in

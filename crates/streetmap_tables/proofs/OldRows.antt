@@ -17,7 +17,7 @@ use Rattle.sqlite_rules.specs.Lists.{Has}
 use Rattle.sqlite_rules.proofs.ListLemmas.{all_has, has_contained, contains_had}
 use Rattle.streetmap_geojson.specs.FeatureValue.{FeatureValue}
 use Rattle.streetmap_ledger.specs.State.{State}
-use Rattle.streetmap_rows.specs.Holds.{Holds, KeyPair, pair_key, has_pair, same_text}
+use Rattle.streetmap_rows.specs.Holds.{HoldsByKey, KeyPair, pair_key, has_pair, same_text}
 use Rattle.streetmap_rows.specs.Queries.{over}
 use Rattle.streetmap_rows.proofs.OneRowChosen.{staged, picked}
 use Rattle.streetmap_rows.proofs.HeldKeys.{cells_of, there}
@@ -119,7 +119,7 @@ apart_shuffled xs ys s apart = ascends ys (λ p. let same = sum_by-IsPermutation
 
 -- ---- the rows of a state
 
-module _ (s : State) (db : Trees) (tree : ℕ) (has : Holds pair_key has_pair (λ p. option_map (old_cells p) (feature_at s p)) (db tree)) where
+module _ (s : State) (db : Trees) (tree : ℕ) (has : HoldsByKey pair_key has_pair (λ p. option_map (old_cells p) (feature_at s p)) (db tree)) where
   at_row : (r : Row) (o : Option FeatureValue) → feature_at s (pair_key r) ≡ o → option_map (old_cells (pair_key r)) o ≡ Some (drop 1 r) → IsRowOf s (shown r)
   at_row r None is h = absurd (cc)
   at_row r (Some f) is h =

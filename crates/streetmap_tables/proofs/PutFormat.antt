@@ -24,7 +24,7 @@ use Rattle.sqlite_rules.specs.Lists.{Has}
 use Rattle.sqlite_rules.specs.Edit.{next_rowid, is_taken, IsRefused, Applies}
 use Rattle.sqlite_rules.proofs.ListLemmas.{all_has}
 use Rattle.streetmap_ledger.specs.State.{State, opening_state}
-use Rattle.streetmap_rows.specs.Holds.{Holds, KeyPair, first_key, is_first, pair_key, has_pair}
+use Rattle.streetmap_rows.specs.Holds.{HoldsByKey, KeyPair, first_key, is_first, pair_key, has_pair}
 use Rattle.streetmap_rows.proofs.ColumnCasts.{cast_null, cast_int}
 use Rattle.streetmap_rows.proofs.NamedTables.{IsFound}
 use Rattle.streetmap_rows.proofs.HeldKeys.{holds_put, holds_same}
@@ -72,8 +72,8 @@ format_means = insert_means format_row format_is
 
 -- ---- tables with no row
 
-pub holds_none : {K : Type 0} (key : Row → K) (is_at : K → Row → _) (cells : K → Option Row) (rows : List Row) → rows ≡ [] → ((k : K) → cells k ≡ None) → Holds key is_at cells rows
-holds_none key is_at cells rows empty none = subst (Holds key is_at cells) (sym empty) (record { table = tt; keyed = tt; apart = tt; found = λ k. sym (none k) })
+pub holds_none : {K : Type 0} (key : Row → K) (is_at : K → Row → _) (cells : K → Option Row) (rows : List Row) → rows ≡ [] → ((k : K) → cells k ≡ None) → HoldsByKey key is_at cells rows
+holds_none key is_at cells rows empty none = subst (HoldsByKey key is_at cells) (sym empty) (record { table = tt; keyed = tt; apart = tt; found = λ k. sym (none k) })
 
 no_feature : (p : KeyPair) → feature_at opening_state p ≡ None
 no_feature p = rw (get-empty _ p.0) refl
@@ -154,7 +154,7 @@ module _ (s : State) (old new : Seen) (limit : old.step_limit ≡ None) (lacks :
           roots = roots;
           ours = subst (IsOurs roots) (sym r.same_schema) lacks.ours;
           of = record {
-            format = subst (Holds first_key is_first meta_cells) (sym r.step.rows) (holds_put first_key is_first first_is first_self (λ _. None) (db roots.meta) (holds_none first_key is_first (λ _. None) (db roots.meta) lacks.meta_empty (λ _. refl)) row meta_cells (rw lacks.meta_empty refl) refl refl (λ q. refl));
+            format = subst (HoldsByKey first_key is_first meta_cells) (sym r.step.rows) (holds_put first_key is_first first_is first_self (λ _. None) (db roots.meta) (holds_none first_key is_first (λ _. None) (db roots.meta) lacks.meta_empty (λ _. refl)) row meta_cells (rw lacks.meta_empty refl) refl refl (λ q. refl));
             collections = holds_same first_key is_first _ _ (db roots.collections) (new.now.trees roots.collections) (kept new.now.trees r.step.tables (collections roots.collections) (placing.collections_there roots schema lacks.ours) (λ e. placing.meta_collections roots schema lacks.ours (sym e))) (λ _. refl) lacks.collections;
             batches = holds_same first_key is_first _ _ (db roots.batches) (new.now.trees roots.batches) (kept new.now.trees r.step.tables (batches roots.batches) (placing.batches_there roots schema lacks.ours) (λ e. placing.meta_batches roots schema lacks.ours (sym e))) (λ _. refl) lacks.batches;
             features = holds_same pair_key has_pair _ _ (db roots.features) (new.now.trees roots.features) (kept new.now.trees r.step.tables (features roots.features) (placing.features_there roots schema lacks.ours) (λ e. placing.meta_features roots schema lacks.ours (sym e))) (λ _. refl) lacks.features;

@@ -23,7 +23,7 @@ use Rattle.streetmap_rows.proofs.NamedTables.{trees_differ}
 use Rattle.streetmap_rows.proofs.HeldKeys.{holds_same}
 use Rattle.streetmap_rows.specs.Tables.{Roots, IsNamed, IsKey, to_key, meta, collections, batches, features, meta_name, collections_name, batches_name, features_name}
 use Rattle.streetmap_rows.specs.Rows.{feature_at, collection_cells}
-use Rattle.streetmap_rows.specs.Stands.{IsReadable, CanBeRead}
+use Rattle.streetmap_rows.specs.Stands.{HasTextNames, CanBeRead}
 use Rattle.streetmap_rows.specs.Elsewhere.{is_our_name}
 use Rattle.streetmap_tables.specs.Made.{Created}
 use Rattle.streetmap_tables.specs.Making.{HasRoom, LacksFormat, KeepsOtherTables}
@@ -68,12 +68,12 @@ emptied_read s readable = record {
   features = λ p f h. absurd (let e = sym (no_feature s p) ∙ h in cc);
 }
   where
-    go : (name : Text) (c : Collection) (o : Option Collection) → get s.collections name ≡ o → option_map bare o ≡ Some c → IsReadable name c
+    go : (name : Text) (c : Collection) (o : Option Collection) → get s.collections name ≡ o → option_map bare o ≡ Some c → HasTextNames name c
     go name c None is h = absurd (cc)
     go name c (Some d) is h =
         let same : bare d ≡ c = cc in
         let r = readable.collections name d is in
-        subst (IsReadable name) same (record { id = r.id; title = r.title; time = r.time })
+        subst (HasTextNames name) same (record { id = r.id; title = r.title; time = r.time })
 
 -- ---- the tables that stay
 

@@ -17,7 +17,7 @@ use Rattle.streetmap_ledger.specs.State.{State, opening_state}
 use Rattle.streetmap_ledger.specs.Keep.{LeavesOnly}
 use Rattle.streetmap_rows.specs.Tables.{Roots, IsOurs, meta_name, collections_name, batches_name}
 use Rattle.streetmap_rows.specs.Tables.{features_name}
-use Rattle.streetmap_rows.specs.Holds.{Holds, first_key, is_first, pair_key, has_pair}
+use Rattle.streetmap_rows.specs.Holds.{HoldsByKey, first_key, is_first, pair_key, has_pair}
 use Rattle.streetmap_rows.specs.Rows.{feature_at, collection_cells, batch_cells, feature_cells}
 use Rattle.streetmap_rows.specs.Stands.{CanBeRead}
 use Rattle.streetmap_rows.specs.Elsewhere.{is_our_name}
@@ -65,11 +65,11 @@ pub record LacksFormat (s : State) (db : Database) : Type 0 where
   pub roots : Roots
   pub ours : IsOurs roots db.schema
   pub meta_empty : db.trees roots.meta ≡ []
-  pub collections : Holds first_key is_first (λ name.
+  pub collections : HoldsByKey first_key is_first (λ name.
       option_map (collection_cells name) (get s.collections name)) (db.trees roots.collections)
-  pub batches : Holds first_key is_first (λ key. option_map (batch_cells key) (get s.keys key))
+  pub batches : HoldsByKey first_key is_first (λ key. option_map (batch_cells key) (get s.keys key))
       (db.trees roots.batches)
-  pub features : Holds pair_key has_pair (λ p. option_map (feature_cells p) (feature_at s p))
+  pub features : HoldsByKey pair_key has_pair (λ p. option_map (feature_cells p) (feature_at s p))
       (db.trees roots.features)
   pub readable : CanBeRead s
 

@@ -19,7 +19,8 @@ use Rattle.streetmap_geojson.specs.FeatureValue.{FeatureValue}
 use Rattle.streetmap_batch.specs.Text.{Text}
 use Rattle.streetmap_ledger.specs.State.{State}
 use Rattle.streetmap_ledger.specs.WellFormed.{IsState}
-use Rattle.streetmap_rows.specs.Holds.{Holds, same_text, first_key, is_first, KeyPair, pair_key}
+use Rattle.streetmap_rows.specs.Holds.{HoldsByKey, same_text, first_key, is_first}
+use Rattle.streetmap_rows.specs.Holds.{KeyPair, pair_key}
 use Rattle.streetmap_rows.specs.Holds.{has_pair}
 use Rattle.streetmap_rows.specs.Shapes.{text_column, plain_table}
 use Rattle.streetmap_rows.specs.Tables.{Roots, IsNamed, IsKey, to_key, to_collections, meta}
@@ -66,12 +67,12 @@ old_cells p f = Words p.0 ∷ Words p.1 ∷ Words (feature_text f) ∷ []
 
 -- the format, and the three lists of a state, in the trees of the tables
 pub record WereOf (s : State) (roots : Roots) (db : Trees) : Type 0 where
-  pub format : Holds first_key is_first old_meta_cells (db roots.meta)
-  pub collections : Holds first_key is_first (λ name.
+  pub format : HoldsByKey first_key is_first old_meta_cells (db roots.meta)
+  pub collections : HoldsByKey first_key is_first (λ name.
       option_map (collection_cells name) (get s.collections name)) (db roots.collections)
-  pub batches : Holds first_key is_first (λ key. option_map (batch_cells key) (get s.keys key))
+  pub batches : HoldsByKey first_key is_first (λ key. option_map (batch_cells key) (get s.keys key))
       (db roots.batches)
-  pub features : Holds pair_key has_pair (λ p. option_map (old_cells p) (feature_at s p))
+  pub features : HoldsByKey pair_key has_pair (λ p. option_map (old_cells p) (feature_at s p))
       (db roots.features)
 
 -- ---- a database of a state

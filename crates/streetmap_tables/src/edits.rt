@@ -6,7 +6,7 @@ ghost use Rattle.sqlite.specs.Held.{state};
 ghost use Rattle.sqlite.specs.State.{HasCleanDisk, Survives};
 ghost use Rattle.streetmap_batch.specs.BatchValue as edit;
 ghost use Rattle.streetmap_batch.specs.BatchView.{edit_value};
-ghost use Rattle.streetmap_rows.specs.Stands.{Looks};
+ghost use Rattle.streetmap_rows.specs.Stands.{LooksIntoRows};
 ghost use Rattle.streetmap_tables.specs.Editing.{Edits, EditsAll};
 ghost use Rattle.streetmap_rows.specs.Failing.{HasReason};
 
@@ -22,8 +22,8 @@ use streetmap_rows::{collection_rows, delete_feature, has_feature, insert_collec
 fn has_collection<S: Alter>(tx: &mut Transaction<'_, S>, collection: &str) -> Result<bool, Error>
     ensures same_reference { tx.new.conn.ghost_name ≡ tx.old.conn.ghost_name }
     ensures looks { HasCleanDisk (state S.Store tx.new.conn.now)
-        → Looks (λ s. is_some (get s.collections collection.now)) (state S.Store tx.old.conn.now)
-        (state S.Store tx.new.conn.now) result }
+        → LooksIntoRows (λ s. is_some (get s.collections collection.now))
+        (state S.Store tx.old.conn.now) (state S.Store tx.new.conn.now) result }
     ensures reason { HasCleanDisk (state S.Store tx.new.conn.now) →
         IfErr result (HasReason (state S.Store tx.old.conn.now) (state S.Store tx.new.conn.now)) }
     ensures survives { Survives (state S.Store tx.old.conn.now) (state S.Store tx.new.conn.now)

@@ -7,7 +7,7 @@ use Rattle.streetmap_query.specs.Views.{query_value}
 use Rattle.streetmap_batch.specs.Text.{Text}
 use Rattle.streetmap_ledger.specs.State.{State, Collection}
 use Rattle.streetmap_ledger.specs.Pages.{candidates, feature_in}
-use Rattle.streetmap_ledger.specs.Folds.{Holds}
+use Rattle.streetmap_ledger.specs.Folds.{IsFoldOf}
 use Rattle.streetmap_ledger.specs.Outlines.{FeatureOutlineValue}
 use Rattle.streetmap_ledger.specs.declared.outline.FeatureOutline.{FeatureOutline}
 use Rattle.streetmap_ledger.proofs.Examining.{taken}
@@ -72,7 +72,7 @@ loop-outline-preserved g c =
           let same = c.take_unread.ensures.unchanged c.if-take_unread.false in
           let id = ap (λ (v : FeatureOutlineValue). v.id) entry.known in
           let takes = ((says.takes h s (inv.stands (says.began_clean h) s e)).0 f (found s _ _ d f there (c.as_str.ensures.value ∙ id) entry.there)).1 q (candidates q fs) in
-          taken q c.take_read.new.fold fs f candidate before.whole (takes (subst (λ fold. Holds q fold (candidates q fs)) (sym same) before.holds)));
+          taken q c.take_read.new.fold fs f candidate before.whole (takes (subst (λ fold. IsFoldOf q fold (candidates q fs)) (sym same) before.holds)));
     }
 
 pub returns-in-Ok-false-clause-leaves : goal.returns-in-Ok-false-clause-leaves

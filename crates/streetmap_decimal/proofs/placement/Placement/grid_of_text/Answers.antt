@@ -1,6 +1,6 @@
 use Rattle.std.proofs.Common.{subst, ℤ}
 use Rattle.streetmap_decimal.specs.Axes.{shift_of}
-use Rattle.streetmap_decimal.specs.Decimal.{Reads}
+use Rattle.streetmap_decimal.specs.Decimal.{ReadsDecimal}
 use Rattle.streetmap_decimal.specs.Grid.{Places}
 use Rattle.streetmap_decimal.proofs.Exactly.{if_nearest}
 use Rattle.streetmap_decimal.proofs.Steps.{then_next}
@@ -16,7 +16,7 @@ returns c =
     c.axis.ensures.scale c.grid.ensures in
     let at = subst (λ (s : ℤ). Places s p.scale.count p.rounding d.mantissa d.exponent r)
     c.axis.ensures.shift scaled in
-    let all = then_next (Reads c.args.text.now) (λ d. Places shift p.scale.count p.rounding d.0 d.1)
+    let all = then_next (ReadsDecimal c.args.text.now) (λ d. Places shift p.scale.count p.rounding d.0 d.1)
     (d.mantissa, d.exponent) r c.in_ok-coordinate.ensures at in
     record {
       places = all;
