@@ -15,7 +15,7 @@ DESTDIR ?=
 
 .PHONY: try serve map gateway demo build install deb deps test check bench toolchain
 
-# Serves the sample town with no proof: make try PORT=8080
+# Serves the sample town from memory, with no proof: make try PORT=8080
 try: toolchain
 	@python3 tools/try_town.py $(PORT)
 

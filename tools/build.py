@@ -36,8 +36,8 @@ PROCESS_MEMORY = 4_000_000_000
 # The seconds after which a line says what is under way, where no crate was done.
 PATIENCE = 120
 START = """\
-Proving {crates} crates in {count} processes. From nothing this takes some 45 minutes on four
-processors; make try serves the sample town in minutes, with no proof. Stopped, the build goes on
+Proving {crates} crates in {count} processes. From nothing this takes some 35 minutes on four
+processors; make try serves the sample town in a minute, with no proof. Stopped, the build goes on
 from there."""
 
 

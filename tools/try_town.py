@@ -1,15 +1,14 @@
-"""Serves the sample town with no proof: python3 tools/try_town.py [PORT] [SECONDS]
+"""Serves the sample town from memory, with no proof: python3 tools/try_town.py [PORT] [SECONDS]
 
-`rt try` compiles the program with a check at each access, in place of the proofs, and runs it over
-a file that Python's sqlite3 made. The town is sent as a batch over HTTP. Both end after SECONDS,
-an hour if left out, or at Ctrl-C.
+`rt try` compiles `streetmap_try`, which serves a keeper in memory, with a check at each access in
+place of the proofs, and runs it. The town is sent as a batch over HTTP. Both end after SECONDS, an
+hour if left out, or at Ctrl-C.
 """
 
 import contextlib
 import json
 import signal
 import socket
-import sqlite3
 import subprocess
 import sys
 import tempfile
@@ -19,11 +18,11 @@ from pathlib import Path
 
 ROOT = Path(__file__).resolve().parent.parent
 EXAMPLES = ROOT / "examples"
-PROGRAM = ROOT / "crates" / "streetmap"
-FILE = "town.streetmap"
+PROGRAM = ROOT / "crates" / "streetmap_try"
 HELP = """\
 Nothing of this is proved: the program is compiled with a check at each access in place of the
-proofs, and it is slower. make serve proves it first. Ask in another shell, for example:
+proofs, and it is slower. The town is in memory, and gone at the end. make serve proves the program
+first, and keeps a file. Ask in another shell, for example:
 
 curl 'localhost:{port}/collections/lamps/items?bbox=0,0,100000,20000&limit=2'
 curl 'localhost:{port}/collections/lamps/items?datetime=2024-01-01T00:00:00Z/..'
@@ -37,11 +36,6 @@ def is_taken(port: int) -> bool:
     """Whether something listens at the port."""
     with socket.socket() as probe:
         return probe.connect_ex(("127.0.0.1", port)) == 0
-
-
-def make_file(path: Path) -> None:
-    with contextlib.closing(sqlite3.connect(path)) as db:
-        db.executescript((EXAMPLES / "tables.sql").read_text())
 
 
 def town_batch() -> bytes:
@@ -73,11 +67,8 @@ def wait_for(port: int, running: subprocess.Popen[bytes]) -> bool:
 
 
 def serve(folder: Path, port: int, seconds: int) -> int:
-    make_file(folder / FILE)
-    words = ["rt", "try", "--steps", "1", "--seconds", str(seconds)]
-    words += ["--data", f"{FILE}={folder / FILE}"]
-    words += ["--", "serve", FILE, "--port", str(port)]
-    print("Compiling the program with no proof, which takes some three minutes.", flush=True)
+    words = ["rt", "try", "--steps", "1", "--seconds", str(seconds), "--", str(port)]
+    print("Compiling a first look with no proof, which takes a minute or two.", flush=True)
     with (
         (folder / "log").open("wb") as log,
         subprocess.Popen(

@@ -92,7 +92,7 @@ def definitions(file: Path) -> set[str]:
 
 
 def check_new_tables(context: Context) -> None:
-    """`create` makes the tables of examples/tables.sql, which `make try` serves."""
+    """`create` makes the tables of examples/tables.sql, and they are those of a file."""
     new, other = context.new_file("new"), context.folder / "other"
     change(other, (EXAMPLES / "tables.sql").read_text())
     context.check("the tables of a new file", definitions(new), definitions(other))
