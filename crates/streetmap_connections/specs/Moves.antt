@@ -12,8 +12,7 @@ pub record Place : Type 0 where
   pub finishes : Bool
 
 -- What was received is what the stream gave, and what was sent is what was written to it. Each read
--- came while less than
--- so many bytes waited for an answer.
+-- came while less than so many bytes waited for an answer.
 pub record Moves (most : ℕ) (old new : Place) : Type 0 where
   pub more : List ℕ
   pub received : new.history.received ≡ old.history.received ++ more

@@ -13,9 +13,8 @@ use Rattle.streetmap_connections.specs.Leads.{Answering, Leads, Calls}
 use Rattle.streetmap_connections.specs.Slots.{clients_in}
 
 -- One list of exchanges leads the service from one state to the other, each answered in the state
--- that the one before
--- left. It is an interleaving of the clients' own lists, in which the clients of each slot were
--- answered in turn, and each client's connection is in order.
+-- that the one before left. It is an interleaving of the clients' own lists, in which the clients
+-- of each slot were answered in turn, and each client's connection is in order.
 pub record Serves {V S : Type 0} (answers : Answering V) (old new : V)
     (before after : List (Slot S)) : Type 0 where
   pub exchanges : List Exchange
