@@ -1,6 +1,6 @@
 -- The bytes of one request, answered.
-use Rattle.std.proofs.Common.{◌≡◌, [], Bool, true, refl, sym, ap, subst, ◌∙◌, inl, inr, append-nil}
-use Rattle.streetmap_http.specs.Framing.{HeadValue, Breaks, IsRequest, is_bare}
+use Rattle.std.proofs.Common.{◌≡◌, [], Bool, true, refl, sym, subst, append-nil}
+use Rattle.streetmap_http.specs.Framing.{HeadValue, Breaks, IsRequest}
 use Rattle.streetmap_http.specs.Arrivals.{SplitsAs}
 use Rattle.streetmap_http.specs.FramingView.{framing_value}
 use Rattle.streetmap_http.specs.declared.framing.Framed.{Framed}
@@ -8,60 +8,35 @@ use Rattle.streetmap_http.specs.Streams.{Request, request, stops, refused}
 use Rattle.streetmap_http.specs.declared.fault.FramingFault.{FramingFault}
 use Rattle.streetmap_http.proofs.Fronts.{front_unique}
 use Rattle.streetmap_batch.specs.Text.{Text}
-use Rattle.streetmap_routes.specs.Ask.{ask_of, faulty}
-use Rattle.streetmap_bodies.specs.declared.request_fault.RequestFault.TheVariants.{Framing}
-use Rattle.streetmap_web.specs.Response.{fault_response, response_text}
-use Rattle.streetmap_web.specs.Standing.{Standing, as_asked, no_memory}
+use Rattle.streetmap_web.specs.Response.{AnswerSent, request_of, broken_request, sent_so}
+use Rattle.streetmap_web.specs.Standing.{Standing}
 use Rattle.streetmap_web.specs.Sight.{Sight, StandsSo}
-use Rattle.streetmap_web.specs.Responds.{AnswersAsk, RefusesBy, TellsBatch}
-use Rattle.streetmap_web.specs.Exchanges.{HttpExchange, request_of, broken_request, whole, broken}
+use Rattle.streetmap_web.specs.Responds.{AnswersAsk, RefusesBy}
+use Rattle.streetmap_web.specs.Exchanges.{whole, broken}
 use Rattle.streetmap_web.specs.Coming.{AnswersRequest}
-use Rattle.streetmap_web.proofs.Outcomes.{faulty_after, faulty_response, faulty_leaves, can_be_as_asked, no_memory_after, no_memory_leaves, can_lack_memory, no_memory_bytes, no_memory_closes}
-use Rattle.streetmap_web.proofs.Coming.{bytes_of, no_memory_comes, broken_comes, whole_comes}
+use Rattle.streetmap_web.proofs.Coming.{refused_comes}
 
 module _ {K : Type 0} (sight : Sight K) (root : Text) (x : Standing) where
   -- a whole request
-  pub whole_answered : (h : HeadValue) (bytes body text : Text) (closing : Bool) (old new : K) → IsRequest bytes h body
-      → AnswersAsk sight root x (ask_of h.method h.target body) h.closes (is_bare h.method) text closing old new
-      → TellsBatch sight.applies (ask_of h.method h.target body) h.closes (is_bare h.method) text closing old new
-      → AnswersRequest sight root x bytes text closing old new
-  whole_answered h bytes body text closing old new is answers tells =
-      let e : HttpExchange = record { bytes = bytes; request = request_of h body; outcome = answers.outcome } in
-      record {
-        exchange = e;
-        bytes_are = refl;
-        is = record { asks = whole h body is refl; can = answers.can };
-        text_is = bytes_of root x e text closing answers.closed answers.bytes;
-        closing_is = answers.closed;
-        standing = answers.standing;
-        leaves = answers.leaves;
-        comes = whole_comes sight root x old new h bytes body text closing answers tells;
-      }
+  pub whole_answered : (h : HeadValue) (bytes body : Text) (sent : AnswerSent) (old new : K) → IsRequest bytes h body → AnswersAsk sight root x (request_of h body) sent old new
+      → AnswersRequest sight root x bytes sent old new
+  whole_answered h bytes body sent old new is (outcome, one) = record {
+    exchange = record { bytes = bytes; request = request_of h body; outcome = outcome };
+    bytes_are = refl;
+    asks = whole h body is refl;
+    comes_out = one;
+  }
 
   -- one that breaks a rule of framing
   pub broken_answered : (bytes text : Text) (bare : Bool) (fault : FramingFault) (k : K) → Breaks bytes bare fault → RefusesBy text bare fault → StandsSo sight k x
-      → AnswersRequest sight root x bytes text true k k
-  broken_answered bytes text bare fault k breaks (answer, inl is, same) h = record {
-    exchange = record { bytes = bytes; request = broken_request bare fault; outcome = as_asked };
-    bytes_are = refl;
-    is = record { asks = broken bare fault breaks refl; can = can_be_as_asked x fault };
-    text_is = same ∙ ap (λ f. response_text true bare (fault_response f)) is ∙ ap (response_text true bare) (sym (faulty_response root x fault));
-    closing_is = refl;
-    standing = faulty_after x (StandsSo sight k) fault h;
-    leaves = faulty_leaves x fault (sight.may_leave k);
-    comes = broken_comes sight root x k bytes bare fault;
-  }
-  broken_answered bytes text bare fault k breaks (answer, inr is, same) h =
-      let request = broken_request bare fault in
+      → AnswersRequest sight root x bytes (sent_so text true) k k
+  broken_answered bytes text bare fault k breaks refuses h =
+      let (outcome, one) = refused_comes sight root x text bare fault k refuses h in
       record {
-        exchange = record { bytes = bytes; request = request; outcome = no_memory };
+        exchange = record { bytes = bytes; request = broken_request bare fault; outcome = outcome };
         bytes_are = refl;
-        is = record { asks = broken bare fault breaks refl; can = can_lack_memory x request.ask };
-        text_is = same ∙ ap (λ f. response_text true bare (fault_response f)) is ∙ no_memory_bytes root x bytes request;
-        closing_is = no_memory_closes root x bytes request;
-        standing = no_memory_after x (StandsSo sight k) request.ask h;
-        leaves = no_memory_leaves x request.ask (sight.may_leave k);
-        comes = no_memory_comes sight root x k bytes request;
+        asks = broken bare fault breaks refl;
+        comes_out = one;
       }
 
 -- ---- bytes are one request

@@ -1,11 +1,11 @@
 -- From what was read, answered and sent to what a turn did.
-use Rattle.std.proofs.Common.{◌≡◌, ◌<◌, ◌+◌, ◌-◌, arith, ◌++◌, List, length, Bool, true, false, refl, sym, subst, ap, ◌∙◌, inl, inr}
+use Rattle.std.proofs.Common.{◌≡◌, ◌<◌, ◌+◌, ◌-◌, arith, ◌++◌, List, length, Bool, true, false, refl, sym, subst, ap}
 use Rattle.std.specs.Prelude.{Option}
 use Rattle.std.specs.Io.KnownBytes.{Consumes, IsAtEnd}
 use Rattle.std.proofs.KnownBytes.{Keeps-refl}
 use Rattle.streetmap_http.specs.Head.{IsHead, IsBlank}
 use Rattle.streetmap_http.specs.Streams.{IsUnfinished, in_body}
-use Rattle.streetmap_http.specs.Framing.{HeadValue, Frames, sized, Breaks, is_bare}
+use Rattle.streetmap_http.specs.Framing.{HeadValue, Frames, sized, Breaks}
 use Rattle.streetmap_http.specs.Sending.{SentSays}
 use Rattle.streetmap_http.specs.declared.fault.FramingFault.{FramingFault}
 use Rattle.streetmap_http.specs.declared.sending.Sent.{Sent}
@@ -14,21 +14,22 @@ use Rattle.streetmap_batch.specs.Text.{Text}
 use Rattle.streetmap_ledger.specs.State.{State}
 use Rattle.streetmap_ledger.specs.declared.reply.Cause.{Cause}
 use Rattle.streetmap_ledger.specs.declared.reply.Fault.TheVariants.{Memory}
-use Rattle.streetmap_routes.specs.Ask.{AskValue, ask_of, faulty}
-use Rattle.streetmap_bodies.specs.declared.request_fault.RequestFault.TheVariants.{Keeper, Framing}
-use Rattle.streetmap_web.specs.Response.{fault_response, response_text}
-use Rattle.streetmap_web.specs.Standing.{Standing, of_state, shut, unknown, as_asked, no_memory, RequestOutcome}
+use Rattle.streetmap_routes.specs.Ask.{AskValue}
+use Rattle.streetmap_bodies.specs.declared.request_fault.RequestFault.TheVariants.{Keeper}
+use Rattle.streetmap_web.specs.Response.{RequestValue, AnswerSent, request_of, broken_request, fault_response, response_text, sent_so}
+use Rattle.streetmap_web.specs.Standing.{Standing, of_state, shut, unknown, no_memory, RequestOutcome}
 use Rattle.streetmap_web.specs.Standing.{Leaves, LeavesAsBefore, LeavesUntouched}
 use Rattle.streetmap_web.specs.Sight.{Sight, StandsSo}
-use Rattle.streetmap_web.specs.Responds.{AnswersAsk, TellsBatch}
+use Rattle.streetmap_web.specs.Responds.{ComesOut, AnswersAsk}
 use Rattle.streetmap_web.specs.Turns.{turn_after, RefuseSays}
-use Rattle.streetmap_web.specs.Exchanges.{HttpExchange, RequestValue, request_of, broken_request, Asks, whole, broken, closes, answer_bytes}
-use Rattle.streetmap_web.specs.Exchanges.{Around, Acted, DoesNothing, TurnSays, TurnComes, last_of}
-use Rattle.streetmap_web.specs.Coming.{Comes, around}
+use Rattle.streetmap_web.specs.Exchanges.{HttpExchange, Asks, whole, broken, closes, answer_bytes, sent_for}
+use Rattle.streetmap_web.specs.Exchanges.{Around, Acted, AnswersNothing, TurnSays, TurnComes, last_of}
+use Rattle.streetmap_web.specs.Coming.{around}
 use Rattle.streetmap_web.specs.declared.serving.Turn.{Turn}
 use Rattle.streetmap_web.specs.declared.serving.Turn.TheVariants.{Open, Closed, Ended, Truncated, ReadFailed, WriteFailed}
-use Rattle.streetmap_web.proofs.Outcomes.{faulty_after, faulty_response, faulty_leaves, can_be_as_asked, no_memory_after, no_memory_leaves, can_lack_memory, no_memory_closes, no_memory_bytes, stays}
-use Rattle.streetmap_web.proofs.Coming.{bytes_of, no_memory_comes, broken_comes, whole_comes}
+use Rattle.streetmap_web.proofs.Outcomes.{stays}
+use Rattle.streetmap_web.proofs.Standings.{fault_sent}
+use Rattle.streetmap_web.proofs.Coming.{for_answer, starved_comes, refused_comes}
 
 -- a head and less than its body
 pub unfinished_body : (head came : Text) (h : HeadValue) → IsHead head → Frames head (sized h) → length came < h.len → IsUnfinished (head ++ came)
@@ -44,51 +45,43 @@ turn_of sent closing turn root x a is comes = subst (λ t. TurnComes t root x a)
 
 module _ {K : Type 0} (sight : Sight K) (root : Text) (x : Standing) (left rest : Option Text) where
   -- an exchange that was acted on, and how its answer was sent
-  sent_turn : (e : HttpExchange) (closing : Bool) (text : Text) (sent : Sent) (held now : Option Text) (old new : K)
-      → Acted x e (around sight root x left rest held now old new) → Comes sight root x old e new
+  written_turn : (e : HttpExchange) (closing : Bool) (text : Text) (sent : Sent) (held now : Option Text) (old new : K)
+      → Acted x e (around sight root x left rest held now old new) → ComesOut sight root x e.request e.outcome (sent_for root x e) old new
       → closing ≡ closes root x e → text ≡ answer_bytes root x e → SentSays sent text held now
       → TurnComes (turn_after sent closing) root x (around sight root x left rest held now old new)
-  sent_turn e true text Whole held now old new acted comes closed same written =
-      ((e, acted, subst (λ t. SentSays Whole t held now) same written, sym closed), (new, comes, refl))
-  sent_turn e false text Whole held now old new acted comes closed same written =
-      ((e, acted, subst (λ t. SentSays Whole t held now) same written, sym closed), (new, comes, refl))
-  sent_turn e closing text (Part begun) held now old new acted comes closed same written =
+  written_turn e true text Whole held now old new acted one closed same written =
+      ((e, acted, subst (λ t. SentSays Whole t held now) same written, sym closed), (new, one, refl))
+  written_turn e false text Whole held now old new acted one closed same written =
+      ((e, acted, subst (λ t. SentSays Whole t held now) same written, sym closed), (new, one, refl))
+  written_turn e closing text (Part begun) held now old new acted one closed same written =
       let w : SentSays (Part begun) (answer_bytes root x e) held now = subst (λ t. SentSays (Part begun) t held now) same written in
-      ((e, acted, w.0, w.1, w.2, w.3), (new, comes, refl))
+      ((e, acted, w.0, w.1, w.2, w.3), (new, one, refl))
+
+  -- an exchange that came out so
+  sent_turn : (e : HttpExchange) (text : Text) (closing : Bool) (sent : Sent) (held now : Option Text) (old new : K)
+      → Asks e → Consumes left rest e.bytes → ComesOut sight root x e.request e.outcome (sent_so text closing) old new → SentSays sent text held now
+      → TurnComes (turn_after sent closing) root x (around sight root x left rest held now old new)
+  sent_turn e text closing sent held now old new asks read one written =
+      let acted : Acted x e (around sight root x left rest held now old new) = record {
+        is = record { asks = asks; can = one.can };
+        read = read;
+        stands = one.standing;
+        leaves = one.leaves;
+      } in
+      written_turn e closing text sent held now old new acted (for_answer sight root x e.request e.outcome (sent_so text closing) old new one)
+      (ap (λ (s : AnswerSent). s.closes) one.sent_is) (ap (λ (s : AnswerSent). s.text) one.sent_is) written
 
   -- a whole request that was answered
   pub answered_turn : (h : HeadValue) (head body text : Text) (closing : Bool) (sent : Sent) (held now : Option Text) (old new : K)
       → IsHead head → Frames head (sized h) → length body ≡ h.len → Consumes left rest (head ++ body)
-      → AnswersAsk sight root x (ask_of h.method h.target body) h.closes (is_bare h.method) text closing old new
-      → TellsBatch sight.applies (ask_of h.method h.target body) h.closes (is_bare h.method) text closing old new
-      → SentSays sent text held now → TurnComes (turn_after sent closing) root x (around sight root x left rest held now old new)
-  answered_turn h head body text closing sent held now old new cut framed len read answers tells written =
-      let e : HttpExchange = record { bytes = head ++ body; request = request_of h body; outcome = answers.outcome } in
-      let acted : Acted x e (around sight root x left rest held now old new) = record {
-        is = record { asks = whole h body (record { head = head; parts = refl; cut = cut; framed = framed; len = len }) refl; can = answers.can };
-        read = read;
-        stands = answers.standing;
-        leaves = answers.leaves;
-      } in
-      sent_turn e closing text sent held now old new acted (whole_comes sight root x old new h (head ++ body) body text closing answers tells)
-      answers.closed (bytes_of root x e text closing answers.closed answers.bytes) written
+      → AnswersAsk sight root x (request_of h body) (sent_so text closing) old new → SentSays sent text held now
+      → TurnComes (turn_after sent closing) root x (around sight root x left rest held now old new)
+  answered_turn h head body text closing sent held now old new cut framed len read (outcome, one) written =
+      let e : HttpExchange = record { bytes = head ++ body; request = request_of h body; outcome = outcome } in
+      let asks : Asks e = whole h body (record { head = head; parts = refl; cut = cut; framed = framed; len = len }) refl in
+      sent_turn e text closing sent held now old new asks read one written
 
   module _ (k : K) (stands : StandsSo sight k x) where
-    -- a request that breaks a rule of framing
-    refused_turn : (bytes text : Text) (bare : Bool) (fault : FramingFault) (sent : Sent) (held now : Option Text)
-        → Breaks bytes bare fault → Consumes left rest bytes → text ≡ response_text true bare (fault_response (Framing fault)) → SentSays sent text held now
-        → TurnComes (turn_after sent true) root x (around sight root x left rest held now k k)
-    refused_turn bytes text bare fault sent held now breaks read same written =
-        let e : HttpExchange = record { bytes = bytes; request = broken_request bare fault; outcome = as_asked } in
-        let acted : Acted x e (around sight root x left rest held now k k) = record {
-          is = record { asks = broken bare fault breaks refl; can = can_be_as_asked x fault };
-          read = read;
-          stands = faulty_after x (StandsSo sight k) fault stands;
-          leaves = faulty_leaves x fault (sight.may_leave k);
-        } in
-        sent_turn e true text sent held now k k acted (broken_comes sight root x k bytes bare fault)
-        refl (same ∙ ap (response_text true bare) (sym (faulty_response root x fault))) written
-
     -- memory was refused before the request was acted on
     pub starved_turn : (bytes text : Text) (request : RequestValue) (sent : Sent) (held now : Option Text)
         → Asks (record { bytes = bytes; request = request; outcome = no_memory }) → Consumes left rest bytes
@@ -96,24 +89,17 @@ module _ {K : Type 0} (sight : Sight K) (root : Text) (x : Standing) (left rest 
         → TurnComes (turn_after sent true) root x (around sight root x left rest held now k k)
     starved_turn bytes text request sent held now asks read same written =
         let e : HttpExchange = record { bytes = bytes; request = request; outcome = no_memory } in
-        let acted : Acted x e (around sight root x left rest held now k k) = record {
-          is = record { asks = asks; can = can_lack_memory x request.ask };
-          read = read;
-          stands = no_memory_after x (StandsSo sight k) request.ask stands;
-          leaves = no_memory_leaves x request.ask (sight.may_leave k);
-        } in
-        sent_turn e true text sent held now k k acted (no_memory_comes sight root x k bytes request)
-        (no_memory_closes root x bytes request) (same ∙ no_memory_bytes root x bytes request) written
+        sent_turn e text true sent held now k k asks read (starved_comes sight root x request (sent_so text true) k (fault_sent request Memory text same) stands) written
 
     -- the answer to a broken rule, as it was sent
     pub refuse_says : (bytes : Text) (bare : Bool) (fault : FramingFault) (turn : Turn) (held now : Option Text) → Breaks bytes bare fault → Consumes left rest bytes
         → RefuseSays turn bare fault held now → TurnComes turn root x (around sight root x left rest held now k k)
-    refuse_says bytes bare fault turn held now breaks read (answer, inl is, sent, turned, written) =
+    refuse_says bytes bare fault turn held now breaks read (answer, why, sent, turned, written) =
+        let text = response_text true bare (fault_response answer) in
+        let (outcome, one) = refused_comes sight root x text bare fault k (answer, why, refl) stands in
+        let e : HttpExchange = record { bytes = bytes; request = broken_request bare fault; outcome = outcome } in
         subst (λ t. TurnComes t root x (around sight root x left rest held now k k)) (sym turned)
-        (refused_turn bytes _ bare fault sent held now breaks read (ap (λ f. response_text true bare (fault_response f)) is) written)
-    refuse_says bytes bare fault turn held now breaks read (answer, inr is, sent, turned, written) =
-        subst (λ t. TurnComes t root x (around sight root x left rest held now k k)) (sym turned)
-        (starved_turn bytes _ (broken_request bare fault) sent held now (broken bare fault breaks refl) read (ap (λ f. response_text true bare (fault_response f)) is) written)
+        (sent_turn e text true sent held now k k (broken bare fault breaks refl) read one written)
 
     -- ---- turns without an answer
 
@@ -157,7 +143,7 @@ acted_known y e a known old comes know none acted = record {
 }
 
 rested_known : (y : Standing) (a : Around) (known : Type 0) (old : Option State → Type 0) (comes : List HttpExchange → Type 0) → (known → a.known) → ((why : Cause) → y ≡ shut why → LeavesAsBefore old a.crash_before)
-    → DoesNothing y a → DoesNothing y (record a { known = known; crash_before = old; comes = comes })
+    → AnswersNothing y a → AnswersNothing y (record a { known = known; crash_before = old; comes = comes })
 rested_known y a known old comes know none rested = record {
   written = rested.written;
   stands = rested.stands;

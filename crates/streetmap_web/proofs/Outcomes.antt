@@ -1,5 +1,5 @@
 -- Requests that were answered as asked, or for which memory was refused.
-use Rattle.std.proofs.Common.{◌≡◌, true, refl, sym, ap, ◌∙◌}
+use Rattle.std.proofs.Common.{◌≡◌, refl}
 use Rattle.std.specs.Prelude.{Option}
 use Rattle.streetmap_http.specs.declared.fault.FramingFault.{FramingFault}
 use Rattle.streetmap_batch.specs.Text.{Text}
@@ -7,11 +7,9 @@ use Rattle.streetmap_ledger.specs.State.{State}
 use Rattle.streetmap_ledger.specs.declared.reply.Fault.TheVariants.{Memory}
 use Rattle.streetmap_routes.specs.Ask.{AskValue, faulty}
 use Rattle.streetmap_bodies.specs.declared.request_fault.RequestFault.TheVariants.{Keeper, Framing}
-use Rattle.streetmap_web.specs.Response.{fault_response, closes_with, response_text}
+use Rattle.streetmap_web.specs.Response.{fault_response}
 use Rattle.streetmap_web.specs.Standing.{Standing, of_state, shut, unknown, as_asked, no_memory, answer_by}
 use Rattle.streetmap_web.specs.Standing.{after, CanBe, Leaves, LeavesUntouched, IsKnown}
-use Rattle.streetmap_web.specs.Exchanges.{HttpExchange, RequestValue, closes, response, answer_bytes}
-use Rattle.streetmap_web.proofs.Standings.{fault_closes}
 
 pub faulty_after : (x : Standing) (stands : Standing → Type 0) (fault : FramingFault) → stands x → stands (after x (faulty (Framing fault)) as_asked)
 faulty_after (of_state s) stands fault h = h
@@ -52,17 +50,6 @@ pub can_lack_memory : (x : Standing) (ask : AskValue) → CanBe x ask no_memory
 can_lack_memory (of_state s) ask = tt
 can_lack_memory (shut why) ask = tt
 can_lack_memory unknown ask = tt
-
--- the connection closes behind want of memory
-pub no_memory_closes : (root : Text) (x : Standing) (bytes : Text) (request : RequestValue) → true ≡ closes root x (record { bytes = bytes; request = request; outcome = no_memory })
-no_memory_closes root x bytes request = fault_closes request.closes Memory ∙ ap (closes_with request.closes) (sym (no_memory_response root x request.ask))
-
--- and these are the bytes of its answer
-pub no_memory_bytes : (root : Text) (x : Standing) (bytes : Text) (request : RequestValue)
-    → response_text true request.bare (fault_response (Keeper Memory)) ≡ answer_bytes root x (record { bytes = bytes; request = request; outcome = no_memory })
-no_memory_bytes root x bytes request =
-    let e : HttpExchange = record { bytes = bytes; request = request; outcome = no_memory } in
-    ap (response_text true request.bare) (sym (no_memory_response root x request.ask)) ∙ ap (λ c. response_text c request.bare (response root x e)) (no_memory_closes root x bytes request)
 
 -- where nothing was acted on
 pub stays : (x : Standing) (leaves : Option State → Type 0) → LeavesUntouched x (IsKnown x leaves) leaves leaves

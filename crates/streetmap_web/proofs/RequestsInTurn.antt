@@ -10,27 +10,29 @@ use Rattle.streetmap_connections.specs.Leads.{Leads}
 use Rattle.streetmap_connections.specs.Serving.{Serves}
 use Rattle.streetmap_web.specs.Coming.{ComesAll}
 use Rattle.streetmap_web.specs.Exchanges as web
+use Rattle.streetmap_web.specs.Response.{AnswerSent, sent_so}
 use Rattle.streetmap_web.specs.Sight.{Sight, StandsSo}
 use Rattle.streetmap_web.specs.Standing.{Standing, of_state}
 use Rattle.streetmap_routes.specs.BaseView.{root_of}
 use Rattle.streetmap_routes.specs.declared.base.Base.{Base}
 use Rattle.streetmap_web.specs.declared.keeper_service.KeeperService.{KeeperService}
 use Rattle.streetmap_web.specs.Answering.{AnswersOne}
-use Rattle.streetmap_web.specs.ServingClients.{AnsweredInTurn, IsAnswerTo, ServesClients, requests_of}
-use Rattle.streetmap_web.specs.SurvivingClients.{SurvivesClients}
+use Rattle.streetmap_web.specs.ServingClients.{AnsweredInTurn, IsAnswerTo, ServesClients}
+use Rattle.streetmap_web.specs.SurvivingClients.{SurvivesClients, acted_over, answered_over}
+use Rattle.streetmap_web.proofs.Coming.{for_answer}
 use Rattle.streetmap_web.proofs.SurvivingClients.{LeavesBehind, none_leaves, more_leaves, answered_first}
 
 -- what is true behind these exchanges: each was answered in turn, the keeper came along them, and what a stop may leave
 record IsBehind {K : Type 0} (sight : Sight K) (root : Text) (x : Standing) (es : List Exchange) (old new : K) : Type 0 where
-  last : Standing
-  answered : AnsweredInTurn root x es last
-  standing : StandsSo sight new last
-  leaves : LeavesBehind x (requests_of root x es last answered) (sight.may_leave old) (sight.may_leave new)
-  comes : ComesAll sight root x old (requests_of root x es last answered) new
+  requests : List web.HttpExchange
+  answered : AnsweredInTurn root x es requests
+  standing : StandsSo sight new (web.standing_after_all x requests)
+  leaves : LeavesBehind x requests (sight.may_leave old) (sight.may_leave new)
+  comes : ComesAll sight root x old requests new
 
 module _ {K W : Type 0} (sight : Sight K) where
   abbrev pub Answers : KeeperService K W → Text → Text → Bool → KeeperService K W → Type 0
-  Answers old request text closes new = (new.base ≡ old.base) × AnswersOne sight (root_of old.base) old.keeper request text closes new.keeper
+  Answers old request text closes new = (new.base ≡ old.base) × AnswersOne sight (root_of old.base) old.keeper request (sent_so text closes) new.keeper
 
   pub clean_back : (old new : KeeperService K W) (es : List Exchange) → Leads Answers old es new → sight.is_clean new.keeper → sight.is_clean old.keeper
   clean_back old new [] l clean = subst (λ (k : KeeperService K W). sight.is_clean k.keeper) l clean
@@ -49,20 +51,27 @@ module _ {K W : Type 0} (sight : Sight K) where
       → IsBehind sight (root_of old.base) x es old.keeper new.keeper
   in_turn old new [] l clean x stands =
       let here : IsBehind sight (root_of old.base) x [] old.keeper old.keeper
-      = record { last = x; answered = refl; standing = stands; leaves = none_leaves x (sight.may_leave old.keeper); comes = refl } in
+      = record { requests = []; answered = tt; standing = stands; leaves = none_leaves x (sight.may_leave old.keeper); comes = refl } in
       subst (λ (k : KeeperService K W). IsBehind sight (root_of old.base) x [] old.keeper k.keeper) (sym l) here
   in_turn old new (e ∷ es) l clean x stands =
+      let root = root_of old.base in
       let one = l.1.1.answered (clean_back l.0 new es l.2 clean) x stands in
-      let next = web.standing_after x one.exchange in
-      let rest = subst (λ (b : Base). IsBehind sight (root_of b) next es l.0.keeper new.keeper) l.1.0 (in_turn l.0 new es l.2 clean next one.standing) in
-      let is : IsAnswerTo (root_of old.base) x e one.exchange = record { is = one.is; request = one.bytes_are; text = one.text_is; closes = one.closing_is } in
-      let requests = requests_of (root_of old.base) next es rest.last rest.answered in
+      let w = one.exchange in
+      let came = one.comes_out in
+      let next = web.standing_after x w in
+      let rest = subst (λ (b : Base). IsBehind sight (root_of b) next es l.0.keeper new.keeper) l.1.0 (in_turn l.0 new es l.2 clean next came.standing) in
+      let is : IsAnswerTo root x e w = record {
+        is = record { asks = one.asks; can = came.can };
+        request = one.bytes_are;
+        text = ap (λ (s : AnswerSent). s.text) came.sent_is;
+        closes = ap (λ (s : AnswerSent). s.closes) came.sent_is;
+      } in
       record {
-        last = rest.last;
-        answered = (one.exchange, is, rest.answered);
+        requests = w ∷ rest.requests;
+        answered = (is, rest.answered);
         standing = rest.standing;
-        leaves = more_leaves x one.exchange requests (sight.may_leave old.keeper) (sight.may_leave l.0.keeper) (sight.may_leave new.keeper) one.leaves rest.leaves;
-        comes = (l.0.keeper, one.comes, rest.comes);
+        leaves = more_leaves x w rest.requests (sight.may_leave old.keeper) (sight.may_leave l.0.keeper) (sight.may_leave new.keeper) came.leaves rest.leaves;
+        comes = (l.0.keeper, for_answer sight root x w.request w.outcome (sent_so e.text e.closes) old.keeper l.0.keeper came, rest.comes);
       }
 
   module _ (old new : KeeperService K W) (before after : List (Slot TcpStream)) (s : Serves Answers old new before after) (clean : sight.is_clean new.keeper) where
@@ -74,7 +83,7 @@ module _ {K W : Type 0} (sight : Sight K) where
           interleaved = s.interleaved;
           in_turn = s.in_turn;
           in_order = s.in_order;
-          last = turns.last;
+          requests = turns.requests;
           answered = turns.answered;
           standing = turns.standing;
           comes = turns.comes;
@@ -85,11 +94,12 @@ module _ {K W : Type 0} (sight : Sight K) where
     unfolding serves_clients
     survives_clients t stands only =
         let turns = in_turn old new s.exchanges s.leads clean (of_state t) stands in
-        let requests = requests_of (root_of old.base) (of_state t) s.exchanges turns.last turns.answered in
         record {
           serves = serves_clients (of_state t) stands;
-          requests = requests;
-          are = refl;
-          answered_first = answered_first (of_state t) requests;
+          acted = acted_over (of_state t) turns.requests;
+          acknowledged = answered_over (of_state t) turns.requests;
+          acted_are = refl;
+          acknowledged_are = refl;
+          acknowledged_first = answered_first (of_state t) turns.requests;
           leaves = turns.leaves only;
         }

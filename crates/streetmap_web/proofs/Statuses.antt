@@ -12,7 +12,7 @@ use Rattle.streetmap_ledger.specs.declared.reply.Reply.TheVariants.{Accepted, Re
 use Rattle.streetmap_ledger.specs.declared.reply.Fault.TheVariants as faults
 use Rattle.streetmap_routes.specs.Ask.{AskValue, faulty, landing_page, api_text, conformance_classes, all_collections, one_collection, page, feature, batch}
 use Rattle.streetmap_bodies.specs.declared.request_fault.RequestFault.TheVariants.{Keeper}
-use Rattle.streetmap_web.specs.Response.{fault_response, found_page, found_feature, found_collection, replied, reply_status, response_in, asks_state, not_found}
+use Rattle.streetmap_web.specs.Response.{fault_response, found_page, found_feature, found_collection, replied, response_in, asks_state, not_found}
 
 pub starved_well : (fault_response (Keeper faults.Memory)).status ≡ 500 → ⊥
 unfolding fault_response

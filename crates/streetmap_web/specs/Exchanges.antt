@@ -5,14 +5,15 @@ use Rattle.std.specs.List.{flat_map}
 use Rattle.std.specs.Io.KnownBytes.{Consumes, Appends, Keeps, IsAtEnd}
 use Rattle.streetmap_http.specs.Head.{IsHead, IsBlank}
 use Rattle.streetmap_http.specs.Streams.{IsUnfinished}
-use Rattle.streetmap_http.specs.Framing.{HeadValue, sized, Frames, Breaks, IsRequest, is_bare}
+use Rattle.streetmap_http.specs.Framing.{HeadValue, sized, Frames, Breaks, IsRequest}
 use Rattle.streetmap_http.specs.declared.fault.FramingFault.{FramingFault}
 use Rattle.streetmap_batch.specs.Text.{Text}
 use Rattle.streetmap_batch.specs.BatchValue.{BatchValue}
 use Rattle.streetmap_ledger.specs.State.{State}
 use Rattle.streetmap_ledger.specs.Batches.{after_all}
-use Rattle.streetmap_routes.specs.Ask.{AskValue, faulty, batch, ask_of}
-use Rattle.streetmap_web.specs.Response.{ResponseValue, closes_with, response_text}
+use Rattle.streetmap_routes.specs.Ask.{AskValue, batch}
+use Rattle.streetmap_web.specs.Response.{ResponseValue, RequestValue, request_of, broken_request}
+use Rattle.streetmap_web.specs.Response.{AnswerSent, sent_as, closes_with, response_text}
 use Rattle.streetmap_web.specs.Standing.{Standing, RequestOutcome, as_asked, no_memory}
 use Rattle.streetmap_web.specs.Standing.{device_failed, of_keeper}
 use Rattle.streetmap_web.specs.Standing.{CanBe, answer_by, after, Leaves, LeavesUntouched}
@@ -22,27 +23,6 @@ use Rattle.streetmap_web.specs.declared.serving.End.{End}
 use Rattle.streetmap_web.specs.declared.serving.Turn.{Turn}
 use Rattle.streetmap_web.specs.declared.serving.Turn.TheVariants.{Open, Closed, Ended, Truncated}
 use Rattle.streetmap_web.specs.declared.serving.Turn.TheVariants.{ReadFailed, WriteFailed}
-use Rattle.streetmap_bodies.specs.declared.request_fault.RequestFault.TheVariants.{Framing}
-
--- a request: what it asks for, whether it asks to close the connection, and whether its answer has
--- no body
-pub record RequestValue : Type 0 where
-  pub ask : AskValue
-  pub closes : Bool
-  pub bare : Bool
-
--- that of a head and a body
-abbrev pub request_of : HeadValue → Text → RequestValue
-request_of h body = record {
-  ask = ask_of h.method h.target body;
-  closes = h.closes;
-  bare = is_bare
-      h.method;
-}
-
--- one that breaks a rule of framing; the connection closes behind its answer
-abbrev pub broken_request : Bool → FramingFault → RequestValue
-broken_request bare fault = record { ask = faulty (Framing fault); closes = true; bare = bare }
 
 -- one request of the stream: its bytes, what it says, and how it came out
 pub record HttpExchange : Type 0 where
@@ -71,6 +51,10 @@ closes root x e = closes_with e.request.closes (response root x e)
 -- the bytes of the answer
 abbrev pub answer_bytes : Text → Standing → HttpExchange → Text
 answer_bytes root x e = response_text (closes root x e) e.request.bare (response root x e)
+
+-- the same two as they are sent
+abbrev pub sent_for : Text → Standing → HttpExchange → AnswerSent
+sent_for root x e = sent_as e.request (response root x e)
 
 -- what the keeper stands for afterwards
 abbrev pub standing_after : Standing → HttpExchange → Standing
@@ -147,8 +131,8 @@ pub record Acted (x : Standing) (e : HttpExchange) (a : Around) : Type 0 where
   pub stands : a.stands (standing_after x e)
   pub leaves : Leaves x e.request.ask e.outcome a.known a.crash_before a.crash_after
 
--- nothing was acted on or written
-pub record DoesNothing (x : Standing) (a : Around) : Type 0 where
+-- no request was acted on, and nothing was written
+pub record AnswersNothing (x : Standing) (a : Around) : Type 0 where
   pub written : Keeps a.output_before a.output_after
   pub stands : a.stands x
   pub leaves : LeavesUntouched x a.known a.crash_before a.crash_after
@@ -162,11 +146,11 @@ TurnSays Closed root x a = (e : HttpExchange) × Acted x e a
 TurnSays (WriteFailed begun) root x a = (e : HttpExchange) × Acted x e a × (n : ℕ)
     × (n < length (answer_bytes root x e)) × (begun ≡ nat_lt 0 n)
     × Appends a.output_before a.output_after (take n (answer_bytes root x e))
-TurnSays Ended root x a = DoesNothing x a × (bytes : Text) × IsBlank bytes
+TurnSays Ended root x a = AnswersNothing x a × (bytes : Text) × IsBlank bytes
     × Consumes a.input_before a.input_after bytes × IsAtEnd a.input_after
-TurnSays Truncated root x a = DoesNothing x a × (bytes : Text) × IsUnfinished bytes
+TurnSays Truncated root x a = AnswersNothing x a × (bytes : Text) × IsUnfinished bytes
     × Consumes a.input_before a.input_after bytes × IsAtEnd a.input_after
-TurnSays ReadFailed root x a = DoesNothing x a
+TurnSays ReadFailed root x a = AnswersNothing x a
 
 -- the request that was answered in a turn, where one was
 abbrev pub last_of :

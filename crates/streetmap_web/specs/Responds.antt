@@ -14,7 +14,7 @@ use Rattle.streetmap_ledger.specs.declared.reply.Reply.{Reply}
 use Rattle.streetmap_routes.specs.Ask.{AskValue, batch}
 use Rattle.streetmap_web.specs.Response.{ResponseValue, response_in, response_shut, state_in}
 use Rattle.streetmap_web.specs.Response.{asks_state, fault_response, closes_with, response_text}
-use Rattle.streetmap_web.specs.Response.{replied}
+use Rattle.streetmap_web.specs.Response.{replied, RequestValue, AnswerSent, sent_as}
 use Rattle.streetmap_web.specs.Standing.{Standing, RequestOutcome, device_failed, answer_by, after}
 use Rattle.streetmap_web.specs.Standing.{CanBe}
 use Rattle.streetmap_web.specs.Standing.{Leaves, IsKnown}
@@ -93,24 +93,6 @@ AnswerLeaves s ask (Err faults.Device) left = LeavesEither left (Some s) (Some (
 AnswerLeaves s ask (Err faults.Damaged) left = LeavesOnly left (Some s)
 AnswerLeaves s ask (Err faults.Reopen) left = LeavesOnly left (Some s)
 
--- what is asked was answered between two keepers: how it came out, the bytes of its answer, whether
--- the connection closes, what the second keeper stands for, what a stop may leave, that the store
--- failed where the device did, and that the keeper is shut where a failure is answered to what asks
--- the state
-pub record AnswersAsk {K : Type 0} (sight : Sight K) (root : Text) (x : Standing) (ask : AskValue)
-    (asked bare : Bool) (text : Text) (closes : Bool) (old new : K) : Type 0 where
-  pub outcome : RequestOutcome
-  pub can : CanBe x ask outcome
-  pub closed : closes ≡ closes_with asked (answer_by root x ask outcome)
-  pub bytes : text ≡ response_text closes bare (answer_by root x ask outcome)
-  pub standing : StandsSo sight new (after x ask outcome)
-  pub leaves :
-      let left = sight.may_leave old in
-      Leaves x ask outcome (IsKnown x left) left (sight.may_leave new)
-  pub device : outcome ≡ device_failed → sight.fails old new
-  pub shuts : asks_state ask ≡ true → (answer_by root x ask outcome).status ≡ 500
-      → IsSome (sight.cause new)
-
 -- an answer, or the fault that is to be answered, over a keeper that stood for a state
 abbrev pub TriesIn : Text → State → AskValue → Bool → Bool → Result (Answer × Bool) Fault
     → (State → Type 0) → Option Cause → Type 0
@@ -154,28 +136,55 @@ BatchTries key asked bare (Ok r) applies unasked =
 BatchTries key asked bare (Err fault) applies unasked = applies (Err fault)
     ⊎ (unasked × (fault ≡ faults.Memory))
 
--- the answer to a batch: the reply of the keeper, whatever it is, or its fault; or that memory was
--- refused, where the keeper was never asked
-pub data BatchAnswers (key : Text) (asked bare : Bool) (text : Text) (closes : Bool)
+-- The answer to a batch: the reply of the keeper, whatever it is, or its fault; or that memory was
+-- refused, where the keeper was never asked. The connection closes behind a fault, by its status.
+pub data BatchAnswers (key : Text) (request : RequestValue) (sent : AnswerSent)
     (applies : Result Reply Fault → Type 0) (unasked : Type 0) : Type 0 where
-  by_reply : (reply : Reply) → applies (Ok reply) → closes ≡ closes_with asked (replied key reply)
-      → text ≡ response_text closes bare (replied key reply)
-      → BatchAnswers key asked bare text closes applies unasked
-  by_fault : (fault : Fault) → applies (Err fault) → closes ≡ true
-      → text ≡ response_text true bare (fault_response (Keeper fault))
-      → BatchAnswers key asked bare text closes applies unasked
-  unasked_of : unasked → closes ≡ true
-      → text ≡ response_text true bare (fault_response (Keeper faults.Memory))
-      → BatchAnswers key asked bare text closes applies unasked
+  by_reply : (reply : Reply) → applies (Ok reply) → sent ≡ sent_as request (replied key reply)
+      → BatchAnswers key request sent applies unasked
+  by_fault : (fault : Fault) → applies (Err fault)
+      → sent ≡ sent_as request (fault_response (Keeper fault))
+      → BatchAnswers key request sent applies unasked
+  unasked_of : unasked → sent ≡ sent_as request (fault_response (Keeper faults.Memory))
+      → BatchAnswers key request sent applies unasked
 
 -- where a batch is asked between two keepers: it is answered as the first answered it, and was left
 -- so; or the keeper was never asked, is as it was, and memory was refused
 abbrev pub TellsBatch :
-    {K : Type 0} (applies : K → BatchValue → Result Reply Fault → K → Type 0) (ask : AskValue)
-    (asked bare : Bool) (text : Text) (closes : Bool) (old new : K) → Type 0
-TellsBatch applies ask asked bare text closes old new =
-    (b : BatchValue) → ask ≡ batch b
-    → BatchAnswers b.key asked bare text closes (λ r. applies old b r new) (new ≡ old)
+    {K : Type 0} (applies : K → BatchValue → Result Reply Fault → K → Type 0)
+    (request : RequestValue) (sent : AnswerSent) (old new : K) → Type 0
+TellsBatch applies request sent old new =
+    (b : BatchValue) → request.ask ≡ batch b
+    → BatchAnswers b.key request sent (λ r. applies old b r new) (new ≡ old)
+
+-- ---- a request
+
+-- A request was answered between two keepers, of which the first stood so, and came out so: what
+-- was sent is the answer, the second keeper stands for what is after it, and a stop may leave that.
+-- A batch was answered by what `apply` came to between them, or the keeper was never asked and is
+-- as it was. Where the answer is that the device failed, the store failed; and where what asks the
+-- state is answered by a failure (status 500), the second keeper is shut.
+pub record ComesOut {K : Type 0} (sight : Sight K) (root : Text) (x : Standing)
+    (request : RequestValue) (outcome : RequestOutcome) (sent : AnswerSent) (old new : K)
+    : Type 0 where
+  pub can : CanBe x request.ask outcome
+  pub sent_is : sent ≡ sent_as request (answer_by root x request.ask outcome)
+  pub standing : StandsSo sight new (after x request.ask outcome)
+  pub leaves :
+      let left = sight.may_leave old in
+      Leaves x request.ask outcome (IsKnown x left) left (sight.may_leave new)
+  pub batch_answered : TellsBatch sight.applies request sent old new
+  pub device : outcome ≡ device_failed → sight.fails old new
+  pub shuts :
+      asks_state request.ask ≡ true → (answer_by root x request.ask outcome).status ≡ 500
+      → IsSome (sight.cause new)
+
+-- it came out in one of its ways
+abbrev pub AnswersAsk :
+    {K : Type 0} (sight : Sight K) (root : Text) (x : Standing) (request : RequestValue)
+    (sent : AnswerSent) (old new : K) → Type 0
+AnswersAsk sight root x request sent old new =
+    (outcome : RequestOutcome) × ComesOut sight root x request outcome sent old new
 
 -- ---- broken rules
 

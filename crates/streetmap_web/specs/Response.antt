@@ -7,6 +7,8 @@ use Rattle.streetmap_http.specs.declared.answer_head.AnswerHead.{AnswerHead}
 use Rattle.streetmap_http.specs.declared.answer_head.MediaType.{MediaType}
 use Rattle.streetmap_http.specs.declared.answer_head.MediaType.TheVariants.{Json, GeoJson, Html}
 use Rattle.streetmap_http.specs.declared.answer_head.Methods.{Methods}
+use Rattle.streetmap_http.specs.declared.fault.FramingFault.{FramingFault}
+use Rattle.streetmap_http.specs.Framing.{HeadValue, is_bare}
 use Rattle.streetmap_geojson.specs.FeatureValue.{FeatureValue}
 use Rattle.streetmap_query.specs.QueryValue.{QueryValue}
 use Rattle.streetmap_batch.specs.Text.{Text}
@@ -19,7 +21,7 @@ use Rattle.streetmap_ledger.specs.declared.reply.Reply.TheVariants.{Accepted, Re
 use Rattle.streetmap_ledger.specs.declared.reply.Fault.TheVariants.{Reopen}
 use Rattle.streetmap_routes.specs.Ask.{AskValue, faulty, landing_page, api_text}
 use Rattle.streetmap_routes.specs.Ask.{conformance_classes, all_collections, one_collection, page}
-use Rattle.streetmap_routes.specs.Ask.{feature, batch}
+use Rattle.streetmap_routes.specs.Ask.{feature, batch, ask_of}
 use Rattle.streetmap_bodies.specs.Bodies.{landing_data, api_document, conformance_data}
 use Rattle.streetmap_bodies.specs.Bodies.{collections_data, collection_data, page_data}
 use Rattle.streetmap_bodies.specs.Bodies.{linked_feature_data}
@@ -148,3 +150,45 @@ body_of bare body = if bare then [] else body
 -- the bytes of an answer, without its body where it is bare
 unfoldable pub response_text : Bool → Bool → ResponseValue → Text
 response_text closes bare p = head_text (head_of closes p) ++ body_of bare p.body
+
+-- ---- what is sent for a request
+
+-- a request: what it asks for, whether it asks to close the connection, and whether its answer has
+-- no body
+pub record RequestValue : Type 0 where
+  pub ask : AskValue
+  pub closes : Bool
+  pub bare : Bool
+
+-- that of a head and a body
+abbrev pub request_of : HeadValue → Text → RequestValue
+request_of h body = record {
+  ask = ask_of h.method h.target body;
+  closes = h.closes;
+  bare = is_bare
+      h.method;
+}
+
+-- one that breaks a rule of framing; the connection closes behind its answer
+abbrev pub broken_request : Bool → FramingFault → RequestValue
+broken_request bare fault = record {
+  ask = faulty (faults.Framing fault);
+  closes = true;
+  bare = bare;
+}
+
+-- what was sent for a request: the bytes of the answer, and whether the connection closes behind
+-- them
+pub record AnswerSent : Type 0 where
+  pub text : Text
+  pub closes : Bool
+
+-- these two together
+abbrev pub sent_so : Text → Bool → AnswerSent
+sent_so text closes = record { text = text; closes = closes }
+
+-- an answer as it is sent for a request
+abbrev pub sent_as : RequestValue → ResponseValue → AnswerSent
+sent_as request p =
+    sent_so (response_text (closes_with request.closes p) request.bare p)
+    (closes_with request.closes p)

@@ -1,5 +1,5 @@
 -- Many clients served over one keeper.
-use Rattle.std.specs.Prelude.{◌≡◌, List, [], ◌∷◌, map, flat_map, All}
+use Rattle.std.specs.Prelude.{◌≡◌, List, [], ◌∷◌, map, flat_map, All, ⊤}
 use Rattle.mio.specs.declared.net.stream.TcpStream.{TcpStream}
 use Rattle.streetmap_batch.specs.Text.{Text}
 use Rattle.streetmap_connections.specs.declared.slot.Slot.{Slot}
@@ -21,28 +21,21 @@ pub record IsAnswerTo (root : Text) (x : Standing) (e : Exchange) (w : web.HttpE
   pub text : e.text ≡ web.answer_bytes root x w
   pub closes : e.closes ≡ web.closes root x w
 
--- each request was answered for what the keeper stood for behind the one before
-abbrev pub AnsweredInTurn : Text → Standing → List Exchange → Standing → Type 0
-AnsweredInTurn root x [] last = last ≡ x
-AnsweredInTurn root x (e ∷ es) last = (w : web.HttpExchange) × IsAnswerTo root x e w
-    × AnsweredInTurn root (web.standing_after x w) es last
-
--- the requests of the web that the exchanges of the one list are, in its order
-abbrev pub requests_of : (root : Text) (x : Standing) (es : List Exchange) (last : Standing)
-    → AnsweredInTurn root x es last → List web.HttpExchange
-requests_of root x [] last answered = []
-requests_of root x (e ∷ es) last answered = answered.0
-    ∷ requests_of root (web.standing_after x answered.0) es last answered.2
+-- The exchanges are these requests of the web, one by one, and each was answered for what the
+-- keeper stood for behind the one before.
+abbrev pub AnsweredInTurn : Text → Standing → List Exchange → List web.HttpExchange → Type 0
+AnsweredInTurn root x [] [] = ⊤
+AnsweredInTurn root x [] (w ∷ ws) = ⊥
+AnsweredInTurn root x (e ∷ es) [] = ⊥
+AnsweredInTurn root x (e ∷ es) (w ∷ ws) = IsAnswerTo root x e w
+    × AnsweredInTurn root (web.standing_after x w) es ws
 
 -- There is one list of requests with their answers, each answered for what the keeper stood for
--- behind the one before.
--- It is an interleaving of the clients' own lists: it goes on from those before as one of those
--- after. The clients of each slot were answered in turn: each to its end before the next was
--- answered at all. What a client
--- sent is, in order, the requests of its list and what was not answered; what it was sent are their
--- answers, as far as
--- they were sent. The keeper came along these requests: each batch was answered by what `apply`
--- came to, or was never
+-- behind the one before. It is an interleaving of the clients' own lists: it goes on from those
+-- before as one of those after. The clients of each slot were answered in turn: each to its end
+-- before the next was answered at all. What a client sent is, in order, the requests of its list
+-- and what was not answered; what it was sent are their answers, as far as they were sent. The
+-- keeper came along these requests: each batch was answered by what `apply` came to, or was never
 -- asked.
 pub record ServesClients {K : Type 0} (sight : Sight K) (root : Text) (x : Standing) (old new : K)
     (before after : List (Slot TcpStream)) : Type 0 where
@@ -51,7 +44,7 @@ pub record ServesClients {K : Type 0} (sight : Sight K) (root : Text) (x : Stand
       (map exchanges_of (flat_map clients_in after))
   pub in_turn : IsInTurn before exchanges after
   pub in_order : All IsOrderly (flat_map clients_in after)
-  pub last : Standing
-  pub answered : AnsweredInTurn root x exchanges last
-  pub standing : StandsSo sight new last
-  pub comes : ComesAll sight root x old (requests_of root x exchanges last answered) new
+  pub requests : List web.HttpExchange
+  pub answered : AnsweredInTurn root x exchanges requests
+  pub standing : StandsSo sight new (web.standing_after_all x requests)
+  pub comes : ComesAll sight root x old requests new

@@ -9,7 +9,7 @@ use Rattle.streetmap_web.specs.Standing.{Standing, of_state, shut, unknown}
 use Rattle.streetmap_web.specs.Exchanges as web
 use Rattle.streetmap_web.specs.Beginnings.{LeavesBeginning, batches_acted}
 use Rattle.streetmap_web.specs.Sight.{Sight}
-use Rattle.streetmap_web.specs.ServingClients.{ServesClients, requests_of}
+use Rattle.streetmap_web.specs.ServingClients.{ServesClients}
 
 -- those of them that came while the keeper was not shut
 abbrev pub while_open : Standing → List web.HttpExchange → List web.HttpExchange
@@ -28,16 +28,15 @@ abbrev pub answered_over : Standing → List web.HttpExchange → List BatchValu
 answered_over x ws = web.batches_of (while_open x ws)
 
 -- There is one list of exchanges, an interleaving of the clients' own lists, each answered for what
--- the keeper stood for
--- behind the one before. Afterwards a stop leaves the state of a beginning of the batches of all
--- clients, in the order
--- of that list, that contains each that was answered without a fault.
+-- the keeper stood for behind the one before. Afterwards a stop leaves the state of a beginning of
+-- the batches of all clients that the keeper acted on, in the order of that list. It contains each
+-- that is acknowledged: that was answered without a fault.
 pub record SurvivesClients {K : Type 0} (sight : Sight K) (root : Text) (s : State) (old new : K)
     (before after : List (Slot TcpStream)) : Type 0 where
   pub serves : ServesClients sight root (of_state s) old new before after
-  pub requests : List web.HttpExchange
-  pub are : requests ≡ requests_of root (of_state s) serves.exchanges serves.last serves.answered
-  pub answered_first : take (length (answered_over (of_state s) requests))
-      (acted_over (of_state s) requests) ≡ answered_over (of_state s) requests
-  pub leaves : LeavesBeginning s (acted_over (of_state s) requests)
-      (length (answered_over (of_state s) requests)) (sight.may_leave new)
+  pub acted : List BatchValue
+  pub acknowledged : List BatchValue
+  pub acted_are : acted ≡ acted_over (of_state s) serves.requests
+  pub acknowledged_are : acknowledged ≡ answered_over (of_state s) serves.requests
+  pub acknowledged_first : take (length acknowledged) acted ≡ acknowledged
+  pub leaves : LeavesBeginning s acted (length acknowledged) (sight.may_leave new)

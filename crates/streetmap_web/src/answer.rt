@@ -10,7 +10,9 @@ ghost use Rattle.streetmap_http.specs.Framing.{is_bare as is_bare_of};
 ghost use Rattle.streetmap_batch.specs.BatchValue.{BatchValue};
 ghost use Rattle.streetmap_routes.specs.Ask.{ask_of, batch};
 ghost use Rattle.streetmap_routes.specs.BaseView.{root_of};
+ghost use Rattle.streetmap_http.specs.FramingView.{head_value};
 ghost use Rattle.streetmap_web.specs.Response.{response_text, closes_with, head_of, fault_response};
+ghost use Rattle.streetmap_web.specs.Response.{request_of, sent_so};
 ghost use Rattle.streetmap_web.specs.Standing.{Standing, KeeperStands, LeavesAsBefore};
 ghost use Rattle.streetmap_web.specs.Sight.{sight_of};
 ghost use Rattle.streetmap_web.specs.Responds.{response_value, AnswersAsk, TriesIn};
@@ -121,7 +123,7 @@ fn try_answer<K: Keeper>(
     request: RequestHead,
     body: &[u8],
 ) -> Result<(Answer, bool), Fault>
-    ensures told { (b : BatchValue) →
+    ensures batch_answered { (b : BatchValue) →
         ask_of request.entry.method.now request.entry.target.now body.now ≡ batch b →
         BatchTries b.key request.entry.closes (is_bare_of request.entry.method.now) result
         (λ r. K.applies keeper.old b r keeper.new) (keeper.new ≡ keeper.old) }
@@ -174,19 +176,16 @@ pub(crate) fn answer_to<K: Keeper>(
     request: RequestHead,
     body: &[u8],
 ) -> (Answer, bool)
-    ensures told { TellsBatch K.applies
-        (ask_of request.entry.method.now request.entry.target.now body.now)
-        request.entry.closes (is_bare_of request.entry.method.now)
-        (answer_text result.0) result.1 keeper.old keeper.new }
+    ensures batch_answered { TellsBatch K.applies
+        (request_of (head_value request.entry) body.now)
+        (sent_so (answer_text result.0) result.1) keeper.old keeper.new }
     ensures spared { K.spares keeper.old keeper.new }
     ensures began_clean { K.is_clean keeper.new → K.is_clean keeper.old }
     ensures answers { K.is_clean keeper.new → (x : Standing) →
         KeeperStands (K.stands keeper.old) (K.cause keeper.old) x →
         AnswersAsk (sight_of K.stands K.cause K.may_leave K.is_clean K.applies K.spares K.fails)
-        (root_of base.now) x
-        (ask_of request.entry.method.now request.entry.target.now body.now)
-        request.entry.closes (is_bare_of request.entry.method.now)
-        (answer_text result.0) result.1 keeper.old keeper.new }
+        (root_of base.now) x (request_of (head_value request.entry) body.now)
+        (sent_so (answer_text result.0) result.1) keeper.old keeper.new }
 {
     match try_answer(alloc, keeper, base, request, body) {
         Ok(answer) => answer,

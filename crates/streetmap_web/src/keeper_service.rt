@@ -4,6 +4,7 @@ ghost use Rattle.streetmap_connections.specs.Cuts.{IfWhole, IfWaits, HasNone, Ha
 ghost use Rattle.streetmap_http.specs.Arrivals.{IsAnswered};
 ghost use Rattle.streetmap_routes.specs.BaseView.{root_of};
 ghost use Rattle.streetmap_web.specs.Sight.{sight_of};
+ghost use Rattle.streetmap_web.specs.Response.{sent_so};
 ghost use Rattle.streetmap_web.specs.Answering.{AnswersOne};
 
 use crate::log::tell;
@@ -44,7 +45,7 @@ impl<K: Keeper, W: Write> Service for KeeperService<K, W> {
 
     ghost answers = { λ old request text closes new. (new.base ≡ old.base)
         × AnswersOne (sight_of K.stands K.cause K.may_leave K.is_clean K.applies K.spares K.fails)
-        (root_of old.base) old.keeper request text closes new.keeper };
+        (root_of old.base) old.keeper request (sent_so text closes) new.keeper };
 
     fn cut(&self, input: &[u8]) -> Cut {
         cut_of(input)

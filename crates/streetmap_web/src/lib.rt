@@ -4,8 +4,9 @@
 //! batch; the fixed 503 with the state as it was, where memory was refused; or the 500 of the fault
 //! that shut the keeper. `serve` reads requests one after the other and writes their answers, in
 //! order, up to the first that closes the connection. Its contract says so for any keeper, reader
-//! and writer that show their bytes (`specs/Exchanges`, `Serves`), and what a stop may leave. Of
-//! each batch it says that what was answered is what the keeper answered (`specs/Coming`, `Comes`).
+//! and writer that show their bytes (`specs/Exchanges`, `ServesExchanges`), and what a stop may
+//! leave. Of each batch it says that what was answered is what the keeper answered
+//! (`specs/Responds`, `ComesOut`).
 //!
 //! For an edge with many connections there are the two halves of a turn: `streetmap_http` says what
 //! bytes that came hold of a request, and `answer_request` answers the bytes of one.

@@ -1,13 +1,13 @@
 //! One request, answered over its bytes.
 ghost use Rattle.std.specs.Prelude.{◌≡◌};
 ghost use Rattle.streetmap_http.specs.Arrivals.{IsAnswered};
-ghost use Rattle.streetmap_http.specs.Framing.{HeadValue, IsRequest, is_bare as is_bare_of};
+ghost use Rattle.streetmap_http.specs.Framing.{HeadValue, IsRequest};
 ghost use Rattle.streetmap_batch.specs.Text.{Text};
-ghost use Rattle.streetmap_routes.specs.Ask.{ask_of};
 ghost use Rattle.streetmap_routes.specs.BaseView.{root_of};
 ghost use Rattle.streetmap_web.specs.Coming.{AnswersRequest};
 ghost use Rattle.streetmap_connections.specs.Answers.{answer_text};
 ghost use Rattle.streetmap_web.specs.Responds.{TellsBatch};
+ghost use Rattle.streetmap_web.specs.Response.{request_of, sent_so};
 ghost use Rattle.streetmap_web.specs.Sight.{sight_of};
 ghost use Rattle.streetmap_web.specs.Standing.{Standing, KeeperStands};
 
@@ -36,12 +36,13 @@ pub fn answer_request<K: Keeper>(
     ensures answers { K.is_clean keeper.new → (x : Standing) →
         KeeperStands (K.stands keeper.old) (K.cause keeper.old) x →
         AnswersRequest (sight_of K.stands K.cause K.may_leave K.is_clean K.applies K.spares K.fails)
-        (root_of base.now) x request.now (answer_text result.0) result.1 keeper.old keeper.new }
+        (root_of base.now) x request.now (sent_so (answer_text result.0) result.1)
+        keeper.old keeper.new }
     // A batch is answered as the keeper answered it, whatever the reply is; 503 comes where the
     // keeper answered so, or was never asked.
-    ensures told { (h : HeadValue) (body : Text) → IsRequest request.now h body →
-        TellsBatch K.applies (ask_of h.method h.target body) h.closes (is_bare_of h.method)
-        (answer_text result.0) result.1 keeper.old keeper.new }
+    ensures batch_answered { (h : HeadValue) (body : Text) → IsRequest request.now h body →
+        TellsBatch K.applies (request_of h body) (sent_so (answer_text result.0) result.1)
+        keeper.old keeper.new }
     // What else the store has is kept.
     ensures spared { K.spares keeper.old keeper.new }
     ensures began_clean { K.is_clean keeper.new → K.is_clean keeper.old }

@@ -120,7 +120,7 @@ fn replied(body: String, batch: &Batch, reply: Reply) -> Response
 
 /// Applies a batch. Once it was applied no memory is taken: what the keeper replied is the answer.
 fn respond_batch<K: Keeper>(alloc: Global, keeper: &mut K, batch: &Batch) -> Result<Response, Fault>
-    ensures told { BatchResponds (batch_value batch.now).key result
+    ensures batch_answered { BatchResponds (batch_value batch.now).key result
         (λ r. K.applies keeper.old (batch_value batch.now) r keeper.new) (keeper.new ≡ keeper.old) }
     ensures any { (root : Text) →
         RespondsAny root (spec.batch (batch_value batch.now)) result (K.cause keeper.new) }
@@ -378,7 +378,7 @@ pub(crate) fn respond_to<K: Keeper>(
     root: &str,
     ask: &Ask,
 ) -> Result<Response, Fault>
-    ensures told { (b : BatchValue) → ask_value ask.now ≡ spec.batch b →
+    ensures batch_answered { (b : BatchValue) → ask_value ask.now ≡ spec.batch b →
         BatchResponds b.key result
         (λ r. K.applies keeper.old b r keeper.new) (keeper.new ≡ keeper.old) }
     ensures any { RespondsAny root.now (ask_value ask.now) result

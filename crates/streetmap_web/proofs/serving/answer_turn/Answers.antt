@@ -7,11 +7,11 @@ use Rattle.streetmap_http.specs.declared.body.BodyEnd.{BodyEnd}
 use Rattle.streetmap_http.specs.declared.body.BodyEnd.TheVariants.{Whole, Truncated}
 use Rattle.streetmap_ledger.specs.declared.reply.Fault.TheVariants.{Memory}
 use Rattle.streetmap_routes.specs.BaseView.{root_of}
-use Rattle.streetmap_web.specs.Response.{response_text, fault_response}
+use Rattle.streetmap_web.specs.Response.{request_of, response_text, fault_response}
 use Rattle.streetmap_connections.specs.Answers.{answer_text}
 use Rattle.streetmap_web.specs.Sight.{sight_of}
 use Rattle.streetmap_web.specs.Turns.{FillSays}
-use Rattle.streetmap_web.specs.Exchanges.{request_of, no_room}
+use Rattle.streetmap_web.specs.Exchanges.{no_room}
 use Rattle.streetmap_web.specs.Coming.{around}
 use Rattle.streetmap_bodies.specs.declared.request_fault.RequestFault.TheVariants.{Keeper}
 use Rattle.streetmap_web.proofs.OneTurn.{turn_of, starved_turn, answered_turn, truncated_turn, unread_turn, unfinished_body}
@@ -69,4 +69,4 @@ returns-clause-says g c = λ clean bytes left x cut framed read h.
     turn_of c.write_answer-2.result said.result.1 c.turn_after-2.result root x (around sight root x left rest held now old said.new.keeper) c.turn_after-2.ensures
     (answered_turn sight root x left rest (head_value c.args.head) bytes body (answer_text said.result.0) said.result.1 c.write_answer-2.result held now old said.new.keeper
     cut framed (ap length value ∙ c.read_all-end.ensures.len ∙ c.in-Ok.ensures) (Consumes-trans left before rest bytes body read came)
-    (said.ensures.answers clean x h) said.ensures.told c.write_answer-2.ensures)
+    (said.ensures.answers clean x h) c.write_answer-2.ensures)
