@@ -1,5 +1,5 @@
 -- What a stop leaves, opened again.
-use Rattle.std.proofs.Common.{◌≡◌, inl, inr, ℕ, ◌+◌, List, take, Option, None, Some, refl, sym}
+use Rattle.std.proofs.Common.{◌≡◌, inl, inr, ℕ, ◌+◌, ◌++◌, List, take, Option, None, Some, refl, sym}
 use Rattle.std.proofs.Common.{subst, subst₂, arith}
 use Rattle.std.proofs.lemmas.List.{take-take}
 use Rattle.sqlite.specs.Effect.{Database, IsDatabase}
@@ -14,7 +14,8 @@ use Rattle.streetmap_rows.specs.Keeping.{MayLeave}
 use Rattle.streetmap_store.proofs.IndexesListed.{keeps_too}
 use Rattle.streetmap_batch.specs.Text.{Text}
 use Rattle.streetmap_web.specs.Standing.{Standing, of_state}
-use Rattle.streetmap_web.specs.Exchanges.{Around, ServesExchanges}
+use Rattle.streetmap_web.specs.Exchanges.{Around, ServesExchanges, batches_of, last_of}
+use Rattle.streetmap_web.specs.Beginnings.{batches_acted}
 use Rattle.streetmap_web.specs.declared.serving.End.{End}
 use Rattle.streetmap_web.proofs.Beginnings.{served_leaves}
 use Rattle.streetmap_web.specs.Sight.{Sight}
@@ -87,10 +88,16 @@ holds seen s bs k states survives db left sound =
 -- and what serving may leave
 pub served_survives : (root : Text) (end : End) (count : ℕ) (s : State) (a : Around) (seen : Seen) → ServesExchanges root end count (of_state s) a → a.known
     → ((o : Option State) → MayLeave seen o → a.crash_after o) → ServesTables root end count s a seen
-served_survives root end count s a seen serves known bound = record {
-  serves = serves;
-  survives = opens seen _ λ o left. served_leaves root end count s a serves known o (bound o left);
-}
+served_survives root end count s a seen serves known bound =
+    let last = last_of serves.turn root _ _ serves.ends in
+    record {
+      serves = serves;
+      acted = batches_of serves.exchanges ++ batches_acted last;
+      acknowledged = batches_of serves.exchanges ++ batches_of last;
+      acted_are = refl;
+      acknowledged_are = refl;
+      survives = opens seen _ λ o left. served_leaves root end count s a serves known o (bound o left);
+    }
 
 -- and of many clients at once
 pub clients_survive : {K : Type 0} (sight : Sight K) (root : Text) (s : State) (old new : K) (before after : List (Slot TcpStream)) (seen : Seen)

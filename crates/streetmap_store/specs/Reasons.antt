@@ -120,18 +120,22 @@ module _ {D : Type 0} {g : disk.Ghosts D} where
   HoldsStill image (left.Connection c) = ShowedFirst image (λ (first : Held (FileStore D g)).
       IsAsItWas (file_state first) (file_state c))
 
-  -- Why files are not opened: they are no database; the format row is not ours, or is above 2, as a
-  -- look told, or the look was refused; it is 1, and the tables are damaged, or it is 2, and the
-  -- look at the batches was refused; a call of SQLite failed with that error, or it is 1, and a
-  -- statement that makes its tables anew was refused with it; memory was refused.
+  -- Why files are not opened, fault by fault.
   abbrev pub RefusesToOpen : Image → OpenFault → Left (Leftover D g) (Held (FileStore D g)) → Type 0
+  -- They are no database; or the look at the format row told none of ours, or was refused.
   RefusesToOpen image opened.NotOurs rest = IsForeign image
       ⊎ Showed image (λ seen. TellsFault seen adopting.NotOurs ⊎ TellsNothing seen) rest
+  -- The look at the format row told a format above 2.
   RefusesToOpen image opened.NewFormat rest = Showed image (λ seen.
       TellsFault seen adopting.NewFormat) rest
+  -- The format is 1, and the tables are damaged, of which no more is said here; or it is 2, and the
+  -- look at the batches was refused.
   RefusesToOpen image opened.Damaged rest = Showed image (λ seen. IsOld seen ⊎ LosesKeys seen) rest
+  -- The error is one of opening, or one by which the store failed; or the format is 1, and a
+  -- statement that makes the tables anew was refused with it.
   RefusesToOpen image (opened.Device e) rest = IsTrue (is_open_error e)
       ⊎ (IsOfStore e ⊎ Showed image IsOld rest)
+  -- Memory was refused, which may happen with any files.
   RefusesToOpen image opened.Memory rest = ⊤
 
   -- no connection was opened: this is an error of opening, files that it calls no database are

@@ -1,5 +1,5 @@
 -- What a stop leaves of batches over tables.
-use Rattle.std.specs.Prelude.{ℕ, ◌++◌, List, length}
+use Rattle.std.specs.Prelude.{◌≡◌, ℕ, ◌++◌, List, length}
 use Rattle.sqlite.specs.Effect.{Database, IsDatabase}
 use Rattle.sqlite.specs.State.{State as Seen}
 use Rattle.streetmap_batch.specs.Text.{Text}
@@ -13,7 +13,7 @@ use Rattle.streetmap_web.specs.Beginnings.{IsAfterBeginning, batches_acted}
 use Rattle.streetmap_web.specs.declared.serving.End.{End}
 use Rattle.mio.specs.declared.net.stream.TcpStream.{TcpStream}
 use Rattle.streetmap_connections.specs.declared.slot.Slot.{Slot}
-use Rattle.streetmap_web.specs.SurvivingClients.{SurvivesClients, acted_over, answered_over}
+use Rattle.streetmap_web.specs.SurvivingClients.{SurvivesClients}
 
 -- The database is that of one of these states: it is of no other, and it cannot be that it is of
 -- none.
@@ -34,19 +34,25 @@ HoldsBeginning s batches acknowledged seen =
     (t : State) × IsAfterBeginning s batches acknowledged t × Keeps t db
 
 -- Over tables of a state these requests were served with these answers, and a stop leaves the state
--- of a beginning of the batches acted on that contains each that was answered without a fault.
+-- of a beginning of the batches that the keeper acted on. It contains each that is acknowledged:
+-- that was answered without a fault.
 pub record ServesTables (root : Text) (end : End) (count : ℕ) (s : State) (a : Around)
     (seen : Seen) : Type 0 where
   pub serves : ServesExchanges root end count (of_state s) a
-  pub survives : let last = last_of serves.turn root _ _ serves.ends in
-      Survives s (batches_of serves.exchanges ++ batches_acted last)
-      (length (batches_of serves.exchanges ++ batches_of last)) seen
+  pub acted : List BatchValue
+  pub acknowledged : List BatchValue
+  pub acted_are :
+      acted ≡ batches_of serves.exchanges
+      ++ batches_acted (last_of serves.turn root _ _ serves.ends)
+  pub acknowledged_are :
+      acknowledged ≡ batches_of serves.exchanges
+      ++ batches_of (last_of serves.turn root _ _ serves.ends)
+  pub survives : Survives s acted (length acknowledged) seen
 
 -- Over tables of a state many clients were served at once, and a stop leaves the state of a
--- beginning of the batches of all clients, in the one order in which they were answered, that
--- contains each that was answered without a fault.
+-- beginning of the batches of all clients that the keeper acted on, in the one order in which they
+-- were answered. It contains each that was answered without a fault.
 pub record ServesTablesAtOnce {K : Type 0} (sight : Sight K) (root : Text) (s : State) (old new : K)
     (before after : List (Slot TcpStream)) (seen : Seen) : Type 0 where
   pub serves : SurvivesClients sight root s old new before after
-  pub survives : Survives s (acted_over (of_state s) serves.requests)
-      (length (answered_over (of_state s) serves.requests)) seen
+  pub survives : Survives s serves.acted (length serves.acknowledged) seen

@@ -179,7 +179,7 @@ pub record ComesOut {K : Type 0} (sight : Sight K) (root : Text) (x : Standing)
       asks_state request.ask ≡ true → (answer_by root x request.ask outcome).status ≡ 500
       → IsSome (sight.cause new)
 
--- it came out in one of its ways
+-- what is asked was answered: the request came out in some way
 abbrev pub AnswersAsk :
     {K : Type 0} (sight : Sight K) (root : Text) (x : Standing) (request : RequestValue)
     (sent : AnswerSent) (old new : K) → Type 0
