@@ -13,7 +13,7 @@ use Rattle.streetmap_ledger.specs.declared.reply.Fault.TheVariants.{Memory, Devi
 use Rattle.streetmap_rows.specs.Keeping.{MayLeave}
 use Rattle.streetmap_store.proofs.IndexesListed.{keeps_too}
 use Rattle.streetmap_batch.specs.Text.{Text}
-use Rattle.streetmap_web.specs.Standing.{Standing, of_state}
+use Rattle.streetmap_web.specs.Standing.{of_state}
 use Rattle.streetmap_web.specs.Exchanges.{Around, ServesExchanges, batches_of, last_of}
 use Rattle.streetmap_web.specs.Beginnings.{batches_acted}
 use Rattle.streetmap_web.specs.declared.serving.End.{End}
