@@ -3,37 +3,33 @@ use Rattle.std.proofs.Common.{nat_le, ◌^◌, eq-eqb, ◌≡◌, inl, inr, ℕ,
 use Rattle.std.specs.Prelude.{option_and_then}
 use Rattle.std.specs.List.{list_all}
 use Rattle.std.specs.Option.{option_to_list}
-use Rattle.std.specs.FinMap.{get, remove, get-remove}
+use Rattle.std.specs.FinMap.{get, remove, get-remove, get-insert}
 use Rattle.std.specs.Cmp.{eq_by_cmp_equiv}
 use Rattle.std.specs.Cmp.Lexicographic.{nat_list_cmp_total}
-use Rattle.std.proofs.lemmas.Bool.{cases_Bool, true≢false}
+use Rattle.std.proofs.lemmas.Bool.{cases_Bool, true≢false, ne_eqb, not-true}
 use Rattle.sqlite.specs.declared.types.Value.TheVariants.{Null, Text as Words}
 use Rattle.sqlite.specs.Order.{Row, column, bytes}
 use Rattle.sqlite.specs.Term.{col, holds}
 use Rattle.sqlite.specs.Query.{Query}
 use Rattle.sqlite.specs.Effect.{Answers}
-use Rattle.sqlite_trees.specs.Tree.{Trees, rowid}
+use Rattle.sqlite_trees.specs.Tree.{Trees, rowid, without_rowid, with_tree}
 use Rattle.sqlite_schema.specs.declared.schema.Schema.{Schema}
 use Rattle.sqlite_schema.specs.declared.schema.Table.{Table}
 use Rattle.sqlite_rules.specs.Lists.{Has}
-use Rattle.sqlite_rules.specs.Edit.{id_in}
+use Rattle.sqlite_rules.specs.Edit.{id_in, Edit, IsRefused, Applies, taken_by}
 use Rattle.sqlite_rules.specs.Calls.{ids_of}
 use Rattle.streetmap_batch.specs.Text.{Text}
-use Rattle.streetmap_rows.specs.Holds.{KeyPair, pair_key, has_pair}
+use Rattle.streetmap_rows.specs.Holds.{KeyPair, pair_key, has_pair, HoldsByKey, same_text, first_key, is_first}
 use Rattle.streetmap_geojson.specs.FeatureValue.{FeatureValue}
 use Rattle.streetmap_ledger.specs.State.{State, Collection, with_features}
-use Rattle.streetmap_rows.specs.Holds.{HoldsByKey, same_text, first_key, is_first}
 use Rattle.streetmap_rows.specs.Rows.{AreOf, feature_at, feature_cells, collection_cells}
 use Rattle.streetmap_rows.specs.Queries.{over, program}
 use Rattle.streetmap_rows.proofs.Compiles.{both}
 use Rattle.streetmap_rows.proofs.TablesInSchema.{features_there}
 use Rattle.streetmap_rows.proofs.OneRowChosen.{chosen, staged}
-use Rattle.streetmap_rows.proofs.HeldKeys.{cells_of, there, filter_one, find_own}
-use Rattle.streetmap_rows.proofs.TextKeys.{pair_is, pair_self, equal_texts}
+use Rattle.streetmap_rows.proofs.HeldKeys.{cells_of, there, filter_one, find_own, holds_same, holds_cut}
+use Rattle.streetmap_rows.proofs.TextKeys.{pair_is, pair_self, equal_texts, text_is}
 use Rattle.streetmap_rows.proofs.PutFeature.{text_cell}
-use Rattle.std.specs.FinMap.{get-insert}
-use Rattle.std.proofs.lemmas.Bool.{ne_eqb, not-true}
-use Rattle.sqlite_trees.specs.Tree.{without_rowid, with_tree}
 use Rattle.sqlite_schema.specs.declared.schema.Constraint.TheVariants.{Unique}
 use Rattle.sqlite_schema.specs.declared.schema.Constraint.TheVariants as rule
 use Rattle.sqlite_schema.specs.declared.schema.Keys.TheVariants.{Enforced}
@@ -43,12 +39,9 @@ use Rattle.sqlite_schema.specs.Names.{same_name}
 use Rattle.sqlite_schema.specs.Rules.{Keeps, Refers}
 use Rattle.sqlite_rules.specs.declared.error.Refusal.{Refusal}
 use Rattle.sqlite_rules.specs.declared.error.Refusal.TheVariants.{Violates, Mismatch, NoRowid, BadReference, TooDeep}
-use Rattle.sqlite_rules.specs.Edit.{Edit, IsRefused, Applies, taken_by}
 use Rattle.sqlite_rules.specs.Action.{works}
 use Rattle.sqlite_rules.proofs.ListLemmas.{all_has, test_has}
 use Rattle.streetmap_rows.specs.Tables.{Roots, IsOurs, features, features_name}
-use Rattle.streetmap_rows.proofs.TextKeys.{text_is}
-use Rattle.streetmap_rows.proofs.HeldKeys.{holds_same, holds_cut}
 use Rattle.streetmap_rows.proofs.RowsCut.{Cut, unique_after, refers_after, none_refers, no_work}
 
 abbrev pub keys_of : KeyPair → Row

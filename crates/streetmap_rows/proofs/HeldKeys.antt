@@ -2,25 +2,20 @@
 use Rattle.std.proofs.Common.{◌≡◌, ◌≢◌, inl, inr, List, [], ◌∷◌, Bool, true, false, not, cond, find, drop, filter, Option, Some, None, option_map, Ordering, Less, Equal, Greater, IsTrue, refl, sym, ap, subst, ◌∙◌, true≢false}
 use Rattle.std.specs.List.{AllByRecursion}
 use Rattle.std.specs.Ordering.{is_eq, match_ordering}
-use Rattle.std.proofs.lemmas.Bool.{or_parts, both_ways, cases_Bool}
+use Rattle.std.proofs.lemmas.Bool.{or_parts, both_ways, cases_Bool, false_from_ne_true}
 use Rattle.sqlite_value.specs.Order.{Row, value_cmp}
-use Rattle.sqlite_trees.specs.Tree.{IsTable, IsAscending, rowid, put_row}
+use Rattle.sqlite_trees.specs.Tree.{IsTable, IsAscending, rowid, put_row, has_rowid, without_rowid}
 use Rattle.sqlite_trees.specs.View.{is_int}
 use Rattle.sqlite_trees.proofs.TreeLemmas.{IsTable-put_row}
 use Rattle.sqlite_rules.specs.Lists.{Has}
-use Rattle.sqlite_rules.specs.Edit.{is_taken}
-use Rattle.sqlite_rules.proofs.ListLemmas.{all_has, all_from, has_found}
-use Rattle.sqlite_rules.proofs.TableLemmas.{put_has}
+use Rattle.sqlite_rules.specs.Edit.{is_taken, id_in}
+use Rattle.sqlite_rules.proofs.ListLemmas.{all_has, all_from, has_found, has_filtered}
+use Rattle.sqlite_rules.proofs.TableLemmas.{put_has, int_is}
 use Rattle.std.specs.Option.{option_to_list}
-use Rattle.std.proofs.lemmas.Bool.{false_from_ne_true}
 use Rattle.std.proofs.lemmas.Cmp.{tied_itself, tied_back}
 use Rattle.sqlite_value.specs.declared.value.Value.TheVariants.{Int}
 use Rattle.sqlite_value.proofs.OrderLemmas.{value_cmp_total}
-use Rattle.sqlite_trees.specs.Tree.{has_rowid, without_rowid}
 use Rattle.sqlite_catalog.proofs.LayoutLemmas.{ascending_filter}
-use Rattle.sqlite_rules.specs.Edit.{id_in}
-use Rattle.sqlite_rules.proofs.ListLemmas.{has_filtered}
-use Rattle.sqlite_rules.proofs.TableLemmas.{int_is}
 use Rattle.streetmap_rows.specs.Holds.{HoldsByKey}
 
 pub equal_is : (o : Ordering) → is_eq o ≡ true → o ≡ Equal

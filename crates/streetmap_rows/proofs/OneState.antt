@@ -127,7 +127,7 @@ one_kept s t a b trees p q =
     let roots = one_roots a b p.rows.roots q.rows.roots same p.rows.ours q.rows.ours in
     one_state s t q.rows.roots trees (subst (λ r. AreOf s r trees) roots p.rows.of) q.rows.of p.well q.well (λ x f at. untimed_is f (p.rows.readable.features x f at)) (λ x f at. untimed_is f (q.rows.readable.features x f at))
 
--- what trees of a state tell
-pub tells_it : (s : State) (schema : Schema) (trees : Trees) → Keeps s (record { schema = schema; trees = trees }) → (o : Option State) → AreTreesOf trees o → o ≡ Some s
-tells_it s schema trees kept None none = absurd (none s schema kept)
-tells_it s schema trees kept (Some t) it = ap Some (one_kept t s it.0 schema trees it.1 kept)
+-- trees of a state are those of no other
+pub trees_of_one : (s : State) (schema : Schema) (trees : Trees) → Keeps s (record { schema = schema; trees = trees }) → (o : Option State) → AreTreesOf trees o → o ≡ Some s
+trees_of_one s schema trees kept None none = absurd (none s schema kept)
+trees_of_one s schema trees kept (Some t) it = ap Some (one_kept t s it.0 schema trees it.1 kept)

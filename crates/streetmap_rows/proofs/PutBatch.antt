@@ -1,14 +1,13 @@
 -- An accepted batch goes in.
-use Rattle.std.proofs.Common.{◌≡◌, inl, inr, [], ◌∷◌, true, false, ◌&&◌, cond, drop, Option, Some, None, option_map, refl, sym, ap, subst, ◌∙◌, eqb-true, eq-eqb}
+use Rattle.std.proofs.Common.{◌≡◌, inl, inr, [], ◌∷◌, true, false, ◌&&◌, cond, drop, Option, Some, None, option_map, refl, sym, ap, subst, ◌∙◌, eqb-true, eq-eqb, ◌≤◌, ◌+◌, ℤ, pos, int_cmp, arith}
 use Rattle.std.specs.FinMap.{get, insert, len, get-insert, int_cmp-IsAntisymmetric}
-use Rattle.std.proofs.Common.{◌≤◌, ◌+◌, ℤ, pos, int_cmp, arith}
 use Rattle.std.specs.Ordering.{is_eq}
 use Rattle.sqlite_value.specs.declared.keys.Collation.TheVariants.{Binary}
 use Rattle.sqlite_value.specs.Keys.{plain, first_key as key_at}
 use Rattle.sqlite_value.specs.Order.{value_cmp}
 use Rattle.sqlite_value.proofs.OrderLemmas.{value_cmp-Int}
 use Rattle.sqlite_sql.specs.Ops.{binary}
-use Rattle.sqlite_schema.specs.Rules.{equal}
+use Rattle.sqlite_schema.specs.Rules.{equal, agree, guards, Keeps, Refers}
 use Rattle.std.specs.Cmp.Lexicographic.{nat_list_cmp_total}
 use Rattle.std.proofs.lemmas.Bool.{and_parts, both_ways, cases_Bool, false_from_ne_true, true≢false, ne_eqb}
 use Rattle.sqlite.specs.declared.types.Value.TheVariants.{Int, Text as Words}
@@ -20,7 +19,6 @@ use Rattle.sqlite_schema.specs.declared.schema.Keys.TheVariants.{Enforced}
 use Rattle.sqlite_schema.specs.declared.schema.Index.{Index}
 use Rattle.sqlite_schema.specs.declared.schema.Schema.{Schema}
 use Rattle.sqlite_schema.specs.declared.schema.Among.TheVariants.{All}
-use Rattle.sqlite_schema.specs.Rules.{agree, guards, Keeps, Refers}
 use Rattle.sqlite_rules.specs.Lists.{Has}
 use Rattle.sqlite_rules.specs.declared.error.Refusal.{Refusal}
 use Rattle.sqlite_rules.specs.declared.error.Refusal.TheVariants.{Violates, Mismatch, NoRowid, BadReference, TooDeep}
@@ -29,10 +27,9 @@ use Rattle.sqlite_rules.specs.Edit.{Edit, next_rowid, is_taken, IsRefused, Appli
 use Rattle.sqlite_rules.proofs.ListLemmas.{all_has}
 use Rattle.sqlite_rules.proofs.PlaceLemmas.{next_is_free}
 use Rattle.streetmap_batch.specs.Text.{Text}
-use Rattle.streetmap_rows.specs.Holds.{pair_key, has_pair}
+use Rattle.streetmap_rows.specs.Holds.{pair_key, has_pair, HoldsByKey, first_key, is_first, same_text}
 use Rattle.streetmap_ledger.specs.State.{State, AcceptedBatch}
 use Rattle.streetmap_rows.specs.Tables.{Roots, batches, IsOurs}
-use Rattle.streetmap_rows.specs.Holds.{HoldsByKey, first_key, is_first, same_text}
 use Rattle.streetmap_rows.specs.Rows.{AreOf, batch_cells}
 use Rattle.streetmap_rows.proofs.HeldKeys.{equal_is, cells_of, holds_put, holds_same}
 use Rattle.streetmap_rows.proofs.TextKeys.{text_is, first_is, first_self, agree_one, column_later, truth_is}

@@ -24,10 +24,9 @@ use Rattle.sqlite_rules.specs.Edit.{Edit, next_rowid, is_taken, IsRefused, Appli
 use Rattle.sqlite_rules.proofs.ListLemmas.{all_has}
 use Rattle.sqlite_rules.proofs.PlaceLemmas.{next_is_free}
 use Rattle.streetmap_batch.specs.Text.{Text}
-use Rattle.streetmap_rows.specs.Holds.{KeyPair, pair_key, has_pair}
+use Rattle.streetmap_rows.specs.Holds.{KeyPair, pair_key, has_pair, HoldsByKey, first_key, is_first, same_text}
 use Rattle.streetmap_ledger.specs.State.{State, Collection, opened}
 use Rattle.streetmap_rows.specs.Tables.{Roots, collections, IsOurs}
-use Rattle.streetmap_rows.specs.Holds.{HoldsByKey, first_key, is_first, same_text}
 use Rattle.streetmap_rows.specs.Rows.{AreOf, feature_at, feature_cells, collection_cells}
 use Rattle.streetmap_rows.proofs.ColumnCasts.{word_null}
 use Rattle.streetmap_rows.proofs.HeldKeys.{cells_of, holds_put, holds_same}

@@ -12,32 +12,28 @@ use Rattle.sqlite_schema.specs.declared.schema.Keys.TheVariants.{Enforced}
 use Rattle.sqlite_schema.specs.declared.schema.Index.{Index}
 use Rattle.sqlite_schema.specs.declared.schema.Schema.{Schema}
 use Rattle.sqlite_schema.specs.declared.schema.Among.TheVariants.{All}
-use Rattle.sqlite_schema.specs.Rules.{agree, guards, Keeps, Refers, has_parent, is_held, is_key_of}
+use Rattle.sqlite_schema.specs.Rules.{agree, guards, Keeps, Refers, has_parent, is_held, is_key_of, parent_key, passes}
 use Rattle.sqlite_rules.specs.Lists.{Has}
 use Rattle.sqlite_rules.specs.declared.error.Refusal.{Refusal}
 use Rattle.sqlite_rules.specs.declared.error.Refusal.TheVariants.{Violates, Mismatch, NoRowid, BadReference, TooDeep}
 use Rattle.sqlite_schema.specs.declared.schema.Constraint.TheVariants as rule
 use Rattle.sqlite_rules.specs.declared.error.Rowids.TheVariants.{Chosen}
-use Rattle.sqlite_rules.specs.Edit.{Edit, next_rowid, is_taken, IsRefused}
-use Rattle.sqlite_rules.proofs.ListLemmas.{some_from}
+use Rattle.sqlite_rules.specs.Edit.{Edit, next_rowid, is_taken, IsRefused, Applies}
+use Rattle.sqlite_rules.proofs.ListLemmas.{some_from, all_has}
 use Rattle.sqlite_rules.proofs.PlaceLemmas.{next_is_free}
 use Rattle.streetmap_batch.specs.Text.{Text}
-use Rattle.streetmap_rows.specs.Holds.{KeyPair, pair_key, has_pair}
+use Rattle.streetmap_rows.specs.Holds.{KeyPair, pair_key, has_pair, HoldsByKey, first_key, is_first, same_text}
 use Rattle.streetmap_geojson.specs.FeatureValue.{FeatureValue}
 use Rattle.streetmap_ledger.specs.State.{State, Collection, with_features}
 use Rattle.streetmap_rows.specs.Tables.{Roots, features, to_collections, to_key, IsOurs}
-use Rattle.streetmap_rows.specs.Holds.{HoldsByKey, first_key, is_first, same_text}
 use Rattle.streetmap_rows.specs.Rows.{AreOf, feature_at, feature_cells, collection_cells, extent_in, seconds_in}
 use Rattle.streetmap_grid.specs.Values.{BoxValue}
 use Rattle.streetmap_rows.proofs.ColumnCasts.{whole_null}
 use Rattle.sqlite_tied.specs.Compute.{everything}
-use Rattle.sqlite_schema.specs.Rules.{parent_key, passes}
 use Rattle.streetmap_rows.proofs.HeldKeys.{cells_of, there, holds_put, holds_same}
 use Rattle.streetmap_rows.proofs.TextKeys.{text_is, text_self, first_is, first_self, pair_is, pair_self, agree_one, agree_two, column_later}
 use Rattle.streetmap_rows.proofs.TablesInSchema.{features_there}
 use Rattle.streetmap_rows.proofs.RowPut.{Put, keeps_unique, refers_after}
-use Rattle.sqlite_rules.specs.Edit.{Applies}
-use Rattle.sqlite_rules.proofs.ListLemmas.{all_has}
 
 pub parent_is : (roots : Roots) (schema : Schema) → IsOurs roots schema → parent_key schema.tables to_collections ≡ Some (to_key roots)
 unfolding everything

@@ -10,7 +10,7 @@ use Rattle.streetmap_ledger.specs.State.{State, Collection, Features, with_featu
 use Rattle.streetmap_ledger.proofs.StatesStay.{put_or_there, was_there}
 use Rattle.streetmap_rows.specs.Stands.{HasTextNames, CanBeRead}
 
--- each feature of a collection can
+-- each feature of a collection can be read
 abbrev pub AllRead : Features → Type 0
 AllRead features = (id : Text) (f : FeatureValue) → get features id ≡ Some f → IsFeature f
 
@@ -50,7 +50,7 @@ module _ (s : State) (read : CanBeRead s) (name : Text) (c : Collection) (collec
   pub delete_read : (id : Text) → CanBeRead (with_features s name c (remove c.features id))
   delete_read id = put_read s read name (record c { features = remove c.features id }) (same (remove c.features id)) (λ q g e. own q g (was_there c.features id q g e))
 
--- a collection that is opened, under readable names
+-- a collection that is opened, whose names are texts
 pub open_read : (s : State) (name title : Text) (time : Option Text) → CanBeRead s → IsUtf8 name → IsUtf8 title → IfSome time IsUtf8 → CanBeRead (opened s name title time)
 open_read s name title time read id words property =
     put_read s read name (record { title = title; time = time; features = empty }) (record { id = id; title = words; time = property }) (λ q g e. let none = sym (get-empty text_cmp q) ∙ e in absurd (cc))

@@ -1,6 +1,6 @@
 -- The rows of the tables are those of a state.
-use Rattle.std.specs.Prelude.{ℤ, [], ◌∷◌, Option, None, Some, option_map, option_and_then, pos}
-use Rattle.std.specs.Prelude.{codes, if◌then◌else◌}
+use Rattle.std.specs.Prelude.{ℤ, [], ◌∷◌, Option, None, Some, option_map, option_and_then}
+use Rattle.std.specs.Prelude.{pos, codes, if◌then◌else◌}
 use Rattle.std.specs.FinMap.{get}
 use Rattle.serde_json.specs.Written.{compact_text}
 use Rattle.sqlite.specs.declared.types.Value.TheVariants.{Int, Text as Words}
@@ -15,8 +15,7 @@ use Rattle.streetmap_feature_text.specs.Written.{feature_data}
 use Rattle.streetmap_batch.specs.Text.{Text}
 use Rattle.streetmap_ledger.specs.State.{State, Collection, AcceptedBatch}
 use Rattle.streetmap_rows.specs.Holds.{HoldsByKey, same_text, first_key, is_first}
-use Rattle.streetmap_rows.specs.Holds.{KeyPair, pair_key}
-use Rattle.streetmap_rows.specs.Holds.{has_pair}
+use Rattle.streetmap_rows.specs.Holds.{KeyPair, pair_key, has_pair}
 use Rattle.streetmap_rows.specs.Tables.{Roots}
 
 -- the feature of a state by its collection and its id
@@ -68,7 +67,7 @@ pub record AreOf (s : State) (roots : Roots) (db : Trees) : Type 0 where
   pub format : HoldsByKey first_key is_first meta_cells (db roots.meta)
   pub collections : HoldsByKey first_key is_first (λ name.
       option_map (collection_cells name) (get s.collections name)) (db roots.collections)
-  pub batches : HoldsByKey first_key is_first (λ key. option_map (batch_cells key) (get s.keys key))
-      (db roots.batches)
+  pub batches : HoldsByKey first_key is_first (λ key.
+      option_map (batch_cells key) (get s.keys key)) (db roots.batches)
   pub features : HoldsByKey pair_key has_pair (λ p. option_map (feature_cells p) (feature_at s p))
       (db roots.features)
