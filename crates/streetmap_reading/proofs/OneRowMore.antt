@@ -57,15 +57,14 @@ wider_bounds rows row old extent new held reads both fs is fine =
     let P : List PositionValue → Type 0 = λ vs. AreBounds vs new in
     subst P (flat_map_more feature_vertices [] end.before end.last ∙ ap all_vertices (sym end.is)) (both (all_vertices end.before) (feature_vertices end.last) (held end.before end.rest all.0) own)
 
--- a row is not taken that no readable rows have
-pub not_taken : (HasTextNames : Row → Type 0) (rows : List Row) (row : Row) (fault : ReadFault)
-    → Refuses (Unit {0}) fault → (HasTextNames row → IsForMemory fault)
-    → Refuses ((later : List Row) → AllByRecursion HasTextNames ((rows ++ row ∷ []) ++ later) → ⊥)
-    fault
-not_taken HasTextNames rows row Memory refuses reads = tt
-not_taken HasTextNames rows row Unread refuses reads = λ later all.
-    absurd (let clash = reads (one_of HasTextNames rows row later all) in cc)
-not_taken HasTextNames rows row (Store e) refuses reads = refuses
+-- a row is not taken that no good rows have
+pub not_taken : (IsGood : Row → Type 0) (rows : List Row) (row : Row) (fault : ReadFault)
+    → Refuses (Unit {0}) fault → (IsGood row → IsForMemory fault)
+    → Refuses ((later : List Row) → AllByRecursion IsGood ((rows ++ row ∷ []) ++ later) → ⊥) fault
+not_taken IsGood rows row Memory refuses reads = tt
+not_taken IsGood rows row Unread refuses reads = λ later all.
+    absurd (let clash = reads (one_of IsGood rows row later all) in cc)
+not_taken IsGood rows row (Store e) refuses reads = absurd refuses
 
 -- ---- what is told of a collection
 

@@ -172,8 +172,8 @@ module _ (db : Database) (s : State) (kept : Keeps s db) where
   pub found_each : AllByRecursion (λ (e : Text × Collection). get s.collections e.0 ≡ Some e.1) (entries s.collections)
   found_each = all_from _ (entries s.collections) (λ e h. get-entries s.collections e.0 ∙ find_has (entries s.collections) e.0 e.1 (entries_sorted s.collections) h)
 
-  pub readable_each : AllByRecursion (λ (e : Text × Collection). HasTextNames e.0 e.1) (entries s.collections)
-  readable_each = all_from _ (entries s.collections) (λ e h. kept.rows.readable.collections e.0 e.1 (all_has _ (entries s.collections) e found_each h))
+  pub names_each : AllByRecursion (λ (e : Text × Collection). HasTextNames e.0 e.1) (entries s.collections)
+  names_each = all_from _ (entries s.collections) (λ e h. kept.rows.readable.collections e.0 e.1 (all_has _ (entries s.collections) e found_each h))
 
   pub head_rows : AllByRecursion IsHeadRow (map (λ e. collection_cells e.0 e.1) (entries s.collections))
-  head_rows = all_from IsHeadRow _ (λ r h. let e = mapped_has (λ (e : Text × Collection). collection_cells e.0 e.1) (entries s.collections) r h in record { id = e.0.0; collection = e.0.1; fine = all_has _ (entries s.collections) e.0 readable_each e.1; is = e.2 })
+  head_rows = all_from IsHeadRow _ (λ r h. let e = mapped_has (λ (e : Text × Collection). collection_cells e.0 e.1) (entries s.collections) r h in record { id = e.0.0; collection = e.0.1; fine = all_has _ (entries s.collections) e.0 names_each e.1; is = e.2 })

@@ -9,7 +9,7 @@ use Rattle.sqlite.specs.Held.{Held, state}
 use Rattle.sqlite.specs.State.{State as Seen, IsUnchanged, FailsToQuery}
 use Rattle.sqlite.proofs.Callers.{given_begin, unchanged_then}
 use Rattle.streetmap_rows.specs.Failing.{IsOfStore, HasReason}
-use Rattle.streetmap_rows.proofs.ErrorReasons.{other, queried, reason_on}
+use Rattle.streetmap_rows.proofs.ErrorReasons.{queried, reason_on}
 use Rattle.streetmap_rows.specs.declared.fault.ReadFault.{ReadFault}
 use Rattle.streetmap_rows.specs.declared.fault.ReadFault.TheVariants.{Memory, Store, Unread}
 use Rattle.streetmap_reading.specs.Seeing.{IsSimpleIn, QueryShows, QueryIsRefused}
@@ -69,11 +69,7 @@ module _ {F : Type 0} (Holds : F → F → List Row → Type 0) (IsGood : F → 
       let first = given_begin g sql params new rows given in
       let begins = begins_there sql params mid mid (state g old) simple same.0.now_is rows first in
       ((rows, begins, h), same)
-  stops_at g old new start rows simple same given (Store e) h = (
-    λ of. absurd (of h.0),
-    inl same,
-    other (state g old) (state g new) e h.1,
-  )
+  stops_at g old new start rows simple same given (Store e) h = absurd h
 
   pub stops_on : (start : F) (a b c : Seen) (fault : ReadFault) → IsSimpleIn a.now.schema sql
       → IsUnchanged a b → b.step_limit ≡ a.step_limit → a.faults ≤ b.faults → b.faults ≤ c.faults

@@ -1,12 +1,12 @@
 -- What taking the rows of a query one after the other does, whatever they are.
-use Rattle.std.specs.Prelude.{◌≡◌, ◌⊎◌, ℕ, List, [], ◌∷◌, ◌++◌, Bool, true, false, Result}
-use Rattle.std.specs.Prelude.{MatchResult}
+use Rattle.std.specs.Prelude.{◌≡◌, ◌⊎◌, ℕ, List, [], ◌∷◌, ◌++◌, Bool, true}
+use Rattle.std.specs.Prelude.{false, Result, MatchResult}
 use Rattle.sqlite.specs.Order.{Row}
 use Rattle.sqlite.specs.Store.{Ghosts}
 use Rattle.sqlite.specs.Given.{HasGiven}
 use Rattle.sqlite.specs.Held.{Held, state}
 use Rattle.sqlite.specs.State.{State as Seen, IsUnchanged, IsRolledBack}
-use Rattle.streetmap_rows.specs.Failing.{IsOfStore, SparesDisk, HasReason}
+use Rattle.streetmap_rows.specs.Failing.{IsOfStore, HasReason}
 use Rattle.streetmap_rows.specs.declared.fault.ReadFault.{ReadFault}
 use Rattle.streetmap_rows.specs.declared.fault.ReadFault.TheVariants.{Memory, Store, Unread}
 use Rattle.streetmap_reading.specs.Seeing.{IsSimpleIn, QueryShows, QueryBegins, QueryIsRefused}
@@ -15,17 +15,18 @@ use Rattle.streetmap_reading.specs.Seeing.{IsSimpleIn, QueryShows, QueryBegins, 
 abbrev pub IsForMemory : ReadFault → Type 0
 IsForMemory fault = fault ≡ Memory
 
--- it gave up for memory, or for the store with no word of the disk, or for this reason
+-- a row that was given is refused for memory, or for this reason, and never for the store
 abbrev pub Refuses : Type 0 → ReadFault → Type 0
 Refuses why Memory = Unit {0}
 Refuses why Unread = why
-Refuses why (Store e) = IsOfStore e × SparesDisk e
+Refuses why (Store e) = ⊥
 
 -- nothing changed, or the transaction was undone
 abbrev pub IsSameOrUndone : Seen → Seen → Type 0
 IsSameOrUndone old new = IsUnchanged old new ⊎ IsRolledBack old new
 
-module _ {F : Type 0} (Holds : F → F → List Row → Type 0) (IsGood : F → List Row → Type 0) where
+module _ {F : Type 0} (Holds : F → F → List Row → Type 0)
+    (IsGood : F → List Row → Type 0) where
   -- no good rows begin with these
   abbrev pub AreWrong : F → List Row → Type 0
   AreWrong start rows = (later : List Row) → IsGood start (rows ++ later) → ⊥
@@ -47,7 +48,8 @@ module _ {F : Type 0} (Holds : F → F → List Row → Type 0) (IsGood : F → 
       × HasReason old new e
 
   -- all rows that the query shows were taken
-  abbrev pub TakesAll : List ℕ → Row → Seen → Seen → F → F → Result (Unit {0}) ReadFault → Type 0
+  abbrev pub TakesAll : List ℕ → Row → Seen → Seen → F → F
+      → Result (Unit {0}) ReadFault → Type 0
   TakesAll sql params old new before after result =
       IsSimpleIn old.now.schema sql → Holds before before []
       → MatchResult result (λ _. ((rows : List Row) × QueryShows sql params old rows
@@ -55,7 +57,8 @@ module _ {F : Type 0} (Holds : F → F → List Row → Type 0) (IsGood : F → 
 
   module _ {S : Type 0} (g : Ghosts S) where
     -- one row more was taken, or there was none
-    abbrev pub TookNext : List ℕ → Row → F → List Row → Held S → Held S → F → Bool → Type 0
+    abbrev pub TookNext : List ℕ → Row → F → List Row → Held S → Held S → F → Bool
+        → Type 0
     TookNext sql params start done old new fold true = (row : Row)
         × HasGiven g sql params new (done ++ row ∷ []) × Holds start fold (done ++ row ∷ [])
     TookNext sql params start done old new fold false = QueryShows sql params (state g old) done

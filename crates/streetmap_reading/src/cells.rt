@@ -1,6 +1,7 @@
 //! What stands in the cells of a row.
-ghost use Rattle.std.specs.Prelude.{◌≡◌, ℤ, ◌+◌, ◌^◌, ◌<◌, Option, Ok, length, MatchResult, IfSome};
-ghost use Rattle.std.specs.Prelude.{IsUtf8, IfErr, option_map, string_bytes};
+ghost use Rattle.std.specs.Prelude.{◌≡◌, ℤ, ◌+◌, ◌^◌, ◌<◌, Option, Ok, length};
+ghost use Rattle.std.specs.Prelude.{MatchResult, IfSome, IsUtf8, IfErr, option_map};
+ghost use Rattle.std.specs.Prelude.{string_bytes};
 ghost use Rattle.sqlite.specs.Order.{column};
 ghost use Rattle.sqlite.specs.Values.{or_null};
 ghost use Rattle.sqlite.specs.declared.types.Value.TheVariants.{Int, Text as Words};
@@ -15,21 +16,38 @@ use sqlite::types::ValueRef;
 use streetmap_grid::GridBox;
 use streetmap_rows::{ReadFault, unread};
 
-/// The text in a cell.
+/// The text in a cell of a row, the first of which is at 0.
+///
+/// # Errors
+///
+/// `Memory` where memory was refused, and `Unread` where there is no such cell, or no text in UTF-8
+/// stands in it.
 pub fn text_at(row: &Row, at: usize) -> Result<String, ReadFault>
-    ensures reads { (t : Text) → at < length row.now → column row.now at ≡ Words t → IsUtf8 t
-        → MatchResult result (λ text. string_bytes text ≡ t) IsForMemory }
+    ensures reads { (t : Text) → at < length row.now → column row.now at ≡ Words t
+        → IsUtf8 t → MatchResult result (λ text. string_bytes text ≡ t) IsForMemory }
     ensures refuses { IfErr result (Refuses (Unit {0})) }
+    ensures exact { MatchResult result (λ text. (at < length row.now)
+        × (column row.now at ≡ Words (string_bytes text))) (Refuses (at < length row.now
+        → (t : Text) → column row.now at ≡ Words t → IsUtf8 t → ⊥)) }
 {
     row.get::<String>(at).map_err(|error| unread(error))
 }
 
-/// The text in a cell, or none.
+/// The text in a cell of a row, or none where it is NULL.
+///
+/// # Errors
+///
+/// `Memory` where memory was refused, and `Unread` where there is no such cell, or neither a text
+/// in UTF-8 nor NULL stands in it.
 pub fn text_if_at(row: &Row, at: usize) -> Result<Option<String>, ReadFault>
-    ensures reads { (t : Option Text) → at < length row.now → column row.now at ≡ or_null Words t
-        → IfSome t IsUtf8 → MatchResult result (λ text. option_map string_bytes text
-        ≡ t) IsForMemory }
+    ensures reads { (t : Option Text) → at < length row.now
+        → column row.now at ≡ or_null Words t → IfSome t IsUtf8
+        → MatchResult result (λ text. option_map string_bytes text ≡ t) IsForMemory }
     ensures refuses { IfErr result (Refuses (Unit {0})) }
+    ensures exact { MatchResult result (λ text. (at < length row.now)
+        × (column row.now at ≡ or_null Words (option_map string_bytes text)))
+        (Refuses (at < length row.now → (t : Option Text)
+        → column row.now at ≡ or_null Words t → IfSome t IsUtf8 → ⊥)) }
 {
     row.get::<Option<String>>(at).map_err(|error| unread(error))
 }

@@ -19,7 +19,7 @@ pub trait RowFold {
     ghost is_good: { Self → List Cells → Type 0 };
 
     /// Takes the row that comes next; `Unread` where no good rows begin with it behind those
-    /// before.
+    /// before, and `Memory` where memory was refused or a count had no number left.
     fn take(&mut self, row: &Row) -> Result<(), ReadFault>
         ensures { TakesRow holds is_good row.now self.old self.new result };
 }
@@ -28,8 +28,8 @@ pub trait RowFold {
 fn take_next<S: Alter, F: RowFold>(rows: &mut Rows<'_, S>, fold: &mut F) -> Result<bool, ReadFault>
     ensures same_reference { rows.new.conn.ghost_name ≡ rows.old.conn.ghost_name }
     ensures takes { HasCleanDisk (state S.Store rows.new.conn.now)
-        → TakesNext F.holds F.is_good S.Store rows.old.conn.now rows.new.conn.now fold.old fold.new
-        result }
+        → TakesNext F.holds F.is_good S.Store rows.old.conn.now rows.new.conn.now fold.old
+        fold.new result }
     ensures mode { rows.old.conn.now.in_transaction ≡ false
         → rows.new.conn.now.in_transaction ≡ false }
     ensures survives { Survives (state S.Store rows.old.conn.now) (state S.Store rows.new.conn.now)
@@ -50,8 +50,8 @@ fn take_next<S: Alter, F: RowFold>(rows: &mut Rows<'_, S>, fold: &mut F) -> Resu
 fn take_rest<S: Alter, F: RowFold>(rows: &mut Rows<'_, S>, fold: &mut F) -> Result<(), ReadFault>
     ensures same_reference { rows.new.conn.ghost_name ≡ rows.old.conn.ghost_name }
     ensures takes { HasCleanDisk (state S.Store rows.new.conn.now)
-        → TakesRest F.holds F.is_good S.Store rows.old.conn.now rows.new.conn.now fold.old fold.new
-        result }
+        → TakesRest F.holds F.is_good S.Store rows.old.conn.now rows.new.conn.now fold.old
+        fold.new result }
     ensures mode { rows.old.conn.now.in_transaction ≡ false
         → rows.new.conn.now.in_transaction ≡ false }
     ensures survives { Survives (state S.Store rows.old.conn.now) (state S.Store rows.new.conn.now)
@@ -71,7 +71,8 @@ fn take_rest<S: Alter, F: RowFold>(rows: &mut Rows<'_, S>, fold: &mut F) -> Resu
 /// # Errors
 ///
 /// `Unread` at the first row with which no good rows begin, `Memory` where memory was refused while
-/// a row was taken, and `Store` where the statement failed, by its error.
+/// a row was taken or a count had no number left, and `Store` where the statement failed, by its
+/// error.
 pub fn fold_rows<S: Alter, F: RowFold>(
     conn: &mut Connection<S>,
     sql: &str,

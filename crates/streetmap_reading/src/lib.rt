@@ -17,7 +17,8 @@
 //! `serial`, the second in one scan that stops where the room is full.
 //!
 //! `fold_rows` hands the rows of any query of any tables, one after the other, to a `RowFold`: a
-//! type that says what it holds of rows, and which rows are good.
+//! type that says what it holds of rows, and which rows are good. `text_at` and `text_if_at` read a
+//! text of any such row.
 //!
 //! In the order of reading: `candidates` (rows of a query, one after the other), `page`, `feature`;
 //! `cells` (a value of a row), `fold` (rows taken one by one), `extents`, `summaries`, `outlines`;
@@ -37,6 +38,7 @@ mod scanning;
 mod summaries;
 
 pub use batches::{batch_of, batches_of};
+pub use cells::{text_at, text_if_at};
 pub use feature::feature_of;
 pub use fold::{RowFold, fold_rows};
 pub use outlines::outlines_of;

@@ -9,7 +9,7 @@ use std::alloc::{AllocError, AllocFailed};
 /// Why a look into the tables gave up.
 #[derive(Drop)]
 pub enum ReadFault {
-    /// Memory was refused while a row was read.
+    /// Memory was refused while a row was read, or a count of rows had no number left.
     Memory,
     /// A statement failed.
     Store(Error),

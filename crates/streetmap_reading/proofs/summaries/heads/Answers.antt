@@ -15,7 +15,7 @@ use Rattle.streetmap_reading.proofs.PageStatements.{stays_by, survives_any}
 use Rattle.streetmap_reading.specs.Held.{head_of, HoldsHeads}
 use Rattle.streetmap_reading.specs.Views.{IsHeadRow}
 use Rattle.streetmap_reading.proofs.RowsInTurn.{none_mapped}
-use Rattle.streetmap_reading.proofs.ShownOutlines.{collections_at, readable_each, head_rows}
+use Rattle.streetmap_reading.proofs.ShownOutlines.{collections_at, names_each, head_rows}
 use Rattle.streetmap_reading.proofs.summaries.heads.Goals as goal
 
 pub returns-clause-shows : goal.returns-clause-shows
@@ -31,7 +31,7 @@ returns-clause-shows g c clean = λ s limit keeps.
     (head_rows _ s keeps) (Ok tt)
     (c.in_ok-fold_rows.ensures.takes clean)
     (λ es is fine. none ∙ sym (ap (map told_of) (none_mapped cells es is))) in
-    (took.0 (entries s.collections) refl (readable_each _ s keeps), took.1)
+    (took.0 (entries s.collections) refl (names_each _ s keeps), took.1)
 
 pub returns-in_err-fold_rows-clause-shows : goal.returns-in_err-fold_rows-clause-shows
 returns-in_err-fold_rows-clause-shows g c clean = λ s limit keeps.
