@@ -30,8 +30,7 @@ use Rattle.streetmap_rows.proofs.NamedTables.{IsFound}
 use Rattle.streetmap_rows.proofs.HeldKeys.{holds_put, holds_same}
 use Rattle.streetmap_rows.proofs.TextKeys.{first_is, first_self}
 use Rattle.streetmap_rows.proofs.Resolving.{command_is, is_plain, is_fit}
-use Rattle.streetmap_rows.proofs.Meaning.{Insertion, IsInsert, InsertMeans, quoted, terms_of}
-use Rattle.streetmap_rows.proofs.Meaning.{insert_means}
+use Rattle.streetmap_rows.proofs.Meaning.{Insertion, IsInsert, InsertMeans, quoted, terms_of, insert_means}
 use Rattle.streetmap_rows.proofs.InsertRuns as run
 use Rattle.sqlite.proofs.StateLemmas.{refers_if_sound}
 use Rattle.streetmap_rows.specs.Failing.{IsOfStore}

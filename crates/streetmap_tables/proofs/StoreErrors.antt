@@ -10,11 +10,11 @@ use Rattle.streetmap_rows.specs.declared.failing.Shut.{Shut}
 use Rattle.streetmap_rows.specs.declared.failing.Shut.TheVariants.{Device, Damaged}
 use Rattle.streetmap_tables.specs.Acting.{IsToldByStore}
 
-pub told_by_cause : (e : Error) (cause : Shut) → IsCause e cause → IsToldByStore (Closed cause)
-told_by_cause e (Device x) h = subst IsOfStore (sym h.0) h.1
-told_by_cause e Damaged h = tt
+pub of_cause : (e : Error) (cause : Shut) → IsCause e cause → IsToldByStore (Closed cause)
+of_cause e (Device x) h = subst IsOfStore (sym h.0) h.1
+of_cause e Damaged h = tt
 
-pub told_settled : (e : Error) (old new : Seen) (stop : Stop) → Settles e old new stop → IsToldByStore stop
-told_settled e old new Memory h = tt
-told_settled e old new (Closed (Device x)) h = h.0
-told_settled e old new (Closed Damaged) h = tt
+pub of_stop : (e : Error) (old new : Seen) (stop : Stop) → Settles e old new stop → IsToldByStore stop
+of_stop e old new Memory h = tt
+of_stop e old new (Closed (Device x)) h = h.0
+of_stop e old new (Closed Damaged) h = tt

@@ -1,7 +1,7 @@
 -- Format 1: the tables, and the rows of a state in them. It differs from format 2 in the number of
 -- its format row, and in that the features have no extent and no seconds.
-use Rattle.std.specs.Prelude.{◌≡◌, ◌⊎◌, ℕ, not, true, [], ◌∷◌, codes, Option, None, Some}
-use Rattle.std.specs.Prelude.{option_map, pos, IsTrue, if◌then◌else◌}
+use Rattle.std.specs.Prelude.{◌≡◌, ◌⊎◌, ℕ, not, true, [], ◌∷◌, codes, Option}
+use Rattle.std.specs.Prelude.{None, Some, option_map, pos, IsTrue, if◌then◌else◌}
 use Rattle.std.specs.List.{AllByRecursion, list_any, list_all}
 use Rattle.std.specs.FinMap.{get}
 use Rattle.sqlite.specs.declared.types.Value.TheVariants.{Int, Text as Words}
@@ -20,8 +20,7 @@ use Rattle.streetmap_batch.specs.Text.{Text}
 use Rattle.streetmap_ledger.specs.State.{State}
 use Rattle.streetmap_ledger.specs.WellFormed.{IsState}
 use Rattle.streetmap_rows.specs.Holds.{HoldsByKey, same_text, first_key, is_first}
-use Rattle.streetmap_rows.specs.Holds.{KeyPair, pair_key}
-use Rattle.streetmap_rows.specs.Holds.{has_pair}
+use Rattle.streetmap_rows.specs.Holds.{KeyPair, pair_key, has_pair}
 use Rattle.streetmap_rows.specs.Shapes.{text_column, plain_table}
 use Rattle.streetmap_rows.specs.Tables.{Roots, IsNamed, IsKey, to_key, to_collections, meta}
 use Rattle.streetmap_rows.specs.Tables.{collections, batches, meta_name, collections_name}
@@ -49,8 +48,8 @@ pub record WereOurs (roots : Roots) (schema : Schema) : Type 0 where
   pub guarded : list_any (is_index_for (to_key roots)) schema.indexes ≡ true
   pub on_collections : (i : Index) → Has schema.indexes i → i.table ≡ roots.collections
       → IsKey i (1 ∷ [])
-  pub on_batches : (i : Index) → Has schema.indexes i → i.table ≡ roots.batches → IsKey i (1 ∷ [])
-      ⊎ IsKey i (7 ∷ [])
+  pub on_batches : (i : Index) → Has schema.indexes i → i.table ≡ roots.batches
+      → IsKey i (1 ∷ []) ⊎ IsKey i (7 ∷ [])
   pub free : AllByRecursion (λ t.
       list_all (λ ref. not (same_name meta_name ref.parent)) t.references ≡ true) schema.tables
 
@@ -70,8 +69,8 @@ pub record WereOf (s : State) (roots : Roots) (db : Trees) : Type 0 where
   pub format : HoldsByKey first_key is_first old_meta_cells (db roots.meta)
   pub collections : HoldsByKey first_key is_first (λ name.
       option_map (collection_cells name) (get s.collections name)) (db roots.collections)
-  pub batches : HoldsByKey first_key is_first (λ key. option_map (batch_cells key) (get s.keys key))
-      (db roots.batches)
+  pub batches : HoldsByKey first_key is_first (λ key.
+      option_map (batch_cells key) (get s.keys key)) (db roots.batches)
   pub features : HoldsByKey pair_key has_pair (λ p. option_map (old_cells p) (feature_at s p))
       (db roots.features)
 

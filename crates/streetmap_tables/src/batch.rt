@@ -115,7 +115,7 @@ fn act_by_key<S: Alter>(
 /// refused, and before a reply that changed nothing is told, the connection is looked at by
 /// `probe`: where that look fails it is `Closed(Device(error))` by the error of the look, which may
 /// be that memory was refused to it.
-#[tactic(auto, using(crate::proofs::StoreErrors::told_by_cause, crate::proofs::StoreErrors::told_settled))]
+#[tactic(auto, using(crate::proofs::StoreErrors::of_cause, crate::proofs::StoreErrors::of_stop))]
 pub fn apply_batch<S: Alter>(
     alloc: Global,
     conn: &mut Connection<S>,
