@@ -28,7 +28,7 @@ or_nothing (Err fault) = record { id = []; geometry = None; properties = null; t
 unfoldable pub unpacked : List ℕ → Option IntervalValue → FeatureValue
 unpacked text time = retimed (or_nothing (feature_in_text text)) time
 
--- the part of the text is this
+-- the part lies within the text, and has these bytes
 pub record IsPartOf (part : Part) (text part_text : List ℕ) : Type 0 where
   pub forward : part.start ≤ part.end
   pub within : part.end ≤ length text

@@ -7,7 +7,7 @@ use Rattle.streetmap_ledger.specs.Pages.{selects, selected, candidates, comes_af
 use Rattle.streetmap_ledger.specs.Pages.{saturated}
 use Rattle.streetmap_ledger.specs.declared.fold.PageFold.{PageFold}
 
--- the page of these features, as far as it is known
+-- a fold of these features: their page, as far as it is known
 pub record IsFoldOf (q : QueryValue) (fold : PageFold) (fs : List FeatureValue) : Type 0 where
   pub asks : query_value fold.query.now ≡ q
   pub shown : fold.features.items ≡ take q.limit (rest_of q fs)

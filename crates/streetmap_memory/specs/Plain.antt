@@ -35,13 +35,13 @@ IsOutcome o reply collections keys = (reply ≡ o.reply)
 pub never_shut : {B : Type 0} → IsSome {T = Cause} None → B
 never_shut shut = absurd (subst (λ b. T (not b)) shut tt)
 
--- the plain keeper stands for the state of its maps, which is well-formed, and for no other
-pub record StandsPlainly (k : PlainKeeper) (s : State) : Type 0 where
+-- the state that the plain keeper stands for: that of its maps, which is well-formed
+pub record IsPlainState (k : PlainKeeper) (s : State) : Type 0 where
   pub is : plain_state k ≡ s
   pub sound : IsState s
 
 -- it stands for one state
-pub one_plain : (k : PlainKeeper) (s t : State) → StandsPlainly k s → StandsPlainly k t → s ≡ t
+pub one_plain : (k : PlainKeeper) (s t : State) → IsPlainState k s → IsPlainState k t → s ≡ t
 one_plain k s t p q = sym p.is ∙ q.is
 
 -- a stop leaves the state that it stands for
@@ -49,5 +49,5 @@ abbrev pub PlainLeaves : PlainKeeper → Option State → Type 0
 PlainLeaves k o = o ≡ Some (plain_state k)
 
 -- a stop may leave that state
-pub leaves_it : (k : PlainKeeper) (s : State) → StandsPlainly k s → PlainLeaves k (Some s)
+pub leaves_it : (k : PlainKeeper) (s : State) → IsPlainState k s → PlainLeaves k (Some s)
 leaves_it k s p = ap (λ t. Some t) (sym p.is)

@@ -20,7 +20,7 @@ ghost use Rattle.streetmap_ledger.specs.OutlineView.{feature_outline_values};
 ghost use Rattle.streetmap_ledger.specs.declared.outline.FeatureOutline.{FeatureOutline};
 ghost use Rattle.streetmap_ledger.specs.Summaries.{summary_in, summaries_in};
 ghost use Rattle.streetmap_ledger.specs.SummaryView.{summary_value, summary_values};
-ghost use Rattle.streetmap_memory.specs.Plain.{plain_state, outcome_of, IsOutcome, StandsPlainly};
+ghost use Rattle.streetmap_memory.specs.Plain.{plain_state, outcome_of, IsOutcome, IsPlainState};
 ghost use Rattle.streetmap_ledger.specs.declared.reply.Fault.TheVariants.{Memory};
 
 use crate::batches::batch_with;
@@ -115,7 +115,7 @@ fn accept(
 impl PlainKeeper {
     /// A keeper that stands for the opening state.
     pub fn new(alloc: Global) -> Self
-        ensures { StandsPlainly result opening_state }
+        ensures { IsPlainState result opening_state }
     {
         PlainKeeper {
             alloc,
@@ -233,10 +233,10 @@ impl PlainKeeper {
 }
 
 impl Keeper for PlainKeeper {
-    ghost use Rattle.streetmap_memory.specs.Plain.{StandsPlainly, PlainLeaves, one_plain};
+    ghost use Rattle.streetmap_memory.specs.Plain.{IsPlainState, PlainLeaves, one_plain};
     ghost use Rattle.streetmap_memory.specs.Plain.{leaves_it, never_shut};
 
-    ghost stands = { StandsPlainly };
+    ghost stands = { IsPlainState };
 
     ghost may_leave = { PlainLeaves };
 

@@ -13,7 +13,7 @@ pub record NumberText : Type 0 where
   pub digits : List ℕ
   pub zeros : ℕ
 
--- 1 to 19 decimal digits
+-- it has 1 to 19 digits, all decimal
 pub record HasFewDigits (n : NumberText) : Type 0 where
   pub decimal : IsTrue (all_ascii_digits n.digits)
   pub some : 1 ≤ length n.digits
