@@ -12,13 +12,13 @@ use Rattle.streetmap_checking.specs.Telling.{IsNotShown, is_refused, begins_badl
 use Rattle.streetmap_checking.specs.Good.{AreFeatureRows}
 use Rattle.streetmap_checking.specs.Statements.{select_features, select_owners, select_batches}
 use Rattle.streetmap_rows.specs.Statements.{select_collections}
-use Rattle.streetmap_rows.proofs.ErrorReasons.{other, reason_on}
+use Rattle.streetmap_rows.proofs.ErrorReasons.{reason_on}
 use Rattle.streetmap_checking.proofs.Simple.{IsSimpleQuery, features_simple, collections_simple}
 use Rattle.streetmap_checking.proofs.Simple.{owners_simple, batches_simple}
 use Rattle.sqlite.specs.declared.types.Value.TheVariants.{Text as Words}
 use Rattle.streetmap_reading.proofs.Seeing.{begins_there}
 use Rattle.streetmap_reading.proofs.Stopping.{sees_on, unseen_on}
-use Rattle.streetmap_checking.proofs.Undone.{unchanged_was, undone_was, was_then}
+use Rattle.streetmap_checking.proofs.Undone.{undone_was, was_then}
 
 -- what a fold that stopped tells
 pub stopped : {F : Type 0} (Holds : F → F → List Row → Type 0) (IsGood : F → List Row → Type 0) (sql : List ℕ) (params : Row) (start : F) (Good : List Row → Type 0) → ((rows : List Row) → Good rows → IsGood start rows)
@@ -86,8 +86,7 @@ all_features_on (head ∷ heads) count a b same h = (h.0, h.1, features_on head 
 pub stopped_then : (why : Type 0) (old new : Seen) (fault : ReadFault) → IsUnchanged old new → Refuses ⊥ fault → TellsWhy why old new fault
 stopped_then why old new Memory same h = same
 stopped_then why old new Unread same h = absurd h
-stopped_then why old new (Store e) same h =
-    ((λ of. absurd (of h.0)), unchanged_was old new same, other old new e h.1)
+stopped_then why old new (Store e) same h = absurd h
 
 pub no_features_all_on : (heads : List Known) (a b : Seen) → IsUnchanged a b → b.step_limit ≡ a.step_limit → NoFeaturesOfAll heads b → NoFeaturesOfAll heads a
 no_features_all_on heads a b same limit h = (h.0, h.1, no_features_on h.0 a b same limit h.2)

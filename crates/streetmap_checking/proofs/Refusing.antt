@@ -1,11 +1,10 @@
 -- Why something is not taken.
 use Rattle.std.proofs.Common.{◌≡◌, ◌<◌, ℕ, List, [], ◌∷◌, Bool, true, Option, None, Some, Ok, Err, Result, IsTrue, IfSome, IsUtf8, sym, ap, subst, arith}
-use Rattle.std.specs.List.{list_all}
+use Rattle.std.specs.List.{list_all, All}
 use Rattle.std.proofs.lemmas.Bool.{and_parts}
 use Rattle.std.proofs.lemmas.Str.{is_utf8-from_IsUtf8, IsUtf8-from_is_utf8, IsUtf8-from_ascii}
 use Rattle.std.proofs.lemmas.Str.Ascii.{IsAscii-from_all}
 use Rattle.std.proofs.lemmas.List.Elements.{All-nil, All-cons}
-use Rattle.std.specs.List.{All}
 use Rattle.std.proofs.lemmas.Grind.{common_steps}
 use Rattle.streetmap_geojson.specs.Times.{IsTimeOf, as_fault, time_of}
 use Rattle.streetmap_geojson.proofs.Timing.{time_again}
@@ -22,7 +21,7 @@ use Rattle.streetmap_reading.specs.Folding.{Refuses}
 pub refuses_for : (P Q : Type 0) (fault : ReadFault) → (P → Q) → Refuses P fault → Refuses Q fault
 refuses_for P Q Memory turn h = h
 refuses_for P Q Unread turn h = turn h
-refuses_for P Q (Store e) turn h = h
+refuses_for P Q (Store e) turn h = absurd h
 
 -- ---- texts
 

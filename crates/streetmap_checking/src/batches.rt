@@ -1,6 +1,6 @@
 //! The rows of accepted batches.
-ghost use Rattle.std.specs.Prelude.{◌≡◌, ◌<◌, ◌↔◌, ℕ, pos, length, IsTrue, IfOk, MatchOption};
-ghost use Rattle.std.specs.Prelude.{MatchResult, string_bytes};
+ghost use Rattle.std.specs.Prelude.{◌≡◌, ◌<◌, ◌↔◌, ℕ, pos, length, IsTrue, IfOk};
+ghost use Rattle.std.specs.Prelude.{MatchOption, MatchResult, string_bytes};
 ghost use Rattle.sqlite.specs.Order.{column};
 ghost use Rattle.sqlite.specs.declared.types.Value.TheVariants.{Int};
 ghost use Rattle.streetmap_batch.specs.Text.{Text};
@@ -10,12 +10,12 @@ ghost use Rattle.streetmap_rows.specs.Rows.{batch_cells};
 ghost use Rattle.streetmap_reading.specs.Folding.{Refuses};
 ghost use Rattle.streetmap_checking.specs.Good.{HasNumber, HasBatch, IsAccepted, AreSerials};
 
-use crate::cells::{follows, has_text, text_at};
+use crate::cells::{follows, has_text};
 use sqlite::Row;
 use sqlite::types::ValueRef;
 use std::alloc::{AllocError, Global};
 use streetmap_batch::is_key;
-use streetmap_reading::RowFold;
+use streetmap_reading::{RowFold, text_at};
 use streetmap_rows::ReadFault;
 
 /// How many batches a ledger accepts at most.

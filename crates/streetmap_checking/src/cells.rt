@@ -1,7 +1,6 @@
 //! What stands in the cells of a row, whatever it is.
-ghost use Rattle.std.specs.Prelude.{◌≡◌, ◌↔◌, ◌<◌, ◌+◌, suc, Option, None, Some, length};
-ghost use Rattle.std.specs.Prelude.{MatchResult, IfSome, IsTrue, IsUtf8, option_map};
-ghost use Rattle.std.specs.Prelude.{string_bytes};
+ghost use Rattle.std.specs.Prelude.{◌≡◌, ◌↔◌, ◌<◌, ◌+◌, suc, length, IsTrue};
+ghost use Rattle.std.specs.Prelude.{MatchResult};
 ghost use Rattle.std.specs.Option.{option_copied};
 ghost use Rattle.sqlite.specs.Order.{column};
 ghost use Rattle.sqlite.specs.Values.{or_null};
@@ -10,9 +9,9 @@ ghost use Rattle.streetmap_batch.specs.Text.{Text};
 ghost use Rattle.streetmap_reading.specs.Folding.{Refuses};
 ghost use Rattle.streetmap_checking.specs.Held.{StandsBehind};
 
+use sqlite::Row;
 use sqlite::types::ValueRef;
-use sqlite::{Error, ErrorCode, Row};
-use streetmap_rows::{ReadFault, unread};
+use streetmap_rows::ReadFault;
 
 /// Whether a cell has this text.
 pub fn is_text(row: &Row, at: usize, text: &[u8]) -> bool
@@ -44,25 +43,6 @@ pub fn is_number(row: &Row, at: usize, number: Option<i64>) -> bool
     }
 }
 
-/// The text in a cell.
-pub fn text_at(row: &Row, at: usize) -> Result<String, ReadFault>
-    ensures { MatchResult result (λ text. (at < length row.now)
-        × (column row.now at ≡ Words (string_bytes text))) (Refuses (at < length row.now
-        → (t : Text) → column row.now at ≡ Words t → IsUtf8 t → ⊥)) }
-{
-    row.get::<String>(at).map_err(|error| unread(error))
-}
-
-/// The text in a cell, or none where it is NULL.
-pub fn text_if_at(row: &Row, at: usize) -> Result<Option<String>, ReadFault>
-    ensures { MatchResult result (λ text. (at < length row.now)
-        × (column row.now at ≡ or_null Words (option_map string_bytes text)))
-        (Refuses (at < length row.now → (t : Option Text) → column row.now at ≡ or_null Words t
-        → IfSome t IsUtf8 → ⊥)) }
-{
-    row.get::<Option<String>>(at).map_err(|error| unread(error))
-}
-
 /// Whether a key stands behind the last in byte order.
 pub fn follows(last: Option<&str>, key: &str) -> bool
     ensures { IsTrue result ↔ StandsBehind (option_copied last.entry) key.now }
@@ -73,22 +53,22 @@ pub fn follows(last: Option<&str>, key: &str) -> bool
     }
 }
 
-/// One more than a count; refused where no number is left.
+/// One more than a count; refused as for memory where no number is left.
 pub fn one_more(count: u64) -> Result<u64, ReadFault>
     ensures { MatchResult result (λ more. more ≡ suc count) (Refuses ⊥) }
 {
     match count.checked_add(1) {
         Some(more) => Ok(more),
-        None => Err(ReadFault::Store(Error::SqliteFailure(ErrorCode::TooBig))),
+        None => Err(ReadFault::Memory),
     }
 }
 
-/// The sum of two counts; refused where no number is left.
+/// The sum of two counts; refused as for memory where no number is left.
 pub fn sum_of(one: u64, other: u64) -> Result<u64, ReadFault>
     ensures { MatchResult result (λ sum. sum ≡ one + other) (Refuses ⊥) }
 {
     match one.checked_add(other) {
         Some(sum) => Ok(sum),
-        None => Err(ReadFault::Store(Error::SqliteFailure(ErrorCode::TooBig))),
+        None => Err(ReadFault::Memory),
     }
 }

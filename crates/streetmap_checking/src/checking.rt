@@ -34,7 +34,7 @@ pub enum CheckFault {
     Damaged,
     /// `device`: the store failed, or has no room: the error that told it.
     Device(Error),
-    /// `memory`: memory was refused.
+    /// `memory`: memory was refused, or a count had no number left.
     Memory,
 }
 
@@ -97,8 +97,9 @@ fn look_at_all<S: Alter>(alloc: Global, conn: &mut Connection<S>) -> Result<Tota
 /// # Errors
 ///
 /// `Damaged` where a statement is refused or shows rows that are those of no ledger; `Memory` where
-/// memory was refused and the connection is open; `Device` where the store fails, by its error, or
-/// where memory is refused again while the connection is looked at.
+/// memory was refused, or a count had no number left, and the connection is open; `Device` where
+/// the store fails, by its error, or where memory is refused again while the connection is looked
+/// at.
 pub fn check_tables<S: Alter>(alloc: Global, conn: &mut Connection<S>) -> Result<Totals, CheckFault>
     requires { conn.old.in_transaction ≡ false }
     ensures idle { conn.new.in_transaction ≡ false }

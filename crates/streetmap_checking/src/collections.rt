@@ -1,5 +1,6 @@
 //! The rows of collections.
-ghost use Rattle.std.specs.Prelude.{◌≡◌, ◌↔◌, IsTrue, IfOk, MatchResult, option_map, string_bytes};
+ghost use Rattle.std.specs.Prelude.{◌≡◌, ◌↔◌, IsTrue, IfOk, MatchResult, option_map};
+ghost use Rattle.std.specs.Prelude.{string_bytes};
 ghost use Rattle.std.specs.Option.{option_copied};
 ghost use Rattle.streetmap_batch.specs.Text.{Text};
 ghost use Rattle.streetmap_batch.specs.BatchFacts.{IsTimePropertyIf};
@@ -8,11 +9,11 @@ ghost use Rattle.streetmap_checking.specs.Good.{CollectionHead, head_cells, IsCo
 ghost use Rattle.streetmap_checking.specs.Held.{last_key, known};
 ghost use Rattle.streetmap_checking.specs.Looking.{known_of};
 
-use crate::cells::{follows, text_at, text_if_at};
+use crate::cells::follows;
 use sqlite::Row;
 use std::alloc::AllocError;
 use streetmap_batch::{is_collection_id, is_time_property, is_title};
-use streetmap_reading::RowFold;
+use streetmap_reading::{RowFold, text_at, text_if_at};
 use streetmap_rows::ReadFault;
 
 /// What is kept of a collection while its features are checked.
