@@ -185,7 +185,8 @@ pub fn read_batch(alloc: Global, bytes: &[u8]) -> Result<Batch, BatchFault>
     // What is read is the batch that the bytes are.
     ensures found { IfOk result (λ b. IsBatchText bytes.now (batch_value b)) }
     // The batch that the bytes are is read, unless memory runs out.
-    ensures only { (b : BatchValue) → IsBatchText bytes.now b → Gives batch_value result (Ok b) }
+    ensures only { (b : BatchValue) → IsBatchText bytes.now b
+        → Gives batch_value result (Ok b) }
     // Which refusal it is.
     ensures exact { Gives batch_value result (batch_of bytes.now) }
 {

@@ -27,7 +27,8 @@ const MOST_EDITS: u64 = 10000;
 
 /// The edits, with that of the next place behind them.
 fn with_next(alloc: Global, edits: Edits, value: &Value, place: u64) -> Edits
-    ensures { (ds : List Data) → place ≡ length ds + 1 → Gives edits_view edits (edits_after 0 ds)
+    ensures { (ds : List Data) → place ≡ length ds + 1
+        → Gives edits_view edits (edits_after 0 ds)
         → Gives edits_view result (edits_after 0 (ds ++ view value.now ∷ [])) }
 {
     let mut edits = edits?;

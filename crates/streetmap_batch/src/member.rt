@@ -22,7 +22,8 @@ pub(crate) fn may_have(format: Format, name: &str) -> bool
 }
 
 fn names_pass(format: Format, members: &Map<String, Value>) -> bool
-    ensures { result ≡ list_all (λ name. may_have format (string_bytes name)) (keys members.now) }
+    ensures { result ≡ list_all (λ name. may_have format (string_bytes name))
+        (keys members.now) }
 {
     members.keys().all(|name| may_have(format, name.as_str()))
 }

@@ -62,7 +62,8 @@ fn links_under(alloc: Global, root: &str) -> Result<Value, AllocError>
 /// Want of memory alone.
 #[tactic(auto, unfolding(crate::specs::Bodies::landing_data))]
 pub fn landing_text(alloc: Global, root: &str) -> Result<String, AllocError>
-    ensures { IfOk result (λ text. string_bytes text ≡ compact_text (spec.landing_data root.now)) }
+    ensures { IfOk result (λ text. string_bytes text
+        ≡ compact_text (spec.landing_data root.now)) }
 {
     let links = links_under(alloc, root)?;
     let value = landing_by(alloc, links)?;

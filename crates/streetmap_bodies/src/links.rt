@@ -70,7 +70,8 @@ pub(crate) fn page_href(
     name: &str,
     query: &str,
 ) -> Result<String, AllocError>
-    ensures { IfOk result (λ text. string_bytes text ≡ spec.page_href root.now name.now query.now) }
+    ensures { IfOk result (λ text. string_bytes text
+        ≡ spec.page_href root.now name.now query.now) }
 {
     let mut out = items_href(alloc, root, name)?;
     out.push_str("?")?;
@@ -102,7 +103,8 @@ pub(crate) fn feature_href(
     name: &str,
     id: &str,
 ) -> Result<String, AllocError>
-    ensures { IfOk result (λ text. string_bytes text ≡ spec.feature_href root.now name.now id.now) }
+    ensures { IfOk result (λ text. string_bytes text
+        ≡ spec.feature_href root.now name.now id.now) }
 {
     let mut out = items_href(alloc, root, name)?;
     out.push_str("/")?;

@@ -10,7 +10,8 @@ ghost use Rattle.streetmap_decimal.specs.declared.rounding.Rounding.{Rounding};
 
 /// A text means one mantissa and one exponent at most.
 pub fn text_means_one_decimal()
-    ensures { (text : List ℕ) (m e n f : ℤ) → Means text m e → Means text n f → (m ≡ n) × (e ≡ f) }
+    ensures { (text : List ℕ) (m e n f : ℤ) → Means text m e → Means text n f
+        → (m ≡ n) × (e ≡ f) }
 {}
 
 /// One whole number is the nearest.
@@ -26,14 +27,16 @@ pub fn whole_number_stays()
 
 /// A text comes to one number of the grid, or to one fault: no two of the conditions hold at once.
 pub fn text_is_placed_once()
-    ensures { (shift scale : ℤ) (rounding : Rounding) (text : List ℕ) (r s : Result ℤ DecimalFault)
+    ensures { (shift scale : ℤ) (rounding : Rounding) (text : List ℕ)
+        (r s : Result ℤ DecimalFault)
         → PlacesText shift scale rounding text r → PlacesText shift scale rounding text s → r ≡ s }
 {}
 
 /// What a text comes to is the nearest whole number to its exact value, half away from zero, also
 /// where it has digits behind the 18th decimal place.
 pub fn placed_text_is_nearest()
-    ensures { (shift scale : ℤ) (rounding : Rounding) (text : List ℕ) (g : ℤ) → pos 0 ≤ℤ scale
+    ensures { (shift scale : ℤ) (rounding : Rounding) (text : List ℕ) (g : ℤ)
+        → pos 0 ≤ℤ scale
         → PlacesText shift scale rounding text (Ok g) → IsNearestToText shift scale text g }
 {}
 

@@ -15,7 +15,8 @@ ghost use Rattle.streetmap_feature_text.specs.Written.{feature_data, collection_
 pub fn reads_once()
     ensures once { (time_property : Option (List ℕ)) (d : Data) (f g : FeatureValue)
         → ReadsAs time_property d f → ReadsAs time_property d g → f ≡ g }
-    ensures again { (f : FeatureValue) → IsFeature f → ReadsAs None (feature_data f) (untimed f) }
+    ensures again { (f : FeatureValue) → IsFeature f
+        → ReadsAs None (feature_data f) (untimed f) }
 {}
 
 /// The compact text of what is written for a feature is read as that value: by the JSON reader,

@@ -210,7 +210,8 @@ fn facts_of_each(features: &[Feature])
 }
 
 fn write_features(alloc: Global, features: &[Feature]) -> Result<Value, AllocError>
-    ensures { IfOk result (λ v. view v ≡ array_of feature_data (map feature_value features.now)) }
+    ensures { IfOk result (λ v. view v
+        ≡ array_of feature_data (map feature_value features.now)) }
 {
     let mut written = Vec::with_capacity(alloc, features.len())?;
     for feature in features {
@@ -229,7 +230,8 @@ fn write_whole(alloc: Global, features: &[Feature]) -> Result<Value, AllocError>
 /// The JSON value of a collection of features in their order (RFC 7946, section 3.3), without
 /// their times.
 pub fn write_collection(alloc: Global, features: &[Feature]) -> Result<Value, AllocError>
-    ensures value { IfOk result (λ v. view v ≡ collection_data (map feature_value features.now)) }
+    ensures value { IfOk result (λ v. view v
+        ≡ collection_data (map feature_value features.now)) }
     // What is written reads as those features, their times left out.
     ensures reads_again { IfOk result (λ v.
         AreFeatures None (view v) (map untimed (map feature_value features.now))) }

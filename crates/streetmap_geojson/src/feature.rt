@@ -141,7 +141,8 @@ impl Feature {
     /// where the property is neither absent nor null nor a readable text; the feature is then
     /// unchanged.
     pub fn timed(&mut self, time_property: Option<&str>) -> Result<(), TimeFault>
-        ensures set { IfOk result (λ _. timed (option_map (λ s. s.now) time_property.entry) self.old
+        ensures set { IfOk result (λ _.
+            timed (option_map (λ s. s.now) time_property.entry) self.old
             ≡ Ok self.new) }
         ensures refused { IfErr result (λ e.
             timed (option_map (λ s. s.now) time_property.entry) self.old ≡ Err e) }

@@ -86,7 +86,8 @@ fn arrival_behind(bytes: &[u8], head: usize) -> Arrival
 
 /// What bytes hold of a request, by how many bytes of their front are a head.
 fn arrival_by(bytes: &[u8], head: Option<usize>) -> Arrival
-    requires found { IfSome head (λ len. (len ≤ length bytes.now) × IsHead (take len bytes.now)) }
+    requires found { IfSome head (λ len. (len ≤ length bytes.now)
+        × IsHead (take len bytes.now)) }
     requires none { IfNone head (HasNoHead (take HEAD_LIMIT bytes.now)) }
     ensures { HoldsOf result bytes.now }
 {

@@ -145,7 +145,8 @@ impl Chunk {
     /// Takes the outlines from a place on out, as a chunk of their own with this number.
     pub fn split_off(&mut self, place: usize, number: u32) -> Result<Chunk, AllocError>
         requires { place ≤ length self.old.outlines.items }
-        ensures front { OnOk result (self.new.outlines.items ≡ take place self.old.outlines.items) }
+        ensures front { OnOk result (self.new.outlines.items
+            ≡ take place self.old.outlines.items) }
         ensures behind { IfOk result (λ behind. behind.outlines.items
             ≡ drop place self.old.outlines.items) }
         ensures bounded { IfOk result (λ behind. IsBounded self.new × IsBounded behind) }

@@ -125,7 +125,8 @@ impl Chunks {
     /// Makes a first chunk of an outline, where there is none.
     fn begin(&mut self, alloc: Global, outline: FeatureOutline) -> Result<(), AllocError>
         requires { self.old.chunks.items ≡ [] }
-        ensures { (features : Features) (f : FeatureValue) → AreListedChunksOf self.old features →
+        ensures { (features : Features) (f : FeatureValue) →
+            AreListedChunksOf self.old features →
             IsOutlineOf outline f →
             OnOk result (AreListedChunksOf self.new (insert features f.id f)) }
     {
@@ -164,7 +165,8 @@ impl Chunks {
     /// Puts an outline in, in place of the one under its id, if there is one. After an error
     /// outlines may be missing.
     pub fn put(&mut self, alloc: Global, outline: FeatureOutline) -> Result<(), AllocError>
-        ensures { (features : Features) (f : FeatureValue) → AreListedChunksOf self.old features →
+        ensures { (features : Features) (f : FeatureValue) →
+            AreListedChunksOf self.old features →
             IsOutlineOf outline f →
             OnOk result (AreListedChunksOf self.new (insert features f.id f)) }
     {

@@ -102,7 +102,8 @@ impl Index {
 
     /// Notes whether these collections, which are all that are there, are known.
     pub fn note(&mut self, summaries: &[Summary])
-        ensures { (s : State) → summary_values summaries.now ≡ summaries_in s → IsIndexOf self.old s
+        ensures { (s : State) → summary_values summaries.now ≡ summaries_in s
+            → IsIndexOf self.old s
             → IsIndexOf self.new s }
     {
         for summary in summaries {

@@ -56,7 +56,8 @@ impl<K: Keeper> IndexedKeeper<K> {
         ensures spared { K.spares self.old.keeper self.new.keeper }
         ensures began_clean { K.is_clean self.new.keeper → K.is_clean self.old.keeper }
         ensures faults { ShutsBy result (K.cause self.old.keeper) (K.cause self.new.keeper) }
-        ensures device { K.is_clean self.new.keeper → (s : State) → K.stands self.old.keeper s →
+        ensures device { K.is_clean self.new.keeper → (s : State) →
+            K.stands self.old.keeper s →
             IsErrOf result Fault.Device → K.fails self.old.keeper self.new.keeper }
         ensures learns { K.is_clean self.new.keeper → (s : State) → K.stands self.old.keeper s
             → IsIndexOf self.old.index s → Looks s (λ _. IsIndexOf self.new.index s) result
@@ -88,7 +89,8 @@ impl<K: Keeper> IndexedKeeper<K> {
         ensures spared { K.spares self.old.keeper self.new.keeper }
         ensures began_clean { K.is_clean self.new.keeper → K.is_clean self.old.keeper }
         ensures faults { ShutsBy result (K.cause self.old.keeper) (K.cause self.new.keeper) }
-        ensures device { K.is_clean self.new.keeper → (s : State) → K.stands self.old.keeper s →
+        ensures device { K.is_clean self.new.keeper → (s : State) →
+            K.stands self.old.keeper s →
             IsErrOf result Fault.Device → K.fails self.old.keeper self.new.keeper }
         ensures shows { K.is_clean self.new.keeper → (s : State) → K.stands self.old.keeper s
             → IsIndexOf self.old.index s → Shows s collection.now query.now result
@@ -139,7 +141,8 @@ impl<K: Keeper> IndexedKeeper<K> {
         ensures spared { K.spares self.old.keeper self.new.keeper }
         ensures began_clean { K.is_clean self.new.keeper → K.is_clean self.old.keeper }
         ensures faults { ShutsBy result (K.cause self.old.keeper) (K.cause self.new.keeper) }
-        ensures device { K.is_clean self.new.keeper → (s : State) → K.stands self.old.keeper s →
+        ensures device { K.is_clean self.new.keeper → (s : State) →
+            K.stands self.old.keeper s →
             IsErrOf result Fault.Device → K.fails self.old.keeper self.new.keeper }
         ensures tells { K.is_clean self.new.keeper → (s : State) → K.stands self.old.keeper s
             → IsIndexOf self.old.index s → Tells s id.now result (K.stands self.new.keeper) }
@@ -189,7 +192,8 @@ impl<K: Keeper> IndexedKeeper<K> {
         ensures spared { K.spares self.old.keeper self.new.keeper }
         ensures began_clean { K.is_clean self.new.keeper → K.is_clean self.old.keeper }
         ensures faults { ShutsBy result (K.cause self.old.keeper) (K.cause self.new.keeper) }
-        ensures device { K.is_clean self.new.keeper → (s : State) → K.stands self.old.keeper s →
+        ensures device { K.is_clean self.new.keeper → (s : State) →
+            K.stands self.old.keeper s →
             IsErrOf result Fault.Device → K.fails self.old.keeper self.new.keeper }
         ensures lists { K.is_clean self.new.keeper → (s : State) → K.stands self.old.keeper s
             → IsIndexOf self.old.index s → Lists s result (λ t. K.stands self.new.keeper t

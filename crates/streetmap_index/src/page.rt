@@ -74,7 +74,8 @@ fn hides(fold: &PageFold<'_>, behind: bool) -> bool
 /// Counts the features of a chunk, which come next, where the chunk tells how many the query
 /// selects and the page shows none of them, and answers whether it did.
 fn count_chunk(query: &Query, fold: &mut PageFold<'_>, chunk: &Chunk) -> bool
-    ensures counted { IsTrue result → IsBounded chunk.now → AreInOrder chunk.now.outlines.items →
+    ensures counted { IsTrue result → IsBounded chunk.now →
+        AreInOrder chunk.now.outlines.items →
         TakesChunk (query_value query.now) chunk.now fold.old fold.new }
     ensures unchanged { result ≡ false → fold.new ≡ fold.old }
 {

@@ -112,7 +112,8 @@ fn lies_whole_within_box(query: &Query, chunk: &Chunk) -> bool
 /// that a page examines: all of them where no box is asked, else those with an extent. None where
 /// it does not tell.
 pub fn count_selected(query: &Query, chunk: &Chunk) -> Option<u64>
-    ensures { IsBounded chunk.now → IfSome result (CountsWhole (query_value query.now) chunk.now) }
+    ensures { IsBounded chunk.now
+        → IfSome result (CountsWhole (query_value query.now) chunk.now) }
 {
     if !lies_whole_within_box(query, chunk) {
         return None;

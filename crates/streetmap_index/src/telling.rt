@@ -63,7 +63,8 @@ fn summaries(
     alloc: Global,
     known: &BTreeMap<String, OutlinedCollection>,
 ) -> Result<Vec<Summary>, AllocError>
-    ensures { (s : State) → IsState s → AreKnown known.now.entries s → KnowsAll known.now.entries s
+    ensures { (s : State) → IsState s → AreKnown known.now.entries s
+        → KnowsAll known.now.entries s
         → IfOk result (λ told. summary_values told.items ≡ summaries_in s) }
 {
     let mut told = Vec::new(alloc);

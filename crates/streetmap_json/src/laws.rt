@@ -29,7 +29,8 @@ pub fn written_text_reads_again()
 pub fn number_text_is_read_whole()
     ensures fraction { (whole zeros : List ℕ) → IsTrue (are_signed_digits whole)
         → IsTrue (are_zeros zeros) → whole_text (whole ++ ascii.dot ∷ zeros) ≡ unsigned_zero whole }
-    ensures other { (s : List ℕ) → ((whole zeros : List ℕ) → s ≡ whole ++ ascii.dot ∷ zeros
+    ensures other { (s : List ℕ)
+        → ((whole zeros : List ℕ) → s ≡ whole ++ ascii.dot ∷ zeros
         → IsTrue (are_signed_digits whole) → IsTrue (are_zeros zeros) → ⊥)
         → whole_text s ≡ unsigned_zero s }
 {}
@@ -48,7 +49,8 @@ pub fn text_is_changed_by_token()
     ensures escaping { (s : List ℕ) → IsStringBody s
         → with_whole_numbers (ascii.quote ∷ s ++ ascii.backslash ∷ [])
         ≡ ascii.quote ∷ s ++ ascii.backslash ∷ [] }
-    ensures other { (b : ℕ) (rest : List ℕ) → is_in_number b ≡ false → (b == ascii.quote) ≡ false
+    ensures other { (b : ℕ) (rest : List ℕ) → is_in_number b ≡ false
+        → (b == ascii.quote) ≡ false
         → with_whole_numbers (b ∷ rest) ≡ b ∷ with_whole_numbers rest }
     ensures none { with_whole_numbers [] ≡ [] }
 {}

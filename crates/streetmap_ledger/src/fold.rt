@@ -55,7 +55,8 @@ impl<'a> PageFold<'a> {
         ensures matched { self.new.matched ≡ (if is_selected then saturated (self.old.matched + 1)
             else self.old.matched) }
         ensures examined { self.new.examined ≡ saturated (self.old.examined + 1) }
-        ensures shown { (self.new.query ≡ self.old.query) × (self.new.features ≡ self.old.features)
+        ensures shown { (self.new.query ≡ self.old.query)
+            × (self.new.features ≡ self.old.features)
             × (self.new.more ≡ self.old.more) }
     {
         if is_selected {
@@ -88,7 +89,8 @@ impl<'a> PageFold<'a> {
             → selects_of (query_value self.old.query.now) feature.now ≡ true }
         ensures behind { result ≡ false
             → comes_after_of (query_value self.old.query.now).after feature.now ≡ true }
-        ensures room { result ≡ false → length self.old.features.items < self.old.query.now.limit }
+        ensures room { result ≡ false
+            → length self.old.features.items < self.old.query.now.limit }
     {
         if !selects(self.query, feature) {
             self.skip_unselected();
@@ -197,7 +199,8 @@ impl<'a> PageFold<'a> {
     /// enough, and answers whether it did. Otherwise the feature is a candidate, and has to be
     /// taken itself.
     pub fn take_unread(&mut self, outline: &Outline, id: Option<&[u8]>) -> bool
-        ensures taken { IsTrue result → (q : QueryValue) (fs : List FeatureValue) (f : FeatureValue)
+        ensures taken { IsTrue result
+            → (q : QueryValue) (fs : List FeatureValue) (f : FeatureValue)
             → outline.now ≡ outline_of f → IsFeature f → IfSome id.entry (λ known. known.now ≡ f.id)
             → HoldsCandidates q self.old fs → HoldsCandidates q self.new (fs ++ f ∷ []) }
         ensures unchanged { result ≡ false → self.new ≡ self.old }

@@ -101,7 +101,8 @@ impl PlainCollection {
         feature: &Feature,
     ) -> Result<Option<PackedFeature>, AllocError>
         requires { text ≡ compact_text (feature_data feature.now) }
-        ensures { IfOk result (λ packed. packed ≡ result_ok (timed_by self.now.time feature.now)) }
+        ensures { IfOk result (λ packed. packed
+            ≡ result_ok (timed_by self.now.time feature.now)) }
     {
         match feature.time_under(self.time()) {
             Ok(time) => Ok(Some(PackedFeature::new(alloc, text, feature, time)?)),

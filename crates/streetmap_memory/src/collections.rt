@@ -91,7 +91,8 @@ pub fn put(
 
 /// What takes back that a slot was written which was this before.
 pub fn undo_of<'a>(name: &'a str, id: &'a str, was: Option<Option<PackedFeature>>) -> Undo<'a>
-    ensures { (t : SlotCollections) (slot : Option FeatureValue) → slot_in t name.now id.now ≡ was
+    ensures { (t : SlotCollections) (slot : Option FeatureValue)
+        → slot_in t name.now id.now ≡ was
         → undone result (put_in t name.now id.now slot) ≡ t }
 {
     match was {
@@ -126,7 +127,8 @@ pub fn open(
 
 /// Takes an edit back.
 fn undo(collections: &mut BTreeMap<String, PlainCollection>, edit: Undo<'_>)
-    ensures { map_of collections.new.entries ≡ undone edit.entry (map_of collections.old.entries) }
+    ensures { map_of collections.new.entries
+        ≡ undone edit.entry (map_of collections.old.entries) }
 {
     match edit {
         Undo::Open(name) => {

@@ -106,7 +106,8 @@ pub fn read_moment(text: &str) -> Result<Moment, TimeFault>
     // A text that is a date-time is read.
     ensures only { (n : ℤ) → IsMomentText text.now n → moment_result result ≡ Ok n }
     ensures fault { IfErr result (λ e. e ≡ TimeFault.BadTime) }
-    ensures one_meaning { (n k : ℤ) → IsMomentText text.now n → IsMomentText text.now k → n ≡ k }
+    ensures one_meaning { (n k : ℤ) → IsMomentText text.now n → IsMomentText text.now k
+        → n ≡ k }
     // Which it is, as a function of the text.
     ensures value { moment_result result ≡ ok_or (moment_of text.now) TimeFault.BadTime }
 {

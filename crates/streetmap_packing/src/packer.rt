@@ -73,7 +73,8 @@ impl Packer {
     fn push(&mut self, edit: Edit, size: usize) -> Result<(), AllocError>
         requires sized { length (compact_text (edit_data (edit_value edit))) ≡ size }
         requires passes { is_passing (with_edit (packing self.old) (edit_value edit)) ≡ true }
-        ensures { OnOk result (packing self.new ≡ with_edit (packing self.old) (edit_value edit)) }
+        ensures { OnOk result (packing self.new
+            ≡ with_edit (packing self.old) (edit_value edit)) }
     {
         let comma = comma_len(&self.edits);
         self.edits.push(edit)?;

@@ -42,7 +42,8 @@ pub(crate) fn read_box(text: &[u8]) -> Option<GridBox>
     // What is read is four numbers that mean this box.
     ensures found { IfSome result (λ b. IsBoxText text.now (box_value b)) }
     // Four numbers that mean a box are read.
-    ensures only { (b : BoxValue) → IsBoxText text.now b → option_map box_value result ≡ Some b }
+    ensures only { (b : BoxValue) → IsBoxText text.now b
+        → option_map box_value result ≡ Some b }
     // Which box it is, as a function of the text.
     ensures value { option_map box_value result ≡ box_of text.now }
 {

@@ -120,7 +120,8 @@ fn write(alloc: Global, after: Option<&str>, query: &Query) -> Result<String, Al
 /// The text of a query, for the link to the page itself: `after`, `bbox` and `datetime` where they
 /// are given, and `limit` always, in this order (URL Standard, 5.2).
 pub fn self_query(alloc: Global, query: &Query) -> Result<String, AllocError>
-    ensures spelled { IfOk result (λ text. string_bytes text ≡ query_text (query_value query.now)) }
+    ensures spelled { IfOk result (λ text. string_bytes text
+        ≡ query_text (query_value query.now)) }
     // The text reads as the same query.
     ensures again { IfOk result (λ text. query_of (Some (string_bytes text))
         ≡ Ok (query_value query.now)) }

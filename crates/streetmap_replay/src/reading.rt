@@ -45,7 +45,8 @@ fn is_written(number: u64, bytes: &[u8]) -> bool
 fn read_serial(bytes: &[u8]) -> Option<u64>
     ensures found { IfSome result (λ serial. decimal serial ≡ bytes.now) }
     ensures fits { IfSome result (λ serial. serial < 2 ^ 64) }
-    ensures none { result ≡ None → (n : ℕ) → n < 2 ^ 64 → decimal n ≡ bytes.now → ⊥ }
+    ensures none { result ≡ None → (n : ℕ) → n < 2 ^ 64 → decimal n ≡ bytes.now
+        → ⊥ }
 {
     let Ok(text) = str::from_utf8(bytes) else {
         return None;

@@ -103,7 +103,8 @@ fn ask_page(alloc: Global, name: String, query: Option<&str>) -> Result<Ask, All
 
 /// What is asked of a resource that takes no parameter.
 fn ask_plain(alloc: Global, resource: Resource, body: &[u8]) -> Result<Ask, AllocError>
-    ensures { IfOk result (λ a. ask_value a ≡ spec.unqueried (resource_value resource) body.now) }
+    ensures { IfOk result (λ a. ask_value a
+        ≡ spec.unqueried (resource_value resource) body.now) }
 {
     match resource {
         Resource::Landing => Ok(Ask::LandingPage),

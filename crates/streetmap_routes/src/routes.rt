@@ -105,7 +105,8 @@ fn segment(place: usize, path: &[u8]) -> &[u8]
 
 /// Bytes without their percent escapes, or `None` where they are no text.
 fn decode(alloc: Global, bytes: &[u8]) -> Result<Option<String>, AllocError>
-    ensures { IfOk result (λ found. MatchOption found (IsUtf8 (percent_decode_of bytes.now) → ⊥)
+    ensures { IfOk result (λ found. MatchOption found (IsUtf8 (percent_decode_of bytes.now)
+        → ⊥)
         (λ text. string_bytes text ≡ percent_decode_of bytes.now)) }
 {
     match percent_decode(bytes).decode_utf8(alloc) {
@@ -117,7 +118,8 @@ fn decode(alloc: Global, bytes: &[u8]) -> Result<Option<String>, AllocError>
 
 /// What a path has at this place, percent-decoded; `None` where that is no text.
 fn decoded(alloc: Global, place: usize, path: &str) -> Result<Option<String>, AllocError>
-    ensures { IfOk result (λ found. option_map string_bytes found ≡ spec.decoded place path.now) }
+    ensures { IfOk result (λ found. option_map string_bytes found
+        ≡ spec.decoded place path.now) }
 {
     let found = decode(alloc, segment(place, path.as_bytes()))?;
     Ok(found)
@@ -168,7 +170,8 @@ pub(crate) fn find_resource(
     path: &str,
 ) -> Result<Option<Resource>, AllocError>
     requires { router.now ≡ the_rows }
-    ensures { IfOk result (λ found. option_map resource_value found ≡ spec.resource_at path.now) }
+    ensures { IfOk result (λ found. option_map resource_value found
+        ≡ spec.resource_at path.now) }
 {
     match route_of(router, path) {
         Some(route) => resource_by(alloc, path, route),

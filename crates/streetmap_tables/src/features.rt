@@ -129,7 +129,8 @@ fn find_time<S: Alter>(
 fn collection_in(row: &Row) -> Result<String, ReadFault>
     ensures own { IfErr result IsOwn }
     ensures named { IfOk result (λ name. string_bytes name ≡ (pair_in row.now).0) }
-    ensures reads { (p : KeyPair) (f : FeatureValue) → row.now ≡ old_cells p f → IsUtf8 p.0 →
+    ensures reads { (p : KeyPair) (f : FeatureValue) → row.now ≡ old_cells p f →
+        IsUtf8 p.0 →
         MatchResult result (λ name. string_bytes name ≡ p.0) (λ fault. fault ≡ ReadFault.Memory) }
 {
     match row.get::<String>(0) {
@@ -143,7 +144,8 @@ fn feature_in(alloc: Global, row: &Row, property: Option<&str>) -> Result<Featur
     ensures own { IfErr result IsOwn }
     ensures named { IfOk result (λ f. f.id ≡ (pair_in row.now).1) }
     ensures worded { IfOk result (TextReadsAs (option_copied property.entry) (body_in row.now)) }
-    ensures reads { (p : KeyPair) (f : FeatureValue) → row.now ≡ old_cells p f → f.id ≡ p.1 →
+    ensures reads { (p : KeyPair) (f : FeatureValue) → row.now ≡ old_cells p f →
+        f.id ≡ p.1 →
         IsStored (option_copied property.entry) f →
         MatchResult result (λ g. g ≡ f) (λ fault. fault ≡ ReadFault.Memory) }
 {

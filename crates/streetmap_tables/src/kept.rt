@@ -34,7 +34,8 @@ fn number_at(row: &Row, at: usize) -> Result<u64, Error>
 /// The counts in a row that is kept for a key.
 fn counts_in(row: &Row) -> Result<Counts, Error>
     ensures spared { IfErr result SparesDisk }
-    ensures reads { (kept : AcceptedBatch) → row.now ≡ kept_view kept → result ≡ Ok kept.counts }
+    ensures reads { (kept : AcceptedBatch) → row.now ≡ kept_view kept
+        → result ≡ Ok kept.counts }
 {
     Ok(Counts {
         opened: number_at(row, 1)?,

@@ -102,7 +102,8 @@ fn fixed_body(fault: Fault) -> &'static str
 /// The answer with a keeper's fault. It takes no memory.
 #[tactic(auto, unfolding(crate::specs::Response::response_text))]
 pub(crate) fn fixed(fault: Fault, bare: bool) -> Answer
-    ensures { answer_text result ≡ response_text true bare (fault_response (faults.Keeper fault)) }
+    ensures { answer_text result
+        ≡ response_text true bare (fault_response (faults.Keeper fault)) }
 {
     let body = if bare { "" } else { fixed_body(fault) };
     Answer::Fixed(fixed_head(fault), body)
