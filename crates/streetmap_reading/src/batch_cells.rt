@@ -1,6 +1,6 @@
 //! A batch, from its row.
-ghost use Rattle.std.specs.Prelude.{◌≡◌, ◌<◌, ℕ, pos, Ok, length, MatchResult, IsUtf8, vec_items};
-ghost use Rattle.std.specs.Prelude.{string_bytes};
+ghost use Rattle.std.specs.Prelude.{◌≡◌, ◌<◌, ℕ, pos, Ok, length, MatchResult, IsUtf8};
+ghost use Rattle.std.specs.Prelude.{vec_items};
 ghost use Rattle.sqlite.specs.Order.{column};
 ghost use Rattle.sqlite.specs.declared.types.Value.TheVariants.{Int, Text as Words};
 ghost use Rattle.streetmap_batch.specs.Text.{Text};
@@ -9,19 +9,12 @@ ghost use Rattle.streetmap_ledger.specs.KeptView.{keyed_batch};
 ghost use Rattle.streetmap_reading.specs.Folding.{IsForMemory};
 ghost use Rattle.streetmap_rows.specs.Rows.{batch_cells};
 
+use crate::cells::text_at;
 use sqlite::Row;
 use sqlite::types::ValueRef;
 use std::alloc::Global;
 use streetmap_ledger::{Counts, KeptBatch};
-use streetmap_rows::{ReadFault, unread};
-
-/// The key in the first cell.
-fn key_in(row: &Row) -> Result<String, ReadFault>
-    ensures { (key : Text) → 0 < length row.now → column row.now 0 ≡ Words key → IsUtf8 key
-        → MatchResult result (λ found. string_bytes found ≡ key) IsForMemory }
-{
-    row.get::<String>(0).map_err(|error| unread(error))
-}
+use streetmap_rows::ReadFault;
 
 /// The bytes of the text in a cell.
 fn bytes_at(alloc: Global, row: &Row, at: usize) -> Result<Vec<u8>, ReadFault>
@@ -64,7 +57,7 @@ pub fn batch_in(alloc: Global, row: &Row) -> Result<KeptBatch, ReadFault>
         → IsUtf8 key →
         MatchResult result (λ batch. keyed_batch batch ≡ (key, kept)) IsForMemory }
 {
-    let key = key_in(row)?;
+    let key = text_at(row, 0)?;
     let text = bytes_at(alloc, row, 1)?;
     let counts = counts_in(row)?;
     let serial = number_at(row, 6)?;
