@@ -111,7 +111,7 @@ fn has_texts(row: &Row, id: &str, body: &str) -> bool
 }
 
 /// Whether the cells of a row of eight are those of a feature, by its text.
-#[tactic(auto, unfolding(streetmap_rows::specs::Rows::extent_in, streetmap_rows::specs::Rows::seconds_in))]
+#[tactic(auto, unfolding(streetmap_rows::specs::Rows::extent_in))]
 fn has_cells(row: &Row, feature: &Feature, body: &str) -> bool
     ensures { length row.now ≡ 8
         → (IsTrue result ↔ HasTextCells feature.now.id body.now row.now
