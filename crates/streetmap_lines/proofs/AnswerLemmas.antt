@@ -10,7 +10,7 @@ use Rattle.std.specs.Str.Lines.{lines}
 use Rattle.streetmap_ledger.specs.State.{State, opening_state}
 use Rattle.serde_json.specs.Data.{Data}
 use Rattle.serde_json.specs.Written.{compact_text}
-use Rattle.streetmap_memory.specs.Plain.{StandsPlainly, plain_state}
+use Rattle.streetmap_memory.specs.Plain.{IsPlainState, plain_state}
 use Rattle.streetmap_memory.specs.declared.plain.PlainKeeper.{PlainKeeper}
 use Rattle.std.specs.declared.alloc.AllocError.{AllocError}
 use Rattle.streetmap_lines.specs.AnswerView.{LineSays}
@@ -28,9 +28,9 @@ use Rattle.streetmap_text_lines.proofs.WriteLemmas.{less_longer, less_behind}
 -- the text of an answer, where there is one, and the state that the keeper stands for after it
 pub record IsLineAnswer (s : State) (line : List ℕ) (text : Option (String Global)) (keeper : PlainKeeper) : Type 0 where
   pub said : option_map string_bytes text ≡ option_map compact_text (line_answer s line)
-  pub state : StandsPlainly keeper (state_after s line)
+  pub state : IsPlainState keeper (state_after s line)
 
-empty-answer : (s : State) (keeper : PlainKeeper) (o : Option (String Global)) → None ≡ o → StandsPlainly keeper s → IsLineAnswer s [] o keeper
+empty-answer : (s : State) (keeper : PlainKeeper) (o : Option (String Global)) → None ≡ o → IsPlainState keeper s → IsLineAnswer s [] o keeper
 empty-answer s keeper None h stands = record { said = refl; state = stands }
 empty-answer s keeper (Some text) h stands = cc
 
@@ -42,15 +42,15 @@ some-answer s keeper b bs (Some text) h = record { said = ap Some h.0; state = h
 none-text : (o : Option (String Global)) → ◌≡◌ {A = Result (Option (String Global)) AllocError} (Ok o) (Ok None) → None ≡ o
 none-text o e = cc
 
-pub line_answered : (s : State) (old keeper : PlainKeeper) (line : List ℕ) (o : Option (String Global)) → StandsPlainly old s
+pub line_answered : (s : State) (old keeper : PlainKeeper) (line : List ℕ) (o : Option (String Global)) → IsPlainState old s
     → (line ≢ [] → LineSays s (answer_to s (request_in line)) (Ok o) keeper)
-    → (line ≡ [] → (◌≡◌ {A = Result (Option (String Global)) AllocError} (Ok o) (Ok None)) × ((t : State) → StandsPlainly old t → StandsPlainly keeper t)) → IsLineAnswer s line o keeper
+    → (line ≡ [] → (◌≡◌ {A = Result (Option (String Global)) AllocError} (Ok o) (Ok None)) × ((t : State) → IsPlainState old t → IsPlainState keeper t)) → IsLineAnswer s line o keeper
 line_answered s old keeper [] o stands h k = empty-answer s keeper o (none-text o (k refl).0) ((k refl).1 s stands)
 line_answered s old keeper (b ∷ bs) o stands h k = some-answer s keeper b bs o (h (λ e. cc))
 
 -- a keeper that stands for a state stands for that of its maps
-pub stands_for_own : (keeper : PlainKeeper) (s : State) → StandsPlainly keeper s → StandsPlainly keeper (plain_state keeper)
-stands_for_own keeper s h = subst (StandsPlainly keeper) (sym h.is) h
+pub stands_for_own : (keeper : PlainKeeper) (s : State) → IsPlainState keeper s → IsPlainState keeper (plain_state keeper)
+stands_for_own keeper s h = subst (IsPlainState keeper) (sym h.is) h
 
 -- an answer with its line feed, or nothing
 pub said_text : (body : Option Data) (text : List ℕ) → Some text ≡ option_map compact_text body → text ++ 10 ∷ [] ≡ answer_text body

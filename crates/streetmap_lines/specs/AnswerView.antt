@@ -6,7 +6,7 @@ use Rattle.serde_json.specs.Written.{compact_text}
 use Rattle.streetmap_batch.specs.BatchValue.{BatchValue}
 use Rattle.streetmap_ledger.specs.State.{State}
 use Rattle.streetmap_ledger.specs.Batches.{act}
-use Rattle.streetmap_memory.specs.Plain.{StandsPlainly}
+use Rattle.streetmap_memory.specs.Plain.{IsPlainState}
 use Rattle.streetmap_memory.specs.declared.plain.PlainKeeper.{PlainKeeper}
 use Rattle.streetmap_ledger.specs.declared.reply.Reply.{Reply}
 use Rattle.streetmap_lines.specs.Answers.{Answer}
@@ -14,21 +14,21 @@ use Rattle.streetmap_lines.specs.Answers.{Answer}
 -- the text is the compact text of the answer's body, and the keeper stands for the answer's state
 abbrev pub Says : Answer → String Global → PlainKeeper → Type 0
 Says answer text keeper = (string_bytes text ≡ compact_text answer.body)
-    × StandsPlainly keeper answer.state
+    × IsPlainState keeper answer.state
 
 -- it says so, or memory was refused and the keeper stands for the state as before
 abbrev pub SaysOr : State → Answer → Result (String Global) AllocError → PlainKeeper → Type 0
 SaysOr s answer (Ok text) keeper = Says answer text keeper
-SaysOr s answer (Err e) keeper = StandsPlainly keeper s
+SaysOr s answer (Err e) keeper = IsPlainState keeper s
 
 -- the same of a line, where an answer is there
 abbrev pub LineSays : State → Answer → Result (Option (String Global)) AllocError → PlainKeeper
     → Type 0
 LineSays s answer (Ok None) keeper = ⊥
 LineSays s answer (Ok (Some text)) keeper = Says answer text keeper
-LineSays s answer (Err e) keeper = StandsPlainly keeper s
+LineSays s answer (Err e) keeper = IsPlainState keeper s
 
 -- a batch acted, or memory was refused and the keeper stands for the state as before
 abbrev pub ActsOr : State → BatchValue → Result Reply AllocError → PlainKeeper → Type 0
-ActsOr s b (Ok reply) keeper = (reply ≡ (act s b).reply) × StandsPlainly keeper (act s b).state
-ActsOr s b (Err e) keeper = StandsPlainly keeper s
+ActsOr s b (Ok reply) keeper = (reply ≡ (act s b).reply) × IsPlainState keeper (act s b).state
+ActsOr s b (Err e) keeper = IsPlainState keeper s

@@ -7,7 +7,7 @@ ghost use Rattle.streetmap_query.specs.Query.{query_of};
 ghost use Rattle.streetmap_batch.specs.BatchReading.{batch_of};
 ghost use Rattle.streetmap_batch.specs.BatchView.{batch_value};
 ghost use Rattle.streetmap_ledger.specs.State.{State};
-ghost use Rattle.streetmap_memory.specs.Plain.{StandsPlainly as IsPlainState};
+ghost use Rattle.streetmap_memory.specs.Plain.{IsPlainState};
 ghost use Rattle.streetmap_ledger.specs.Pages.{feature_in};
 ghost use Rattle.streetmap_bodies.specs.RequestFaults.{fault_body};
 ghost use Rattle.streetmap_lines.specs.Answers.{answer_to, batch_answer, page_body, found_feature};

@@ -4,7 +4,6 @@ ghost use Rattle.streetmap_lines.specs.Faults.{code_of, description_of};
 ghost use Rattle.streetmap_lines.specs.Faults.{IsLineFault, IsWriteFault, IsFlushFault};
 
 use std::alloc::AllocError;
-use std::io::{Error, ErrorKind};
 use streetmap_text_lines::{LineFault, WriteFault};
 
 /// Why the answering of lines ends before the input does.
@@ -73,14 +72,13 @@ impl LinesFault {
         }
     }
 
-    /// The fault of a flush that failed. A buffer that finds no memory fails so too.
-    pub(crate) fn of_flush(error: &Error) -> LinesFault
+    /// The fault of a flush that failed.
+    pub(crate) fn of_flush(fault: WriteFault) -> LinesFault
         ensures { IsFlushFault result }
     {
-        if error.kind() == ErrorKind::OutOfMemory {
-            LinesFault::Memory
-        } else {
-            LinesFault::FlushFailed
+        match fault {
+            WriteFault::Memory => LinesFault::Memory,
+            WriteFault::WriteFailed => LinesFault::FlushFailed,
         }
     }
 }

@@ -3,7 +3,7 @@ ghost use Rattle.std.specs.Prelude.{◌≡◌, ◌++◌, ◌∷◌, [], Some, No
 ghost use Rattle.std.specs.Prelude.{OnErr, IfSome, OnSome, IsSomeAnd, take};
 ghost use Rattle.std.specs.Str.Lines.{lines};
 ghost use Rattle.std.specs.Io.KnownBytes.{Appends, IsAtEnd};
-ghost use Rattle.streetmap_memory.specs.Plain.{StandsPlainly, plain_state};
+ghost use Rattle.streetmap_memory.specs.Plain.{IsPlainState, plain_state};
 ghost use Rattle.streetmap_ledger.specs.State.{opening_state};
 ghost use Rattle.streetmap_lines.specs.Faults.{IsLineFault, IsWriteFault, IsAnswerFault};
 ghost use Rattle.streetmap_lines.specs.Lines.{line_answer, state_after, answer_text, answers_of};
@@ -16,7 +16,7 @@ use crate::fault::LinesFault;
 use std::alloc::Global;
 use std::io::{BufRead, Write};
 use streetmap_memory::PlainKeeper;
-use streetmap_text_lines::Line;
+use streetmap_text_lines::{Line, WriteFault};
 
 /// The most bytes that a line may have, its line feed not counted.
 pub const MAX_LINE: usize = 8_388_608;
@@ -66,7 +66,7 @@ fn write_line<W: Write>(writer: &mut W, answer: &str) -> Result<(), LinesFault>
     write_bytes(writer, b"\n")?;
     match writer.flush() {
         Ok(()) => Ok(()),
-        Err(error) => Err(LinesFault::of_flush(&error)),
+        Err(error) => Err(LinesFault::of_flush(WriteFault::of_write(&error))),
     }
 }
 
@@ -77,19 +77,19 @@ fn write_answer<W: Write>(
     line: &[u8],
     writer: &mut W,
 ) -> Result<(), LinesFault>
-    ensures ok { StandsPlainly keeper.old (plain_state keeper.old)
+    ensures ok { IsPlainState keeper.old (plain_state keeper.old)
         → OnOk result (Appends (W.contents writer.old) (W.contents writer.new)
         (answer_text (line_answer (plain_state keeper.old) line.now))) }
-    ensures state { StandsPlainly keeper.old (plain_state keeper.old)
-        → OnOk result (StandsPlainly keeper.new (state_after (plain_state keeper.old) line.now)) }
-    ensures err { StandsPlainly keeper.old (plain_state keeper.old)
+    ensures state { IsPlainState keeper.old (plain_state keeper.old)
+        → OnOk result (IsPlainState keeper.new (state_after (plain_state keeper.old) line.now)) }
+    ensures err { IsPlainState keeper.old (plain_state keeper.old)
         → OnErr result (AppendsBeginning (W.contents writer.old) (W.contents writer.new)
         (answer_text (line_answer (plain_state keeper.old) line.now))) }
-    ensures less { StandsPlainly keeper.old (plain_state keeper.old) →
+    ensures less { IsPlainState keeper.old (plain_state keeper.old) →
         result ≡ Err LinesFault.WriteFailed →
         AppendsLess (W.contents writer.old) (W.contents writer.new)
         (answer_text (line_answer (plain_state keeper.old) line.now)) }
-    ensures flush { StandsPlainly keeper.old (plain_state keeper.old) →
+    ensures flush { IsPlainState keeper.old (plain_state keeper.old) →
         result ≡ Err LinesFault.FlushFailed →
         Appends (W.contents writer.old) (W.contents writer.new)
         (answer_text (line_answer (plain_state keeper.old) line.now)) }

@@ -1,6 +1,6 @@
 use Rattle.std.proofs.Common.{◌∙◌, ap, sym, refl, subst, Err}
 use Rattle.std.proofs.lemmas.Result.{err_from_is_err_and}
-use Rattle.streetmap_memory.specs.Plain.{StandsPlainly, plain_state}
+use Rattle.streetmap_memory.specs.Plain.{IsPlainState, plain_state}
 use Rattle.streetmap_lines.specs.Lines.{line_answer, state_after, answer_text}
 use Rattle.streetmap_text_lines.specs.Reading.{TakesLine}
 use Rattle.streetmap_text_lines.specs.Written.{AppendsBeginning, AppendsLess}
@@ -76,7 +76,7 @@ loop-turn-preserved g c =
     let taken = subst (TakesLine 8388608 rest later) c.in-Text.is c.in_ok-next_line.ensures.taken in
     let written = subst (λ l. Appends (g.W.Write.contents c.loop-turn.writer) (g.W.Write.contents c.write_answer.new.writer) (answer_text (line_answer before l)))
     c.as_slice.ensures.value (c.in_ok-write_answer-in-Text.ensures.ok c.loop-turn.invariant.stands) in
-    let state = subst (λ l. StandsPlainly c.write_answer.new.keeper (state_after before l)) c.as_slice.ensures.value (c.in_ok-write_answer-in-Text.ensures.state c.loop-turn.invariant.stands) in
+    let state = subst (λ l. IsPlainState c.write_answer.new.keeper (state_after before l)) c.as_slice.ensures.value (c.in_ok-write_answer-in-Text.ensures.state c.loop-turn.invariant.stands) in
     record {
       answered = answered_more (g.R.Read.remaining c.args.reader.now) rest later (g.W.Write.contents c.args.writer.now) _ (g.W.Write.contents c.write_answer.new.writer) line before
           (plain_state c.write_answer.new.keeper) c.loop-turn.invariant.answered taken written state.is;

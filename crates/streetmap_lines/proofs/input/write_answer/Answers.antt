@@ -1,7 +1,7 @@
 use Rattle.std.proofs.Common.{◌≡◌, ◌∷◌, ◌++◌, [], OnOk, OnErr, ap, subst, ◌∙◌, string_bytes}
 use Rattle.std.proofs.KnownBytes.{Appends-nil}
 use Rattle.std.specs.Io.KnownBytes.{Appends}
-use Rattle.streetmap_memory.specs.Plain.{StandsPlainly, plain_state}
+use Rattle.streetmap_memory.specs.Plain.{IsPlainState, plain_state}
 use Rattle.streetmap_lines.specs.Lines.{line_answer, answer_text}
 use Rattle.streetmap_text_lines.specs.Written.{AppendsBeginning, AppendsLess}
 use Rattle.streetmap_text_lines.proofs.WriteLemmas.{on_ok}
@@ -16,8 +16,8 @@ returns-in-Some g c =
     let line = c.args.line.now in
     let old = g.W.Write.contents c.args.writer.now in
     let new = g.W.Write.contents c.write_line.new.writer in
-    let answer : StandsPlainly old_keeper s → IsLineAnswer s line _ t = λ stands. subst (λ o. IsLineAnswer s line o t) c.in-Some.is (line_answered s old_keeper t line c.in_ok-answer.field-0 stands (c.in_ok-answer.ensures.answered s stands) c.in_ok-answer.ensures.empty) in
-    let text : StandsPlainly old_keeper s → c.as_str.result.now ++ 10 ∷ [] ≡ answer_text (line_answer s line) =
+    let answer : IsPlainState old_keeper s → IsLineAnswer s line _ t = λ stands. subst (λ o. IsLineAnswer s line o t) c.in-Some.is (line_answered s old_keeper t line c.in_ok-answer.field-0 stands (c.in_ok-answer.ensures.answered s stands) c.in_ok-answer.ensures.empty) in
+    let text : IsPlainState old_keeper s → c.as_str.result.now ++ 10 ∷ [] ≡ answer_text (line_answer s line) =
     λ stands. ap (λ l. l ++ 10 ∷ []) c.as_str.ensures.value ∙ said_text (line_answer s line) (string_bytes c.in-Some.answer) (answer stands).said in
     record {
       ok = λ stands. subst (λ l. OnOk c.write_line.result (Appends old new l)) (text stands) c.write_line.ensures.ok;
@@ -36,7 +36,7 @@ returns-in-None g c =
     let old_keeper = c.args.keeper.now in
     let line = c.args.line.now in
     let old = g.W.Write.contents c.args.writer.now in
-    let answer : StandsPlainly old_keeper s → IsLineAnswer s line _ t = λ stands. subst (λ o. IsLineAnswer s line o t) c.in-None.is (line_answered s old_keeper t line c.in_ok-answer.field-0 stands (c.in_ok-answer.ensures.answered s stands) c.in_ok-answer.ensures.empty) in
+    let answer : IsPlainState old_keeper s → IsLineAnswer s line _ t = λ stands. subst (λ o. IsLineAnswer s line o t) c.in-None.is (line_answered s old_keeper t line c.in_ok-answer.field-0 stands (c.in_ok-answer.ensures.answered s stands) c.in_ok-answer.ensures.empty) in
     record {
       ok = λ stands. subst (Appends old old) (said_none (line_answer s line) (answer stands).said) (Appends-nil old);
       state = λ stands. (answer stands).state;
