@@ -2,7 +2,6 @@
 ghost use Rattle.std.specs.Prelude.{◌≡◌};
 
 use std::alloc::{AllocError, AllocFailed};
-use std::io::{Error, ErrorKind};
 use streetmap_batch::BatchFault;
 use streetmap_geojson::Fault;
 use streetmap_ledger::{Fault as KeeperFault, Refusal};
@@ -245,14 +244,13 @@ impl ExportFault {
         }
     }
 
-    /// The fault of a flush that failed. A buffer that finds no memory fails so too.
-    pub(crate) fn of_flush(error: &Error) -> ExportFault
+    /// The fault of a flush that failed.
+    pub(crate) fn of_flush(fault: WriteFault) -> ExportFault
         ensures { IsFlushFault result }
     {
-        if error.kind() == ErrorKind::OutOfMemory {
-            ExportFault::Stopped(KeeperFault::Memory)
-        } else {
-            ExportFault::FlushFailed
+        match fault {
+            WriteFault::Memory => ExportFault::Stopped(KeeperFault::Memory),
+            WriteFault::WriteFailed => ExportFault::FlushFailed,
         }
     }
 }

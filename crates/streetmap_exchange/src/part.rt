@@ -18,6 +18,7 @@ use streetmap_feature_text::{push_comma, push_feature};
 use streetmap_geojson::{Feature, Id};
 use streetmap_ledger::{Keeper, Page};
 use streetmap_query::Query;
+use streetmap_text_lines::WriteFault;
 
 /// The page of a thousand features behind an id.
 pub(crate) fn page_behind<K: Keeper>(
@@ -136,6 +137,6 @@ pub(crate) fn write_end<W: Write>(writer: &mut W) -> Result<(), ExportFault>
     write_bytes(writer, b"],\"type\":\"FeatureCollection\"}\n")?;
     match writer.flush() {
         Ok(()) => Ok(()),
-        Err(error) => Err(ExportFault::of_flush(&error)),
+        Err(error) => Err(ExportFault::of_flush(WriteFault::of_write(&error))),
     }
 }
