@@ -363,6 +363,7 @@ FindsCommand [] asked command = Some command ≡ asked
 FindsCommand (k ∷ ks) asked command =
     IsAmong kinds.DisplayVersion (k ∷ ks) × (command ≡ version_command)
 
+-- this is the command of these words
 abbrev pub IsCommandOf : List Text → CommandValue → Type 0
 IsCommandOf words command =
     FindsCommand (fault_of program words) (command_by (subcommand_of program words)) command

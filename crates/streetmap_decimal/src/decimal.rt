@@ -22,9 +22,8 @@ pub(crate) struct Decimal {
 
 impl Decimal {
     ghost use Rattle.std.specs.Prelude.{◌<◌, ◌^◌};
-    ghost use Rattle.streetmap_decimal.specs.Decimal.{Counts, Encloses, Shifts};
+    ghost use Rattle.streetmap_decimal.specs.Decimal.{Counts, Encloses, Shifts, Sides};
     ghost use Rattle.streetmap_decimal.specs.Decimal.{ReadsDecimal, ReadsCount};
-    ghost use Rattle.streetmap_decimal.specs.Decimal.{Sides};
     ghost use Rattle.streetmap_decimal.specs.DecimalViews.{decimal_view};
     ghost use Rattle.streetmap_decimal.specs.NumberText.{mantissa, exponent};
     ghost use Rattle.streetmap_decimal.specs.Readable.{IsReadable};

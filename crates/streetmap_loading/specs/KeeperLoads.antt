@@ -97,8 +97,8 @@ module _ (s : State) (before : Option State → Type 0) (stands : State → Type
       State → End → Type 0
   EndsIn each key read sent t All = Packs each key (edits_of read) sent × RestsAt t
   EndsIn each key read sent t (AtFault fault) =
-      (ends : LeavesUnsent each key read sent t) × IsShort each key (1 + length sent)
-      (edits_of ends.rest)
+      (unsent : LeavesUnsent each key read sent t) × IsShort each key (1 + length sent)
+      (edits_of unsent.rest)
   EndsIn each key read sent t ReadFailed = LeavesUnsent each key read sent t
   EndsIn each key read sent t Memory = LeavesUnsent each key read sent t
   EndsIn each key read sent t WriteFailed = ⊥

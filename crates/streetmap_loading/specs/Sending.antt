@@ -24,7 +24,7 @@ pub record Begins (each : ℕ) (key : Text) (l : Sending) : Type 0 where
   pub taken : l.taken ≡ 0
   pub serial : l.serial ≡ None
 
--- the numbers do not overflow
+-- the number and the counts of one batch more do not overflow
 pub record HasNumbersLeft (l : Sending) : Type 0 where
   pub number : (packing l.packer).number + 1 < 2 ^ 63
   pub batches : l.batches + 1 < 2 ^ 64
