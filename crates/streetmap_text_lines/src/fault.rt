@@ -53,7 +53,7 @@ pub enum WriteFault {
 }
 
 impl WriteFault {
-    /// The fault of a write, or of a flush, that failed. A buffer that finds no memory fails so too.
+    /// The fault of a write or a flush that failed. A buffer that finds no memory fails so too.
     pub fn of_write(error: &Error) -> WriteFault
         ensures memory { error_kind error.now ≡ ErrorKind.OutOfMemory →
             result ≡ WriteFault.Memory }
