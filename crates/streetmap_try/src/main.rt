@@ -1,7 +1,7 @@
 //! The program `streetmap_try`: a first look. It serves a port of this host over a keeper in
 //! memory, with no file, so that what it was sent is gone when it ends. `make try` runs it before
-//! any proof: without SQLite it is compiled in a third of the time. It is proved as the other crates
-//! are.
+//! any proof: without SQLite it is compiled in a third of the time. It is proved as the other
+//! crates are.
 #![tactic(auto)]
 
 use std::alloc::AllocError;
