@@ -46,10 +46,12 @@ impl Envelope {
         }
     }
 
-    /// Whether the two have a point in common, on their edges too.
+    /// Whether the two have a point in common, on their edges too. All four bounds are compared and
+    /// none decides alone: among boxes in no order the processor guesses such a branch wrong.
     pub fn overlaps(&self, other: &Envelope) -> bool
         ensures { result ≡ overlaps_of self.now other.now }
     {
-        self.x0 <= other.x1 && other.x0 <= self.x1 && self.y0 <= other.y1 && other.y0 <= self.y1
+        (self.x0 <= other.x1)
+            & ((other.x0 <= self.x1) & ((self.y0 <= other.y1) & (other.y0 <= self.y1)))
     }
 }

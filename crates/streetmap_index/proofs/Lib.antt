@@ -9,6 +9,7 @@ pub mod InChunks
 pub mod Each
 pub mod Covering
 pub mod Extents
+pub mod Beside
 pub mod Listing
 pub mod Listed
 pub mod Counting

@@ -1,6 +1,6 @@
 -- What an index knows of collections without reading their features.
 use Rattle.std.specs.Prelude.{◌≡◌, ◌<◌, ℕ, ℤ, ◌≤ℤ◌, Bool, List, [], ◌∷◌, All, length, map, is_some}
-use Rattle.std.specs.Prelude.{Option, None, Some, IsSome, IsTrue, String, string_bytes}
+use Rattle.std.specs.Prelude.{Option, None, Some, IsSome, IsTrue, String, string_bytes, slice_get}
 use Rattle.std.specs.Option.{option_map}
 use Rattle.std.specs.Ordering.{is_eq}
 use Rattle.std.specs.Map.{lookup}
@@ -24,6 +24,8 @@ use Rattle.streetmap_ledger.specs.declared.outline.FeatureOutline.{FeatureOutlin
 use Rattle.streetmap_ledger.specs.declared.reply.Fault.{Fault}
 use Rattle.streetmap_ledger.specs.declared.reply.Fault.TheVariants.{Memory, Device, Damaged, Reopen}
 use Rattle.streetmap_cells.specs.Cells.{HasExtent}
+use Rattle.streetmap_cells.specs.Envelopes.{IsEnvelopeOf}
+use Rattle.streetmap_cells.specs.declared.envelope.Envelope.{Envelope}
 use Rattle.streetmap_cells.specs.declared.cells.Cells.{Cells}
 use Rattle.streetmap_index.specs.declared.chunk.Chunk.{Chunk}
 use Rattle.streetmap_index.specs.declared.chunks.Chunks.{Chunks}
@@ -85,14 +87,27 @@ IsTimedBy (Some seconds) (Some bounds) = (seconds.0 ≤ℤ bounds.0) × (bounds.
 abbrev pub AllTimedBy : List FeatureOutline → Option (ℤ × ℤ) → Type 0
 AllTimedBy os bounds = All (λ o. IsTimedBy o.seconds bounds) os
 
+-- this is the extent, if there is one, counted from the corner of the grid
+abbrev pub IsExtentIf : Envelope → Option GridBox → Type 0
+IsExtentIf e None = Unit {0}
+IsExtentIf e (Some extent) = IsEnvelopeOf e (box_value extent)
+
+-- what is kept of an outline, in the same place, is its extent
+abbrev pub AreExtentsOf : List Envelope → List FeatureOutline → Type 0
+AreExtentsOf es os =
+    (i : ℕ) (e : Envelope) (o : FeatureOutline) → slice_get es i ≡ Some e
+    → slice_get os i ≡ Some o → IsExtentIf e o.extent
+
 -- a chunk's bounds are those of its features, and the extents of its outlines lie within them; as
--- many of these have an extent as it says; and their seconds lie within its bounds of seconds
+-- many of these have an extent as it says; their seconds lie within its bounds of seconds; and the
+-- extents beside one another are theirs
 pub record IsBounded (chunk : Chunk) : Type 0 where
   pub within : AllLieWithin chunk.outlines.items chunk.bounds
   pub exact : (features : Features) (fs : List FeatureValue)
       → Pairs features chunk.outlines.items fs → AreBounds (all_vertices fs) chunk.bounds
   pub counted : chunk.with_extent ≡ count_by has_extent chunk.outlines.items
   pub timed : AllTimedBy chunk.outlines.items chunk.seconds
+  pub extents : AreExtentsOf chunk.extents.items chunk.outlines.items
 
 -- in each chunk they do
 abbrev pub AreBounded : List Chunk → Type 0

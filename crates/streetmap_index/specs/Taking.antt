@@ -15,6 +15,10 @@ use Rattle.streetmap_ledger.specs.declared.outline.FeatureOutline.{FeatureOutlin
 use Rattle.streetmap_ledger.specs.declared.page.Page.{Page}
 pub use Rattle.streetmap_index.specs.Index.{IsEntry, Pairs}
 use Rattle.streetmap_index.specs.Index.{IsOutlineOf, has_extent, IsListedIf, AreListedChunksOf}
+use Rattle.streetmap_index.specs.Index.{IsBounded}
+use Rattle.streetmap_grid.specs.Values.{BoxValue}
+use Rattle.streetmap_cells.specs.Envelopes.{IsEnvelopeOf}
+use Rattle.streetmap_cells.specs.declared.envelope.Envelope.{Envelope}
 use Rattle.streetmap_cells.specs.Searches.{is_marked}
 use Rattle.streetmap_cells.specs.declared.marks.Marks.{Marks}
 use Rattle.streetmap_index.specs.declared.chunk.Chunk.{Chunk}
@@ -27,12 +31,16 @@ TakesRead s name id old new taken =
     × ((q : QueryValue) (fs : List FeatureValue) → IsFoldOf q old fs
     → IsFoldOf q new (fs ++ f ∷ []))
 
--- if all were taken, the features with these outlines were met behind those met before
-abbrev pub TakesOutlined : State → Text → QueryValue → List FeatureOutline → PageFold → PageFold
-    → Bool → Type 0
-TakesOutlined s name q outlines old new taken =
+-- the box that a query asks for, counted from the corner of the grid, where it is known
+abbrev pub IsWindowOf : QueryValue → Option Envelope → Type 0
+IsWindowOf q None = Unit {0}
+IsWindowOf q (Some window) = (area : BoxValue) × (q.bbox ≡ Some area) × IsEnvelopeOf window area
+
+-- if all were taken, the features with a chunk's outlines were met behind those met before
+abbrev pub TakesOutlined : State → Text → QueryValue → Chunk → PageFold → PageFold → Bool → Type 0
+TakesOutlined s name q chunk old new taken =
     IsTrue taken → (c : Collection) (met fs : List FeatureValue) → get s.collections name ≡ Some c
-    → Pairs c.features outlines fs → HoldsCandidates q old met
+    → IsBounded chunk → Pairs c.features chunk.outlines.items fs → HoldsCandidates q old met
     → HoldsCandidates q new (met ++ fs)
 
 -- if the outlines are those of the collection's features, this is the page, if it is there

@@ -13,7 +13,9 @@ ghost use Rattle.streetmap_index.specs.Index.{IsListedChunk};
 ghost use Rattle.streetmap_index.specs.Chunks.{reaches as reaches_of};
 
 use crate::bounds::{bounds_of_seconds, count_extents, grown};
-use std::alloc::AllocError;
+use crate::kept_extents::keep_extents;
+use std::alloc::{AllocError, Global};
+use streetmap_cells::Envelope;
 use streetmap_grid::GridBox;
 use streetmap_ledger::FeatureOutline;
 
@@ -22,6 +24,8 @@ use streetmap_ledger::FeatureOutline;
 pub struct Chunk {
     /// In byte order of ids.
     pub outlines: Vec<FeatureOutline>,
+    /// Their extents, beside one another: those of the first ones alone where memory was refused.
+    pub extents: Vec<Envelope>,
     /// The bounds of their extents, in millimetres; none where no outline has an extent.
     pub bounds: Option<GridBox>,
     /// How many of them have an extent.
@@ -54,7 +58,7 @@ fn is_same_extent(one: Option<GridBox>, other: Option<GridBox>) -> bool
 
 impl Chunk {
     /// A chunk of these outlines, with this number.
-    pub fn new(number: u32, outlines: Vec<FeatureOutline>) -> Self
+    pub fn new(alloc: Global, number: u32, outlines: Vec<FeatureOutline>) -> Self
         ensures number { result.number ≡ number }
         ensures same { result.outlines.items ≡ outlines.items }
         ensures bounded { IsBounded result }
@@ -62,8 +66,11 @@ impl Chunk {
         let bounds = grown(None, outlines.as_slice());
         let with_extent = count_extents(outlines.as_slice());
         let seconds = bounds_of_seconds(outlines.as_slice());
+        let mut extents = Vec::new(alloc);
+        keep_extents(&mut extents, outlines.as_slice());
         Chunk {
             outlines,
+            extents,
             bounds,
             with_extent,
             seconds,
@@ -102,6 +109,7 @@ impl Chunk {
         self.bounds = grown(None, self.outlines.as_slice());
         self.with_extent = count_extents(self.outlines.as_slice());
         self.seconds = bounds_of_seconds(self.outlines.as_slice());
+        keep_extents(&mut self.extents, self.outlines.as_slice());
     }
 
     /// Puts an outline in, in place of the one under its id, if there is one.
@@ -143,7 +151,12 @@ impl Chunk {
     }
 
     /// Takes the outlines from a place on out, as a chunk of their own with this number.
-    pub fn split_off(&mut self, place: usize, number: u32) -> Result<Chunk, AllocError>
+    pub fn split_off(
+        &mut self,
+        alloc: Global,
+        place: usize,
+        number: u32,
+    ) -> Result<Chunk, AllocError>
         requires { place ≤ length self.old.outlines.items }
         ensures front { OnOk result (self.new.outlines.items
             ≡ take place self.old.outlines.items) }
@@ -156,7 +169,7 @@ impl Chunk {
     {
         let behind = self.outlines.split_off(place)?;
         self.bound();
-        Ok(Chunk::new(number, behind))
+        Ok(Chunk::new(alloc, number, behind))
     }
 
     /// Whether the last of the outlines is under this id or a later one.

@@ -53,11 +53,13 @@ fn cut_up(alloc: Global, mut outlines: Vec<FeatureOutline>) -> Result<Vec<Chunk>
     let mut chunks = Vec::new(alloc);
     while outlines.len() > LEARNT_IN_CHUNK {
         let last = outlines.split_off(outlines.len() - LEARNT_IN_CHUNK)?;
-        chunks.push(Chunk::new(number_after(chunks.as_slice()), last))?;
+        let number = number_after(chunks.as_slice());
+        chunks.push(Chunk::new(alloc, number, last))?;
     }
     if !outlines.is_empty() {
         outlines.shrink_to_fit();
-        chunks.push(Chunk::new(number_after(chunks.as_slice()), outlines))?;
+        let number = number_after(chunks.as_slice());
+        chunks.push(Chunk::new(alloc, number, outlines))?;
     }
     chunks.reverse();
     Ok(chunks)
@@ -101,7 +103,7 @@ impl Chunks {
     }
 
     /// Cuts a chunk in two, if it has come to the most outlines that one has.
-    fn halve(&mut self, place: usize) -> Result<(), AllocError>
+    fn halve(&mut self, alloc: Global, place: usize) -> Result<(), AllocError>
         requires { place < length self.old.chunks.items }
         ensures same { OnOk result (joined self.new.chunks.items ≡ joined self.old.chunks.items) }
         ensures filled { AreFilled self.old.chunks.items
@@ -115,7 +117,7 @@ impl Chunks {
         if len < MOST_IN_CHUNK {
             return Ok(());
         }
-        let behind = self.chunks[place].split_off(len / 2, self.next)?;
+        let behind = self.chunks[place].split_off(alloc, len / 2, self.next)?;
         list_outlines(&mut self.cells, behind.number, behind.outlines.as_slice())?;
         self.next = self.next.saturating_add(1);
         self.chunks.insert(place + 1, behind)?;
@@ -131,7 +133,7 @@ impl Chunks {
             OnOk result (AreListedChunksOf self.new (insert features f.id f)) }
     {
         list_extent(&mut self.cells, self.next, outline.extent)?;
-        let mut first = Chunk::new(self.next, Vec::new(alloc));
+        let mut first = Chunk::new(alloc, self.next, Vec::new(alloc));
         self.next = self.next.saturating_add(1);
         first.put(outline)?;
         self.chunks.push(first)?;
@@ -176,7 +178,7 @@ impl Chunks {
         let place = self.chunk_of(outline.id.as_str());
         self.list(alloc, place, &outline)?;
         self.chunks[place].put(outline)?;
-        self.halve(place)
+        self.halve(alloc, place)
     }
 
     /// Takes the outline under an id out, if there is one, and its chunk, if that is empty then.

@@ -17,6 +17,7 @@ ghost use Rattle.streetmap_index.specs.Taking.{IsOutlinedPage};
 use crate::asking::ask;
 use crate::chunk::Chunk;
 use crate::chunks::Chunks;
+use crate::kept_extents::{is_off, window_of};
 use crate::outlined::OutlinedCollection;
 use crate::selection::{
     all_come_after, comes_after, count_selected, is_candidate, is_passed_over, is_selected,
@@ -124,13 +125,13 @@ fn take_read<K: Keeper>(
     }
 }
 
-/// Takes the features with these outlines, which come next, and answers whether it did: not where
-/// one of them is not there, or one more than `MOST_READ` would have to be read. `read` counts
-/// those that were read.
+/// Takes the features with a chunk's outlines, which come next, and answers whether it did: not
+/// where one of them is not there, or one more than `MOST_READ` would have to be read. `read`
+/// counts those that were read.
 fn take_outlined<K: Keeper>(
     keeper: &mut K,
     collection: &str,
-    outlines: &[FeatureOutline],
+    chunk: &Chunk,
     query: &Query,
     fold: &mut PageFold<'_>,
     read: &mut usize,
@@ -142,13 +143,19 @@ fn take_outlined<K: Keeper>(
     ensures device { K.is_clean keeper.new → (s : State) → K.stands keeper.old s →
         IsErrOf result Fault.Device → K.fails keeper.old keeper.new }
     ensures takes { K.is_clean keeper.new → (s : State) → K.stands keeper.old s
-        → Looks s (TakesOutlined s collection.now (query_value query.now) outlines.now fold.old
+        → Looks s (TakesOutlined s collection.now (query_value query.now) chunk.now fold.old
         fold.new) result (K.stands keeper.new) }
     ensures leaves { K.is_clean keeper.new → (s : State) → K.stands keeper.old s
         → LeavesOnly (K.may_leave keeper.old) (Some s)
         → LeavesOnly (K.may_leave keeper.new) (Some s) }
 {
-    for outline in outlines {
+    let window = window_of(query);
+    let extents = chunk.extents.as_slice();
+    let outlines = chunk.outlines.as_slice();
+    for (place, outline) in outlines.iter().enumerate() {
+        if is_off(window, extents, place) {
+            continue;
+        }
         if take_unread(query, fold, outline) {
             continue;
         }
@@ -202,14 +209,7 @@ fn page_by_outlines<K: Keeper>(
         if count_chunk(query, &mut fold, chunk) {
             continue;
         }
-        match take_outlined(
-            keeper,
-            collection,
-            chunk.outlines.as_slice(),
-            query,
-            &mut fold,
-            &mut read,
-        ) {
+        match take_outlined(keeper, collection, chunk, query, &mut fold, &mut read) {
             Ok(true) => {}
             Ok(false) => return Ok(None),
             Err(fault) => return Err(fault),

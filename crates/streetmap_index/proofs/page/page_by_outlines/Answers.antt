@@ -110,7 +110,7 @@ loop-chunk-preserved g c =
     let q = query_value c.args.query.now in
     let cs = c.as_slice-chunks.result.now in
     let i = c.loop-chunk.chunk-index in
-    let os = c.as_slice.result.now in
+    let chunk = c.chunk-item.result in
     record {
       is_open = says.faults.1;
       spared = g.met.K.Keeper.spares_then _ _ _ inv.spared says.spared;
@@ -118,10 +118,11 @@ loop-chunk-preserved g c =
       stands = λ h s e. (says.takes h s (inv.stands (says.began_clean h) s e)).1;
       leaves = λ h s e only. says.leaves h s (inv.stands (says.began_clean h) s e) (inv.leaves (says.began_clean h) s e only);
       going = λ h s d e there known.
-          goes_on_behind q c.loop-chunk.fold c.take_outlined.new.fold d.features (values d.features) os (joined (drop (i + 1) cs))
-          (subst (Going q c.loop-chunk.fold d.features (values d.features)) (next_chunk cs i c.chunk-item.result os (omega arith) c.chunk-item.is c.as_slice.ensures.value) (inv.going (says.began_clean h) s d e there known))
+          let bounded = subst IsBounded (sym c.chunk-item.is) (subst AreBounded (sym c.as_slice-chunks.ensures.value) known.chunks.bounded i chunk (omega arith)) in
+          goes_on_behind q c.loop-chunk.fold c.take_outlined.new.fold d.features (values d.features) chunk.outlines.items (joined (drop (i + 1) cs))
+          (subst (Going q c.loop-chunk.fold d.features (values d.features)) (next_chunk cs i chunk chunk.outlines.items (omega arith) c.chunk-item.is refl) (inv.going (says.began_clean h) s d e there known))
           (λ met fs pairs held.
-          (says.takes h s (inv.stands (says.began_clean h) s e)).0 c.in-Ok-true.field-0-test d met fs there pairs
+          (says.takes h s (inv.stands (says.began_clean h) s e)).0 c.in-Ok-true.field-0-test d met fs there bounded pairs
           (subst (λ fold. HoldsCandidates q fold met) (sym (c.count_chunk.ensures.unchanged c.if-count_chunk.false)) held));
     }
 

@@ -2,6 +2,7 @@ use Rattle.std.proofs.Common.{◌≡◌, ◌<◌, ◌+◌, ℕ, List, ◌∷◌,
 use Rattle.std.specs.Option.{option_and_then}
 use Rattle.std.specs.FinMap.{get}
 use Rattle.std.proofs.lemmas.List.{drop_more, drop_all}
+use Rattle.std.proofs.lemmas.Option.{slice_get_read}
 use Rattle.streetmap_geojson.specs.FeatureValue.{FeatureValue}
 use Rattle.streetmap_query.specs.Views.{query_value}
 use Rattle.streetmap_batch.specs.Text.{Text}
@@ -10,7 +11,9 @@ use Rattle.streetmap_ledger.specs.Pages.{candidates, feature_in}
 use Rattle.streetmap_ledger.specs.Folds.{IsFoldOf}
 use Rattle.streetmap_ledger.specs.Outlines.{FeatureOutlineValue}
 use Rattle.streetmap_ledger.specs.declared.outline.FeatureOutline.{FeatureOutline}
-use Rattle.streetmap_ledger.proofs.Examining.{taken}
+use Rattle.streetmap_ledger.proofs.Examining.{taken, left_out}
+use Rattle.streetmap_index.specs.Index.{AreExtentsOf}
+use Rattle.streetmap_index.specs.Taking.{Pairs}
 use Rattle.streetmap_index.proofs.Pairing.{Going, goes_on, all_held}
 use Rattle.streetmap_index.proofs.page.take_outlined.Goals as goal
 
@@ -22,50 +25,71 @@ found s name id d f there is has = ap (option_and_then (λ (c : Collection). get
 turn : (os : List FeatureOutline) (i : ℕ) (o : FeatureOutline) → i < length os → o ≡ get_or os i o → drop i os ≡ o ∷ drop (i + 1) os
 turn os i o within is = drop_more os i o within ∙ ap (λ (x : FeatureOutline). x ∷ drop (i + 1) os) (sym is)
 
-pub loop-outline-init : goal.loop-outline-init
-loop-outline-init g c = record {
+pub loop-place-init : goal.loop-place-init
+loop-place-init g c = record {
   is_open = c.requires.is_open;
   spared = g.met.K.Keeper.spares_itself _;
   clean = λ h. h;
   stands = λ h s e. e;
   leaves = λ h s e only. only;
-  going = λ h s d met fs e there pairs held. record { met = met; left = fs; whole = refl {a = met ++ fs}; pairs = pairs; holds = held };
+  going = λ h s d met fs e there bounded pairs held. record { met = met; left = fs; whole = refl {a = met ++ fs}; pairs = pairs; holds = held };
 }
 
-pub loop-outline-preserved-then-take_unread : goal.loop-outline-preserved-then-take_unread
-loop-outline-preserved-then-take_unread g c =
-    let inv = c.loop-outline.invariant in
+pub loop-place-preserved-then-is_off : goal.loop-place-preserved-then-is_off
+loop-place-preserved-then-is_off g c =
+    let inv = c.loop-place.invariant in
     let q = query_value c.args.query.now in
-    let os = c.args.outlines.now in
-    let i = c.loop-outline.outline-index in
-    let o = c.outline-item.result in
+    let chunk = c.args.chunk.now in
+    let os = c.as_slice-outlines.result.now in
+    let i = c.loop-place.place in
+    let o = c.index-outlines-place.result in
+    let fold = c.loop-place.fold in
     record {
       is_open = inv.is_open;
       spared = inv.spared;
       clean = inv.clean;
       stands = inv.stands;
       leaves = inv.leaves;
-      going = λ h s d met all e there pairs held.
-          goes_on q c.loop-outline.fold c.take_unread.new.fold d.features (met ++ all) o (drop (i + 1) os) (subst (Going q c.loop-outline.fold d.features (met ++ all)) (turn os i o (omega arith) c.outline-item.is) (inv.going h s d met all e there pairs held))
+      going = λ h s d met all e there bounded pairs held.
+          let kept = subst (λ es. AreExtentsOf es os) (sym c.as_slice-extents.ensures.value) (subst (λ xs. AreExtentsOf chunk.extents.items xs) (sym c.as_slice-outlines.ensures.value) bounded.extents) in
+          goes_on q fold fold d.features (met ++ all) o (drop (i + 1) os) (subst (Going q fold d.features (met ++ all)) (turn os i o c.loop-place-test.true c.index-outlines-place.is) (inv.going h s d met all e there bounded pairs held))
+          (λ fs f entry holds. left_out c.args.query.now fold fs f entry.made (c.is_off.ensures c.if-is_off.true q os o f c.window_of-window.ensures kept (slice_get_read os (length os) i o refl c.loop-place-test.true c.index-outlines-place.is) entry.known) holds);
+    }
+
+pub loop-place-preserved-then-take_unread : goal.loop-place-preserved-then-take_unread
+loop-place-preserved-then-take_unread g c =
+    let inv = c.loop-place.invariant in
+    let q = query_value c.args.query.now in
+    let os = c.as_slice-outlines.result.now in
+    let i = c.loop-place.place in
+    let o = c.index-outlines-place.result in
+    record {
+      is_open = inv.is_open;
+      spared = inv.spared;
+      clean = inv.clean;
+      stands = inv.stands;
+      leaves = inv.leaves;
+      going = λ h s d met all e there bounded pairs held.
+          goes_on q c.loop-place.fold c.take_unread.new.fold d.features (met ++ all) o (drop (i + 1) os) (subst (Going q c.loop-place.fold d.features (met ++ all)) (turn os i o c.loop-place-test.true c.index-outlines-place.is) (inv.going h s d met all e there bounded pairs held))
           (λ fs f entry holds. c.take_unread.ensures.taken c.if-take_unread.true fs f entry.known entry.made holds);
     }
 
-pub loop-outline-preserved : goal.loop-outline-preserved
-loop-outline-preserved g c =
-    let inv = c.loop-outline.invariant in
+pub loop-place-preserved : goal.loop-place-preserved
+loop-place-preserved g c =
+    let inv = c.loop-place.invariant in
     let says = c.in-Ok-true.ensures in
     let q = query_value c.args.query.now in
-    let os = c.args.outlines.now in
-    let i = c.loop-outline.outline-index in
-    let o = c.outline-item.result in
+    let os = c.as_slice-outlines.result.now in
+    let i = c.loop-place.place in
+    let o = c.index-outlines-place.result in
     record {
       is_open = says.faults.1;
       spared = g.met.K.Keeper.spares_then _ _ _ inv.spared says.spared;
       clean = λ h. inv.clean (says.began_clean h);
       stands = λ h s e. (says.takes h s (inv.stands (says.began_clean h) s e)).1;
       leaves = λ h s e only. says.leaves h s (inv.stands (says.began_clean h) s e) (inv.leaves (says.began_clean h) s e only);
-      going = λ h s d met all e there pairs held.
-          goes_on q c.loop-outline.fold c.take_read.new.fold d.features (met ++ all) o (drop (i + 1) os) (subst (Going q c.loop-outline.fold d.features (met ++ all)) (turn os i o (omega arith) c.outline-item.is) (inv.going (says.began_clean h) s d met all e there pairs held))
+      going = λ h s d met all e there bounded pairs held.
+          goes_on q c.loop-place.fold c.take_read.new.fold d.features (met ++ all) o (drop (i + 1) os) (subst (Going q c.loop-place.fold d.features (met ++ all)) (turn os i o c.loop-place-test.true c.index-outlines-place.is) (inv.going (says.began_clean h) s d met all e there bounded pairs held))
           (λ fs f entry before.
           let asks = before.holds.asks in
           let candidate = c.take_unread.ensures.candidate c.if-take_unread.false f entry.known in
@@ -77,34 +101,35 @@ loop-outline-preserved g c =
 
 pub returns-in-Ok-false-clause-leaves : goal.returns-in-Ok-false-clause-leaves
 returns-in-Ok-false-clause-leaves g c = λ h s e only.
-    let inv = c.loop-outline.invariant in
+    let inv = c.loop-place.invariant in
     let says = c.in-Ok-false.ensures in
     says.leaves h s (inv.stands (says.began_clean h) s e) (inv.leaves (says.began_clean h) s e only)
 
 pub returns-in-Err-clause-leaves : goal.returns-in-Err-clause-leaves
 returns-in-Err-clause-leaves g c = λ h s e only.
-    let inv = c.loop-outline.invariant in
+    let inv = c.loop-place.invariant in
     let says = c.in-Err.ensures in
     says.leaves h s (inv.stands (says.began_clean h) s e) (inv.leaves (says.began_clean h) s e only)
 
 pub returns-clause-takes : goal.returns-clause-takes
 returns-clause-takes g c = λ h s e.
-    let inv = c.loop-outline.invariant in
+    let inv = c.loop-place.invariant in
     let q = query_value c.args.query.now in
-    let os = c.args.outlines.now in (
-      λ taken d met all there pairs held.
-          all_held q c.loop-outline.fold d.features (met ++ all) (subst (Going q c.loop-outline.fold d.features (met ++ all)) (drop_all c.loop-outline.outline-index os (omega arith)) (inv.going h s d met all e there pairs held)),
+    let os = c.as_slice-outlines.result.now in (
+      λ taken d met all there bounded pairs held.
+          let kept = subst (λ xs. Pairs d.features xs all) (sym c.as_slice-outlines.ensures.value) pairs in
+          all_held q c.loop-place.fold d.features (met ++ all) (subst (Going q c.loop-place.fold d.features (met ++ all)) (drop_all c.loop-place.place os (omega arith)) (inv.going h s d met all e there bounded kept held)),
       inv.stands h s e,
     )
 
 pub returns-in-Ok-false-clause-spared : goal.returns-in-Ok-false-clause-spared
-returns-in-Ok-false-clause-spared g c = g.met.K.Keeper.spares_then _ _ _ c.loop-outline.invariant.spared c.in-Ok-false.ensures.spared
+returns-in-Ok-false-clause-spared g c = g.met.K.Keeper.spares_then _ _ _ c.loop-place.invariant.spared c.in-Ok-false.ensures.spared
 
 pub returns-in-Err-clause-spared : goal.returns-in-Err-clause-spared
-returns-in-Err-clause-spared g c = g.met.K.Keeper.spares_then _ _ _ c.loop-outline.invariant.spared c.in-Err.ensures.spared
+returns-in-Err-clause-spared g c = g.met.K.Keeper.spares_then _ _ _ c.loop-place.invariant.spared c.in-Err.ensures.spared
 
 pub returns-in-Err-clause-device : goal.returns-in-Err-clause-device
 returns-in-Err-clause-device g c = λ h s e failed.
-    let inv = c.loop-outline.invariant in
+    let inv = c.loop-place.invariant in
     let says = c.in-Err.ensures in
     g.met.K.Keeper.fails_later _ _ _ inv.spared says.spared (says.device h s (inv.stands (says.began_clean h) s e) failed)

@@ -1,6 +1,6 @@
 use Rattle.std.proofs.Common.{[], refl, ap, sym, subst, ◌∙◌}
 use Rattle.std.specs.List.{count_by}
-use Rattle.streetmap_index.specs.Index.{AllLieWithin, AllTimedBy, Pairs, has_extent}
+use Rattle.streetmap_index.specs.Index.{AllLieWithin, AllTimedBy, Pairs, has_extent, AreExtentsOf}
 use Rattle.streetmap_index.proofs.chunk.Chunk.new.Goals as goal
 
 pub returns-clause-bounded : goal.returns-clause-bounded
@@ -9,4 +9,5 @@ returns-clause-bounded c = record {
   exact = λ features fs pairs. c.grown-bounds.ensures.exact features [] fs (subst (λ xs. Pairs features xs fs) (sym c.as_slice.ensures.value) pairs) (refl {a = []});
   counted = c.count_extents-with_extent.ensures ∙ ap (count_by has_extent) c.as_slice-2.ensures.value;
   timed = subst (λ xs. AllTimedBy xs c.bounds_of_seconds-seconds.result) c.as_slice-3.ensures.value c.bounds_of_seconds-seconds.ensures;
+  extents = subst (AreExtentsOf c.keep_extents.new.extents.items) c.as_slice-4.ensures.value c.keep_extents.ensures;
 }
