@@ -7,42 +7,23 @@ ghost use Rattle.streetmap_ledger.specs.State.{State, opening_state};
 ghost use Rattle.streetmap_ledger.specs.Keep.{LeavesOnly};
 ghost use Rattle.streetmap_rows.specs.Keeping.{MayLeave};
 ghost use Rattle.streetmap_store.specs.Serving.{KeepsState};
-ghost use Rattle.streetmap_store.specs.Holding.{IsJustOpenedOn, HoldsState, HoldsOldState};
-ghost use Rattle.streetmap_store.specs.Holding.{LeavesRoom};
-ghost use Rattle.streetmap_store.specs.Reasons.{IsCleanRest, FailsToConnect, RefusesToOpen};
+ghost use Rattle.streetmap_store.specs.Holding.{HoldsState, HoldsOldState, LeavesRoom};
+ghost use Rattle.streetmap_store.specs.Reasons.{IsCleanRest, RefusesToOpen};
 ghost use Rattle.streetmap_store.specs.Reasons.{RefusesToCreate};
 ghost use Rattle.streetmap_store.specs.Reasons.{OpenBlamesNoFile, CreateBlamesNoFile, StaysAsItWas};
 ghost use Rattle.streetmap_store.specs.Reasons.{HoldsStill};
-ghost use Rattle.streetmap_store.specs.Reasons.{IsUnopened, OpensNothing, CreatesNothing};
+ghost use Rattle.streetmap_store.specs.Reasons.{OpensNothing, CreatesNothing};
 
+use crate::connecting::connect;
 use crate::fault::{CreateFault, Left, OpenFault};
 use crate::keeper::TableKeeper;
-use sqlite::{Connection, Error, FileFrom, FileStore, Leftover, Start};
+use sqlite::{Connection, FileFrom, FileStore, Leftover, Start};
 
 /// A keeper over the files at a path, which held what `S` says.
 pub type FileKeeper<S> = TableKeeper<FileStore<FileFrom<S>>>;
 
 /// What is left of the files at a path, which were refused.
 pub type FilesLeft<S> = Left<Leftover<FileFrom<S>>, Connection<FileStore<FileFrom<S>>>>;
-
-/// A connection to the files at a path, which are made where they are missing.
-fn connect<S: Start>(
-    rt: &HostRuntime,
-    path: &str,
-    start: S,
-) -> Result<Connection<FileStore<FileFrom<S>>>, (Error, FilesLeft<S>)>
-    ensures opened { IfOk result (IsJustOpenedOn (image_at S.Start)) }
-    ensures refused { IfErr result (λ refused. IsCleanRest refused.1
-        → FailsToConnect (image_at S.Start) refused.0 refused.1) }
-    ensures unopened { IfErr result (λ refused. refused.1 ≡ Left.Nothing
-        → IsUnopened refused.0) }
-{
-    match Connection::open_from(rt, path, false, start) {
-        Ok(conn) => Ok(conn),
-        Err((error, Some(left))) => Err((error, Left::Files(left))),
-        Err((error, None)) => Err((error, Left::Nothing)),
-    }
-}
 
 /// Makes the four tables in the database at a path, with the opening state, and keeps it there.
 ///
@@ -87,6 +68,9 @@ pub fn create<S: Start>(
 /// Opens the tables of the database at a path, and keeps their state. Those of format 1 are carried
 /// over to format 2 first, in one transaction: a stop within leaves the state in one format or the
 /// other.
+///
+/// While it is open as many of its pages are kept in memory as it has now and a quarter more, but
+/// from 8 to 256 MB.
 ///
 /// A file that is missing is made, and refused as `NotOurs`: look first whether it is there. After
 /// a refusal the files hold what they held. What is left of them is given back beside it.

@@ -14,9 +14,10 @@
 //! `run_over_tables`, `serve_over_tables` and `serve_clients_over_tables` say what a stop leaves of
 //! batches and of requests: the sentence that README begins with.
 //!
-//! Modules, in the order of reading: `keeper`; `fault`, `file`, `session`, `laws`.
+//! Modules, in the order of reading: `keeper`; `fault`, `connecting`, `file`, `session`, `laws`.
 #![tactic(auto)]
 
+mod connecting;
 mod fault;
 mod file;
 mod keeper;
