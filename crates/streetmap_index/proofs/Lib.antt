@@ -10,6 +10,7 @@ pub mod Each
 pub mod Covering
 pub mod Extents
 pub mod Beside
+pub mod Position
 pub mod Listing
 pub mod Listed
 pub mod Counting

@@ -1,3 +1,4 @@
 pub mod Chunks
 pub mod Index
 pub mod Taking
+pub mod Within

@@ -19,7 +19,8 @@
 //! In the order of reading: `bounds`, `kept_extents`, `chunk`, `in_cells` and `chunks` (outlines in
 //! chunks, of which an edit changes one, and their extents by cells), `outlined` (what is known of
 //! a collection, and how it follows edits), `learning` (how it is learnt from a keeper), `index`
-//! (what is known of some collections), `asking`, `selection` and `page`, `telling`, `keeper`.
+//! (what is known of some collections), `asking`, `within`, `selection` and `page`, `telling`,
+//! `keeper`.
 #![tactic(auto)]
 
 mod asking;
@@ -35,5 +36,6 @@ mod outlined;
 mod page;
 mod selection;
 mod telling;
+mod within;
 
 pub use keeper::IndexedKeeper;

@@ -16,8 +16,9 @@ ghost use Rattle.streetmap_index.specs.Taking.{AllComeAfter};
 ghost use Rattle.streetmap_index.specs.Chunks.{AreInOrder, BeginsAfter};
 
 use crate::chunk::Chunk;
+use crate::within::tells_meeting;
 use streetmap_cells::Marks;
-use streetmap_ledger::{FeatureOutline, lies_within_box, overlaps_box};
+use streetmap_ledger::{FeatureOutline, overlaps_box};
 use streetmap_query::Query;
 
 /// Whether the seconds overlap those of the interval, where one is asked.
@@ -88,7 +89,7 @@ pub fn is_selected(query: &Query, outline: &FeatureOutline) -> bool
     ensures { IsTrue result → (f : FeatureValue) → IsOutlineOf outline.now f → IsFeature f
         → selects (query_value query.now) f ≡ true }
 {
-    lies_within_box(query, outline.extent) && reaches_into_interval(query, outline.seconds)
+    tells_meeting(query, outline.extent) && reaches_into_interval(query, outline.seconds)
 }
 
 /// Whether the chunk's bounds lie within the box, where one is asked. Then each feature with an
