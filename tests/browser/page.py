@@ -10,7 +10,11 @@ from urllib.parse import parse_qs, urlsplit
 
 from PIL import Image
 from selenium import webdriver
-from selenium.common.exceptions import StaleElementReferenceException, WebDriverException
+from selenium.common.exceptions import (
+    ElementNotInteractableException,
+    StaleElementReferenceException,
+    WebDriverException,
+)
 from selenium.webdriver.chrome.options import Options
 from selenium.webdriver.chrome.service import Service
 from selenium.webdriver.common.action_chains import ActionChains
@@ -20,6 +24,8 @@ from selenium.webdriver.remote.webelement import WebElement
 
 # The page does within so many seconds what is asked of it, however busy the machine is.
 SECONDS = 180
+# What an element is that is drawn again, or not shown yet.
+NOT_YET = (StaleElementReferenceException, ElementNotInteractableException)
 MAP_BOX = """
 const { x, y, width, height } = document.getElementById("map").getBoundingClientRect();
 return [x, y, width, height];
@@ -43,7 +49,7 @@ class Page:
         """Waits until something is true, and returns it."""
         end = time.monotonic() + seconds
         while True:
-            with contextlib.suppress(StaleElementReferenceException):
+            with contextlib.suppress(*NOT_YET):
                 if value := found():
                     return value
             if time.monotonic() > end:
@@ -102,7 +108,7 @@ class Page:
         self.wait(f"the button {text!r}", lambda: self.script(match, within, text)).click()
 
     def click(self, selector: str) -> None:
-        """Presses an element, also where it is drawn again meanwhile."""
+        """Presses an element, also where it is drawn again meanwhile or not shown yet."""
 
         def pressed() -> bool:
             self.one(selector).click()

@@ -135,8 +135,9 @@ def a_hedge(chance: random.Random, number: int) -> dict[str, Any]:
 
 
 def hedges(context: Context) -> None:
-    """Pages whose box so many lines cross that the store finds them row by row, also where a row
-    that no answer needs cannot be read."""
+    """Pages whose box so many lines cross, beyond two of its edges, that the store finds them row by
+    row, also where a row that no answer needs cannot be read. Of those that cross one edge alone
+    only what is shown is read."""
     chance, ledger = random.Random(9), Ledger()
     numbers = [*range(HEDGE_COUNT + 5)]
     chance.shuffle(numbers)
@@ -145,7 +146,7 @@ def hedges(context: Context) -> None:
     planted = Request("POST", "/batches", {"key": "hedges", "edits": edits})
     context.check("hedges are planted", ledger.answer(planted)[9:12], b"200")
     file = context.new_file("hedges", planted.sent)
-    boxes = [f"bbox={WEST},{south},{EAST},{north}" for south, north in ((0, 2), (-3, 3), (1, 8))]
+    boxes = [f"bbox={WEST},{south},{EAST},{north}" for south, north in ((0, 2), (-2, 3), (1, 8))]
     queries = [f"{box}&limit={limit}" for box in boxes for limit in (1, 3, 1000)]
     queries += [f"{box}&after=hedge-01200&limit=5" for box in boxes]
     queries += [f"{box}&datetime=2024-06-01T00:00:00Z/..&limit=20" for box in boxes]
@@ -160,6 +161,8 @@ def hedges(context: Context) -> None:
         (answer,) = context.pipe(file, page.sent)
         found = answer.status, answer.json()["code"]
         context.check(f"{page.query}: a row unread", found, (500, "damaged"))
+    (answer,) = context.pipe(file, get(f"{HEDGES}?bbox={WEST},-3,{EAST},3&limit=3"))
+    context.check("a page of lines across one edge", answer.json()["numberMatched"], HEDGE_COUNT)
     (answer,) = context.pipe(file, get(f"{HEDGES}?bbox={WEST},9990,{EAST},10010"))
     context.check("a page that shows the other row", answer.status, 500)
     (answer,) = context.pipe(file, get(f"{HEDGES}?bbox=9000,0,9001,1"))
