@@ -151,6 +151,12 @@ def hedges(context: Context) -> None:
     queries += [f"{box}&after=hedge-01200&limit=5" for box in boxes]
     queries += [f"{box}&datetime=2024-06-01T00:00:00Z/..&limit=20" for box in boxes]
     pages = [Request("GET", f"{HEDGES}?{query}") for query in queries]
+    across = f"bbox={WEST},-3,{EAST},3"
+    ends = ("limit=3", "after=hedge-01200&limit=5", "datetime=2024-06-01T00:00:00Z/..&limit=20")
+    counted = [Request("GET", f"{HEDGES}?{across}&{end}") for end in ends]
+    wanted = b"".join(ledger.answer(it) for it in counted)
+    got = context.run("pipe", file, sent=b"".join(it.sent for it in counted))
+    context.check("pages of lines across one edge", got, wanted)
     for _ in range(2):
         wanted = b"".join(ledger.answer(it) for it in pages)
         got = context.run("pipe", file, sent=b"".join(it.sent for it in pages))
@@ -161,8 +167,8 @@ def hedges(context: Context) -> None:
         (answer,) = context.pipe(file, page.sent)
         found = answer.status, answer.json()["code"]
         context.check(f"{page.query}: a row unread", found, (500, "damaged"))
-    (answer,) = context.pipe(file, get(f"{HEDGES}?bbox={WEST},-3,{EAST},3&limit=3"))
-    context.check("a page of lines across one edge", answer.json()["numberMatched"], HEDGE_COUNT)
+    (answer,) = context.pipe(file, counted[0].sent)
+    context.check("the first of these, a row unread", answer.json()["numberMatched"], HEDGE_COUNT)
     (answer,) = context.pipe(file, get(f"{HEDGES}?bbox={WEST},9990,{EAST},10010"))
     context.check("a page that shows the other row", answer.status, 500)
     (answer,) = context.pipe(file, get(f"{HEDGES}?bbox=9000,0,9001,1"))
