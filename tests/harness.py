@@ -1,6 +1,7 @@
 """The one harness of the test groups: running the program, serving a file, and counting checks."""
 
 import contextlib
+import random
 import re
 import select
 import socket
@@ -20,13 +21,42 @@ Word = str | Path
 OPENING = re.compile(rb"streetmap: opening .+, [0-9]+ bytes")
 # What is shown of a value that is not the one wanted.
 SHOWN = 600
+# The ports that groups listen at, below those that the kernel gives to clients, and the claims of
+# this process to some of them.
+PORTS = range(12_000, 32_000)
+CLAIMS: list[socket.socket] = []
+
+
+def is_claimed(port: int) -> bool:
+    """Claims a port for this process until it ends; false where another process of the tests has
+    it. The claim is a name that the kernel keeps, and gives free with the process."""
+    claim = socket.socket(socket.AF_UNIX)
+    try:
+        claim.bind(f"\0streetmap-tests-{port}")
+    except OSError:
+        claim.close()
+        return False
+    CLAIMS.append(claim)
+    return True
+
+
+def is_free(port: int) -> bool:
+    """Whether nothing listens at a port of 127.0.0.1."""
+    with socket.socket() as probe:
+        try:
+            probe.bind(("127.0.0.1", port))
+        except OSError:
+            return False
+    return True
 
 
 def free_port() -> int:
-    """A port of 127.0.0.1 that nothing listens at."""
-    with socket.socket() as probe:
-        probe.bind(("127.0.0.1", 0))
-        return probe.getsockname()[1]
+    """A port of 127.0.0.1 that nothing listens at, and that no other group is given while this
+    process runs. The kernel gives no client a port of this range."""
+    while True:
+        port = random.choice(PORTS)
+        if is_claimed(port) and is_free(port):
+            return port
 
 
 @dataclass

@@ -10,7 +10,7 @@ use Rattle.streetmap_batch.specs.Text.{Text}
 use Rattle.streetmap_batch.specs.BatchValue.{BatchValue}
 use Rattle.streetmap_ledger.specs.State.{State}
 use Rattle.streetmap_ledger.specs.Batches.{act, after_all}
-use Rattle.streetmap_ledger.specs.Pages.{page_in, feature_in}
+use Rattle.streetmap_ledger.specs.Pages.{page_in, feature_in, run_in}
 use Rattle.streetmap_ledger.specs.PageView.{page_value}
 use Rattle.streetmap_ledger.specs.Summaries.{summary_in, summaries_in}
 use Rattle.streetmap_ledger.specs.SummaryView.{summary_value, summary_values}
@@ -60,6 +60,13 @@ Shows s name q result stands = Looks s (λ page. option_map page_value page
 abbrev pub Finds : State → Text → Text → Result (Option FeatureValue) Fault → (State → Type 0)
     → Type 0
 Finds s name id result stands = Looks s (λ found. found ≡ feature_in s name id) result stands
+
+-- a run of features
+abbrev pub Runs : State → Text → Text → Text → Result (Option (Vec FeatureValue Global)) Fault
+    → (State → Type 0) → Type 0
+Runs s name first last result stands = Looks s (λ found.
+    option_map (λ (fs : Vec FeatureValue Global). fs.items) found ≡ run_in s name first last)
+    result stands
 
 -- what is told of a collection
 abbrev pub Tells : State → Text → Result (Option Summary) Fault → (State → Type 0) → Type 0

@@ -1,8 +1,8 @@
--- What a page shows, and a look at one feature. OGC 17-069, sections 7.15 and 7.16.
+-- What a page shows, and looks at one feature and at a run of them. OGC 17-069, sections 7.15 and 7.16.
 use Rattle.std.specs.Prelude.{ℕ, ◌-◌, ◌^◌, ◌&&◌, List, Option, None, Some, Bool, true, false}
 use Rattle.std.specs.Prelude.{slice_get, filter, length, take, min, if◌then◌else◌, nat_lt}
 use Rattle.std.specs.Option.{option_map, option_and_then}
-use Rattle.std.specs.Ordering.{is_gt}
+use Rattle.std.specs.Ordering.{is_gt, is_ge, is_le}
 use Rattle.std.specs.FinMap.{get, values}
 use Rattle.streetmap_grid.specs.Values.{BoxValue, GeometryValue}
 use Rattle.streetmap_grid.specs.Meeting.{geometry_meets}
@@ -100,3 +100,12 @@ page_in s name q = option_map (λ (c : Collection). page_over q (values c.featur
 abbrev pub feature_in : State → Text → Text → Option FeatureValue
 feature_in s name id = option_and_then (λ (c : Collection).
     get c.features id) (get s.collections name)
+
+-- whether the feature's id stands between two in byte order, or is one of them
+abbrev pub is_between : Text → Text → FeatureValue → Bool
+is_between first last f = is_ge (text_cmp f.id first) && is_le (text_cmp f.id last)
+
+-- a run of features in a state, in order of ids: none where the collection is not there
+abbrev pub run_in : State → Text → Text → Text → Option (List FeatureValue)
+run_in s name first last = option_map (λ (c : Collection).
+    filter (is_between first last) (values c.features)) (get s.collections name)

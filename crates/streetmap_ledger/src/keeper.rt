@@ -6,8 +6,8 @@ ghost use Rattle.streetmap_ledger.specs.WellFormed.{IsState};
 ghost use Rattle.streetmap_ledger.specs.Batches.{replies_of};
 ghost use Rattle.streetmap_batch.specs.BatchValue.{BatchValue};
 ghost use Rattle.streetmap_batch.specs.BatchView.{batch_value};
-ghost use Rattle.streetmap_ledger.specs.Keep.{Acts, Shows, Finds, Tells, Lists, Outlines, ShutsBy};
-ghost use Rattle.streetmap_ledger.specs.Keep.{ApplyLeaves, LeavesOnly, AsBefore, RunEnds};
+ghost use Rattle.streetmap_ledger.specs.Keep.{Acts, Shows, Finds, Runs, Tells, Lists, Outlines};
+ghost use Rattle.streetmap_ledger.specs.Keep.{ShutsBy, ApplyLeaves, LeavesOnly, AsBefore, RunEnds};
 ghost use Rattle.streetmap_ledger.specs.Keep.{RunLeaves, RunShuts};
 ghost use Rattle.streetmap_ledger.specs.declared.reply.Cause.{Cause};
 ghost use Rattle.streetmap_ledger.specs.declared.reply.Fault.{Fault};
@@ -97,6 +97,27 @@ pub trait Keeper {
         ensures faults { ShutsBy result (cause self.old) (cause self.new) }
         ensures finds { is_clean self.new → (s : State) → stands self.old s →
             Finds s collection.now id.now result (stands self.new) }
+        ensures device { is_clean self.new → (s : State) → stands self.old s →
+            IsErrOf result Fault.Device → fails self.old self.new }
+        ensures leaves { is_clean self.new → (s : State) → stands self.old s →
+            LeavesOnly (may_leave self.old) (Some s) → LeavesOnly (may_leave self.new) (Some s) }
+        ensures reopen { IsErrOf result Fault.Reopen →
+            AsBefore (stands self.old) (stands self.new)
+            (may_leave self.old) (may_leave self.new) };
+
+    /// The features of a collection whose ids stand between two in byte order, with those two, in
+    /// byte order of ids; none where the collection is not there.
+    fn features(
+        &mut self,
+        collection: &str,
+        first: &str,
+        last: &str,
+    ) -> Result<Option<Vec<Feature>>, Fault>
+        ensures spared { spares self.old self.new }
+        ensures began_clean { is_clean self.new → is_clean self.old }
+        ensures faults { ShutsBy result (cause self.old) (cause self.new) }
+        ensures runs { is_clean self.new → (s : State) → stands self.old s →
+            Runs s collection.now first.now last.now result (stands self.new) }
         ensures device { is_clean self.new → (s : State) → stands self.old s →
             IsErrOf result Fault.Device → fails self.old self.new }
         ensures leaves { is_clean self.new → (s : State) → stands self.old s →
