@@ -15,3 +15,4 @@ pub mod Listing
 pub mod Listed
 pub mod Counting
 pub mod Ordered
+pub mod Runs

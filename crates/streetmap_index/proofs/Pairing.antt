@@ -68,13 +68,14 @@ pairs_by features (o ∷ os) (x ∷ xs) is h =
       pairs_by features os xs tail h.1,
     )
 
-pub paired : (os : List FeatureOutline) (c : Collection) → AreOutlines os c.features → HoldsFeatures c → Pairs c.features os (values c.features)
-paired os c known holds =
-    pairs_by c.features os (entries c.features) known
-    (each_found (IsThere c.features) (entries c.features) (entries_sorted c.features) (λ id f there.
+pub each_there : (c : Collection) → HoldsFeatures c → AllByRecursion (λ x. IsThere c.features x.0 x.1) (entries c.features)
+each_there c holds = each_found (IsThere c.features) (entries c.features) (entries_sorted c.features) (λ id f there.
     let here = get-entries c.features id ∙ there in
     let placed = holds id f here in
-    record { named = placed.named; made = placed.is; there = here }))
+    record { named = placed.named; made = placed.is; there = here })
+
+pub paired : (os : List FeatureOutline) (c : Collection) → AreOutlines os c.features → HoldsFeatures c → Pairs c.features os (values c.features)
+paired os c known holds = pairs_by c.features os (entries c.features) known (each_there c holds)
 
 -- ---- a page as far as it is made
 

@@ -1,12 +1,12 @@
 -- Pages that are made from outlines.
-use Rattle.std.specs.Prelude.{◌≡◌, ℕ, true, ◌++◌, ◌∷◌, [], List, All, length, Bool, ◌||◌, IsTrue}
-use Rattle.std.specs.Prelude.{Option, None, Some, is_none}
+use Rattle.std.specs.Prelude.{◌≡◌, ℕ, true, ◌++◌, List, All, length, Bool, ◌||◌, IsTrue}
+use Rattle.std.specs.Prelude.{Option, None, Some, is_none, map, string_bytes}
 use Rattle.std.specs.FinMap.{get, values}
 use Rattle.streetmap_geojson.specs.FeatureValue.{FeatureValue}
 use Rattle.streetmap_query.specs.QueryValue.{QueryValue}
 use Rattle.streetmap_batch.specs.Text.{Text}
 use Rattle.streetmap_ledger.specs.State.{State, Collection, Features}
-use Rattle.streetmap_ledger.specs.Pages.{feature_in, page_over, comes_after, selects, is_candidate}
+use Rattle.streetmap_ledger.specs.Pages.{page_over, comes_after, selects, is_candidate}
 use Rattle.streetmap_ledger.specs.Pages.{candidates}
 use Rattle.streetmap_ledger.specs.PageView.{page_value}
 use Rattle.streetmap_ledger.specs.Folds.{IsFoldOf, HoldsCandidates}
@@ -24,12 +24,21 @@ use Rattle.streetmap_cells.specs.declared.marks.Marks.{Marks}
 use Rattle.streetmap_index.specs.declared.chunk.Chunk.{Chunk}
 use Rattle.streetmap_index.specs.declared.chunks.Chunks.{Chunks}
 
--- the feature that the state has under the id is taken
-abbrev pub TakesRead : State → Text → Text → PageFold → PageFold → Bool → Type 0
-TakesRead s name id old new taken =
-    (f : FeatureValue) → feature_in s name id ≡ Some f → IsTrue taken
-    × ((q : QueryValue) (fs : List FeatureValue) → IsFoldOf q old fs
-    → IsFoldOf q new (fs ++ f ∷ []))
+-- a page examines the feature with this outline
+abbrev pub IsExamined : QueryValue → FeatureOutline → Type 0
+IsExamined q o = (f : FeatureValue) → IsOutlineOf o f → is_candidate q f ≡ true
+
+-- the features have the ids of the outlines, one by one
+abbrev pub HaveIds : List FeatureOutline → List FeatureValue → Type 0
+HaveIds os fs = map (λ (o : FeatureOutline). string_bytes o.id) os
+    ≡ map (λ (f : FeatureValue). f.id) fs
+
+-- if all were taken, the features with these outlines were met behind those met before
+abbrev pub TakesRun : State → Text → List FeatureOutline → PageFold → PageFold → Bool → Type 0
+TakesRun s name os old new taken =
+    IsTrue taken → (c : Collection) (q : QueryValue) (met fs : List FeatureValue)
+    → get s.collections name ≡ Some c → Pairs c.features os fs → IsFoldOf q old met
+    → IsFoldOf q new (met ++ fs)
 
 -- the box that a query asks for, counted from the corner of the grid, where it is known
 abbrev pub IsWindowOf : QueryValue → Option Envelope → Type 0

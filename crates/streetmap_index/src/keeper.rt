@@ -287,6 +287,21 @@ impl<K: Keeper> Keeper for IndexedKeeper<K> {
         }
     }
 
+    fn features(
+        &mut self,
+        collection: &str,
+        first: &str,
+        last: &str,
+    ) -> Result<Option<Vec<Feature>>, Fault> {
+        match self.keeper.features(collection, first, last) {
+            Ok(found) => Ok(found),
+            Err(fault) => {
+                self.heed(fault);
+                Err(fault)
+            }
+        }
+    }
+
     fn collection(&mut self, id: &str) -> Result<Option<Summary>, Fault> {
         match self.collection_learnt(id) {
             Ok(summary) => Ok(summary),

@@ -19,8 +19,8 @@
 //! In the order of reading: `bounds`, `kept_extents`, `chunk`, `in_cells` and `chunks` (outlines in
 //! chunks, of which an edit changes one, and their extents by cells), `outlined` (what is known of
 //! a collection, and how it follows edits), `learning` (how it is learnt from a keeper), `index`
-//! (what is known of some collections), `asking`, `within`, `selection` and `page`, `telling`,
-//! `keeper`.
+//! (what is known of some collections), `asking`, `within`, `selection`, `run` and `page`,
+//! `telling`, `keeper`.
 #![tactic(auto)]
 
 mod asking;
@@ -34,6 +34,7 @@ mod kept_extents;
 mod learning;
 mod outlined;
 mod page;
+mod run;
 mod selection;
 mod telling;
 mod within;

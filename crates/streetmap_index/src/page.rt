@@ -11,14 +11,14 @@ ghost use Rattle.streetmap_ledger.specs.Folds.{IsFoldOf, HoldsCandidates, IsFull
 ghost use Rattle.streetmap_ledger.specs.Keep.{Looks, Shows, LeavesOnly, ShutsBy, AsBefore};
 ghost use Rattle.streetmap_index.specs.Chunks.{AreInOrder};
 ghost use Rattle.streetmap_index.specs.Index.{IsOutlineOf, IsBounded, IsOutlinedIf};
-ghost use Rattle.streetmap_index.specs.Taking.{TakesRead, TakesOutlined, TakesChunk};
-ghost use Rattle.streetmap_index.specs.Taking.{IsOutlinedPage};
+ghost use Rattle.streetmap_index.specs.Taking.{TakesOutlined, TakesChunk, IsOutlinedPage};
 
 use crate::asking::ask;
 use crate::chunk::Chunk;
 use crate::chunks::Chunks;
 use crate::kept_extents::{is_off, window_of};
 use crate::outlined::OutlinedCollection;
+use crate::run::{run_length, take_run};
 use crate::selection::{
     all_come_after, comes_after, count_selected, is_candidate, is_passed_over, is_selected,
     is_unmarked,
@@ -95,34 +95,12 @@ fn count_chunk(query: &Query, fold: &mut PageFold<'_>, chunk: &Chunk) -> bool
     }
 }
 
-/// Takes the feature with this id, which comes next, as the keeper has it, and answers whether it
-/// is there.
-fn take_read<K: Keeper>(
-    keeper: &mut K,
-    collection: &str,
-    id: &str,
-    fold: &mut PageFold<'_>,
-) -> Result<bool, Fault>
-    ensures spared { K.spares keeper.old keeper.new }
-    ensures began_clean { K.is_clean keeper.new → K.is_clean keeper.old }
-    ensures faults { ShutsBy result (K.cause keeper.old) (K.cause keeper.new) }
-    ensures device { K.is_clean keeper.new → (s : State) → K.stands keeper.old s →
-        IsErrOf result Fault.Device → K.fails keeper.old keeper.new }
-    ensures takes { K.is_clean keeper.new → (s : State) → K.stands keeper.old s
-        → Looks s (TakesRead s collection.now id.now fold.old fold.new) result
-        (K.stands keeper.new) }
-    ensures leaves { K.is_clean keeper.new → (s : State) → K.stands keeper.old s
-        → LeavesOnly (K.may_leave keeper.old) (Some s)
-        → LeavesOnly (K.may_leave keeper.new) (Some s) }
-{
-    match keeper.feature(collection, id) {
-        Ok(Some(feature)) => match fold.take(feature) {
-            Ok(()) => Ok(true),
-            Err(_) => Err(Fault::Memory),
-        },
-        Ok(None) => Ok(false),
-        Err(fault) => Err(fault),
-    }
+/// How many features a page shows at most behind the next one, where it has read so many: no fewer
+/// where each of these is shown.
+fn room_behind(query: &Query, read: usize) -> usize {
+    (query.limit as usize)
+        .saturating_sub(read)
+        .saturating_sub(1)
 }
 
 /// Takes the features with a chunk's outlines, which come next, and answers whether it did: not
@@ -152,19 +130,25 @@ fn take_outlined<K: Keeper>(
     let window = window_of(query);
     let extents = chunk.extents.as_slice();
     let outlines = chunk.outlines.as_slice();
-    for (place, outline) in outlines.iter().enumerate() {
+    let mut place = 0;
+    while place < outlines.len() {
+        let outline = &outlines[place];
         if is_off(window, extents, place) {
+            place += 1;
             continue;
         }
         if take_unread(query, fold, outline) {
+            place += 1;
             continue;
         }
-        if *read == MOST_READ {
+        if *read >= MOST_READ {
             return Ok(false);
         }
-        *read = read.saturating_add(1);
-        match take_read(keeper, collection, outline.id.as_str(), fold) {
-            Ok(true) => {}
+        let more = run_length(query, &outlines[place + 1..], room_behind(query, *read));
+        let end = place + 1 + more;
+        *read = read.saturating_add(1 + more);
+        match take_run(keeper, collection, &outlines[place..end], fold) {
+            Ok(true) => place = end,
             Ok(false) => return Ok(false),
             Err(fault) => return Err(fault),
         }

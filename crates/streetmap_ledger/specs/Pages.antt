@@ -1,4 +1,5 @@
--- What a page shows, and looks at one feature and at a run of them. OGC 17-069, sections 7.15 and 7.16.
+-- What a page shows, and looks at one feature and at a run of them. OGC 17-069, sections 7.15 and
+-- 7.16.
 use Rattle.std.specs.Prelude.{ℕ, ◌-◌, ◌^◌, ◌&&◌, List, Option, None, Some, Bool, true, false}
 use Rattle.std.specs.Prelude.{slice_get, filter, length, take, min, if◌then◌else◌, nat_lt}
 use Rattle.std.specs.Option.{option_map, option_and_then}

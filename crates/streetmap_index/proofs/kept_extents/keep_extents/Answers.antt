@@ -1,4 +1,4 @@
-use Rattle.std.proofs.Common.{◌≡◌, ◌+◌, [], ◌∷◌, length, sym, subst, arith, rules}
+use Rattle.std.proofs.Common.{sym, subst, arith, rules}
 use Rattle.streetmap_index.specs.Index.{AreExtentsOf}
 use Rattle.streetmap_index.proofs.Beside.{one_more}
 use Rattle.streetmap_index.proofs.kept_extents.keep_extents.Goals as goal

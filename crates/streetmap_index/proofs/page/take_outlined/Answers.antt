@@ -1,32 +1,20 @@
-use Rattle.std.proofs.Common.{◌≡◌, ◌<◌, ◌+◌, ℕ, List, ◌∷◌, ◌++◌, Some, length, drop, get_or, ap, sym, subst, refl, ◌∙◌, arith}
-use Rattle.std.specs.Option.{option_and_then}
-use Rattle.std.specs.FinMap.{get}
-use Rattle.std.proofs.lemmas.List.{drop_more, drop_all}
+use Rattle.std.proofs.Common.{◌≤◌, ◌+◌, All, ◌∷◌, ◌++◌, take, drop, length, length-drop, sym, subst, refl, arith}
+use Rattle.std.proofs.lemmas.List.{drop_all}
+use Rattle.std.proofs.lemmas.List.Elements.{All-cons}
 use Rattle.std.proofs.lemmas.Option.{slice_get_read}
-use Rattle.streetmap_geojson.specs.FeatureValue.{FeatureValue}
 use Rattle.streetmap_query.specs.Views.{query_value}
-use Rattle.streetmap_batch.specs.Text.{Text}
-use Rattle.streetmap_ledger.specs.State.{State, Collection}
-use Rattle.streetmap_ledger.specs.Pages.{candidates, feature_in}
+use Rattle.streetmap_ledger.specs.Pages.{candidates}
 use Rattle.streetmap_ledger.specs.Folds.{IsFoldOf}
-use Rattle.streetmap_ledger.specs.Outlines.{FeatureOutlineValue}
-use Rattle.streetmap_ledger.specs.declared.outline.FeatureOutline.{FeatureOutline}
-use Rattle.streetmap_ledger.proofs.Examining.{taken, left_out}
+use Rattle.streetmap_ledger.proofs.Examining.{left_out}
 use Rattle.streetmap_index.specs.Index.{AreExtentsOf}
-use Rattle.streetmap_index.specs.Taking.{Pairs}
-use Rattle.streetmap_index.proofs.Pairing.{Going, goes_on, all_held}
+use Rattle.streetmap_index.specs.Taking.{Pairs, IsExamined}
+use Rattle.streetmap_index.proofs.Pairing.{Going, goes_on, goes_on_behind, all_held}
+use Rattle.streetmap_index.proofs.Runs.{turn, rest_is, run_whole, run_front, run_held}
 use Rattle.streetmap_index.proofs.page.take_outlined.Goals as goal
-
--- a feature of a collection that is there
-found : (s : State) (name id : Text) (d : Collection) (f : FeatureValue) → get s.collections name ≡ Some d → id ≡ f.id → get d.features f.id ≡ Some f → feature_in s name id ≡ Some f
-found s name id d f there is has = ap (option_and_then (λ (c : Collection). get c.features id)) there ∙ (ap (get d.features) is ∙ has)
-
--- the outline that comes next
-turn : (os : List FeatureOutline) (i : ℕ) (o : FeatureOutline) → i < length os → o ≡ get_or os i o → drop i os ≡ o ∷ drop (i + 1) os
-turn os i o within is = drop_more os i o within ∙ ap (λ (x : FeatureOutline). x ∷ drop (i + 1) os) (sym is)
 
 pub loop-place-init : goal.loop-place-init
 loop-place-init g c = record {
+  within = omega arith;
   is_open = c.requires.is_open;
   spared = g.met.K.Keeper.spares_itself _;
   clean = λ h. h;
@@ -45,6 +33,7 @@ loop-place-preserved-then-is_off g c =
     let o = c.index-outlines-place.result in
     let fold = c.loop-place.fold in
     record {
+      within = omega arith;
       is_open = inv.is_open;
       spared = inv.spared;
       clean = inv.clean;
@@ -64,6 +53,7 @@ loop-place-preserved-then-take_unread g c =
     let i = c.loop-place.place in
     let o = c.index-outlines-place.result in
     record {
+      within = omega arith;
       is_open = inv.is_open;
       spared = inv.spared;
       clean = inv.clean;
@@ -81,22 +71,26 @@ loop-place-preserved g c =
     let q = query_value c.args.query.now in
     let os = c.as_slice-outlines.result.now in
     let i = c.loop-place.place in
+    let n = c.run_length-more.result in
     let o = c.index-outlines-place.result in
+    let run = o ∷ take n (drop (i + 1) os) in
+    let low = c.loop-place-test.true in
+    let next = c.index-outlines-place.is in
     record {
+      within = omega (arith, subst (λ l. n ≤ length l) (rest_is os (i + 1)) c.run_length-more.ensures.within, length-drop (i + 1) os);
       is_open = says.faults.1;
       spared = g.met.K.Keeper.spares_then _ _ _ inv.spared says.spared;
       clean = λ h. inv.clean (says.began_clean h);
       stands = λ h s e. (says.takes h s (inv.stands (says.began_clean h) s e)).1;
       leaves = λ h s e only. says.leaves h s (inv.stands (says.began_clean h) s e) (inv.leaves (says.began_clean h) s e only);
       going = λ h s d met all e there bounded pairs held.
-          goes_on q c.loop-place.fold c.take_read.new.fold d.features (met ++ all) o (drop (i + 1) os) (subst (Going q c.loop-place.fold d.features (met ++ all)) (turn os i o c.loop-place-test.true c.index-outlines-place.is) (inv.going (says.began_clean h) s d met all e there bounded pairs held))
-          (λ fs f entry before.
-          let asks = before.holds.asks in
-          let candidate = c.take_unread.ensures.candidate c.if-take_unread.false f entry.known in
+          goes_on_behind q c.loop-place.fold c.take_run.new.fold d.features (met ++ all) run (drop (i + 1 + n) os) (subst (Going q c.loop-place.fold d.features (met ++ all)) (sym (run_whole os i n o low next)) (inv.going (says.began_clean h) s d met all e there bounded pairs held))
+          (λ fs gs entries before.
           let same = c.take_unread.ensures.unchanged c.if-take_unread.false in
-          let id = ap (λ (v : FeatureOutlineValue). v.id) entry.known in
-          let takes = ((says.takes h s (inv.stands (says.began_clean h) s e)).0 f (found s _ _ d f there (c.as_str.ensures.value ∙ id) entry.there)).1 q (candidates q fs) in
-          taken q c.take_read.new.fold fs f candidate before.whole (takes (subst (λ fold. IsFoldOf q fold (candidates q fs)) (sym same) before.holds)));
+          let examined = All-cons (IsExamined q) o (take n (drop (i + 1) os)) (c.take_unread.ensures.candidate c.if-take_unread.false) (subst (λ l. All (IsExamined q) (take n l)) (rest_is os (i + 1)) c.run_length-more.ensures.examined) in
+          let takes = (says.takes h s (inv.stands (says.began_clean h) s e)).0 c.in-Ok-true.field-0-test d q (candidates q fs) gs there (subst (λ l. Pairs d.features l gs) (sym (run_front os i n o low next)) entries) in
+          run_held q c.loop-place.fold c.take_run.new.fold d.features run fs gs examined entries before
+          (λ holds. takes (subst (λ fold. IsFoldOf q fold (candidates q fs)) (sym same) holds)));
     }
 
 pub returns-in-Ok-false-clause-leaves : goal.returns-in-Ok-false-clause-leaves

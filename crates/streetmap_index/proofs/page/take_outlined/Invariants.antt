@@ -1,4 +1,4 @@
-use Rattle.std.proofs.Common.{◌≡◌, ◌++◌, List, Some, None, drop}
+use Rattle.std.proofs.Common.{◌≡◌, ◌≤◌, ◌-◌, ◌++◌, List, Some, None, drop, length}
 use Rattle.std.specs.FinMap.{get}
 use Rattle.streetmap_geojson.specs.FeatureValue.{FeatureValue}
 use Rattle.streetmap_query.specs.Views.{query_value}
@@ -15,6 +15,7 @@ abbrev pub invariant-loop-place : goal.invariant-loop-place
 invariant-loop-place g l =
     let k = g.K.Keeper in
     record {
+      within : l.place ≤ length l.outlines;
       is_open : k.cause l.keeper ≡ None;
       spared : k.spares l.fn.keeper l.keeper;
       clean : k.is_clean l.keeper → k.is_clean l.fn.keeper;
@@ -22,3 +23,6 @@ invariant-loop-place g l =
       leaves : k.is_clean l.keeper → (s : State) → k.stands l.fn.keeper s → LeavesOnly (k.may_leave l.fn.keeper) (Some s) → LeavesOnly (k.may_leave l.keeper) (Some s);
       going : k.is_clean l.keeper → (s : State) (c : Collection) (met fs : List FeatureValue) → k.stands l.fn.keeper s → get s.collections l.collection ≡ Some c → IsBounded l.chunk → Pairs c.features l.outlines fs → HoldsCandidates (query_value l.query) l.fn.fold met → Going (query_value l.query) l.fold c.features (met ++ fs) (drop l.place l.outlines);
     }
+
+abbrev pub decreases-loop-place : goal.decreases-loop-place
+decreases-loop-place g l = length l.outlines - l.place

@@ -1,0 +1,164 @@
+//! Runs of features that a page reads, since their outlines stand beside one another.
+ghost use Rattle.std.specs.Prelude.{◌≡◌, ◌≤◌, ◌∷◌, ◌++◌, [], List, All, Some, None, IsTrue, IfOk};
+ghost use Rattle.std.specs.Prelude.{IsErrOf, length, take, slice_get, string_bytes};
+ghost use Rattle.streetmap_geojson.specs.FeatureValue.{FeatureValue};
+ghost use Rattle.streetmap_query.specs.QueryValue.{QueryValue};
+ghost use Rattle.streetmap_query.specs.Views.{query_value};
+ghost use Rattle.streetmap_ledger.specs.State.{State};
+ghost use Rattle.streetmap_ledger.specs.Folds.{IsFoldOf};
+ghost use Rattle.streetmap_ledger.specs.Keep.{Looks, LeavesOnly, ShutsBy};
+ghost use Rattle.streetmap_ledger.specs.declared.outline.FeatureOutline.{FeatureOutline};
+ghost use Rattle.streetmap_index.specs.Taking.{IsExamined, HaveIds, TakesRun};
+
+use crate::selection::{comes_after, is_candidate, is_selected};
+use std::alloc::AllocError;
+use streetmap_geojson::Feature;
+use streetmap_ledger::{Fault, FeatureOutline, Keeper, PageFold};
+use streetmap_query::Query;
+
+/// Whether a page that has room reads the feature with this outline: it examines it, and the
+/// outline does not tell that it is counted alone.
+fn is_due(query: &Query, outline: &FeatureOutline) -> bool
+    ensures { IsTrue result → IsExamined (query_value query.now) outline.now }
+{
+    is_candidate(query, outline) && (comes_after(query, outline) || !is_selected(query, outline))
+}
+
+/// How many of these outlines, from the first on and so many at most, are of features that a page
+/// reads one behind the other.
+pub fn run_length(query: &Query, outlines: &[FeatureOutline], most: usize) -> usize
+    ensures within { result ≤ length outlines.now }
+    ensures examined { All (IsExamined (query_value query.now)) (take result outlines.now) }
+{
+    for (place, outline) in outlines.iter().enumerate() {
+        if place >= most || !is_due(query, outline) {
+            return place;
+        }
+    }
+    outlines.len()
+}
+
+/// Whether the feature has the id of the outline in this place.
+fn has_id(outlines: &[FeatureOutline], place: usize, feature: &Feature) -> bool
+    ensures { IsTrue result → (o : FeatureOutline) × (slice_get outlines.now place ≡ Some o)
+        × (string_bytes o.id ≡ feature.now.id) }
+{
+    match outlines.get(place) {
+        Some(outline) => outline.id.as_str() == feature.id(),
+        None => false,
+    }
+}
+
+/// Takes the features that come next, and answers whether they are those with these outlines.
+fn take_all(
+    outlines: &[FeatureOutline],
+    features: Vec<Feature>,
+    fold: &mut PageFold<'_>,
+) -> Result<bool, AllocError>
+    ensures { IfOk result (λ taken. IsTrue taken → HaveIds outlines.now features.items
+        × ((q : QueryValue) (met : List FeatureValue) → IsFoldOf q fold.old met
+        → IsFoldOf q fold.new (met ++ features.items))) }
+{
+    let mut place = 0;
+    for feature in features {
+        if !has_id(outlines, place, &feature) {
+            return Ok(false);
+        }
+        fold.take(feature)?;
+        place += 1;
+    }
+    Ok(place == outlines.len())
+}
+
+/// Takes the features with these outlines, which come next, as the keeper has them, and answers
+/// whether they are there, with none between them.
+fn take_between<K: Keeper>(
+    keeper: &mut K,
+    collection: &str,
+    outlines: &[FeatureOutline],
+    first: &str,
+    last: &str,
+    fold: &mut PageFold<'_>,
+) -> Result<bool, Fault>
+    ensures spared { K.spares keeper.old keeper.new }
+    ensures began_clean { K.is_clean keeper.new → K.is_clean keeper.old }
+    ensures faults { ShutsBy result (K.cause keeper.old) (K.cause keeper.new) }
+    ensures device { K.is_clean keeper.new → (s : State) → K.stands keeper.old s →
+        IsErrOf result Fault.Device → K.fails keeper.old keeper.new }
+    ensures takes { K.is_clean keeper.new → (s : State) → K.stands keeper.old s
+        → Looks s (TakesRun s collection.now outlines.now fold.old fold.new) result
+        (K.stands keeper.new) }
+    ensures leaves { K.is_clean keeper.new → (s : State) → K.stands keeper.old s
+        → LeavesOnly (K.may_leave keeper.old) (Some s)
+        → LeavesOnly (K.may_leave keeper.new) (Some s) }
+{
+    match keeper.features(collection, first, last) {
+        Ok(Some(features)) => match take_all(outlines, features, fold) {
+            Ok(taken) => Ok(taken),
+            Err(_) => Err(Fault::Memory),
+        },
+        Ok(None) => Ok(false),
+        Err(fault) => Err(fault),
+    }
+}
+
+/// Takes the feature with this outline, which comes next, as the keeper has it, and answers whether
+/// it is there.
+fn take_one<K: Keeper>(
+    keeper: &mut K,
+    collection: &str,
+    outline: &FeatureOutline,
+    fold: &mut PageFold<'_>,
+) -> Result<bool, Fault>
+    ensures spared { K.spares keeper.old keeper.new }
+    ensures began_clean { K.is_clean keeper.new → K.is_clean keeper.old }
+    ensures faults { ShutsBy result (K.cause keeper.old) (K.cause keeper.new) }
+    ensures device { K.is_clean keeper.new → (s : State) → K.stands keeper.old s →
+        IsErrOf result Fault.Device → K.fails keeper.old keeper.new }
+    ensures takes { K.is_clean keeper.new → (s : State) → K.stands keeper.old s
+        → Looks s (TakesRun s collection.now (outline.now ∷ []) fold.old fold.new) result
+        (K.stands keeper.new) }
+    ensures leaves { K.is_clean keeper.new → (s : State) → K.stands keeper.old s
+        → LeavesOnly (K.may_leave keeper.old) (Some s)
+        → LeavesOnly (K.may_leave keeper.new) (Some s) }
+{
+    match keeper.feature(collection, outline.id.as_str()) {
+        Ok(Some(feature)) => match fold.take(feature) {
+            Ok(()) => Ok(true),
+            Err(_) => Err(Fault::Memory),
+        },
+        Ok(None) => Ok(false),
+        Err(fault) => Err(fault),
+    }
+}
+
+/// Takes the features with these outlines, which come next, as the keeper has them, and answers
+/// whether they are there: one by its id, and more than one by the ids of the first and the last.
+pub fn take_run<K: Keeper>(
+    keeper: &mut K,
+    collection: &str,
+    outlines: &[FeatureOutline],
+    fold: &mut PageFold<'_>,
+) -> Result<bool, Fault>
+    requires { K.cause keeper.old ≡ None }
+    ensures spared { K.spares keeper.old keeper.new }
+    ensures began_clean { K.is_clean keeper.new → K.is_clean keeper.old }
+    ensures faults { ShutsBy result None (K.cause keeper.new) }
+    ensures device { K.is_clean keeper.new → (s : State) → K.stands keeper.old s →
+        IsErrOf result Fault.Device → K.fails keeper.old keeper.new }
+    ensures takes { K.is_clean keeper.new → (s : State) → K.stands keeper.old s
+        → Looks s (TakesRun s collection.now outlines.now fold.old fold.new) result
+        (K.stands keeper.new) }
+    ensures leaves { K.is_clean keeper.new → (s : State) → K.stands keeper.old s
+        → LeavesOnly (K.may_leave keeper.old) (Some s)
+        → LeavesOnly (K.may_leave keeper.new) (Some s) }
+{
+    match outlines {
+        [] => Ok(true),
+        [outline] => take_one(keeper, collection, outline, fold),
+        [first, .., last] => {
+            let (first, last) = (first.id.as_str(), last.id.as_str());
+            take_between(keeper, collection, outlines, first, last, fold)
+        }
+    }
+}
