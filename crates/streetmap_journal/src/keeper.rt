@@ -123,6 +123,15 @@ impl<K: KeepsBatches, W: JournalWriter> Keeper for JournaledKeeper<K, W> {
         self.keeper.feature(collection, id)
     }
 
+    fn features(
+        &mut self,
+        collection: &str,
+        first: &str,
+        last: &str,
+    ) -> Result<Option<Vec<Feature>>, Fault> {
+        self.keeper.features(collection, first, last)
+    }
+
     fn collection(&mut self, id: &str) -> Result<Option<Summary>, Fault> {
         self.keeper.collection(id)
     }

@@ -1,6 +1,7 @@
 //! A collection as the plain keeper keeps it, by its slots.
 ghost use Rattle.std.specs.Prelude.{◌≡◌, ◌+◌, ◌++◌, ◌∷◌, [], List, IsTrue, false, IfOk, OnOk};
-ghost use Rattle.std.specs.Prelude.{OnErr, Option, Some, None, map, string_bytes, length};
+ghost use Rattle.std.specs.Prelude.{OnErr, Option, Some, None, map, filter, string_bytes, length};
+ghost use Rattle.std.specs.Prelude.{if◌then◌else◌};
 ghost use Rattle.std.specs.Option.{option_copied, option_flatten, option_map};
 ghost use Rattle.std.specs.Result.{result_ok};
 ghost use Rattle.std.specs.FinMap.{get, insert, empty};
@@ -22,6 +23,7 @@ ghost use Rattle.streetmap_geojson.specs.FeatureValue.{FeatureValue};
 ghost use Rattle.streetmap_feature_text.specs.Written.{feature_data};
 ghost use Rattle.streetmap_ledger.specs.Folds.{IsFoldOf, HoldsCandidates};
 ghost use Rattle.streetmap_ledger.specs.Pages.{page_over as page_over_of};
+ghost use Rattle.streetmap_ledger.specs.Pages.{is_between as is_between_of};
 ghost use Rattle.streetmap_ledger.specs.PageView.{page_value};
 
 use crate::extents::grown;
@@ -195,6 +197,20 @@ impl PlainCollection {
     {
         page_over(alloc, &self.slots, query)
     }
+
+    /// The features whose ids stand between two in byte order, with those two, in the order of
+    /// their ids.
+    pub fn features(
+        &self,
+        alloc: Global,
+        first: &str,
+        last: &str,
+    ) -> Result<Vec<Feature>, AllocError>
+        ensures { IfOk result (λ run. run.items
+            ≡ filter (is_between_of first.now last.now) (values (live self.now.slots))) }
+    {
+        run_of(alloc, &self.slots, first, last)
+    }
 }
 
 /// A text of its own, where there is one.
@@ -296,4 +312,57 @@ fn page_over(
         }
     }
     fold.end(alloc)
+}
+
+/// Whether an id stands between two in byte order, or is one of them.
+fn is_between(id: &[u8], first: &str, last: &str) -> bool
+    ensures { (f : FeatureValue) → id.now ≡ f.id → result ≡ is_between_of first.now last.now f }
+{
+    id.cmp(first.as_bytes()).is_ge() && id.cmp(last.as_bytes()).is_le()
+}
+
+/// The feature, read from its text, where its id stands between two, or is one of them.
+fn unpack_between(
+    alloc: Global,
+    feature: &PackedFeature,
+    first: &str,
+    last: &str,
+) -> Result<Option<Feature>, AllocError>
+    ensures { IfOk result (λ found. found
+        ≡ (if is_between_of first.now last.now feature.now then Some feature.now else None)) }
+{
+    if let Some(id) = feature.unescaped_id() {
+        if !is_between(id, first, last) {
+            return Ok(None);
+        }
+    }
+    let feature = feature.unpack(alloc)?;
+    if is_between(feature.id().as_bytes(), first, last) {
+        Ok(Some(feature))
+    } else {
+        Ok(None)
+    }
+}
+
+/// The features in the slots whose ids stand between two, with those two, in the order of their
+/// ids.
+fn run_of(
+    alloc: Global,
+    slots: &BTreeMap<String, Option<PackedFeature>>,
+    first: &str,
+    last: &str,
+) -> Result<Vec<Feature>, AllocError>
+    ensures run { IfOk result (λ run. run.items ≡ filter (is_between_of first.now last.now)
+        (live_values (values_of slots.now.entries))) }
+    ensures ordered { IsOrdered string_cmp slots.now }
+{
+    let mut run = Vec::new(alloc);
+    for slot in slots.values() {
+        if let Some(feature) = slot {
+            if let Some(feature) = unpack_between(alloc, feature, first, last)? {
+                run.push(feature)?;
+            }
+        }
+    }
+    Ok(run)
 }

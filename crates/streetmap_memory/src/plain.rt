@@ -13,7 +13,8 @@ ghost use Rattle.streetmap_batch.specs.BatchView.{batch_value};
 ghost use Rattle.streetmap_ledger.specs.Kept.{batch_count, batch_in, AreNext};
 ghost use Rattle.streetmap_ledger.specs.KeptView.{keyed_batch, keyed_batches};
 ghost use Rattle.streetmap_memory.specs.Slots.{map_of};
-ghost use Rattle.streetmap_ledger.specs.Pages.{page_in, feature_in};
+ghost use Rattle.streetmap_geojson.specs.FeatureValue.{FeatureValue};
+ghost use Rattle.streetmap_ledger.specs.Pages.{page_in, feature_in, run_in};
 ghost use Rattle.streetmap_ledger.specs.PageView.{page_value};
 ghost use Rattle.streetmap_ledger.specs.Outlines.{outlines_in};
 ghost use Rattle.streetmap_ledger.specs.OutlineView.{feature_outline_values};
@@ -143,6 +144,22 @@ impl PlainKeeper {
                 Some(feature) => Ok(Some(feature.unpack(self.alloc)?)),
                 None => Ok(None),
             },
+            None => Ok(None),
+        }
+    }
+
+    fn features_of(
+        &self,
+        collection: &str,
+        first: &str,
+        last: &str,
+    ) -> Result<Option<Vec<Feature>>, AllocError>
+        ensures { IfOk result (λ found.
+            option_map (λ (fs : Vec FeatureValue Global). fs.items) found
+            ≡ run_in (plain_state self.now) collection.now first.now last.now) }
+    {
+        match self.collections.get(collection) {
+            Some(collection) => Ok(Some(collection.features(self.alloc, first, last)?)),
             None => Ok(None),
         }
     }
@@ -278,6 +295,18 @@ impl Keeper for PlainKeeper {
     fn feature(&mut self, collection: &str, id: &str) -> Result<Option<Feature>, Fault> {
         match self.feature_of(collection, id) {
             Ok(feature) => Ok(feature),
+            Err(_) => Err(Fault::Memory),
+        }
+    }
+
+    fn features(
+        &mut self,
+        collection: &str,
+        first: &str,
+        last: &str,
+    ) -> Result<Option<Vec<Feature>>, Fault> {
+        match self.features_of(collection, first, last) {
+            Ok(features) => Ok(features),
             Err(_) => Err(Fault::Memory),
         }
     }
