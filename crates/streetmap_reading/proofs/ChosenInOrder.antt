@@ -41,6 +41,10 @@ module _ (s : State) (roots : Roots) (db : Trees) (of : AreOf s roots db) where
 abbrev pub Chooses : List Term → Row → Text → (FeatureValue → Bool) → Type 0
 Chooses terms params name test = (r : Row) (p : KeyPair) (f : FeatureValue) → drop 1 r ≡ feature_cells p f → keeps terms params r ≡ (same_text p.0 name && test f)
 
+-- the terms choose the rows of the collection whose features, as the state has them, pass the test
+abbrev pub ChoosesIn : State → List Term → Row → Text → (FeatureValue → Bool) → Type 0
+ChoosesIn s terms params name test = (r : Row) (p : KeyPair) (f : FeatureValue) → drop 1 r ≡ feature_cells p f → feature_at s p ≡ Some f → keeps terms params r ≡ (same_text p.0 name && test f)
+
 -- the row of a feature shows this
 abbrev pub Shows : List Term → Row → (Text → FeatureValue → Row) → Type 0
 Shows project params view = (r : Row) (p : KeyPair) (f : FeatureValue) → drop 1 r ≡ feature_cells p f → eval_all project (params ∷ r ∷ []) ≡ view p.1 f
@@ -51,7 +55,7 @@ apart_in name [] same up = tt
 apart_in name (r ∷ rs) same up =
     (all_from _ rs (λ x h is. let one : bytes (column r 1) ≡ bytes (column x 1) = same r (inl refl) ∙ sym (same x (inr h)) in all_has _ rs x up.0 h (λ i. (one i, is i))), apart_in name rs (λ x h. same x (inr h)) up.1)
 
-module _ (s : State) (roots : Roots) (db : Trees) (of : AreOf s roots db) (name : Text) (kept : Features) (kept_is : (q : Text) → get kept q ≡ feature_at s (name, q)) (terms : List Term) (params : Row) (test : FeatureValue → Bool) (chooses : Chooses terms params name test)
+module _ (s : State) (roots : Roots) (db : Trees) (of : AreOf s roots db) (name : Text) (kept : Features) (kept_is : (q : Text) → get kept q ≡ feature_at s (name, q)) (terms : List Term) (params : Row) (test : FeatureValue → Bool) (chooses : ChoosesIn s terms params name test)
     (project : List Term) (view : Text → FeatureValue → Row) (shows : Shows project params view) where
   abbrev all_rows : List Row
   all_rows = db roots.features
@@ -65,7 +69,7 @@ module _ (s : State) (roots : Roots) (db : Trees) (of : AreOf s roots db) (name 
   -- a row that is chosen is of the collection, and its feature passes
   chosen_is : (r : Row) (it : IsRowOf s r) → keeps terms params r ≡ true → (bytes (column r 1) ≡ name) × (test it.feature ≡ true)
   chosen_is r it is =
-      let parts = and_parts (same_text (bytes (column r 1)) name) (test it.feature) (sym (chooses r (pair_key r) it.feature it.cells) ∙ is) in (text_is _ _ parts.0, parts.1)
+      let parts = and_parts (same_text (bytes (column r 1)) name) (test it.feature) (sym (chooses r (pair_key r) it.feature it.cells it.is) ∙ is) in (text_is _ _ parts.0, parts.1)
 
   says : (r : Row) → Has chosen_rows r → Says value_of view 2 (λ r. eval_all project (params ∷ r ∷ [])) r
   says r h =
@@ -87,13 +91,19 @@ module _ (s : State) (roots : Roots) (db : Trees) (of : AreOf s roots db) (name 
     all = λ q f is.
         let at = passed test (get kept q) f is in
         let r = there pair_key has_pair pair_is pair_self _ all_rows of.features (name, q) _ (ap (option_map (feature_cells (name, q))) (sym (kept_is q) ∙ at.0)) in
-        (r.0, has_kept (keeps terms params) all_rows r.0 r.1 (chooses r.0 (name, q) f r.4 ∙ and_from _ _ (text_self name) at.1), ap (λ (p : KeyPair). p.1) r.2);
+        (r.0, has_kept (keeps terms params) all_rows r.0 r.1 (chooses r.0 (name, q) f r.4 (sym (kept_is q) ∙ at.0) ∙ and_from _ _ (text_self name) at.1), ap (λ (p : KeyPair). p.1) r.2);
   }
 
   -- the query shows the chosen features in order of their ids
-  pub shows_chosen : nat_le (2 ^ 31) roots.features ≡ false → (shown : List Row) → IsAnswerAs Null (ordered_query roots.features terms project 2) (overlay db []) params shown → shown ≡ map (λ e. view e.0 e.1) (passing test (entries kept))
-  shows_chosen low shown answer =
+  pub shows_chosen_in : nat_le (2 ^ 31) roots.features ≡ false → (shown : List Row) → IsAnswerAs Null (ordered_query roots.features terms project 2) (overlay db []) params shown → shown ≡ map (λ e. view e.0 e.1) (passing test (entries kept))
+  shows_chosen_in low shown answer =
       shows_entries roots.features terms project 2 params value_of view db low feature_rows shown answer (passing test (entries kept)) (sorted_passing test (entries kept) (entries_sorted kept)) (λ q. ap (if_passes test) (get-entries kept q) ∙ find_passing test (entries kept) (entries_sorted kept) q)
+
+module _ (s : State) (roots : Roots) (db : Trees) (of : AreOf s roots db) (name : Text) (kept : Features) (kept_is : (q : Text) → get kept q ≡ feature_at s (name, q)) (terms : List Term) (params : Row) (test : FeatureValue → Bool) (chooses : Chooses terms params name test)
+    (project : List Term) (view : Text → FeatureValue → Row) (shows : Shows project params view) where
+  -- the same, where the terms choose so in any state
+  pub shows_chosen : nat_le (2 ^ 31) roots.features ≡ false → (shown : List Row) → IsAnswerAs Null (ordered_query roots.features terms project 2) (overlay db []) params shown → shown ≡ map (λ e. view e.0 e.1) (passing test (entries kept))
+  shows_chosen = shows_chosen_in s roots db of name kept kept_is terms params test (λ r p f cells is. chooses r p f cells) project view shows
 
 -- ---- the texts of the chosen features
 
@@ -110,7 +120,7 @@ passing_values test (e ∷ es) = elim (test e.1) as (λ b. map (λ (x : Text × 
   | false ↦ passing_values test es
 ]
 
-pub lists_chosen : (s : State) (roots : Roots) (db : Trees) → AreOf s roots db → (name : Text) (kept : Features) → ((q : Text) → get kept q ≡ feature_at s (name, q)) → (terms : List Term) (params : Row) (test : FeatureValue → Bool) → Chooses terms params name test
+pub lists_chosen : (s : State) (roots : Roots) (db : Trees) → AreOf s roots db → (name : Text) (kept : Features) → ((q : Text) → get kept q ≡ feature_at s (name, q)) → (terms : List Term) (params : Row) (test : FeatureValue → Bool) → ChoosesIn s terms params name test
     → nat_le (2 ^ 31) roots.features ≡ false → (shown : List Row) → IsAnswerAs Null (page_query roots.features terms) (overlay db []) params shown → shown ≡ map candidate_row (filter test (values kept))
 lists_chosen s roots db of name kept kept_is terms params test chooses low shown answer =
-    shows_chosen s roots db of name kept kept_is terms params test chooses (col 1 3 ∷ []) (λ id f. candidate_row f) (shows_text params) low shown answer ∙ passing_values test (entries kept)
+    shows_chosen_in s roots db of name kept kept_is terms params test chooses (col 1 3 ∷ []) (λ id f. candidate_row f) (shows_text params) low shown answer ∙ passing_values test (entries kept)

@@ -2,7 +2,8 @@
 use Rattle.std.proofs.Common.{List, [], ◌∷◌, codes, refl, arith}
 use Rattle.sqlite_tied.specs.Compute.{everything}
 use Rattle.streetmap_rows.proofs.Meaning.{Part, Selection, IsSelect, SelectMeans, SelectNever}
-use Rattle.streetmap_rows.proofs.Meaning.{a_text, given, where_equal, select_means, select_never}
+use Rattle.streetmap_rows.proofs.Meaning.{a_text, given, where_equal, where_at_least}
+use Rattle.streetmap_rows.proofs.Meaning.{where_at_most, select_means, select_never}
 use Rattle.streetmap_rows.specs.Tables.{features}
 use Rattle.streetmap_reading.specs.Statements as text
 
@@ -62,6 +63,34 @@ select_extents_means = select_means selects_extents select_extents_is
 
 pub select_extents_never : SelectNever selects_extents
 select_extents_never = select_never selects_extents select_extents_is
+
+-- ---- select_run
+
+abbrev selects_run : Selection
+selects_run = record {
+  text = text.select_run;
+  parameters = a_text ∷ a_text ∷ a_text ∷ [];
+  table = features;
+  shown = (codes "body", 3) ∷ [];
+  conditions =
+      where_equal (codes "collection", 1) (given 1) ∷ where_at_least (codes "id", 2) (given 2)
+      ∷ where_at_most (codes "id", 2) (given 3) ∷ [];
+  by = (codes "id", 2) ∷ [];
+}
+
+select_run_is : IsSelect selects_run
+unfolding everything
+select_run_is = record {
+  says = (refl, refl, omega arith, refl);
+  resolved = λ schema tree it. rw (it.named, it.listed, it.listed, it.listed, it.listed) refl;
+  accepted = λ schema tree it. rw (it.low, it.by_tree) (refl, λ t1 t2 t3. refl);
+}
+
+pub select_run_means : SelectMeans selects_run
+select_run_means = select_means selects_run select_run_is
+
+pub select_run_never : SelectNever selects_run
+select_run_never = select_never selects_run select_run_is
 
 -- ---- select_text
 

@@ -12,6 +12,7 @@ pub mod RowReadings
 pub mod BetweenRows
 pub mod Seeing
 pub mod PageRowsShown
+pub mod RunRows
 pub mod ShownOutlines
 pub mod Stopping
 pub mod OneRowMore

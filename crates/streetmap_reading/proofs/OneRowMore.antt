@@ -117,7 +117,7 @@ page_more start before after feature rows row held same reads takes = record {
 pub page_begun : (page : PageRows) → HoldsPage page page []
 page_begun page = record { property = refl; page = λ q fs begun is fine. subst (IsFoldOf q page.fold) (sym (none_mapped candidate_row fs is)) begun }
 
--- rows of features that read under the page's time property are candidates
-pub candidates_fine : (page : PageRows) (fs : List FeatureValue) → AllByRecursion (IsStored (property_of page)) fs → AllByRecursion (IsCandidate page) (map candidate_row fs)
-candidates_fine page [] h = tt
-candidates_fine page (f ∷ fs) h = (record { feature = f; fine = h.0; is = refl }, candidates_fine page fs h.1)
+-- rows of features that read under a time property are candidates
+pub candidates_fine : (property : Option Text) (fs : List FeatureValue) → AllByRecursion (IsStored property) fs → AllByRecursion (IsCandidate property) (map candidate_row fs)
+candidates_fine property [] h = tt
+candidates_fine property (f ∷ fs) h = (record { feature = f; fine = h.0; is = refl }, candidates_fine property fs h.1)

@@ -47,7 +47,7 @@ use Rattle.streetmap_reading.proofs.TermsChoose.{in_collection, box_params, time
 -- ---- the features of a collection
 
 module _ (s : State) (db : Database) (keeps : Keeps s db) (name : Text) (c : Collection) (collected : get s.collections name ≡ Some c) where
-  stored_one : (f : FeatureValue) → Has (values c.features) f → IsStored c.time f
+  pub stored_one : (f : FeatureValue) → Has (values c.features) f → IsStored c.time f
   stored_one f h =
       let e = mapped_has (λ (x : Text × FeatureValue). x.1) (entries c.features) f h in
       let at : get c.features e.0.0 ≡ Some e.0.1 = get-entries c.features e.0.0 ∙ find_has (entries c.features) e.0.0 e.0.1 (entries_sorted c.features) e.1 in
@@ -93,7 +93,7 @@ module _ (db : Database) (s : State) (keeps : Keeps s db) (name : Text) where
 
   module _ (c : Collection) (collected : get s.collections name ≡ Some c) where
     only_chosen : (terms : List Term) (params : Row) (test : FeatureValue → Bool) → Chooses terms params name test → (given : List Row) → IsAnswerAs Null (page_query roots.features terms) (overlay db.trees []) params given → given ≡ map candidate_row (filter test (values c.features))
-    only_chosen terms params test chooses given a = lists_chosen s roots db.trees of name c.features (λ q. sym (rw collected refl)) terms params test chooses in_features.low given a
+    only_chosen terms params test chooses given a = lists_chosen s roots db.trees of name c.features (λ q. sym (rw collected refl)) terms params test (λ r p f cells is. chooses r p f cells) in_features.low given a
 
     pub all_at : ShowsOf select_all (Words name ∷ []) db (map candidate_row (chosen_of None None c))
     all_at = shows_by select_all (Words name ∷ []) db (page_query roots.features (in_collection ∷ [])) (codes "body" ∷ []) _ (select_all_means db.schema roots.features in_features) (select_all_never db.schema roots.features in_features db.trees name)

@@ -37,7 +37,7 @@ use Rattle.streetmap_reading.proofs.OneRowMore.{candidates_fine, page_begun}
 
 -- the rows of the chosen features are taken
 pub takes_by : (sql : List ℕ) (params : Row) (box : Option BoxValue) (interval : Option IntervalValue) (name : Text) (old new : Seen) (before after : PageRows) (r : Result (Unit {0}) ReadFault)
-    → TakesAll HoldsPage (λ start. AllByRecursion (IsCandidate start)) sql params old new before
+    → TakesAll HoldsPage (λ start. AllByRecursion (IsCandidate (property_of start))) sql params old new before
     after r
     → ((s : State) (c : Collection) → Keeps s old.now → get s.collections name ≡ Some c
     → ShowsOf sql params old.now (map candidate_row (chosen_of box interval c)))
@@ -45,9 +45,9 @@ pub takes_by : (sql : List ℕ) (params : Row) (box : Option BoxValue) (interval
 takes_by sql params box interval name old new before after r all shows q s c limit keeps collected same held =
     let fs = chosen_of box interval c in
     let stored : AllByRecursion (IsStored (property_of before)) fs = subst (λ p. AllByRecursion (IsStored p) fs) same (chosen_stored s old.now keeps name c collected box interval) in
-    let took = folded HoldsPage (λ start. AllByRecursion (IsCandidate start)) sql params old new
+    let took = folded HoldsPage (λ start. AllByRecursion (IsCandidate (property_of start))) sql params old new
     before after (map candidate_row fs) (shows s c keeps collected) limit
-    (candidates_fine before fs stored) r all (page_begun before) in
+    (candidates_fine (property_of before) fs stored) r all (page_begun before) in
     result_map r (λ h. h.page q fs held refl stored) took
   where
     result_map : (r : Result (Unit {0}) ReadFault) → (HoldsPage before after (map candidate_row (chosen_of box interval c)) → IsFoldOf q after.fold (chosen_of box interval c))

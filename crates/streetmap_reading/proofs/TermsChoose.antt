@@ -1,4 +1,4 @@
--- What the terms of a page's statements choose.
+-- What the terms of the statements of a page and of a run choose.
 use Rattle.std.proofs.Common.{suc, ◌≡◌, ℕ, ℤ, ◌<ℤ◌, List, [], ◌∷◌, Bool, true, false, ◌&&◌, drop, Option, Some, None, option_map, Ordering, Less, Equal, Greater, refl, sym, ap, ap₂, ◌∙◌, arith}
 use Rattle.std.specs.Prelude.{int_le}
 use Rattle.std.specs.Ordering.{is_le, is_ge, int_cmp, MatchOrdering}
@@ -13,22 +13,23 @@ use Rattle.sqlite_sql.specs.declared.ops.BinaryOp.TheVariants.{Compare}
 use Rattle.sqlite_sql.specs.declared.ops.CompareOp.TheVariants.{Eq, Le, Ge}
 use Rattle.sqlite_value.specs.declared.keys.Collation.TheVariants.{Binary}
 use Rattle.sqlite_value.specs.Order.{value_cmp}
-use Rattle.sqlite_value.proofs.OrderLemmas.{value_cmp-Int}
+use Rattle.sqlite_value.proofs.OrderLemmas.{value_cmp-Int, value_cmp-Text}
 use Rattle.streetmap_grid.specs.Values.{BoxValue, GeometryValue}
 use Rattle.streetmap_grid.specs.Extent.{extent_of}
 use Rattle.streetmap_moment.specs.IntervalValue.{IntervalValue}
 use Rattle.streetmap_moment.specs.Meeting.{seconds_of, seconds_overlap, first_second, last_second}
 use Rattle.streetmap_geojson.specs.FeatureValue.{FeatureValue}
-use Rattle.streetmap_batch.specs.Text.{Text}
-use Rattle.streetmap_ledger.specs.Pages.{passes, extent_overlaps}
+use Rattle.streetmap_batch.specs.Text.{Text, text_cmp}
+use Rattle.streetmap_ledger.specs.State.{State}
+use Rattle.streetmap_ledger.specs.Pages.{passes, extent_overlaps, is_between}
 use Rattle.streetmap_rows.specs.Holds.{same_text}
-use Rattle.streetmap_rows.specs.Rows.{feature_cells, extent_in, seconds_in}
+use Rattle.streetmap_rows.specs.Rows.{feature_at, feature_cells, extent_in, seconds_in}
 use Rattle.streetmap_rows.specs.Holds.{KeyPair}
 use Rattle.streetmap_rows.proofs.TextKeys.{truth_is, equal_texts, column_later}
 use Rattle.streetmap_rows.proofs.Drafts.{equal_terms, at_most, at_least}
 use Rattle.streetmap_reading.specs.Choosing.{is_chosen}
 use Rattle.streetmap_rows.proofs.OrderedRows.{keeps}
-use Rattle.streetmap_reading.proofs.ChosenInOrder.{Chooses}
+use Rattle.streetmap_reading.proofs.ChosenInOrder.{Chooses, ChoosesIn}
 
 le_is : (a b : ℤ) → is_le (int_cmp a b) ≡ int_le a b
 le_is a b = go (int_cmp a b) (int_ranks a b)
@@ -64,6 +65,14 @@ at_least_is : (o : Option ℤ) (b : ℤ) → is_true (binary (Compare Ge Binary)
 unfolding binary
 at_least_is None b = refl
 at_least_is (Some a) b = truth_is (is_ge (value_cmp (Int a) (Int b))) ∙ ap is_ge (value_cmp-Int a b) ∙ ge_is a b
+
+from_text : (a b : Text) → is_true (binary (Compare Ge Binary) (Words a) (Words b)) ≡ is_ge (text_cmp a b)
+unfolding binary
+from_text a b = truth_is (is_ge (value_cmp (Words a) (Words b))) ∙ ap is_ge (value_cmp-Text a b)
+
+to_text : (a b : Text) → is_true (binary (Compare Le Binary) (Words a) (Words b)) ≡ is_le (text_cmp a b)
+unfolding binary
+to_text a b = truth_is (is_le (value_cmp (Words a) (Words b))) ∙ ap is_le (value_cmp-Text a b)
 
 and_true : (b : Bool) → (b && true) ≡ b
 and_true true = refl
@@ -118,7 +127,7 @@ in_time_is i f = go f.time
     go None = refl
     go (Some t) = ap (λ b. int_le (first_second t.start) (last_second i.end) && b) (and_true (int_le (first_second i.start) (last_second t.end)))
 
--- ---- the four lists of terms
+-- ---- the lists of terms
 
 abbrev pub in_collection : Term
 in_collection = equal_terms (col 1 1) (col 0 0)
@@ -129,9 +138,18 @@ box_terms more = at_most (col 1 4) (col 0 1) ∷ at_least (col 1 6) (col 0 2) �
 abbrev pub time_terms : ℕ → List Term
 time_terms at = at_most (col 1 8) (col 0 at) ∷ at_least (col 1 9) (col 0 (suc at)) ∷ []
 
+abbrev pub run_terms : List Term
+run_terms = in_collection ∷ at_least (col 1 2) (col 0 1) ∷ at_most (col 1 2) (col 0 2) ∷ []
+
+abbrev pub run_params : Text → Text → Text → Row
+run_params name first last = Words name ∷ Words first ∷ Words last ∷ []
+
 module _ (r : Row) (p : KeyPair) (f : FeatureValue) (cells : drop 1 r ≡ feature_cells p f) where
   one : column r 1 ≡ Words p.0
   one = column_later r 0 ∙ ap (λ x. column x 0) cells
+
+  two : f.id ≡ p.1 → column r 2 ≡ Words f.id
+  two named = column_later r 1 ∙ ap (λ x. column x 1) cells ∙ ap Words (sym named)
 
   four : column r 4 ≡ or_null Int (west f)
   four = column_later r 3 ∙ ap (λ x. column x 3) cells
@@ -187,6 +205,12 @@ module _ (r : Row) (p : KeyPair) (f : FeatureValue) (cells : drop 1 r ≡ featur
       grouped true false x y z = refl
       grouped false w x y z = refl
 
+  run_rows : (name first last : Text) → f.id ≡ p.1 → keeps run_terms (run_params name first last) r ≡ (same_text p.0 name && is_between first last f)
+  run_rows name first last named =
+      let low : is_true (binary (Compare Ge Binary) (column r 2) (Words first)) ≡ is_ge (text_cmp f.id first) = ap (λ v. is_true (binary (Compare Ge Binary) v (Words first))) (two named) ∙ from_text f.id first in
+      let high : is_true (binary (Compare Le Binary) (column r 2) (Words last)) ≡ is_le (text_cmp f.id last) = ap (λ v. is_true (binary (Compare Le Binary) v (Words last))) (two named) ∙ to_text f.id last in
+      (λ i. named_is name i && (low i && (high i && true))) ∙ ap (λ t. same_text p.0 name && (is_ge (text_cmp f.id first) && t)) (and_true (is_le (text_cmp f.id last)))
+
 pub all_chooses : (name : Text) → Chooses (in_collection ∷ []) (Words name ∷ []) name (is_chosen None None)
 all_chooses name r p f cells = all_rows r p f cells name
 
@@ -198,3 +222,7 @@ time_chooses name i r p f cells = time_rows r p f cells name i
 
 pub both_chooses : (name : Text) (b : BoxValue) (i : IntervalValue) → Chooses (in_collection ∷ box_terms (time_terms 5)) (Words name ∷ box_params b (time_params i)) name (is_chosen (Some b) (Some i))
 both_chooses name b i r p f cells = both_rows r p f cells name b i
+
+-- a feature of the state stands under its own id
+pub run_chooses : (s : State) → ((p : KeyPair) (f : FeatureValue) → feature_at s p ≡ Some f → f.id ≡ p.1) → (name first last : Text) → ChoosesIn s run_terms (run_params name first last) name (is_between first last)
+run_chooses s placed name first last r p f cells is = run_rows r p f cells name first last (placed p f is)

@@ -10,7 +10,7 @@ use Rattle.streetmap_geojson.specs.FeatureValue.{FeatureValue}
 use Rattle.streetmap_query.specs.QueryValue.{QueryValue}
 use Rattle.streetmap_batch.specs.Text.{Text}
 use Rattle.streetmap_ledger.specs.State.{State, Collection}
-use Rattle.streetmap_ledger.specs.Pages.{passes, extent_overlaps, interval_asked}
+use Rattle.streetmap_ledger.specs.Pages.{passes, extent_overlaps, interval_asked, is_between}
 use Rattle.streetmap_ledger.specs.Folds.{IsFoldOf}
 use Rattle.streetmap_rows.specs.Keeping.{Keeps}
 use Rattle.streetmap_rows.specs.declared.fault.ReadFault.{ReadFault}
@@ -30,6 +30,10 @@ chosen_of box interval c = filter (is_chosen box interval) (values c.features)
 -- those that the box and the interval of a query choose
 abbrev pub candidates_of : QueryValue → Collection → List FeatureValue
 candidates_of q = chosen_of q.bbox (interval_asked q)
+
+-- the features of a collection whose ids stand between two, in order of ids
+abbrev pub run_of : Text → Text → Collection → List FeatureValue
+run_of first last c = filter (is_between first last) (values c.features)
 
 -- of a collection that is there, with the page's time property, the chosen features were taken into
 -- the page, in order of ids

@@ -22,6 +22,7 @@ use Rattle.streetmap_rows.specs.Rows.{collection_cells}
 use Rattle.streetmap_rows.specs.Stored.{IsStored}
 use Rattle.streetmap_rows.specs.Stands.{HasTextNames}
 use Rattle.streetmap_reading.specs.declared.candidates.PageRows.{PageRows}
+use Rattle.streetmap_reading.specs.declared.run.FeatureRows.{FeatureRows}
 use Rattle.streetmap_reading.specs.Candidates.{candidate_row}
 use Rattle.streetmap_reading.specs.Views.{outline_row, extent_row, feature_extent, IsOutline}
 
@@ -50,10 +51,10 @@ HoldsHeads ss rows = (es : List (Text × Collection)) → rows ≡ map (λ e. co
 abbrev pub property_of : PageRows → Option Text
 property_of page = option_copied page.property
 
--- the row shows the text of a feature that is read under the page's time property
-pub record IsCandidate (page : PageRows) (row : Row) : Type 0 where
+-- the row shows the text of a feature that is read under this time property
+pub record IsCandidate (property : Option Text) (row : Row) : Type 0 where
   pub feature : FeatureValue
-  pub fine : IsStored (property_of page) feature
+  pub fine : IsStored property feature
   pub is : row ≡ candidate_row feature
 
 -- the page, where it held none as it was begun, of the features whose texts the rows show
@@ -62,3 +63,14 @@ pub record HoldsPage (start now : PageRows) (rows : List Row) : Type 0 where
   pub page : (q : QueryValue) (fs : List FeatureValue) → IsFoldOf q start.fold []
       → rows ≡ map candidate_row fs → AllByRecursion (IsStored (property_of start)) fs
       → IsFoldOf q now.fold fs
+
+-- the time property by which a run's rows are read
+abbrev pub run_property_of : FeatureRows → Option Text
+run_property_of rows = option_copied rows.property
+
+-- the features whose texts the rows show, where it held none as it was begun
+pub record HoldsRun (start now : FeatureRows) (rows : List Row) : Type 0 where
+  pub property : now.property ≡ start.property
+  pub features : (fs : List FeatureValue) → start.features.items ≡ []
+      → rows ≡ map candidate_row fs → AllByRecursion (IsStored (run_property_of start)) fs
+      → now.features.items ≡ fs

@@ -1,6 +1,7 @@
 -- What looks into the tables answer.
-use Rattle.std.specs.Prelude.{◌≡◌, Option, None, Some, option_map, Result, MatchResult, IsTrue}
+use Rattle.std.specs.Prelude.{◌≡◌, Option, None, Some, option_map, Result, MatchResult, IsTrue, Vec}
 use Rattle.std.specs.FinMap.{get, values}
+use Rattle.std.specs.declared.alloc.Global.{Global}
 use Rattle.sqlite.specs.Order.{Row}
 use Rattle.sqlite.specs.State.{State as Seen, HasCleanDisk, IsUnchanged}
 use Rattle.sqlite_trees.specs.Tree.{Trees}
@@ -8,13 +9,14 @@ use Rattle.streetmap_geojson.specs.FeatureValue.{FeatureValue}
 use Rattle.streetmap_query.specs.QueryValue.{QueryValue}
 use Rattle.streetmap_batch.specs.Text.{Text}
 use Rattle.streetmap_ledger.specs.State.{State, Collection}
-use Rattle.streetmap_ledger.specs.Pages.{page_in, page_over, feature_in}
+use Rattle.streetmap_ledger.specs.Pages.{page_in, page_over, feature_in, run_in}
 use Rattle.streetmap_ledger.specs.PageView.{page_value}
 use Rattle.streetmap_ledger.specs.declared.page.Page.{Page}
 use Rattle.streetmap_rows.specs.Keeping.{Keeps}
 use Rattle.streetmap_rows.specs.Views.{collection_view}
 use Rattle.streetmap_rows.specs.declared.fault.ReadFault.{ReadFault}
 use Rattle.streetmap_reading.specs.Candidates.{dated_row}
+use Rattle.streetmap_reading.specs.Choosing.{run_of}
 use Rattle.streetmap_reading.specs.Taking.{Stopped}
 
 -- a look at the database of a state: the answer is as it is in the state, and nothing changes
@@ -44,6 +46,20 @@ IsPageUnder name q property old new result =
     → get s.collections name ≡ Some c → c.time ≡ property
     → MatchResult result (λ page. (page_value page ≡ page_over q (values c.features))
     × IsUnchanged old new) (Stopped old new)
+
+-- the features of this collection whose ids stand between two; none where it is not there
+abbrev pub IsRunOf : Text → Text → Text → State → Option (Vec FeatureValue Global) → Type 0
+IsRunOf name first last s found =
+    option_map (λ (fs : Vec FeatureValue Global). fs.items) found ≡ run_in s name first last
+
+-- those of a collection that is there, whose time property is this
+abbrev pub IsRunUnder : Text → Text → Text → Option Text → Seen → Seen
+    → Result (Vec FeatureValue Global) ReadFault → Type 0
+IsRunUnder name first last property old new result =
+    (s : State) (c : Collection) → old.step_limit ≡ None → Keeps s old.now
+    → get s.collections name ≡ Some c → c.time ≡ property
+    → MatchResult result (λ fs. (fs.items ≡ run_of first last c) × IsUnchanged old new)
+    (Stopped old new)
 
 -- the row of a feature, where the feature is there
 abbrev pub IsTextRow : Text → Text → State → Option Row → Type 0

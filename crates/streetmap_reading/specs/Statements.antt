@@ -11,6 +11,11 @@ abbrev pub select_extents : List ℕ
 select_extents = codes
     "SELECT x0, y0, x1, y1 FROM streetmap_features WHERE collection = ?1 ORDER BY id"
 
+-- the texts of the features whose ids stand between two
+abbrev pub select_run : List ℕ
+select_run = codes
+    "SELECT body FROM streetmap_features WHERE collection = ?1 AND id >= ?2 AND id <= ?3 ORDER BY id"
+
 -- the text of a feature, and the first second of its time or NULL
 abbrev pub select_text : List ℕ
 select_text = codes

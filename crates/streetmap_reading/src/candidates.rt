@@ -44,11 +44,11 @@ pub struct PageRows<'a> {
 
 impl RowFold for PageRows<'_> {
     ghost use Rattle.std.specs.List.{AllByRecursion};
-    ghost use Rattle.streetmap_reading.specs.Held.{HoldsPage, IsCandidate};
+    ghost use Rattle.streetmap_reading.specs.Held.{HoldsPage, IsCandidate, property_of};
 
     ghost holds = { HoldsPage };
 
-    ghost is_good = { λ start. AllByRecursion (IsCandidate start) };
+    ghost is_good = { λ start. AllByRecursion (IsCandidate (property_of start)) };
 
     fn take(&mut self, row: &Row) -> Result<(), ReadFault> {
         let feature = read_row(self.alloc, row, self.property)?;

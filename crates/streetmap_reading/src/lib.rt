@@ -4,9 +4,10 @@
 //! extent and seconds overlap what is asked, by one of four statements, one row at a time and in
 //! order of ids, and hands each feature to `PageFold`. `feature_of` answers one feature as the
 //! state has it, by its collection and its id, with the time that the collection's time property
-//! tells. Nothing changes, and a stop may leave no more than before. Where one gives up it says
-//! why: for memory, because a statement failed, or at a row that is none that this product writes;
-//! the last never on the tables of a state (`streetmap_rows`' `ReadFault`).
+//! tells, and `run_of` the features of a collection whose ids stand between two, by one statement.
+//! Nothing changes, and a stop may leave no more than before. Where one gives up it says why: for
+//! memory, because a statement failed, or at a row that is none that this product writes; the last
+//! never on the tables of a state (`streetmap_rows`' `ReadFault`).
 //!
 //! `summary_of` and `summaries_of` tell of one collection and of all, and `outlines_of` lists a
 //! collection's features by what is stored beside their bodies, in one pass; none of them reads a
@@ -20,9 +21,9 @@
 //! type that says what it holds of rows, and which rows are good. `text_at` and `text_if_at` read a
 //! text of any such row.
 //!
-//! In the order of reading: `candidates` (rows of a query, one after the other), `page`, `feature`;
-//! `cells` (a value of a row), `fold` (rows taken one by one), `extents`, `summaries`, `outlines`;
-//! `batch_cells` (a batch from its row), `scanning`, `batches` (looks by a serial).
+//! In the order of reading: `candidates` (rows of a query, one after the other), `page`, `feature`,
+//! `run`; `cells` (a value of a row), `fold` (rows taken one by one), `extents`, `summaries`,
+//! `outlines`; `batch_cells` (a batch from its row), `scanning`, `batches` (looks by a serial).
 #![tactic(auto)]
 
 mod batch_cells;
@@ -34,6 +35,7 @@ mod feature;
 mod fold;
 mod outlines;
 mod page;
+mod run;
 mod scanning;
 mod summaries;
 
@@ -43,4 +45,5 @@ pub use feature::feature_of;
 pub use fold::{RowFold, fold_rows};
 pub use outlines::outlines_of;
 pub use page::page_of;
+pub use run::run_of;
 pub use summaries::{summaries_of, summary_of};

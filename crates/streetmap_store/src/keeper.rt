@@ -33,7 +33,7 @@ use streetmap_ledger::{
 };
 use streetmap_query::Query;
 use streetmap_reading::{
-    batch_of, batches_of, feature_of, outlines_of, page_of, summaries_of, summary_of,
+    batch_of, batches_of, feature_of, outlines_of, page_of, run_of, summaries_of, summary_of,
 };
 use streetmap_rows::{ReadFault, Shut, Stop, settle};
 use streetmap_tables::{MakeFault, TablesFault, apply_batch, make_tables, open_tables};
@@ -387,6 +387,21 @@ impl<S: Alter> Keeper for TableKeeper<S> {
         }
         match feature_of(self.alloc, &mut self.conn, collection, id) {
             Ok(feature) => Ok(feature),
+            Err(fault) => Err(give_up(&mut self.conn, &mut self.shut, fault)),
+        }
+    }
+
+    fn features(
+        &mut self,
+        collection: &str,
+        first: &str,
+        last: &str,
+    ) -> Result<Option<Vec<Feature>>, Fault> {
+        if self.shut.is_some() {
+            return Err(Fault::Reopen);
+        }
+        match run_of(self.alloc, &mut self.conn, collection, first, last) {
+            Ok(features) => Ok(features),
             Err(fault) => Err(give_up(&mut self.conn, &mut self.shut, fault)),
         }
     }
