@@ -1,4 +1,4 @@
-//! How many features a page examines, which no answer tells.
+//! How many features a page examines, which no answer tells, and runs of features.
 use std::alloc::Global;
 use std::test::Fail;
 use streetmap_ledger::{Keeper, read_batch};
@@ -30,11 +30,40 @@ const EXAMINED: &[(&str, u64)] = &[
     ("bbox=0,6,3,9&datetime=2024-05-01T12:00:00Z", 2),
 ];
 
+/// The ids that a run of the street stands between, and those of its features.
+const RUNS: &[(&str, &str, &str)] = &[
+    ("B", "D", "BCD"),
+    ("A", "F", "ABCDEF"),
+    ("C", "C", "C"),
+    ("B1", "D1", "CD"),
+    ("", "a", "ABCDEF"),
+    ("D", "B", ""),
+    ("B1", "B2", ""),
+];
+
 /// How many features a page of the street examines; none where it is not open.
 fn examined(alloc: Global, keeper: &mut PlainKeeper, query: &str) -> Result<Option<u64>, Fail> {
     let query = read_query(alloc, Some(query))?;
     let page = keeper.page("street", &query)?;
     Ok(page.map(|page| page.examined))
+}
+
+/// The ids of the features of a run, one behind the other; none where the collection is not open.
+fn run_ids(
+    alloc: Global,
+    keeper: &mut PlainKeeper,
+    collection: &str,
+    first: &str,
+    last: &str,
+) -> Result<Option<String>, Fail> {
+    let Some(features) = keeper.features(collection, first, last)? else {
+        return Ok(None);
+    };
+    let mut ids = String::new(alloc);
+    for feature in &features {
+        ids.push_str(feature.id())?;
+    }
+    Ok(Some(ids))
 }
 
 /// Acts on the batch of the street.
@@ -52,5 +81,25 @@ fn pages_tell_how_many_they_examined(rt: HostRuntime) -> Result<(), Fail> {
         let told = examined(rt.alloc(), &mut keeper, query)?;
         assert!(rt; told == Some(*count), "at {query}");
     }
+    Ok(())
+}
+
+#[test]
+fn runs_have_the_first_and_the_last_feature(rt: HostRuntime) -> Result<(), Fail> {
+    let mut keeper = PlainKeeper::new(rt.alloc());
+    fill(rt.alloc(), &mut keeper)?;
+    for (first, last, ids) in RUNS {
+        let told = run_ids(rt.alloc(), &mut keeper, "street", first, last)?;
+        assert!(rt; told.as_deref() == Some(*ids), "from {first} to {last}");
+    }
+    Ok(())
+}
+
+#[test]
+fn a_collection_that_is_not_open_has_no_run(rt: HostRuntime) -> Result<(), Fail> {
+    let mut keeper = PlainKeeper::new(rt.alloc());
+    fill(rt.alloc(), &mut keeper)?;
+    let told = run_ids(rt.alloc(), &mut keeper, "square", "A", "F")?;
+    assert!(rt; told.is_none());
     Ok(())
 }
