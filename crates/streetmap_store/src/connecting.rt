@@ -16,8 +16,8 @@ use std::io::{ErrorKind, Read};
 /// How many pages are kept in memory at least: 8 MB.
 const FEWEST_PAGES: usize = 2_000;
 
-/// How many pages are kept in memory at most: 256 MB.
-const MOST_PAGES: usize = 65_536;
+/// How many pages are kept in memory at most: 512 MB.
+const MOST_PAGES: usize = 131_072;
 
 /// The bytes of a page of new files.
 const PAGE_SIZE: u16 = 4_096;
@@ -38,7 +38,7 @@ fn has_pages_as_new(rt: &HostRuntime, path: &str) -> bool {
 /// the locks off.
 fn pages_to_keep(rt: &HostRuntime, path: &str) -> usize
     ensures fewest { 2000 ≤ result }
-    ensures most { result ≤ 65536 }
+    ensures most { result ≤ 131072 }
 {
     match metadata(rt, path) {
         Ok(found) if found.is_file() && has_pages_as_new(rt, path) => {
