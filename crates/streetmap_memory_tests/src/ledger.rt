@@ -35,10 +35,10 @@ const RUNS: &[(&str, &str, &str)] = &[
     ("B", "D", "BCD"),
     ("A", "F", "ABCDEF"),
     ("C", "C", "C"),
-    ("B1", "D1", "CD"),
+    ("BB", "DD", "CD"),
     ("", "a", "ABCDEF"),
     ("D", "B", ""),
-    ("B1", "B2", ""),
+    ("BB", "BC", ""),
 ];
 
 /// How many features a page of the street examines; none where it is not open.
