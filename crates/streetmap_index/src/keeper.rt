@@ -287,6 +287,20 @@ impl<K: Keeper> Keeper for IndexedKeeper<K> {
         }
     }
 
+    fn feature_outlined(
+        &mut self,
+        collection: &str,
+        outline: &FeatureOutline,
+    ) -> Result<Option<Feature>, Fault> {
+        match self.keeper.feature_outlined(collection, outline) {
+            Ok(found) => Ok(found),
+            Err(fault) => {
+                self.heed(fault);
+                Err(fault)
+            }
+        }
+    }
+
     fn features(
         &mut self,
         collection: &str,

@@ -122,7 +122,7 @@ fn take_one<K: Keeper>(
         → LeavesOnly (K.may_leave keeper.old) (Some s)
         → LeavesOnly (K.may_leave keeper.new) (Some s) }
 {
-    match keeper.feature(collection, outline.id.as_str()) {
+    match keeper.feature_outlined(collection, outline) {
         Ok(Some(feature)) => match fold.take(feature) {
             Ok(()) => Ok(true),
             Err(_) => Err(Fault::Memory),

@@ -123,6 +123,14 @@ impl<K: KeepsBatches, W: JournalWriter> Keeper for JournaledKeeper<K, W> {
         self.keeper.feature(collection, id)
     }
 
+    fn feature_outlined(
+        &mut self,
+        collection: &str,
+        outline: &FeatureOutline,
+    ) -> Result<Option<Feature>, Fault> {
+        self.keeper.feature_outlined(collection, outline)
+    }
+
     fn features(
         &mut self,
         collection: &str,

@@ -61,12 +61,15 @@ abbrev pub Finds : State → Text → Text → Result (Option FeatureValue) Faul
     → Type 0
 Finds s name id result stands = Looks s (λ found. found ≡ feature_in s name id) result stands
 
+-- the features are those of this collection whose ids stand between two
+abbrev pub IsRunOf : Text → Text → Text → State → Option (Vec FeatureValue Global) → Type 0
+IsRunOf name first last s found =
+    option_map (λ (fs : Vec FeatureValue Global). fs.items) found ≡ run_in s name first last
+
 -- a run of features
 abbrev pub Runs : State → Text → Text → Text → Result (Option (Vec FeatureValue Global)) Fault
     → (State → Type 0) → Type 0
-Runs s name first last result stands = Looks s (λ found.
-    option_map (λ (fs : Vec FeatureValue Global). fs.items) found ≡ run_in s name first last)
-    result stands
+Runs s name first last result stands = Looks s (IsRunOf name first last s) result stands
 
 -- what is told of a collection
 abbrev pub Tells : State → Text → Result (Option Summary) Fault → (State → Type 0) → Type 0

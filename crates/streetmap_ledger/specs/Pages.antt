@@ -106,7 +106,10 @@ feature_in s name id = option_and_then (λ (c : Collection).
 abbrev pub is_between : Text → Text → FeatureValue → Bool
 is_between first last f = is_ge (text_cmp f.id first) && is_le (text_cmp f.id last)
 
--- a run of features in a state, in order of ids: none where the collection is not there
+-- the features of a collection whose ids stand between two, in order of ids
+abbrev pub run_of : Text → Text → Collection → List FeatureValue
+run_of first last c = filter (is_between first last) (values c.features)
+
+-- a run of features in a state: none where the collection is not there
 abbrev pub run_in : State → Text → Text → Text → Option (List FeatureValue)
-run_in s name first last = option_map (λ (c : Collection).
-    filter (is_between first last) (values c.features)) (get s.collections name)
+run_in s name first last = option_map (run_of first last) (get s.collections name)

@@ -1,6 +1,6 @@
 //! What keeps a state, and a run of batches over it.
 ghost use Rattle.std.specs.Prelude.{◌≡◌, ◌≤◌, ◌<◌, ◌+◌, ℕ, Option, None, Some, Result, IfOk, OnOk};
-ghost use Rattle.std.specs.Prelude.{IsErrOf, IsNone, IsSome, length, take, map};
+ghost use Rattle.std.specs.Prelude.{IsErrOf, IsNone, IsSome, length, take, map, string_bytes};
 ghost use Rattle.streetmap_ledger.specs.State.{State};
 ghost use Rattle.streetmap_ledger.specs.WellFormed.{IsState};
 ghost use Rattle.streetmap_ledger.specs.Batches.{replies_of};
@@ -104,6 +104,29 @@ pub trait Keeper {
         ensures reopen { IsErrOf result Fault.Reopen →
             AsBefore (stands self.old) (stands self.new)
             (may_leave self.old) (may_leave self.new) };
+
+    /// The feature that an outline is of; none where its collection is not there, or no feature with
+    /// its id is in it. It is looked for where the outline's store had it, if that is told.
+    fn feature_outlined(
+        &mut self,
+        collection: &str,
+        outline: &FeatureOutline,
+    ) -> Result<Option<Feature>, Fault>
+        ensures spared { spares self.old self.new }
+        ensures began_clean { is_clean self.new → is_clean self.old }
+        ensures faults { ShutsBy result (cause self.old) (cause self.new) }
+        ensures finds { is_clean self.new → (s : State) → stands self.old s →
+            Finds s collection.now (string_bytes outline.now.id) result (stands self.new) }
+        ensures device { is_clean self.new → (s : State) → stands self.old s →
+            IsErrOf result Fault.Device → fails self.old self.new }
+        ensures leaves { is_clean self.new → (s : State) → stands self.old s →
+            LeavesOnly (may_leave self.old) (Some s) → LeavesOnly (may_leave self.new) (Some s) }
+        ensures reopen { IsErrOf result Fault.Reopen →
+            AsBefore (stands self.old) (stands self.new)
+            (may_leave self.old) (may_leave self.new) }
+    {
+        self.feature(collection, outline.id.as_str())
+    }
 
     /// The features of a collection whose ids stand between two in byte order, with those two, in
     /// byte order of ids; none where the collection is not there.
