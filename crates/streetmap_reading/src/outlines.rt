@@ -30,6 +30,7 @@ fn outline_in(row: &Row) -> Result<FeatureOutline, ReadFault>
         id,
         extent,
         seconds,
+        rowid: None,
     })
 }
 
