@@ -1,6 +1,9 @@
 -- The extents of outlines beside one another, and the outlines that a page passes over for them.
-use Rattle.std.proofs.Common.{◌≡◌, ◌<◌, ℕ, List, [], ◌∷◌, ◌++◌, Option, None, Some, true, false, option_map, slice_get, get_or, length, refl, ap, sym, subst, ◌∙◌, inl, inr, length-append, arith}
-use Rattle.std.proofs.lemmas.Bool.{cases_lt, false_from_ne_true, both_ways}
+use Rattle.std.proofs.Common.{◌≡◌, ◌<◌, ℕ, ℤ, List, [], ◌∷◌, ◌++◌, Option, None, Some, false, option_map, slice_get, get_or, length, refl, ap, sym, subst, ◌∙◌, inl, inr, length-append, arith}
+use Rattle.std.specs.Prelude.{nat_le, int_le}
+use Rattle.std.proofs.lemmas.Int.{ints}
+use Rattle.std.proofs.lemmas.Bool.{cases_lt, false_from_ne_true, both_ways, and_parts, leb-true, le-leb, lt-leb}
+use Rattle.std.proofs.lemmas.Bool.Decides.{same_from_decides}
 use Rattle.std.proofs.lemmas.List.{get_or_append_left}
 use Rattle.std.proofs.lemmas.Option.{get_or_from_slice_get, slice_get-get_or, slice_get_read, slice_get_within}
 use Rattle.std.proofs.Math.Seq.{get_or-append_seam}
@@ -8,14 +11,14 @@ use Rattle.streetmap_grid.specs.declared.grid_box.GridBox.{GridBox}
 use Rattle.streetmap_grid.specs.Values.{BoxValue, GeometryValue}
 use Rattle.streetmap_grid.specs.Views.{box_value}
 use Rattle.streetmap_grid.specs.Extent.{extent_of, overlaps as boxes_overlap}
+use Rattle.streetmap_grid.proofs.Signs.{le_decides}
 use Rattle.streetmap_geojson.specs.FeatureValue.{FeatureValue}
 use Rattle.streetmap_query.specs.QueryValue.{QueryValue}
 use Rattle.streetmap_ledger.specs.Pages.{passes, extent_overlaps, is_candidate}
 use Rattle.streetmap_ledger.specs.Outlines.{FeatureOutlineValue}
 use Rattle.streetmap_ledger.specs.declared.outline.FeatureOutline.{FeatureOutline}
-use Rattle.streetmap_cells.specs.Envelopes.{IsEnvelopeOf, overlaps}
+use Rattle.streetmap_cells.specs.Envelopes.{IsFromCorner, IsEnvelopeOf, overlaps}
 use Rattle.streetmap_cells.specs.declared.envelope.Envelope.{Envelope}
-use Rattle.streetmap_cells.proofs.Envelopes.{envelopes_overlap}
 use Rattle.streetmap_index.specs.Index.{IsOutlineOf, IsExtentIf, AreExtentsOf}
 use Rattle.streetmap_index.specs.Taking.{IsWindowOf}
 
@@ -38,16 +41,41 @@ module _ (es : List Envelope) (os : List FeatureOutline) (i : ℕ) (e : Envelope
   ]
 
 -- ---- off the window
-module _ (window e : Envelope) (area : BoxValue) (asked : IsEnvelopeOf window area) (off : overlaps e window ≡ false) where
-  none_overlaps : (extent : Option GridBox) (g : Option GeometryValue) → IsExtentIf e extent → option_map box_value extent ≡ option_map extent_of g → passes extent_overlaps g (Some area) ≡ false
-  none_overlaps None None kept same = refl
-  none_overlaps None (Some v) kept same = absurd cc
-  none_overlaps (Some box) None kept same = absurd cc
-  none_overlaps (Some box) (Some v) kept same =
+
+-- bounds stand in the order in which they do counted from the corner of the grid
+same_order : (m n : ℕ) (a b : ℤ) → IsFromCorner m a → IsFromCorner n b → nat_le m n ≡ int_le a b
+same_order m n a b is is' = same_from_decides (nat_le m n) (int_le a b)
+    (λ h. let le = leb-true m n h in omega (arith, ints, is, is', le), λ le. le-leb m n (omega (arith, ints, is, is', le)))
+    (le_decides a b)
+
+same_overlap : (e w : Envelope) (extent area : BoxValue) → IsEnvelopeOf e extent → IsEnvelopeOf w area → overlaps e w ≡ boxes_overlap extent area
+same_overlap e w extent area is is' =
+    rw (same_order e.x0 w.x1 extent.x0 area.x1 is.west is'.east, same_order w.x0 e.x1 area.x0 extent.x1 is'.west is.east, same_order e.y0 w.y1 extent.y0 area.y1 is.south is'.north, same_order w.y0 e.y1 area.y0 extent.y1 is'.south is.north) refl
+
+module _ (window e : Envelope) (area : GridBox) (asked : IsEnvelopeOf window (box_value area)) where
+  -- what ends at the corner of the grid overlaps no box
+  pub off_at_corner : e.x1 ≡ 0 → overlaps e window ≡ false
+  off_at_corner at =
+      let corner = asked.west in
+      let bound = area.west in
+      let far : 0 < window.x0 = omega (arith, ints, corner, bound) in
+      let off : nat_le window.x0 e.x1 ≡ false = rw at (lt-leb window.x0 0 far) in
+      false_from_ne_true _ (λ on. both_ways (nat_le window.x0 e.x1) off (and_parts _ _ (and_parts _ _ on).1).0)
+
+  -- the kept extent overlaps the window where the geometry's overlaps the box
+  pub overlaps_as : (extent : Option GridBox) (g : Option GeometryValue) → IsExtentIf e extent → option_map box_value extent ≡ option_map extent_of g → overlaps e window ≡ passes extent_overlaps g (Some (box_value area))
+  overlaps_as None None kept same = off_at_corner kept
+  overlaps_as None (Some v) kept same = absurd cc
+  overlaps_as (Some box) None kept same = absurd cc
+  overlaps_as (Some box) (Some v) kept same =
       let one : box_value box ≡ extent_of v = cc in
-      false_from_ne_true _ (λ on. both_ways (overlaps e window) off (envelopes_overlap e window (box_value box) area kept asked (subst (λ b. boxes_overlap b area ≡ true) (sym one) on)))
+      same_overlap e window (box_value box) (box_value area) kept asked ∙ ap (λ b. boxes_overlap b (box_value area)) one
+
+pub overlaps_asked : (q : QueryValue) (window e : Envelope) (o : FeatureOutline) (f : FeatureValue) → IsWindowOf q (Some window) → IsExtentIf e o.extent → IsOutlineOf o f → overlaps e window ≡ passes extent_overlaps f.geometry q.bbox
+overlaps_asked q window e o f (area, asked, is) kept known =
+    overlaps_as window e area is o.extent f.geometry kept (ap (λ (v : FeatureOutlineValue). v.extent) known) ∙ ap (passes extent_overlaps f.geometry) (sym asked)
 
 pub off_window : (q : QueryValue) (window e : Envelope) (o : FeatureOutline) (f : FeatureValue) → IsWindowOf q (Some window) → overlaps e window ≡ false → IsExtentIf e o.extent → IsOutlineOf o f → is_candidate q f ≡ false
-off_window q window e o f (area, asked, is) off kept known =
-    let none : passes extent_overlaps f.geometry q.bbox ≡ false = subst (λ b. passes extent_overlaps f.geometry b ≡ false) (sym asked) (none_overlaps window e area is off o.extent f.geometry kept (ap (λ (v : FeatureOutlineValue). v.extent) known)) in
+off_window q window e o f asked off kept known =
+    let none : passes extent_overlaps f.geometry q.bbox ≡ false = sym (overlaps_asked q window e o f asked kept known) ∙ off in
     rw none refl

@@ -1,7 +1,8 @@
 -- Chunks that are counted whole.
-use Rattle.std.proofs.Common.{◌≡◌, ℕ, ◌+◌, List, [], ◌∷◌, ◌++◌, Bool, true, false, cond, Option, None, Some, All, option_map, get_or, length, refl, sym, ap, subst, ◌∙◌, arith}
+use Rattle.std.proofs.Common.{◌≡◌, ℕ, suc, ℤ, ◌+◌, List, [], ◌∷◌, ◌++◌, Bool, true, false, cond, Option, None, Some, All, option_map, get_or, length, refl, sym, ap, subst, ◌∙◌, arith}
 use Rattle.std.specs.Prelude.{◌||◌, ◌&&◌, is_some, is_none}
 use Rattle.std.specs.List.{count_by}
+use Rattle.std.proofs.lemmas.Bool.{both_ways}
 use Rattle.std.proofs.lemmas.List.Sums.{sum_by-cons}
 use Rattle.std.proofs.lemmas.List.Elements.{filter-append, All-nil, All-cons, All-head, All-tail, All-filter}
 use Rattle.streetmap_grid.specs.Values.{BoxValue, GeometryValue}
@@ -21,9 +22,14 @@ use Rattle.streetmap_ledger.specs.Folds.{IsFoldOf, AreHidden}
 use Rattle.streetmap_ledger.specs.declared.fold.PageFold.{PageFold}
 use Rattle.streetmap_ledger.specs.declared.outline.FeatureOutline.{FeatureOutline}
 use Rattle.streetmap_ledger.proofs.Examining.{selected_are_candidates, candidates_selected}
-use Rattle.streetmap_index.specs.Index.{IsOutlineOf, IsEntry, Pairs, LiesWithin, IsTimedBy, has_extent, IsBounded}
+use Rattle.streetmap_cells.specs.Envelopes.{IsEnvelopeOf, overlaps}
+use Rattle.streetmap_cells.specs.declared.envelope.Envelope.{Envelope}
+use Rattle.streetmap_index.specs.Index.{IsOutlineOf, IsEntry, Pairs, LiesWithin, IsTimedBy, AllTimedBy, has_extent, IsExtentIf, AreExtentsOf, IsBounded}
 use Rattle.streetmap_index.specs.Taking.{counts, IsCountedFor, SelectsCandidates, CountsWhole, AllComeAfter, TakesChunk}
+use Rattle.streetmap_index.specs.Within.{TellsWhetherMet}
 use Rattle.streetmap_index.specs.declared.chunk.Chunk.{Chunk}
+use Rattle.streetmap_index.proofs.Beside.{off_at_corner, off_window}
+use Rattle.streetmap_index.proofs.Position.{three_bounds_pass}
 
 -- the features with outlines that a test holds for are selected, and the others are not examined
 abbrev Told : Query → (FeatureOutline → Bool) → Features → FeatureOutline → Type 0
@@ -32,21 +38,22 @@ Told q w features o = (f : FeatureValue) → IsEntry features o f → (w o ≡ t
 abbrev Selected : Query → FeatureValue → Type 0
 Selected q f = selects (query_value q) f ≡ true
 
-one_more : (q : Query) (w : FeatureOutline → Bool) (o : FeatureOutline) (f : FeatureValue) (os : List FeatureOutline) (fs : List FeatureValue) (b : Bool) → w o ≡ b
-    → (w o ≡ true → selects (query_value q) f ≡ true) × (w o ≡ false → is_candidate (query_value q) f ≡ false) → IsFeature f
-    → SelectsCandidates (query_value q) (count_by w os) fs → SelectsCandidates (query_value q) (count_by w (o ∷ os)) (f ∷ fs)
-one_more q w o f os fs true is told made rest =
+-- a feature more, where a test of an element of its own tells of it
+one_more : {X : Type 0} (q : Query) (w : X → Bool) (x : X) (f : FeatureValue) (xs : List X) (fs : List FeatureValue) (b : Bool) → w x ≡ b
+    → (w x ≡ true → selects (query_value q) f ≡ true) × (w x ≡ false → is_candidate (query_value q) f ≡ false) → IsFeature f
+    → SelectsCandidates (query_value q) (count_by w xs) fs → SelectsCandidates (query_value q) (count_by w (x ∷ xs)) (f ∷ fs)
+one_more q w x f xs fs true is told made rest =
     let s = told.0 is in
     let k : is_candidate (query_value q) f ≡ true = selected_are_candidates q f made s in
-    let e : length (candidates (query_value q) fs) ≡ count_by w os = rest.count in
+    let e : length (candidates (query_value q) fs) ≡ count_by w xs = rest.count in
     let front : length (candidates (query_value q) (f ∷ fs)) ≡ 1 + length (candidates (query_value q) fs) = rw k (omega arith) in
-    let back : count_by w (o ∷ os) ≡ 1 + count_by w os = sum_by-cons (λ x. cond (w x) 1 0) o os ∙ ap (λ c. cond c 1 0 + count_by w os) is in
+    let back : count_by w (x ∷ xs) ≡ 1 + count_by w xs = sum_by-cons (λ y. cond (w y) 1 0) x xs ∙ ap (λ c. cond c 1 0 + count_by w xs) is in
     record { selected = rw k (All-cons (Selected q) f (candidates (query_value q) fs) s rest.selected); count = omega (arith, e, front, back) }
-one_more q w o f os fs false is told made rest =
+one_more q w x f xs fs false is told made rest =
     let k : is_candidate (query_value q) f ≡ false = told.1 is in
-    let e : length (candidates (query_value q) fs) ≡ count_by w os = rest.count in
+    let e : length (candidates (query_value q) fs) ≡ count_by w xs = rest.count in
     let front : length (candidates (query_value q) (f ∷ fs)) ≡ length (candidates (query_value q) fs) = rw k refl in
-    let back : count_by w (o ∷ os) ≡ 0 + count_by w os = sum_by-cons (λ x. cond (w x) 1 0) o os ∙ ap (λ c. cond c 1 0 + count_by w os) is in
+    let back : count_by w (x ∷ xs) ≡ 0 + count_by w xs = sum_by-cons (λ y. cond (w y) 1 0) x xs ∙ ap (λ c. cond c 1 0 + count_by w xs) is in
     record { selected = rw k rest.selected; count = omega (arith, e, front, back) }
 
 whole : (q : Query) (w : FeatureOutline → Bool) (features : Features) (os : List FeatureOutline) (fs : List FeatureValue) → All (Told q w features) os → Pairs features os fs
@@ -91,6 +98,41 @@ counts_all q none os = rw none (counts_each os)
 
 pub counts_extents : (q : Query) (area : GridBox) → q.bbox ≡ Some area → (os : List FeatureOutline) → count_by (counts (query_value q)) os ≡ count_by has_extent os
 counts_extents q area some os = rw some refl
+
+-- ---- chunks of which the extents that are kept tell all
+module _ (q : Query) (area : GridBox) (window : Envelope) (asked : q.bbox ≡ Some area) (is : IsEnvelopeOf window (box_value area)) where
+  -- what overlaps the window meets the box, and what does not is not examined
+  told_by : (e : Envelope) (o : FeatureOutline) (f : FeatureValue) → IsExtentIf e o.extent → TellsWhetherMet e window → IsOutlineOf o f → IsFeature f → passes meets f.time (interval_asked (query_value q)) ≡ true
+      → (overlaps e window ≡ true → selects (query_value q) f ≡ true) × (overlaps e window ≡ false → is_candidate (query_value q) f ≡ false)
+  told_by e o f kept tells known made timed = (
+    λ on. rw (subst (λ (b : Option GridBox). passes geometry_meets f.geometry (option_map box_value b) ≡ true) (sym asked) (meets_box o.extent kept (ap (λ (v : FeatureOutlineValue). v.extent) known) on), timed) refl,
+    λ off. off_window (query_value q) window e o f (area, ap (option_map box_value) asked, is) off kept known,
+  ) where
+    meets_box : (extent : Option GridBox) → IsExtentIf e extent → option_map box_value extent ≡ option_map extent_of f.geometry → overlaps e window ≡ true → passes geometry_meets f.geometry (Some (box_value area)) ≡ true
+    meets_box None kept same on = absurd (both_ways _ (off_at_corner window e area is kept) on)
+    meets_box (Some box) kept same on = three_bounds_pass f.geometry box area e window same made.made kept is (tells on)
+
+  kept_whole : (features : Features) (seconds : Option (ℤ × ℤ)) → ((o : FeatureOutline) (f : FeatureValue) → IsTimedBy o.seconds seconds → IsOutlineOf o f → passes meets f.time (interval_asked (query_value q)) ≡ true)
+      → (es : List Envelope) (os : List FeatureOutline) (fs : List FeatureValue) → length es ≡ length os → AreExtentsOf es os → All (λ e. TellsWhetherMet e window) es → AllTimedBy os seconds → Pairs features os fs
+      → SelectsCandidates (query_value q) (count_by (λ e. overlaps e window) es) fs
+  kept_whole features seconds reaches [] [] [] long kept told timed pairs = record { selected = All-nil (Selected q); count = refl }
+  kept_whole features seconds reaches [] [] (f ∷ fs) long kept told timed pairs = absurd pairs
+  kept_whole features seconds reaches [] (o ∷ os) fs long kept told timed pairs = absurd (omega arith)
+  kept_whole features seconds reaches (e ∷ es) [] fs long kept told timed pairs = absurd (omega arith)
+  kept_whole features seconds reaches (e ∷ es) (o ∷ os) [] long kept told timed pairs = absurd pairs
+  kept_whole features seconds reaches (e ∷ es) (o ∷ os) (f ∷ fs) long kept told timed pairs =
+      let Tells : Envelope → Type 0 = λ e. TellsWhetherMet e window in
+      let Timed : FeatureOutline → Type 0 = λ o. IsTimedBy o.seconds seconds in
+      let entry = pairs.0 in
+      one_more q (λ e. overlaps e window) e f es fs (overlaps e window) refl
+      (told_by e o f (kept 0 e o refl refl) (All-head Tells e es told) entry.known entry.made (reaches o f (All-head Timed o os timed) entry.known)) entry.made
+      (kept_whole features seconds reaches es os fs (omega arith) (λ i x y here there. kept (suc i) x y here there) (All-tail Tells e es told) (All-tail Timed o os timed) pairs.1)
+
+  -- how many features of a chunk are selected, where each extent that overlaps the window tells that its geometry meets the box
+  pub counts_kept : (chunk : Chunk) → IsBounded chunk → length chunk.extents.items ≡ length chunk.outlines.items → All (λ e. TellsWhetherMet e window) chunk.extents.items
+      → ((o : FeatureOutline) (f : FeatureValue) → IsTimedBy o.seconds chunk.seconds → IsOutlineOf o f → passes meets f.time (interval_asked (query_value q)) ≡ true)
+      → CountsWhole (query_value q) chunk (count_by (λ e. overlaps e window) chunk.extents.items)
+  counts_kept chunk bounded long told reaches features fs pairs = kept_whole features chunk.seconds reaches chunk.extents.items chunk.outlines.items fs long bounded.extents told bounded.timed pairs
 
 made_all : (features : Features) (os : List FeatureOutline) (fs : List FeatureValue) → Pairs features os fs → All IsFeature fs
 made_all features [] [] pairs = All-nil IsFeature

@@ -16,8 +16,8 @@ use Rattle.streetmap_ledger.specs.Outlines.{FeatureOutlineValue}
 use Rattle.streetmap_ledger.specs.Folds.{IsFoldOf, HoldsCandidates}
 use Rattle.streetmap_ledger.specs.declared.outline.FeatureOutline.{FeatureOutline}
 use Rattle.streetmap_ledger.specs.declared.fold.PageFold.{PageFold}
-use Rattle.streetmap_index.specs.Taking.{Pairs, IsExamined, HaveIds}
-use Rattle.streetmap_index.proofs.Pairing.{IsThere, each_there}
+use Rattle.streetmap_index.specs.Taking.{Pairs, IsExamined, HaveIds, TakesRun}
+use Rattle.streetmap_index.proofs.Pairing.{IsThere, each_there, parted}
 
 abbrev id_of : FeatureOutline → Text
 id_of o = string_bytes o.id
@@ -100,6 +100,14 @@ run_there s name first last c gs there holds is =
     let found : Some gs ≡ Some (filter (is_between first last) (values c.features)) = is ∙ ap (option_map (λ (d : Collection). filter (is_between first last) (values d.features))) there in
     let same : gs ≡ filter (is_between first last) (values c.features) = cc in
     subst (AllByRecursion (λ g. get c.features g.id ≡ Some g)) (sym same) (there_by c.features (is_between first last) (entries c.features) (each_there c holds))
+
+-- ---- runs one behind the other
+
+pub taken_behind : (s : State) (name : Text) (front behind : List FeatureOutline) (old mid new : PageFold) → TakesRun s name front old mid true → TakesRun s name behind mid new true → TakesRun s name (front ++ behind) old new true
+taken_behind s name front behind old mid new before here t c q met fs there pairs held =
+    let parts = parted c.features front behind fs pairs in
+    subst (IsFoldOf q new) (append_assoc met parts.firsts parts.others ∙ ap (λ l. met ++ l) parts.whole)
+    (here t c q (met ++ parts.firsts) parts.others there parts.other_pairs (before t c q met parts.firsts there parts.first_pairs held))
 
 -- ---- a page with a run more
 

@@ -87,9 +87,10 @@ IsTimedBy (Some seconds) (Some bounds) = (seconds.0 ≤ℤ bounds.0) × (bounds.
 abbrev pub AllTimedBy : List FeatureOutline → Option (ℤ × ℤ) → Type 0
 AllTimedBy os bounds = All (λ o. IsTimedBy o.seconds bounds) os
 
--- this is the extent, if there is one, counted from the corner of the grid
+-- this is the extent, if there is one, counted from the corner of the grid; where there is none it
+-- ends at that corner, which no box of the grid reaches
 abbrev pub IsExtentIf : Envelope → Option GridBox → Type 0
-IsExtentIf e None = Unit {0}
+IsExtentIf e None = e.x1 ≡ 0
 IsExtentIf e (Some extent) = IsEnvelopeOf e (box_value extent)
 
 -- what is kept of an outline, in the same place, is its extent

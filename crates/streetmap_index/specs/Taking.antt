@@ -16,7 +16,8 @@ use Rattle.streetmap_ledger.specs.declared.page.Page.{Page}
 pub use Rattle.streetmap_index.specs.Index.{IsEntry, Pairs}
 use Rattle.streetmap_index.specs.Index.{IsOutlineOf, has_extent, IsListedIf, AreListedChunksOf}
 use Rattle.streetmap_index.specs.Index.{IsBounded}
-use Rattle.streetmap_grid.specs.Values.{BoxValue}
+use Rattle.streetmap_grid.specs.Views.{box_value}
+use Rattle.streetmap_grid.specs.declared.grid_box.GridBox.{GridBox}
 use Rattle.streetmap_cells.specs.Envelopes.{IsEnvelopeOf}
 use Rattle.streetmap_cells.specs.declared.envelope.Envelope.{Envelope}
 use Rattle.streetmap_cells.specs.Searches.{is_marked}
@@ -40,10 +41,11 @@ TakesRun s name os old new taken =
     → get s.collections name ≡ Some c → Pairs c.features os fs → IsFoldOf q old met
     → IsFoldOf q new (met ++ fs)
 
--- the box that a query asks for, counted from the corner of the grid, where it is known
+-- the box of the grid that a query asks for, if it asks for one, counted from the grid's corner
 abbrev pub IsWindowOf : QueryValue → Option Envelope → Type 0
-IsWindowOf q None = Unit {0}
-IsWindowOf q (Some window) = (area : BoxValue) × (q.bbox ≡ Some area) × IsEnvelopeOf window area
+IsWindowOf q None = q.bbox ≡ None
+IsWindowOf q (Some window) =
+    (area : GridBox) × (q.bbox ≡ Some (box_value area)) × IsEnvelopeOf window (box_value area)
 
 -- if all were taken, the features with a chunk's outlines were met behind those met before
 abbrev pub TakesOutlined : State → Text → QueryValue → Chunk → PageFold → PageFold → Bool → Type 0

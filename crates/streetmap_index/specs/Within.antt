@@ -1,28 +1,23 @@
 -- What an extent tells of a geometry that may meet a box.
-use Rattle.std.specs.Prelude.{ℤ, ◌≤ℤ◌, ◌⊎◌}
-use Rattle.streetmap_grid.specs.Values.{BoxValue}
+use Rattle.std.specs.Prelude.{◌≡◌, ℕ, ◌+◌, ◌≤◌, Bool, true, ◌&&◌, nat_le, [], ◌∷◌}
+use Rattle.std.specs.List.{count_by}
+use Rattle.streetmap_cells.specs.Envelopes.{overlaps}
+use Rattle.streetmap_cells.specs.declared.envelope.Envelope.{Envelope}
 
--- a coordinate lies between two others, or is one of them
-abbrev pub IsBetween : (low at high : ℤ) → Type 0
-IsBetween low at high = (low ≤ℤ at) × (at ≤ℤ high)
+-- whether a bound lies between two others, or is one of them
+abbrev pub is_between : (low high at : ℕ) → Bool
+is_between low high at = nat_le low at && nat_le at high
 
--- an extent lies between the western and the eastern bound of a box
-abbrev pub LiesAcross : BoxValue → BoxValue → Type 0
-LiesAcross extent g = (g.x0 ≤ℤ extent.x0) × (extent.x1 ≤ℤ g.x1)
+-- how many of the four bounds of an extent lie between those of a window
+abbrev pub bounds_in : Envelope → Envelope → ℕ
+bounds_in extent window =
+    count_by (is_between window.x0 window.x1) (extent.x0 ∷ extent.x1 ∷ [])
+    + count_by (is_between window.y0 window.y1) (extent.y0 ∷ extent.y1 ∷ [])
 
--- between the southern and the northern one
-abbrev pub LiesAlong : BoxValue → BoxValue → Type 0
-LiesAlong extent g = (g.y0 ≤ℤ extent.y0) × (extent.y1 ≤ℤ g.y1)
+-- three of them do, or all four
+abbrev pub HasThreeBoundsIn : Envelope → Envelope → Type 0
+HasThreeBoundsIn extent window = 3 ≤ bounds_in extent window
 
--- its western or its eastern bound does
-abbrev pub EndsAcross : BoxValue → BoxValue → Type 0
-EndsAcross extent g = IsBetween g.x0 extent.x0 g.x1 ⊎ IsBetween g.x0 extent.x1 g.x1
-
--- its southern or its northern bound does
-abbrev pub EndsAlong : BoxValue → BoxValue → Type 0
-EndsAlong extent g = IsBetween g.y0 extent.y0 g.y1 ⊎ IsBetween g.y0 extent.y1 g.y1
-
--- three of the four bounds of an extent lie between those of a box
-abbrev pub HasThreeBoundsIn : BoxValue → BoxValue → Type 0
-HasThreeBoundsIn extent g =
-    (LiesAcross extent g × EndsAlong extent g) ⊎ (LiesAlong extent g × EndsAcross extent g)
+-- an extent tells whether its geometry meets a window: if it overlaps, it has three bounds in it
+abbrev pub TellsWhetherMet : Envelope → Envelope → Type 0
+TellsWhetherMet extent window = overlaps extent window ≡ true → HasThreeBoundsIn extent window

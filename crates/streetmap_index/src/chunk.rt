@@ -13,7 +13,7 @@ ghost use Rattle.streetmap_index.specs.Index.{IsListedChunk};
 ghost use Rattle.streetmap_index.specs.Chunks.{reaches as reaches_of};
 
 use crate::bounds::{bounds_of_seconds, count_extents, grown};
-use crate::kept_extents::keep_extents;
+use crate::extent_column::keep_extents;
 use std::alloc::{AllocError, Global};
 use streetmap_cells::Envelope;
 use streetmap_grid::GridBox;

@@ -7,19 +7,21 @@
 //! outline does not show whether the query selects them; and by these the collection is described.
 //!
 //! Outlines stand in chunks. A page passes over a chunk whose bounds are off its box, and over one
-//! with no extent that overlaps the box where the cells of the grid show that. It counts a chunk
-//! whole that lies within its box and its interval, where it shows none of the chunk's features. It
-//! goes over the outlines of the others, and looks only at those whose extents overlap the box.
+//! with no extent that overlaps the box where the cells of the grid show that. Where it shows none
+//! of a chunk's features it counts them by what stands beside the outlines: by the chunk's bounds,
+//! if it lies within the box and the interval, or by the extents, if each that overlaps the box
+//! tells that its feature meets it. It goes over the outlines of the others, and looks only at
+//! those whose extents overlap the box.
 //!
 //! What is known of a collection is learnt at the first look at it, and follows each batch that is
 //! accepted. Where memory is refused for that all is forgotten, and nothing is learnt at the next
 //! looks. A fault that shuts the other keeper leaves nothing known. Where a collection is not known
 //! the other keeper answers.
 //!
-//! In the order of reading: `bounds`, `kept_extents`, `chunk`, `in_cells` and `chunks` (outlines in
-//! chunks, of which an edit changes one, and their extents by cells), `outlined` (what is known of
-//! a collection, and how it follows edits), `learning` (how it is learnt from a keeper), `index`
-//! (what is known of some collections), `asking`, `within`, `selection`, `run` and `page`,
+//! In the order of reading: `bounds`, `within`, `extent_column`, `chunk`, `in_cells` and `chunks`
+//! (outlines in chunks, of which an edit changes one, and their extents by cells), `outlined` (what
+//! is known of a collection, and how it follows edits), `learning` (how it is learnt from a
+//! keeper), `index` (what is known of some collections), `asking`, `selection`, `run` and `page`,
 //! `telling`, `keeper`.
 #![tactic(auto)]
 
@@ -27,10 +29,10 @@ mod asking;
 mod bounds;
 mod chunk;
 mod chunks;
+mod extent_column;
 mod in_cells;
 mod index;
 mod keeper;
-mod kept_extents;
 mod learning;
 mod outlined;
 mod page;

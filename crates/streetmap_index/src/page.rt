@@ -16,7 +16,7 @@ ghost use Rattle.streetmap_index.specs.Taking.{TakesOutlined, TakesChunk, IsOutl
 use crate::asking::ask;
 use crate::chunk::Chunk;
 use crate::chunks::Chunks;
-use crate::kept_extents::{is_off, window_of};
+use crate::extent_column::{lies_outside, window_of};
 use crate::outlined::OutlinedCollection;
 use crate::run::{run_length, take_run};
 use crate::selection::{
@@ -133,7 +133,7 @@ fn take_outlined<K: Keeper>(
     let mut place = 0;
     while place < outlines.len() {
         let outline = &outlines[place];
-        if is_off(window, extents, place) {
+        if lies_outside(window, extents, place) {
             place += 1;
             continue;
         }

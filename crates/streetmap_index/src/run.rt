@@ -16,6 +16,11 @@ use streetmap_geojson::Feature;
 use streetmap_ledger::{Fault, FeatureOutline, Keeper, PageFold};
 use streetmap_query::Query;
 
+/// How many features are read together at least, where their outlines have rowids. One takes some
+/// 4.5 microseconds alone, and a run takes 14, and 2 more for each: 5 are read sooner alone, and 6
+/// together.
+const SHORTEST_RUN: usize = 6;
+
 /// Whether a page that has room reads the feature with this outline: it examines it, and the
 /// outline does not tell that it is counted alone.
 fn is_due(query: &Query, outline: &FeatureOutline) -> bool
@@ -132,8 +137,40 @@ fn take_one<K: Keeper>(
     }
 }
 
+/// Takes the features with these outlines, which come next, as the keeper has each, and answers
+/// whether they are there.
+fn take_each<K: Keeper>(
+    keeper: &mut K,
+    collection: &str,
+    outlines: &[FeatureOutline],
+    fold: &mut PageFold<'_>,
+) -> Result<bool, Fault>
+    requires { K.cause keeper.old ≡ None }
+    ensures spared { K.spares keeper.old keeper.new }
+    ensures began_clean { K.is_clean keeper.new → K.is_clean keeper.old }
+    ensures faults { ShutsBy result None (K.cause keeper.new) }
+    ensures device { K.is_clean keeper.new → (s : State) → K.stands keeper.old s →
+        IsErrOf result Fault.Device → K.fails keeper.old keeper.new }
+    ensures takes { K.is_clean keeper.new → (s : State) → K.stands keeper.old s
+        → Looks s (TakesRun s collection.now outlines.now fold.old fold.new) result
+        (K.stands keeper.new) }
+    ensures leaves { K.is_clean keeper.new → (s : State) → K.stands keeper.old s
+        → LeavesOnly (K.may_leave keeper.old) (Some s)
+        → LeavesOnly (K.may_leave keeper.new) (Some s) }
+{
+    for outline in outlines {
+        match take_one(keeper, collection, outline, fold) {
+            Ok(true) => {}
+            Ok(false) => return Ok(false),
+            Err(fault) => return Err(fault),
+        }
+    }
+    Ok(true)
+}
+
 /// Takes the features with these outlines, which come next, as the keeper has them, and answers
-/// whether they are there: one by its id, and more than one by the ids of the first and the last.
+/// whether they are there: each alone where they are few and their rows are known, else by the ids
+/// of the first and the last.
 pub fn take_run<K: Keeper>(
     keeper: &mut K,
     collection: &str,
@@ -154,11 +191,10 @@ pub fn take_run<K: Keeper>(
         → LeavesOnly (K.may_leave keeper.new) (Some s) }
 {
     match outlines {
-        [] => Ok(true),
-        [outline] => take_one(keeper, collection, outline, fold),
-        [first, .., last] => {
+        [first, .., last] if outlines.len() >= SHORTEST_RUN || first.rowid.is_none() => {
             let (first, last) = (first.id.as_str(), last.id.as_str());
             take_between(keeper, collection, outlines, first, last, fold)
         }
+        _ => take_each(keeper, collection, outlines, fold),
     }
 }

@@ -16,8 +16,9 @@ ghost use Rattle.streetmap_index.specs.Taking.{AllComeAfter};
 ghost use Rattle.streetmap_index.specs.Chunks.{AreInOrder, BeginsAfter};
 
 use crate::chunk::Chunk;
+use crate::extent_column::count_in_window;
 use crate::within::tells_meeting;
-use streetmap_cells::Marks;
+use streetmap_cells::{Envelope, Marks};
 use streetmap_ledger::{FeatureOutline, overlaps_box};
 use streetmap_query::Query;
 
@@ -109,10 +110,10 @@ fn lies_whole_within_box(query: &Query, chunk: &Chunk) -> bool
     }
 }
 
-/// How many features of a chunk the query selects, where the chunk tells that it selects all those
+/// How many features of a chunk the query selects, where its bounds tell that it selects all those
 /// that a page examines: all of them where no box is asked, else those with an extent. None where
-/// it does not tell.
-pub fn count_selected(query: &Query, chunk: &Chunk) -> Option<u64>
+/// they do not tell.
+fn count_by_bounds(query: &Query, chunk: &Chunk) -> Option<u64>
     ensures { IsBounded chunk.now
         → IfSome result (CountsWhole (query_value query.now) chunk.now) }
 {
@@ -125,6 +126,36 @@ pub fn count_selected(query: &Query, chunk: &Chunk) -> Option<u64>
     match &query.bbox {
         None => Some(chunk.outlines.len() as u64),
         Some(_) => Some(chunk.with_extent),
+    }
+}
+
+/// How many features of a chunk the query selects, where a box is asked and the extents that are
+/// kept tell it: all are kept, and each that overlaps the box has three bounds in it. None where
+/// they do not tell.
+fn count_by_extents(query: &Query, chunk: &Chunk) -> Option<u64>
+    ensures { IsBounded chunk.now
+        → IfSome result (CountsWhole (query_value query.now) chunk.now) }
+{
+    let is_whole = chunk.extents.len() == chunk.outlines.len();
+    if !is_whole || !reaches_into_interval(query, chunk.seconds) {
+        return None;
+    }
+    match &query.bbox {
+        None => None,
+        Some(area) => count_in_window(&Envelope::of(area), chunk.extents.as_slice()),
+    }
+}
+
+/// How many features of a chunk the query selects, where the chunk tells that it selects all those
+/// that a page examines: by its bounds, or else by the extents that it keeps. None where it does
+/// not tell. No outline is looked at.
+pub fn count_selected(query: &Query, chunk: &Chunk) -> Option<u64>
+    ensures { IsBounded chunk.now
+        → IfSome result (CountsWhole (query_value query.now) chunk.now) }
+{
+    match count_by_bounds(query, chunk) {
+        Some(count) => Some(count),
+        None => count_by_extents(query, chunk),
     }
 }
 

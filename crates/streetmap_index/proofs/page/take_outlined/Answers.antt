@@ -23,8 +23,8 @@ loop-place-init g c = record {
   going = λ h s d met fs e there bounded pairs held. record { met = met; left = fs; whole = refl {a = met ++ fs}; pairs = pairs; holds = held };
 }
 
-pub loop-place-preserved-then-is_off : goal.loop-place-preserved-then-is_off
-loop-place-preserved-then-is_off g c =
+pub loop-place-preserved-then-lies_outside : goal.loop-place-preserved-then-lies_outside
+loop-place-preserved-then-lies_outside g c =
     let inv = c.loop-place.invariant in
     let q = query_value c.args.query.now in
     let chunk = c.args.chunk.now in
@@ -42,7 +42,7 @@ loop-place-preserved-then-is_off g c =
       going = λ h s d met all e there bounded pairs held.
           let kept = subst (λ es. AreExtentsOf es os) (sym c.as_slice-extents.ensures.value) (subst (λ xs. AreExtentsOf chunk.extents.items xs) (sym c.as_slice-outlines.ensures.value) bounded.extents) in
           goes_on q fold fold d.features (met ++ all) o (drop (i + 1) os) (subst (Going q fold d.features (met ++ all)) (turn os i o c.loop-place-test.true c.index-outlines-place.is) (inv.going h s d met all e there bounded pairs held))
-          (λ fs f entry holds. left_out c.args.query.now fold fs f entry.made (c.is_off.ensures c.if-is_off.true q os o f c.window_of-window.ensures kept (slice_get_read os (length os) i o refl c.loop-place-test.true c.index-outlines-place.is) entry.known) holds);
+          (λ fs f entry holds. left_out c.args.query.now fold fs f entry.made (c.lies_outside.ensures.passed_over c.if-lies_outside.true q os o f c.window_of-window.ensures kept (slice_get_read os (length os) i o refl c.loop-place-test.true c.index-outlines-place.is) entry.known) holds);
     }
 
 pub loop-place-preserved-then-take_unread : goal.loop-place-preserved-then-take_unread

@@ -1,6 +1,6 @@
 use Rattle.std.proofs.Common.{◌≡◌, length}
 use Rattle.streetmap_index.specs.Index.{AreExtentsOf}
-use Rattle.streetmap_index.proofs.kept_extents.keep_extents.Given as goal
+use Rattle.streetmap_index.proofs.extent_column.keep_extents.Given as goal
 
 -- the extents of the outlines so far are kept
 abbrev pub invariant-loop-outline : goal.invariant-loop-outline

@@ -1,7 +1,7 @@
 use Rattle.std.proofs.Common.{sym, subst, arith, rules}
 use Rattle.streetmap_index.specs.Index.{AreExtentsOf}
 use Rattle.streetmap_index.proofs.Beside.{one_more}
-use Rattle.streetmap_index.proofs.kept_extents.keep_extents.Goals as goal
+use Rattle.streetmap_index.proofs.extent_column.keep_extents.Goals as goal
 
 pub loop-outline-init : goal.loop-outline-init
 loop-outline-init c = record {

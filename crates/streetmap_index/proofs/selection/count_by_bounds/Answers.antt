@@ -2,7 +2,7 @@ use Rattle.std.proofs.Common.{◌≡◌, length, subst, sym, ◌∙◌, rules}
 use Rattle.streetmap_query.specs.Views.{query_value}
 use Rattle.streetmap_index.specs.Taking.{CountsWhole}
 use Rattle.streetmap_index.proofs.Counting.{counts_whole, counts_all, counts_extents}
-use Rattle.streetmap_index.proofs.selection.count_selected.Goals as goal
+use Rattle.streetmap_index.proofs.selection.count_by_bounds.Goals as goal
 
 pub returns-in-None : goal.returns-in-None
 returns-in-None c = λ bounded.
