@@ -29,7 +29,7 @@ use Rattle.streetmap_reading.proofs.BetweenRows.{map_append}
 use Rattle.streetmap_reading.specs.Candidates.{candidate_row}
 use Rattle.streetmap_reading.specs.Folding.{IsForMemory, Refuses}
 use Rattle.streetmap_reading.specs.declared.candidates.PageRows.{PageRows}
-use Rattle.streetmap_reading.specs.Held.{head_of, property_of, IsCandidate, HoldsPage}
+use Rattle.streetmap_reading.specs.Held.{head_of, IsCandidate, HoldsPage}
 use Rattle.streetmap_reading.specs.Telling.{features_in, IsExtentIn, CompletesHead}
 use Rattle.streetmap_reading.specs.Views.{extent_row, feature_extent}
 use Rattle.streetmap_reading.proofs.PositionBounds.{feature_bounds}
@@ -96,19 +96,19 @@ one_head_more items next item rows row more held reads es is fine =
 -- ---- a page
 
 -- what reads under the time property of the page as it was begun reads so under that of the page
-pub read_so : (start now : PageRows) (rows : List Row) → HoldsPage start now rows → (f : FeatureValue) → IsStored (property_of start) f → IsStored (property_of now) f
+pub read_so : (start now : PageRows) (rows : List Row) → HoldsPage start now rows → (f : FeatureValue) → IsStored (option_copied start.property) f → IsStored (option_copied now.property) f
 read_so start now rows held f fine = subst (λ p. IsStored (option_copied p) f) (sym held.property) fine
 
 -- a page with one candidate more
 pub page_more : (start before after : PageRows) (feature : FeatureValue) (rows : List Row) (row : Row) → HoldsPage start before rows → after.property ≡ before.property
-    → ((f : FeatureValue) → row ≡ candidate_row f → IsStored (property_of before) f → feature ≡ f)
+    → ((f : FeatureValue) → row ≡ candidate_row f → IsStored (option_copied before.property) f → feature ≡ f)
     → ((q : QueryValue) (fs : List FeatureValue) → IsFoldOf q before.fold fs → IsFoldOf q after.fold (fs ++ feature ∷ []))
     → HoldsPage start after (rows ++ row ∷ [])
 page_more start before after feature rows row held same reads takes = record {
   property = same ∙ held.property;
   page = λ q fs begun is fine.
       let end = ends_with candidate_row rows row fs is in
-      let all = all_before (IsStored (property_of start)) end.before end.last (subst (AllByRecursion (IsStored (property_of start))) end.is fine) in
+      let all = all_before (IsStored (option_copied start.property)) end.before end.last (subst (AllByRecursion (IsStored (option_copied start.property))) end.is fine) in
       let last : feature ≡ end.last = reads end.last end.same (read_so start before rows held end.last all.1) in
       subst (IsFoldOf q after.fold) ((λ i. end.before ++ last i ∷ []) ∙ sym end.is) (takes q end.before (held.page q end.before begun end.rest all.0));
 }

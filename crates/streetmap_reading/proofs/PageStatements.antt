@@ -2,7 +2,7 @@
 use Rattle.std.proofs.Common.{Ok, Err, MatchResult, MatchOption, ℕ, ◌+◌, arith, length-append, ◌++◌, ◌≡◌, inl, inr, List, [], ◌∷◌, map, length, true, false, cond, Option, Some, None, option_map, Result, refl, sym, ap, subst, ◌∙◌}
 use Rattle.std.specs.FinMap.{get}
 use Rattle.std.specs.List.{AllByRecursion}
-use Rattle.std.specs.Option.{option_to_list}
+use Rattle.std.specs.Option.{option_copied, option_to_list}
 use Rattle.std.proofs.lemmas.Bool.{cases_Bool, false_from_ne_true}
 use Rattle.sqlite.specs.Order.{Row}
 use Rattle.sqlite.specs.Listing.{understood}
@@ -27,7 +27,7 @@ use Rattle.streetmap_rows.specs.Stored.{IsStored}
 use Rattle.streetmap_reading.specs.declared.candidates.PageRows.{PageRows}
 use Rattle.streetmap_reading.specs.Taking.{Stopped}
 use Rattle.streetmap_reading.specs.Folding.{TakesAll}
-use Rattle.streetmap_reading.specs.Held.{property_of, IsCandidate, HoldsPage}
+use Rattle.streetmap_reading.specs.Held.{IsCandidate, HoldsPage}
 use Rattle.streetmap_reading.specs.Choosing.{chosen_of, TakesChosen}
 use Rattle.streetmap_reading.specs.Looking.{Stays}
 use Rattle.streetmap_rows.specs.Views.{collection_view}
@@ -37,17 +37,17 @@ use Rattle.streetmap_reading.proofs.OneRowMore.{candidates_fine, page_begun}
 
 -- the rows of the chosen features are taken
 pub takes_by : (sql : List ℕ) (params : Row) (box : Option BoxValue) (interval : Option IntervalValue) (name : Text) (old new : Seen) (before after : PageRows) (r : Result (Unit {0}) ReadFault)
-    → TakesAll HoldsPage (λ start. AllByRecursion (IsCandidate (property_of start))) sql params old new before
+    → TakesAll HoldsPage (λ start. AllByRecursion (IsCandidate (option_copied start.property))) sql params old new before
     after r
     → ((s : State) (c : Collection) → Keeps s old.now → get s.collections name ≡ Some c
     → ShowsOf sql params old.now (map candidate_row (chosen_of box interval c)))
     → TakesChosen (chosen_of box interval) name old new before after r
 takes_by sql params box interval name old new before after r all shows q s c limit keeps collected same held =
     let fs = chosen_of box interval c in
-    let stored : AllByRecursion (IsStored (property_of before)) fs = subst (λ p. AllByRecursion (IsStored p) fs) same (chosen_stored s old.now keeps name c collected box interval) in
-    let took = folded HoldsPage (λ start. AllByRecursion (IsCandidate (property_of start))) sql params old new
+    let stored : AllByRecursion (IsStored (option_copied before.property)) fs = subst (λ p. AllByRecursion (IsStored p) fs) same (chosen_stored s old.now keeps name c collected box interval) in
+    let took = folded HoldsPage (λ start. AllByRecursion (IsCandidate (option_copied start.property))) sql params old new
     before after (map candidate_row fs) (shows s c keeps collected) limit
-    (candidates_fine (property_of before) fs stored) r all (page_begun before) in
+    (candidates_fine (option_copied before.property) fs stored) r all (page_begun before) in
     result_map r (λ h. h.page q fs held refl stored) took
   where
     result_map : (r : Result (Unit {0}) ReadFault) → (HoldsPage before after (map candidate_row (chosen_of box interval c)) → IsFoldOf q after.fold (chosen_of box interval c))

@@ -12,7 +12,7 @@ use Rattle.sqlite_rules.proofs.ListLemmas.{all_from, has_filtered}
 use Rattle.streetmap_geojson.specs.FeatureValue.{FeatureValue}
 use Rattle.streetmap_batch.specs.Text.{Text}
 use Rattle.streetmap_ledger.specs.State.{State, Collection}
-use Rattle.streetmap_ledger.specs.Pages.{is_between}
+use Rattle.streetmap_ledger.specs.Pages.{is_between, run_of}
 use Rattle.streetmap_rows.specs.Holds.{KeyPair}
 use Rattle.streetmap_rows.specs.Rows.{feature_at}
 use Rattle.streetmap_rows.specs.Keeping.{Keeps}
@@ -24,9 +24,8 @@ use Rattle.streetmap_rows.proofs.Resolving.{is_plain}
 use Rattle.streetmap_rows.proofs.TablesInSchema as placing
 use Rattle.streetmap_reading.specs.declared.run.FeatureRows.{FeatureRows}
 use Rattle.streetmap_reading.specs.Candidates.{candidate_row, ShowsOf}
-use Rattle.streetmap_reading.specs.Choosing.{run_of}
 use Rattle.streetmap_reading.specs.Folding.{TakesAll}
-use Rattle.streetmap_reading.specs.Held.{HoldsRun, IsCandidate, run_property_of}
+use Rattle.streetmap_reading.specs.Held.{HoldsRun, IsCandidate}
 use Rattle.streetmap_reading.specs.Statements.{select_run}
 use Rattle.streetmap_reading.specs.Taking.{Stopped}
 use Rattle.streetmap_reading.proofs.ChosenInOrder.{page_query, lists_chosen}
@@ -63,7 +62,7 @@ module _ (db : Database) (s : State) (keeps : Keeps s db) where
 -- ---- the rows of a run, one after the other
 
 -- what reads under the time property of the run as it was begun reads so under that of the run
-pub run_reads : (start now : FeatureRows) (rows : List Row) → HoldsRun start now rows → (f : FeatureValue) → IsStored (run_property_of start) f → IsStored (run_property_of now) f
+pub run_reads : (start now : FeatureRows) (rows : List Row) → HoldsRun start now rows → (f : FeatureValue) → IsStored (option_copied start.property) f → IsStored (option_copied now.property) f
 run_reads start now rows held f fine = subst (λ p. IsStored (option_copied p) f) (sym held.property) fine
 
 -- a run as it was begun
@@ -72,13 +71,13 @@ run_begun run = record { property = refl; features = λ fs none is fine. none �
 
 -- a run with one feature more
 pub run_more : (start before after : FeatureRows) (feature : FeatureValue) (rows : List Row) (row : Row) → HoldsRun start before rows → after.property ≡ before.property → after.features.items ≡ before.features.items ++ feature ∷ []
-    → ((f : FeatureValue) → row ≡ candidate_row f → IsStored (run_property_of before) f → feature ≡ f)
+    → ((f : FeatureValue) → row ≡ candidate_row f → IsStored (option_copied before.property) f → feature ≡ f)
     → HoldsRun start after (rows ++ row ∷ [])
 run_more start before after feature rows row held same more reads = record {
   property = same ∙ held.property;
   features = λ fs none is fine.
       let end = ends_with candidate_row rows row fs is in
-      let all = all_before (IsStored (run_property_of start)) end.before end.last (subst (AllByRecursion (IsStored (run_property_of start))) end.is fine) in
+      let all = all_before (IsStored (option_copied start.property)) end.before end.last (subst (AllByRecursion (IsStored (option_copied start.property))) end.is fine) in
       let front : before.features.items ≡ end.before = held.features end.before none end.rest all.0 in
       let last : feature ≡ end.last = reads end.last end.same (run_reads start before rows held end.last all.1) in
       more ∙ (λ i. front i ++ last i ∷ []) ∙ sym end.is;
@@ -88,15 +87,15 @@ run_more start before after feature rows row held same more reads = record {
 
 -- the rows of the features with ids between two are taken
 pub runs_by : (name first last : Text) (old new : Seen) (before after : FeatureRows) (r : Result (Unit {0}) ReadFault)
-    → TakesAll HoldsRun (λ start. AllByRecursion (IsCandidate (run_property_of start))) select_run (run_params name first last) old new before after r → before.features.items ≡ []
-    → (s : State) (c : Collection) → old.step_limit ≡ None → Keeps s old.now → get s.collections name ≡ Some c → c.time ≡ run_property_of before
+    → TakesAll HoldsRun (λ start. AllByRecursion (IsCandidate (option_copied start.property))) select_run (run_params name first last) old new before after r → before.features.items ≡ []
+    → (s : State) (c : Collection) → old.step_limit ≡ None → Keeps s old.now → get s.collections name ≡ Some c → c.time ≡ option_copied before.property
     → MatchResult r (λ _. (after.features.items ≡ run_of first last c) × IsUnchanged old new) (Stopped old new)
-runs_by name first last old new before after r all none s c limit keeps there property = go r (folded HoldsRun (λ start. AllByRecursion (IsCandidate (run_property_of start))) select_run (run_params name first last) old new before after (map candidate_row fs) (run_at old.now s keeps name c there first last) limit (candidates_fine (run_property_of before) fs stored) r all (run_begun before))
+runs_by name first last old new before after r all none s c limit keeps there property = go r (folded HoldsRun (λ start. AllByRecursion (IsCandidate (option_copied start.property))) select_run (run_params name first last) old new before after (map candidate_row fs) (run_at old.now s keeps name c there first last) limit (candidates_fine (option_copied before.property) fs stored) r all (run_begun before))
   where
     fs : List FeatureValue
     fs = run_of first last c
 
-    stored : AllByRecursion (IsStored (run_property_of before)) fs
+    stored : AllByRecursion (IsStored (option_copied before.property)) fs
     stored = subst (λ p. AllByRecursion (IsStored p) fs) property (run_stored old.now s keeps name c there first last)
 
     go : (r : Result (Unit {0}) ReadFault) → MatchResult r (λ _. HoldsRun before after (map candidate_row fs) × IsUnchanged old new) (Stopped old new)

@@ -2,6 +2,7 @@
 use Rattle.std.specs.Prelude.{◌≡◌, Bool, ◌&&◌, List, [], filter, Option, None, Some, Result}
 use Rattle.std.specs.Prelude.{MatchResult}
 use Rattle.std.specs.FinMap.{get, values}
+use Rattle.std.specs.Option.{option_copied}
 use Rattle.sqlite.specs.State.{State as Seen, IsUnchanged}
 use Rattle.streetmap_grid.specs.Values.{BoxValue}
 use Rattle.streetmap_moment.specs.IntervalValue.{IntervalValue}
@@ -10,12 +11,11 @@ use Rattle.streetmap_geojson.specs.FeatureValue.{FeatureValue}
 use Rattle.streetmap_query.specs.QueryValue.{QueryValue}
 use Rattle.streetmap_batch.specs.Text.{Text}
 use Rattle.streetmap_ledger.specs.State.{State, Collection}
-use Rattle.streetmap_ledger.specs.Pages.{passes, extent_overlaps, interval_asked, is_between}
+use Rattle.streetmap_ledger.specs.Pages.{passes, extent_overlaps, interval_asked}
 use Rattle.streetmap_ledger.specs.Folds.{IsFoldOf}
 use Rattle.streetmap_rows.specs.Keeping.{Keeps}
 use Rattle.streetmap_rows.specs.declared.fault.ReadFault.{ReadFault}
 use Rattle.streetmap_reading.specs.declared.candidates.PageRows.{PageRows}
-use Rattle.streetmap_reading.specs.Held.{property_of}
 use Rattle.streetmap_reading.specs.Taking.{Stopped}
 
 -- the extent overlaps the box, and the seconds those of the interval, as far as they are asked
@@ -31,16 +31,13 @@ chosen_of box interval c = filter (is_chosen box interval) (values c.features)
 abbrev pub candidates_of : QueryValue → Collection → List FeatureValue
 candidates_of q = chosen_of q.bbox (interval_asked q)
 
--- the features of a collection whose ids stand between two, in order of ids
-abbrev pub run_of : Text → Text → Collection → List FeatureValue
-run_of first last c = filter (is_between first last) (values c.features)
-
 -- of a collection that is there, with the page's time property, the chosen features were taken into
 -- the page, in order of ids
 abbrev pub TakesChosen : (Collection → List FeatureValue) → Text → Seen → Seen → PageRows
     → PageRows → Result (Unit {0}) ReadFault → Type 0
 TakesChosen chosen name old new before after result =
     (q : QueryValue) (s : State) (c : Collection) → old.step_limit ≡ None → Keeps s old.now
-    → get s.collections name ≡ Some c → c.time ≡ property_of before → IsFoldOf q before.fold []
+    → get s.collections name ≡ Some c → c.time ≡ option_copied before.property
+    → IsFoldOf q before.fold []
     → MatchResult result (λ _. IsFoldOf q after.fold (chosen c) × IsUnchanged old new)
     (Stopped old new)

@@ -47,10 +47,6 @@ HoldsHeads ss rows = (es : List (Text × Collection)) → rows ≡ map (λ e. co
     → AllByRecursion (λ e. HasTextNames e.0 e.1) es
     → summary_values ss.items ≡ map (λ e. head_of e.0 e.1) es
 
--- the time property by which a page's rows are read
-abbrev pub property_of : PageRows → Option Text
-property_of page = option_copied page.property
-
 -- the row shows the text of a feature that is read under this time property
 pub record IsCandidate (property : Option Text) (row : Row) : Type 0 where
   pub feature : FeatureValue
@@ -61,16 +57,12 @@ pub record IsCandidate (property : Option Text) (row : Row) : Type 0 where
 pub record HoldsPage (start now : PageRows) (rows : List Row) : Type 0 where
   pub property : now.property ≡ start.property
   pub page : (q : QueryValue) (fs : List FeatureValue) → IsFoldOf q start.fold []
-      → rows ≡ map candidate_row fs → AllByRecursion (IsStored (property_of start)) fs
+      → rows ≡ map candidate_row fs → AllByRecursion (IsStored (option_copied start.property)) fs
       → IsFoldOf q now.fold fs
-
--- the time property by which a run's rows are read
-abbrev pub run_property_of : FeatureRows → Option Text
-run_property_of rows = option_copied rows.property
 
 -- the features whose texts the rows show, where it held none as it was begun
 pub record HoldsRun (start now : FeatureRows) (rows : List Row) : Type 0 where
   pub property : now.property ≡ start.property
   pub features : (fs : List FeatureValue) → start.features.items ≡ []
-      → rows ≡ map candidate_row fs → AllByRecursion (IsStored (run_property_of start)) fs
+      → rows ≡ map candidate_row fs → AllByRecursion (IsStored (option_copied start.property)) fs
       → now.features.items ≡ fs

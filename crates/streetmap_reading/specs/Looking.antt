@@ -9,14 +9,13 @@ use Rattle.streetmap_geojson.specs.FeatureValue.{FeatureValue}
 use Rattle.streetmap_query.specs.QueryValue.{QueryValue}
 use Rattle.streetmap_batch.specs.Text.{Text}
 use Rattle.streetmap_ledger.specs.State.{State, Collection}
-use Rattle.streetmap_ledger.specs.Pages.{page_in, page_over, feature_in, run_in}
+use Rattle.streetmap_ledger.specs.Pages.{page_in, page_over, feature_in, run_of}
 use Rattle.streetmap_ledger.specs.PageView.{page_value}
 use Rattle.streetmap_ledger.specs.declared.page.Page.{Page}
 use Rattle.streetmap_rows.specs.Keeping.{Keeps}
 use Rattle.streetmap_rows.specs.Views.{collection_view}
 use Rattle.streetmap_rows.specs.declared.fault.ReadFault.{ReadFault}
 use Rattle.streetmap_reading.specs.Candidates.{dated_row}
-use Rattle.streetmap_reading.specs.Choosing.{run_of}
 use Rattle.streetmap_reading.specs.Taking.{Stopped}
 
 -- a look at the database of a state: the answer is as it is in the state, and nothing changes
@@ -47,12 +46,8 @@ IsPageUnder name q property old new result =
     → MatchResult result (λ page. (page_value page ≡ page_over q (values c.features))
     × IsUnchanged old new) (Stopped old new)
 
--- the features of this collection whose ids stand between two; none where it is not there
-abbrev pub IsRunOf : Text → Text → Text → State → Option (Vec FeatureValue Global) → Type 0
-IsRunOf name first last s found =
-    option_map (λ (fs : Vec FeatureValue Global). fs.items) found ≡ run_in s name first last
-
--- those of a collection that is there, whose time property is this
+-- the features whose ids stand between two, of a collection that is there, whose time property is
+-- this
 abbrev pub IsRunUnder : Text → Text → Text → Option Text → Seen → Seen
     → Result (Vec FeatureValue Global) ReadFault → Type 0
 IsRunUnder name first last property old new result =

@@ -9,6 +9,7 @@ ghost use Rattle.streetmap_reading.specs.Looking.{IsFeatureIn};
 
 use crate::candidates::read_row;
 use crate::page::{collection_row, property_in};
+use json::Scratch;
 use sqlite::types::ValueRef;
 use sqlite::{Alter, Connection, Row, params};
 use std::alloc::Global;
@@ -63,7 +64,7 @@ fn timed_feature<S: Alter>(
         return Err(ReadFault::Unread);
     };
     let time = property_in(&head)?;
-    read_row(alloc, row, time.as_deref())
+    read_row(alloc, &mut Scratch::new(alloc), row, time.as_deref())
 }
 
 /// The feature of a row. A feature without a time is the same under any time property, so its
@@ -82,7 +83,7 @@ fn feature_in<S: Alter>(
     ensures stays { Stays (state S.Store conn.old) (state S.Store conn.new) }
 {
     if is_timeless(row) {
-        read_row(alloc, row, None)
+        read_row(alloc, &mut Scratch::new(alloc), row, None)
     } else {
         timed_feature(alloc, conn, collection, row)
     }

@@ -16,6 +16,7 @@ ghost use Rattle.streetmap_rows.specs.Views.{collection_view};
 
 use crate::candidates::PageRows;
 use crate::fold::fold_rows;
+use json::Scratch;
 use sqlite::{Alter, Connection, Row, params};
 use std::alloc::Global;
 use streetmap_grid::GridBox;
@@ -193,6 +194,7 @@ fn page_under<S: Alter>(
     let mut page = PageRows {
         alloc,
         property,
+        scratch: Scratch::new(alloc),
         fold,
     };
     take_candidates(conn, collection, query, &mut page)?;

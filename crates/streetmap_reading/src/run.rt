@@ -3,11 +3,13 @@ ghost use Rattle.std.specs.Prelude.{◌≡◌, false};
 ghost use Rattle.std.specs.Option.{option_copied};
 ghost use Rattle.sqlite.specs.Held.{state};
 ghost use Rattle.sqlite.specs.State.{HasCleanDisk, Survives};
-ghost use Rattle.streetmap_reading.specs.Looking.{LooksInto, Stays, IsRunOf, IsRunUnder};
+ghost use Rattle.streetmap_ledger.specs.Keep.{IsRunOf};
+ghost use Rattle.streetmap_reading.specs.Looking.{LooksInto, Stays, IsRunUnder};
 
 use crate::candidates::read_row;
 use crate::fold::{RowFold, fold_rows};
 use crate::page::{collection_row, property_in};
+use json::Scratch;
 use sqlite::{Alter, Connection, Row, params};
 use std::alloc::Global;
 use streetmap_geojson::Feature;
@@ -19,19 +21,21 @@ pub struct FeatureRows<'a> {
     pub alloc: Global,
     /// The time property of the collection.
     pub property: Option<&'a str>,
+    /// The memory that texts are read with.
+    pub scratch: Scratch,
     pub features: Vec<Feature>,
 }
 
 impl RowFold for FeatureRows<'_> {
     ghost use Rattle.std.specs.List.{AllByRecursion};
-    ghost use Rattle.streetmap_reading.specs.Held.{HoldsRun, IsCandidate, run_property_of};
+    ghost use Rattle.streetmap_reading.specs.Held.{HoldsRun, IsCandidate};
 
     ghost holds = { HoldsRun };
 
-    ghost is_good = { λ start. AllByRecursion (IsCandidate (run_property_of start)) };
+    ghost is_good = { λ start. AllByRecursion (IsCandidate (option_copied start.property)) };
 
     fn take(&mut self, row: &Row) -> Result<(), ReadFault> {
-        let feature = read_row(self.alloc, row, self.property)?;
+        let feature = read_row(self.alloc, &mut self.scratch, row, self.property)?;
         self.features.push(feature)?;
         Ok(())
     }
@@ -57,6 +61,7 @@ fn run_under<S: Alter>(
     let mut run = FeatureRows {
         alloc,
         property,
+        scratch: Scratch::new(alloc),
         features,
     };
     fold_rows(

@@ -1,7 +1,5 @@
 -- A feature's text reads again, with its time.
-use Rattle.std.proofs.Common.{◌≡◌, Option, Result, Ok, Err, IfOk, sym, ap, ◌∙◌}
-use Rattle.std.specs.Result.{IsErrAnd}
-use Rattle.serde_json.specs.Data.{Data}
+use Rattle.std.proofs.Common.{◌≡◌, Option, Result, Ok, sym, ap, ◌∙◌}
 use Rattle.streetmap_geojson.specs.declared.fault.Fault.{Fault}
 use Rattle.streetmap_geojson.specs.declared.fault.JsonFault.{JsonFault}
 use Rattle.streetmap_geojson.specs.declared.fault.JsonFault.TheVariants as errors
@@ -16,11 +14,7 @@ use Rattle.streetmap_geojson.proofs.Timing.{time_found}
 use Rattle.streetmap_feature_text.proofs.WrittenFeatures.{text_is_json}
 use Rattle.streetmap_batch.specs.Text.{Text}
 use Rattle.streetmap_rows.specs.Rows.{feature_text}
-use Rattle.streetmap_rows.specs.Stored.{IsStored, TextReadsAs}
-
-pub err_is : {T E : Type 0} (r : Result T E) (e : E) → IsErrAnd r (λ x. x ≡ e) → r ≡ Err e
-err_is (Ok x) e is = absurd is
-err_is (Err x) e is = ap Err is
+use Rattle.streetmap_rows.specs.Stored.{IsStored}
 
 pub body_reads : (property : Option Text) (f : FeatureValue) → IsStored property f → ReadsAs property (feature_data f) f
 body_reads property f h =
@@ -35,9 +29,3 @@ body_is_json f body property h is = ap json_of is ∙ text_is_json f h.kept
 pub no_fault : {X Y : Type 0} (e : JsonFault) (x : X) (y : Y) (r : Result X Fault) → r ≡ Ok x → Fails e r → Fails e (Ok y)
 no_fault errors.Memory x y r is h = tt
 no_fault (errors.Fault f) x y r is h = absurd (let e = sym is ∙ h in cc)
-
--- a feature that was read reads as the text
-pub text_reads : (property : Option Text) (text : Text) (d : Data) (r : Result FeatureValue JsonFault)
-    → json_of text ≡ Ok d → IfOk r (ReadsAs property d) → IfOk r (TextReadsAs property text)
-text_reads property text d (Ok f) json reads = (d, json, reads)
-text_reads property text d (Err e) json reads = tt

@@ -18,6 +18,7 @@ ghost use Rattle.streetmap_tables.specs.Part.{PutsOne, PutsEach, pair_in, body_i
 ghost use Rattle.streetmap_tables.specs.Telling.{Sees};
 
 use crate::storing::put_feature;
+use json::Scratch;
 use sqlite::types::ValueRef;
 use sqlite::{Alter, Error, Row, Transaction, params};
 use std::alloc::Global;
@@ -152,7 +153,7 @@ fn feature_in(alloc: Global, row: &Row, property: Option<&str>) -> Result<Featur
     let (Ok(ValueRef::Text(id)), Ok(ValueRef::Text(body))) = (row.get_ref(1), row.get_ref(2)) else {
         return Err(ReadFault::Unread);
     };
-    let feature = match read_body(alloc, body, property) {
+    let feature = match read_body(alloc, &mut Scratch::new(alloc), body, property) {
         Ok(feature) => feature,
         Err(JsonFault::Memory) => return Err(ReadFault::Memory),
         Err(JsonFault::Fault(_)) => return Err(ReadFault::Unread),

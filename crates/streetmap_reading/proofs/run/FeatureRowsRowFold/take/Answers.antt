@@ -1,6 +1,7 @@
 use Rattle.std.proofs.Common.{refl}
+use Rattle.std.specs.Option.{option_copied}
 use Rattle.streetmap_rows.proofs.ResultCases.{handed_on}
-use Rattle.streetmap_reading.specs.Held.{IsCandidate, run_property_of}
+use Rattle.streetmap_reading.specs.Held.{IsCandidate}
 use Rattle.streetmap_reading.proofs.BetweenRows.{first_cell, first_text}
 use Rattle.streetmap_reading.proofs.OneRowMore.{not_taken}
 use Rattle.streetmap_reading.proofs.RunRows.{run_more, run_reads}
@@ -17,6 +18,6 @@ pub returns-in_err-feature : goal.returns-in_err-feature
 returns-in_err-feature c = λ start rows held.
     let told = c.in_err-feature.ensures in
     handed_on _ _ _ _ c.from_residual.ensures.1
-    (not_taken (IsCandidate (run_property_of start)) rows c.args.row.now _ told.refuses (λ it.
+    (not_taken (IsCandidate (option_copied start.property)) rows c.args.row.now _ told.refuses (λ it.
     told.reads it.feature (first_cell it.feature _ it.is) (first_text it.feature _ it.is)
     (run_reads start c.args.self.now rows held it.feature it.fine)))
