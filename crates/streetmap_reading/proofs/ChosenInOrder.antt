@@ -49,6 +49,10 @@ ChoosesIn s terms params name test = (r : Row) (p : KeyPair) (f : FeatureValue) 
 abbrev pub Shows : List Term → Row → (Text → FeatureValue → Row) → Type 0
 Shows project params view = (r : Row) (p : KeyPair) (f : FeatureValue) → drop 1 r ≡ feature_cells p f → eval_all project (params ∷ r ∷ []) ≡ view p.1 f
 
+-- the row of a feature of a collection shows this, where it is one of these rows
+abbrev pub ShowsIn : List Row → Text → List Term → Row → (Text → FeatureValue → Row) → Type 0
+ShowsIn rows name project params view = (r : Row) (f : FeatureValue) → Has rows r → (pair_key r).0 ≡ name → drop 1 r ≡ feature_cells (pair_key r) f → eval_all project (params ∷ r ∷ []) ≡ view (pair_key r).1 f
+
 -- rows of one collection have ids apart
 apart_in : (name : Text) (rs : List Row) → ((r : Row) → Has rs r → bytes (column r 1) ≡ name) → IsAscending (λ a b. pair_key a ≢ pair_key b) rs → IsAscending (λ a b. text_in 2 a ≢ text_in 2 b) rs
 apart_in name [] same up = tt
@@ -56,7 +60,7 @@ apart_in name (r ∷ rs) same up =
     (all_from _ rs (λ x h is. let one : bytes (column r 1) ≡ bytes (column x 1) = same r (inl refl) ∙ sym (same x (inr h)) in all_has _ rs x up.0 h (λ i. (one i, is i))), apart_in name rs (λ x h. same x (inr h)) up.1)
 
 module _ (s : State) (roots : Roots) (db : Trees) (of : AreOf s roots db) (name : Text) (kept : Features) (kept_is : (q : Text) → get kept q ≡ feature_at s (name, q)) (terms : List Term) (params : Row) (test : FeatureValue → Bool) (chooses : ChoosesIn s terms params name test)
-    (project : List Term) (view : Text → FeatureValue → Row) (shows : Shows project params view) where
+    (project : List Term) (view : Text → FeatureValue → Row) (shows : ShowsIn (db roots.features) name project params view) where
   abbrev all_rows : List Row
   all_rows = db roots.features
 
@@ -80,7 +84,7 @@ module _ (s : State) (roots : Roots) (db : Trees) (of : AreOf s roots db) (name 
         value = it.feature;
         is = ap (if_passes test) (kept_is (text_in 2 r) ∙ ap (λ n. feature_at s (n, text_in 2 r)) (sym chosen.0) ∙ it.is) ∙ ap (λ b. cond b (Some it.feature) None) chosen.1;
         named = column_later r 1 ∙ ap (λ x. column x 1) it.cells;
-        shown = shows r (pair_key r) it.feature it.cells;
+        shown = shows r it.feature had.0 chosen.0 it.cells;
       }
 
   -- the chosen rows are those of the chosen features
@@ -103,7 +107,7 @@ module _ (s : State) (roots : Roots) (db : Trees) (of : AreOf s roots db) (name 
     (project : List Term) (view : Text → FeatureValue → Row) (shows : Shows project params view) where
   -- the same, where the terms choose so in any state
   pub shows_chosen : nat_le (2 ^ 31) roots.features ≡ false → (shown : List Row) → IsAnswerAs Null (ordered_query roots.features terms project 2) (overlay db []) params shown → shown ≡ map (λ e. view e.0 e.1) (passing test (entries kept))
-  shows_chosen = shows_chosen_in s roots db of name kept kept_is terms params test (λ r p f cells is. chooses r p f cells) project view shows
+  shows_chosen = shows_chosen_in s roots db of name kept kept_is terms params test (λ r p f cells is. chooses r p f cells) project view (λ r f h of cells. shows r (pair_key r) f cells)
 
 -- ---- the texts of the chosen features
 
@@ -123,4 +127,4 @@ passing_values test (e ∷ es) = elim (test e.1) as (λ b. map (λ (x : Text × 
 pub lists_chosen : (s : State) (roots : Roots) (db : Trees) → AreOf s roots db → (name : Text) (kept : Features) → ((q : Text) → get kept q ≡ feature_at s (name, q)) → (terms : List Term) (params : Row) (test : FeatureValue → Bool) → ChoosesIn s terms params name test
     → nat_le (2 ^ 31) roots.features ≡ false → (shown : List Row) → IsAnswerAs Null (page_query roots.features terms) (overlay db []) params shown → shown ≡ map candidate_row (filter test (values kept))
 lists_chosen s roots db of name kept kept_is terms params test chooses low shown answer =
-    shows_chosen_in s roots db of name kept kept_is terms params test chooses (col 1 3 ∷ []) (λ id f. candidate_row f) (shows_text params) low shown answer ∙ passing_values test (entries kept)
+    shows_chosen_in s roots db of name kept kept_is terms params test chooses (col 1 3 ∷ []) (λ id f. candidate_row f) (λ r f h of cells. shows_text params r (pair_key r) f cells) low shown answer ∙ passing_values test (entries kept)

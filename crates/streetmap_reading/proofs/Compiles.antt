@@ -1,8 +1,10 @@
 -- What the statements over all features of a collection mean, wherever our tables stand.
-use Rattle.std.proofs.Common.{List, [], ◌∷◌, codes, refl, arith}
+use Rattle.std.proofs.Common.{◌≡◌, ℕ, ◌^◌, true, false, List, [], ◌∷◌, codes, refl, arith}
+use Rattle.std.specs.Prelude.{nat_lt, nat_le}
+use Rattle.std.proofs.lemmas.Bool.{lt-ltb, leb-false}
 use Rattle.sqlite_tied.specs.Compute.{everything}
 use Rattle.streetmap_rows.proofs.Meaning.{Part, Selection, IsSelect, SelectMeans, SelectNever}
-use Rattle.streetmap_rows.proofs.Meaning.{a_text, given, where_equal, where_at_least}
+use Rattle.streetmap_rows.proofs.Meaning.{a_text, a_number, given, where_equal, where_at_least}
 use Rattle.streetmap_rows.proofs.Meaning.{where_at_most, select_means, select_never}
 use Rattle.streetmap_rows.specs.Tables.{features}
 use Rattle.streetmap_reading.specs.Statements as text
@@ -10,33 +12,9 @@ use Rattle.streetmap_reading.specs.Statements as text
 abbrev in_collection : List Part
 in_collection = where_equal (codes "collection", 1) (given 1) ∷ []
 
--- ---- select_outlines
-
-abbrev selects_outlines : Selection
-selects_outlines = record {
-  text = text.select_outlines;
-  parameters = a_text ∷ [];
-  table = features;
-  shown =
-      (codes "id", 2) ∷ (codes "x0", 4) ∷ (codes "y0", 5) ∷ (codes "x1", 6) ∷ (codes "y1", 7)
-      ∷ (codes "s0", 8) ∷ (codes "s1", 9) ∷ [];
-  conditions = in_collection;
-  by = (codes "id", 2) ∷ [];
-}
-
-select_outlines_is : IsSelect selects_outlines
-unfolding everything
-select_outlines_is = record {
-  says = (refl, refl, omega arith, refl);
-  resolved = λ schema tree it. rw (it.named, it.listed, it.listed, it.listed, it.listed) refl;
-  accepted = λ schema tree it. rw (it.low, it.by_tree) (refl, λ t. refl);
-}
-
-pub select_outlines_means : SelectMeans selects_outlines
-select_outlines_means = select_means selects_outlines select_outlines_is
-
-pub select_outlines_never : SelectNever selects_outlines
-select_outlines_never = select_never selects_outlines select_outlines_is
+-- a table that is stored has rowids, which one that a statement computes has not
+pub is_stored : (tree : ℕ) → nat_le (2 ^ 31) tree ≡ false → nat_lt tree (2 ^ 31) ≡ true
+is_stored tree low = lt-ltb tree (2 ^ 31) (leb-false (2 ^ 31) tree low)
 
 -- ---- select_extents
 
@@ -118,3 +96,32 @@ select_text_means = select_means selects_text select_text_is
 
 pub select_text_never : SelectNever selects_text
 select_text_never = select_never selects_text select_text_is
+
+-- ---- select_text_at
+
+abbrev selects_text_at : Selection
+selects_text_at = record {
+  text = text.select_text_at;
+  parameters = a_text ∷ a_text ∷ a_number ∷ [];
+  table = features;
+  shown = (codes "body", 3) ∷ (codes "s0", 8) ∷ [];
+  conditions =
+      where_equal (codes "rowid", 0) (given 3) ∷ where_equal (codes "collection", 1) (given 1)
+      ∷ where_equal (codes "id", 2) (given 2) ∷ [];
+  by = [];
+}
+
+select_text_at_is : IsSelect selects_text_at
+unfolding everything
+select_text_at_is = record {
+  says = (refl, refl, omega arith, refl);
+  resolved = λ schema tree it.
+      rw (it.named, it.listed, is_stored tree it.low, it.listed, it.listed) refl;
+  accepted = λ schema tree it. rw (it.low, it.by_tree) (refl, λ t1 t2 z. refl);
+}
+
+pub select_text_at_means : SelectMeans selects_text_at
+select_text_at_means = select_means selects_text_at select_text_at_is
+
+pub select_text_at_never : SelectNever selects_text_at
+select_text_at_never = select_never selects_text_at select_text_at_is

@@ -1,5 +1,6 @@
 -- One row more.
-use Rattle.std.proofs.Common.{refl, ◌≡◌, List, [], ◌∷◌, ◌++◌, map, Option, Some, None, option_map, sym, ap, subst, ◌∙◌}
+use Rattle.std.proofs.Common.{refl, ◌≡◌, List, [], ◌∷◌, ◌++◌, map, Option, Some, None, Vec, option_map, sym, ap, subst, ◌∙◌}
+use Rattle.std.specs.declared.alloc.Global.{Global}
 use Rattle.std.specs.List.{AllByRecursion}
 use Rattle.std.specs.Option.{option_copied, option_map_or}
 use Rattle.std.specs.FinMap.{values, entries, empty}
@@ -14,6 +15,8 @@ use Rattle.streetmap_geojson.specs.FeatureInvariant.{IsGeometryIf}
 use Rattle.streetmap_batch.specs.Text.{Text}
 use Rattle.streetmap_ledger.specs.State.{State, Collection}
 use Rattle.streetmap_ledger.specs.Outlines.{FeatureOutlineValue, feature_outline_of, feature_outlines_of}
+use Rattle.streetmap_ledger.specs.OutlineView.{feature_outline_value, feature_outline_values}
+use Rattle.streetmap_ledger.specs.declared.outline.FeatureOutline.{FeatureOutline}
 use Rattle.streetmap_ledger.specs.Summaries.{SummaryValue, feature_vertices, all_vertices, extent_if}
 use Rattle.streetmap_ledger.specs.SummaryView.{summary_value, summary_values}
 use Rattle.streetmap_ledger.specs.declared.summary.Summary.{Summary}
@@ -29,22 +32,36 @@ use Rattle.streetmap_reading.proofs.BetweenRows.{map_append}
 use Rattle.streetmap_reading.specs.Candidates.{candidate_row}
 use Rattle.streetmap_reading.specs.Folding.{IsForMemory, Refuses}
 use Rattle.streetmap_reading.specs.declared.candidates.PageRows.{PageRows}
-use Rattle.streetmap_reading.specs.Held.{head_of, IsCandidate, HoldsPage}
+use Rattle.streetmap_reading.specs.Held.{HoldsOutlines, head_of, IsCandidate, HoldsPage}
 use Rattle.streetmap_reading.specs.Telling.{features_in, IsExtentIn, CompletesHead}
-use Rattle.streetmap_reading.specs.Views.{extent_row, feature_extent}
+use Rattle.streetmap_reading.specs.Views.{PlacedOutline, placed_row, IsOutline, extent_row, feature_extent}
 use Rattle.streetmap_reading.proofs.PositionBounds.{feature_bounds}
 use Rattle.streetmap_reading.proofs.RowsInTurn.{ends_with, all_before, none_mapped, one_of}
 
 -- a list with one value more, where the rows end with the row of that value
-pub one_more : {A B : Type 0} (value : A → B) (row_of : B → Row) (Fine : B → Type 0) (items next : List A) (item : A) (rows : List Row) (row : Row) → next ≡ items ++ item ∷ []
-    → ((vs : List B) → rows ≡ map row_of vs → AllByRecursion Fine vs → map value items ≡ vs) → ((v : B) → row ≡ row_of v → Fine v → value item ≡ v)
-    → (vs : List B) → rows ++ row ∷ [] ≡ map row_of vs → AllByRecursion Fine vs → map value next ≡ vs
-one_more value row_of Fine items next item rows row more held reads vs is fine =
+pub one_more : {A B C : Type 0} (value : A → C) (told : B → C) (row_of : B → Row) (Fine : B → Type 0) (items next : List A) (item : A) (rows : List Row) (row : Row) → next ≡ items ++ item ∷ []
+    → ((vs : List B) → rows ≡ map row_of vs → AllByRecursion Fine vs → map value items ≡ map told vs) → ((v : B) → row ≡ row_of v → Fine v → value item ≡ told v)
+    → (vs : List B) → rows ++ row ∷ [] ≡ map row_of vs → AllByRecursion Fine vs → map value next ≡ map told vs
+one_more value told row_of Fine items next item rows row more held reads vs is fine =
     let end = ends_with row_of rows row vs is in
     let all = all_before Fine end.before end.last (subst (AllByRecursion Fine) end.is fine) in
-    let front : map value items ≡ end.before = held end.before end.rest all.0 in
-    let last : value item ≡ end.last = reads end.last end.same all.1 in
-    ap (map value) more ∙ map_append value items (item ∷ []) ∙ (λ i. front i ++ last i ∷ []) ∙ sym end.is
+    let front : map value items ≡ map told end.before = held end.before end.rest all.0 in
+    let last : value item ≡ told end.last = reads end.last end.same all.1 in
+    ap (map value) more ∙ map_append value items (item ∷ []) ∙ (λ i. front i ++ last i ∷ []) ∙ sym (map_append told end.before (end.last ∷ [])) ∙ ap (map told) (sym end.is)
+
+-- no outlines
+pub outlines_begun : (os : Vec FeatureOutline Global) → os.items ≡ [] → HoldsOutlines os []
+outlines_begun os none ps is fine =
+    let empty = sym (none_mapped placed_row ps is) in
+    (ap feature_outline_values none ∙ ap (map (λ (p : PlacedOutline). p.0)) empty, ap (map (λ (o : FeatureOutline). o.rowid)) none ∙ ap (map (λ (p : PlacedOutline). Some p.1)) empty)
+
+-- outlines, with one outline more
+pub outlines_more : (before after : Vec FeatureOutline Global) (outline : FeatureOutline) (rows : List Row) (row : Row) → after.items ≡ before.items ++ outline ∷ [] → HoldsOutlines before rows
+    → ((p : PlacedOutline) → row ≡ placed_row p → IsOutline p.0 → (feature_outline_value outline ≡ p.0) × (outline.rowid ≡ Some p.1)) → HoldsOutlines after (rows ++ row ∷ [])
+outlines_more before after outline rows row more held reads ps is fine = (
+  one_more feature_outline_value (λ p. p.0) placed_row (λ p. IsOutline p.0) before.items after.items outline rows row more (λ vs here good. (held vs here good).0) (λ p here good. (reads p here good).0) ps is fine,
+  one_more (λ o. o.rowid) (λ p. Some p.1) placed_row (λ p. IsOutline p.0) before.items after.items outline rows row more (λ vs here good. (held vs here good).1) (λ p here good. (reads p here good).1) ps is fine,
+)
 
 -- bounds of features, with one feature more
 pub wider_bounds : (rows : List Row) (row : Row) (old extent new : Option GridBox) → ((fs : List FeatureValue) → rows ≡ map (λ f. extent_row (feature_extent f)) fs → AllByRecursion (λ f. IsGeometryIf f.geometry) fs → AreBounds (all_vertices fs) old)
@@ -86,12 +103,8 @@ pub one_head_more : (items next : List Summary) (item : Summary) (rows : List Ro
     → ((es : List (Text × Collection)) → rows ≡ map (λ e. collection_cells e.0 e.1) es → AllByRecursion (λ e. HasTextNames e.0 e.1) es → summary_values items ≡ map (λ e. head_of e.0 e.1) es)
     → ((id : Text) (c : Collection) → row ≡ collection_cells id c → HasTextNames id c → summary_value item ≡ head_of id c)
     → (es : List (Text × Collection)) → rows ++ row ∷ [] ≡ map (λ e. collection_cells e.0 e.1) es → AllByRecursion (λ e. HasTextNames e.0 e.1) es → summary_values next ≡ map (λ e. head_of e.0 e.1) es
-one_head_more items next item rows row more held reads es is fine =
-    let end = ends_with (λ (e : Text × Collection). collection_cells e.0 e.1) rows row es is in
-    let all = all_before (λ (e : Text × Collection). HasTextNames e.0 e.1) end.before end.last (subst (AllByRecursion (λ (e : Text × Collection). HasTextNames e.0 e.1)) end.is fine) in
-    let front : summary_values items ≡ map (λ e. head_of e.0 e.1) end.before = held end.before end.rest all.0 in
-    let last : summary_value item ≡ head_of end.last.0 end.last.1 = reads end.last.0 end.last.1 end.same all.1 in
-    ap summary_values more ∙ map_append summary_value items (item ∷ []) ∙ (λ i. front i ++ last i ∷ []) ∙ sym (map_append (λ (e : Text × Collection). head_of e.0 e.1) end.before (end.last ∷ [])) ∙ ap (map (λ (e : Text × Collection). head_of e.0 e.1)) (sym end.is)
+one_head_more items next item rows row more held reads =
+    one_more summary_value (λ e. head_of e.0 e.1) (λ e. collection_cells e.0 e.1) (λ e. HasTextNames e.0 e.1) items next item rows row more held (λ e. reads e.0 e.1)
 
 -- ---- a page
 

@@ -1,10 +1,10 @@
 -- What the statements over all features of a collection, and over all collections, show of the database of a state.
-use Rattle.std.proofs.Common.{◌≡◌, ◌≢◌, ℕ, suc, List, [], ◌∷◌, map, filter, codes, drop, Option, Some, None, option_map, refl, sym, ap, subst, ◌∙◌, IsUtf8}
+use Rattle.std.proofs.Common.{◌≡◌, ◌≢◌, ℕ, ℤ, pos, suc, List, [], ◌∷◌, map, filter, find, codes, drop, Option, Some, None, option_map, refl, sym, ap, subst, ◌∙◌, IsUtf8}
 use Rattle.std.specs.Option.{option_and_then, option_map_or}
 use Rattle.std.specs.FinMap.{get, empty, entries, entries_sorted, get-entries, get-empty}
 use Rattle.std.specs.List.{AllByRecursion}
 use Rattle.std.proofs.lemmas.Str.{IsUtf8-from_is_utf8}
-use Rattle.sqlite.specs.declared.types.Value.TheVariants.{Null, Text as Words}
+use Rattle.sqlite.specs.declared.types.Value.TheVariants.{Null, Int, Text as Words}
 use Rattle.sqlite.specs.Effect.{Database}
 use Rattle.sqlite.specs.Order.{Row, column}
 use Rattle.sqlite.specs.Term.{Term, col}
@@ -12,17 +12,20 @@ use Rattle.sqlite.specs.Query.{IsAnswerAs}
 use Rattle.sqlite.specs.Program.{overlay}
 use Rattle.sqlite_sql.specs.Term.{eval_all}
 use Rattle.sqlite_catalog.proofs.LayoutLemmas.{ascending_filter}
+use Rattle.sqlite_trees.specs.Tree.{rowid}
+use Rattle.sqlite_rules.specs.Edit.{id_in}
 use Rattle.sqlite_rules.specs.Lists.{Has}
 use Rattle.sqlite_rules.proofs.ListLemmas.{all_has, all_from, has_filtered, has_kept}
+use Rattle.sqlite_rules.proofs.TableLemmas.{int_is}
 use Rattle.streetmap_geojson.specs.FeatureValue.{FeatureValue}
 use Rattle.streetmap_geojson.specs.FeatureInvariant.{IsFeature, IsGeometryIf}
 use Rattle.streetmap_batch.specs.Text.{Text, text_cmp}
 use Rattle.streetmap_ledger.specs.State.{State, Collection}
 use Rattle.streetmap_ledger.specs.Outlines.{feature_outline_of}
-use Rattle.streetmap_rows.specs.Holds.{first_key, is_first}
+use Rattle.streetmap_rows.specs.Holds.{first_key, is_first, KeyPair, pair_key, has_pair}
 use Rattle.streetmap_rows.proofs.NamedTables.{IsFound}
-use Rattle.streetmap_rows.proofs.HeldKeys.{cells_of, there}
-use Rattle.streetmap_rows.proofs.TextKeys.{first_is, first_self, column_later}
+use Rattle.streetmap_rows.proofs.HeldKeys.{cells_of, there, find_own}
+use Rattle.streetmap_rows.proofs.TextKeys.{first_is, first_self, pair_is, pair_self, column_later}
 use Rattle.streetmap_rows.proofs.OrderedRows.{Says, AreRowsOf, keeps, ordered_query, shows_entries, passing, mapped_has, find_has}
 use Rattle.streetmap_rows.specs.Keeping.{Keeps}
 use Rattle.streetmap_rows.specs.Rows.{AreOf, feature_at, feature_cells, collection_cells, extent_in, seconds_in}
@@ -34,16 +37,18 @@ use Rattle.streetmap_rows.proofs.TablesInSchema as placing
 use Rattle.streetmap_reading.specs.Candidates.{ShowsOf}
 use Rattle.streetmap_reading.specs.Choosing.{is_chosen}
 use Rattle.streetmap_reading.proofs.TermsChoose.{in_collection, all_chooses}
-use Rattle.streetmap_reading.proofs.ChosenInOrder.{Shows, shows_chosen}
+use Rattle.streetmap_reading.proofs.ChosenInOrder.{ShowsIn, shows_chosen_in}
 use Rattle.streetmap_reading.proofs.PageRowsShown.{shows_by}
 use Rattle.streetmap_reading.specs.Statements.{select_outlines, select_extents}
 use Rattle.streetmap_reading.specs.Telling.{features_in}
-use Rattle.streetmap_reading.specs.Views.{outline_row, extent_row, feature_extent, IsOutline, IsOutlineRow, IsExtentRow, IsHeadRow}
+use Rattle.streetmap_reading.specs.Views.{PlacedOutline, placed_row, extent_row, feature_extent, IsOutline, IsOutlineRow, IsExtentRow, IsHeadRow}
 use Rattle.streetmap_reading.proofs.PositionBounds.{extent_is_box}
-use Rattle.streetmap_reading.proofs.Compiles.{select_outlines_means, select_outlines_never, select_extents_means, select_extents_never}
+use Rattle.streetmap_reading.proofs.Compiles.{select_extents_means, select_extents_never}
+use Rattle.streetmap_reading.proofs.OutlineCompiles.{select_outlines_means, select_outlines_never}
+use Rattle.streetmap_reading.proofs.RowsInTurn.{map_again}
 
 abbrev outline_terms : List Term
-outline_terms = col 1 2 ∷ col 1 4 ∷ col 1 5 ∷ col 1 6 ∷ col 1 7 ∷ col 1 8 ∷ col 1 9 ∷ []
+outline_terms = col 1 2 ∷ col 1 4 ∷ col 1 5 ∷ col 1 6 ∷ col 1 7 ∷ col 1 8 ∷ col 1 9 ∷ col 1 0 ∷ []
 
 abbrev extent_terms : List Term
 extent_terms = col 1 4 ∷ col 1 5 ∷ col 1 6 ∷ col 1 7 ∷ []
@@ -51,16 +56,16 @@ extent_terms = col 1 4 ∷ col 1 5 ∷ col 1 6 ∷ col 1 7 ∷ []
 abbrev collection_terms : List Term
 collection_terms = col 1 1 ∷ col 1 2 ∷ col 1 3 ∷ []
 
-outline_cells : (params : Row) → Shows outline_terms params (λ id f. outline_row (feature_outline_of id f))
+outline_cells : (params r : Row) (p : KeyPair) (f : FeatureValue) (rowid : ℤ) → drop 1 r ≡ feature_cells p f → column r 0 ≡ Int rowid → eval_all outline_terms (params ∷ r ∷ []) ≡ placed_row (feature_outline_of p.1 f, rowid)
 unfolding extent_in seconds_in
-outline_cells params r p f cells =
+outline_cells params r p f rowid cells is =
     let at : (n : ℕ) → column r (suc n) ≡ column (feature_cells p f) n = λ n. column_later r n ∙ ap (λ x. column x n) cells in
-    λ i. at 1 i ∷ at 3 i ∷ at 4 i ∷ at 5 i ∷ at 6 i ∷ at 7 i ∷ at 8 i ∷ []
+    λ i. at 1 i ∷ at 3 i ∷ at 4 i ∷ at 5 i ∷ at 6 i ∷ at 7 i ∷ at 8 i ∷ is i ∷ []
 
-extent_cells : (params : Row) → Shows extent_terms params (λ id f. extent_row (feature_extent f))
+extent_cells : (rows : List Row) (name : Text) (params : Row) → ShowsIn rows name extent_terms params (λ id f. extent_row (feature_extent f))
 unfolding extent_in
-extent_cells params r p f cells =
-    let at : (n : ℕ) → column r (suc n) ≡ column (feature_cells p f) n = λ n. column_later r n ∙ ap (λ x. column x n) cells in
+extent_cells rows name params r f there of cells =
+    let at : (n : ℕ) → column r (suc n) ≡ column (feature_cells (pair_key r) f) n = λ n. column_later r n ∙ ap (λ x. column x n) cells in
     λ i. at 3 i ∷ at 4 i ∷ at 5 i ∷ at 6 i ∷ []
 
 -- each feature is chosen
@@ -98,17 +103,31 @@ module _ (db : Database) (s : State) (kept : Keeps s db) where
         go None = get-empty text_cmp q
         go (Some c) = refl
 
-    shown_of : (project : List Term) (view : Text → FeatureValue → Row) → Shows project params view → (given : List Row) → IsAnswerAs Null (ordered_query roots.features tests project 2) (overlay db.trees []) params given → given ≡ map (λ e. view e.0 e.1) (entries (features_in s name))
+    shown_of : (project : List Term) (view : Text → FeatureValue → Row) → ShowsIn all_rows name project params view → (given : List Row) → IsAnswerAs Null (ordered_query roots.features tests project 2) (overlay db.trees []) params given → given ≡ map (λ e. view e.0 e.1) (entries (features_in s name))
     shown_of project view shows given a =
-        shows_chosen s roots db.trees of name (features_in s name) get_in tests params (is_chosen None None) (all_chooses name) project view shows in_features.low given a ∙ ap (map (λ e. view e.0 e.1)) (all_pass (entries (features_in s name)))
+        shows_chosen_in s roots db.trees of name (features_in s name) get_in tests params (is_chosen None None) (λ r p f cells is. all_chooses name r p f cells) project view shows in_features.low given a ∙ ap (map (λ e. view e.0 e.1)) (all_pass (entries (features_in s name)))
 
-    pub outlines_at : ShowsOf select_outlines params db (map (λ e. outline_row (feature_outline_of e.0 e.1)) (entries (features_in s name)))
-    outlines_at = shows_by select_outlines params db (ordered_query roots.features tests outline_terms 2) (codes "id" ∷ codes "x0" ∷ codes "y0" ∷ codes "x1" ∷ codes "y1" ∷ codes "s0" ∷ codes "s1" ∷ []) _ (select_outlines_means db.schema roots.features in_features) (select_outlines_never db.schema roots.features in_features db.trees name)
-        (shown_of outline_terms (λ id f. outline_row (feature_outline_of id f)) (outline_cells params))
+    -- the rowid of the row with an id
+    rowid_of : Text → ℤ
+    rowid_of q = option_map_or (λ r. id_in (rowid r)) (find (has_pair (name, q)) all_rows) (pos 0)
+
+    pub placed : Text × FeatureValue → PlacedOutline
+    placed e = (feature_outline_of e.0 e.1, rowid_of e.0)
+
+    rowid_is : (r : Row) → Has all_rows r → (pair_key r).0 ≡ name → column r 0 ≡ Int (rowid_of (pair_key r).1)
+    unfolding rowid_of
+    rowid_is r there of_name =
+        let found : find (has_pair (name, (pair_key r).1)) all_rows ≡ Some r = subst (λ n. find (has_pair (n, (pair_key r).1)) all_rows ≡ Some r) of_name (find_own pair_key has_pair pair_is pair_self all_rows r of.features.apart there) in
+        int_is (rowid r) (all_has _ all_rows r of.features.keyed there) ∙ ap (λ o. Int (option_map_or (λ (x : Row). id_in (rowid x)) o (pos 0))) (sym found)
+
+    pub outlines_at : ShowsOf select_outlines params db (map (λ e. placed_row (placed e)) (entries (features_in s name)))
+    unfolding placed
+    outlines_at = shows_by select_outlines params db (ordered_query roots.features tests outline_terms 2) (codes "id" ∷ codes "x0" ∷ codes "y0" ∷ codes "x1" ∷ codes "y1" ∷ codes "s0" ∷ codes "s1" ∷ codes "rowid" ∷ []) _ (select_outlines_means db.schema roots.features in_features) (select_outlines_never db.schema roots.features in_features db.trees name)
+        (shown_of outline_terms (λ id f. placed_row (placed (id, f))) (λ r f there of_name cells. outline_cells params r (pair_key r) f (rowid_of (pair_key r).1) cells (rowid_is r there of_name)))
 
     pub extents_at : ShowsOf select_extents params db (map (λ e. extent_row (feature_extent e.1)) (entries (features_in s name)))
     extents_at = shows_by select_extents params db (ordered_query roots.features tests extent_terms 2) (codes "x0" ∷ codes "y0" ∷ codes "x1" ∷ codes "y1" ∷ []) _ (select_extents_means db.schema roots.features in_features) (select_extents_never db.schema roots.features in_features db.trees name)
-        (shown_of extent_terms (λ id f. extent_row (feature_extent f)) (extent_cells params))
+        (shown_of extent_terms (λ id f. extent_row (feature_extent f)) (extent_cells all_rows name params))
 
     -- ---- what is shown can be read
 
@@ -128,11 +147,18 @@ module _ (db : Database) (s : State) (kept : Keeps s db) where
     outline_fine : (e : Text × FeatureValue) → Has (entries (features_in s name)) e → IsOutline (feature_outline_of e.0 e.1)
     outline_fine e h = record { id = id_text e.0 e.1 (stands_at e h); extent = extent_is_box e.1.geometry (fine_at e h).made }
 
-    pub outlines_fine : AllByRecursion IsOutline (map (λ e. feature_outline_of e.0 e.1) (entries (features_in s name)))
-    outlines_fine = all_from IsOutline _ (λ o h. let e = mapped_has (λ (e : Text × FeatureValue). feature_outline_of e.0 e.1) (entries (features_in s name)) o h in subst IsOutline (sym e.2) (outline_fine e.0 e.1))
+    pub outlines_fine : AllByRecursion (λ (p : PlacedOutline). IsOutline p.0) (map placed (entries (features_in s name)))
+    unfolding placed
+    outlines_fine = all_from (λ (p : PlacedOutline). IsOutline p.0) _ (λ p h. let e = mapped_has placed (entries (features_in s name)) p h in subst (λ (x : PlacedOutline). IsOutline x.0) (sym e.2) (outline_fine e.0 e.1))
 
-    pub outline_rows : AllByRecursion IsOutlineRow (map (λ e. outline_row (feature_outline_of e.0 e.1)) (entries (features_in s name)))
-    outline_rows = all_from IsOutlineRow _ (λ r h. let e = mapped_has (λ (e : Text × FeatureValue). outline_row (feature_outline_of e.0 e.1)) (entries (features_in s name)) r h in record { outline = feature_outline_of e.0.0 e.0.1; fine = outline_fine e.0 e.1; is = e.2 })
+    pub outline_rows : AllByRecursion IsOutlineRow (map (λ e. placed_row (placed e)) (entries (features_in s name)))
+    unfolding placed
+    outline_rows = all_from IsOutlineRow _ (λ r h. let e = mapped_has (λ (e : Text × FeatureValue). placed_row (placed e)) (entries (features_in s name)) r h in record { placed = placed e.0; fine = outline_fine e.0 e.1; is = e.2 })
+
+    -- without the rowids they are the outlines of the features
+    pub outlines_are : map (λ p. p.0) (map placed (entries (features_in s name))) ≡ map (λ e. feature_outline_of e.0 e.1) (entries (features_in s name))
+    unfolding placed
+    outlines_are = map_again (λ p. p.0) placed (entries (features_in s name))
 
     pub geometries_fine : AllByRecursion (λ (f : FeatureValue). IsGeometryIf f.geometry) (map (λ e. e.1) (entries (features_in s name)))
     geometries_fine = all_from (λ (f : FeatureValue). IsGeometryIf f.geometry) _ (λ f h. let e = mapped_has (λ (e : Text × FeatureValue). e.1) (entries (features_in s name)) f h in subst (λ (x : FeatureValue). IsGeometryIf x.geometry) (sym e.2) (fine_at e.0 e.1).made)

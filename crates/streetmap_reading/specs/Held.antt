@@ -1,5 +1,5 @@
 -- What folds hold of the rows that they took.
-use Rattle.std.specs.Prelude.{◌≡◌, List, [], map, Option, None, Vec}
+use Rattle.std.specs.Prelude.{◌≡◌, List, [], map, Option, None, Some, Vec}
 use Rattle.std.specs.List.{AllByRecursion}
 use Rattle.std.specs.Option.{option_copied}
 use Rattle.std.specs.declared.alloc.Global.{Global}
@@ -10,7 +10,6 @@ use Rattle.streetmap_geojson.specs.FeatureValue.{FeatureValue}
 use Rattle.streetmap_geojson.specs.FeatureInvariant.{IsGeometryIf}
 use Rattle.streetmap_batch.specs.Text.{Text}
 use Rattle.streetmap_ledger.specs.State.{Collection}
-use Rattle.streetmap_ledger.specs.Outlines.{FeatureOutlineValue}
 use Rattle.streetmap_ledger.specs.OutlineView.{feature_outline_values}
 use Rattle.streetmap_ledger.specs.Summaries.{SummaryValue, all_vertices}
 use Rattle.streetmap_ledger.specs.SummaryView.{summary_values}
@@ -24,12 +23,15 @@ use Rattle.streetmap_rows.specs.Stands.{HasTextNames}
 use Rattle.streetmap_reading.specs.declared.candidates.PageRows.{PageRows}
 use Rattle.streetmap_reading.specs.declared.run.FeatureRows.{FeatureRows}
 use Rattle.streetmap_reading.specs.Candidates.{candidate_row}
-use Rattle.streetmap_reading.specs.Views.{outline_row, extent_row, feature_extent, IsOutline}
+use Rattle.streetmap_reading.specs.Views.{extent_row, feature_extent, IsOutline}
+use Rattle.streetmap_reading.specs.Views.{PlacedOutline, placed_row}
 
--- the outlines that the rows are of
+-- the outlines that the rows are of, with their rowids
 abbrev pub HoldsOutlines : Vec FeatureOutline Global → List Row → Type 0
-HoldsOutlines os rows = (vs : List FeatureOutlineValue) → rows ≡ map outline_row vs
-    → AllByRecursion IsOutline vs → feature_outline_values os.items ≡ vs
+HoldsOutlines os rows = (ps : List PlacedOutline) → rows ≡ map placed_row ps
+    → AllByRecursion (λ p. IsOutline p.0) ps
+    → (feature_outline_values os.items ≡ map (λ p. p.0) ps)
+    × (map (λ o. o.rowid) os.items ≡ map (λ p. Some p.1) ps)
 
 -- the bounds of the features whose extents the rows are
 abbrev pub HoldsBounds : Option GridBox → List Row → Type 0

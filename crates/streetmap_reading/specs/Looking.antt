@@ -1,5 +1,7 @@
 -- What looks into the tables answer.
-use Rattle.std.specs.Prelude.{◌≡◌, Option, None, Some, option_map, Result, MatchResult, IsTrue, Vec}
+use Rattle.std.specs.Prelude.{◌≡◌, ℕ, List, Option, None, Some, option_map, IfSome, Result}
+use Rattle.std.specs.Prelude.{MatchResult, IsTrue, Vec}
+use Rattle.std.specs.Option.{option_to_list}
 use Rattle.std.specs.FinMap.{get, values}
 use Rattle.std.specs.declared.alloc.Global.{Global}
 use Rattle.sqlite.specs.Order.{Row}
@@ -15,7 +17,7 @@ use Rattle.streetmap_ledger.specs.declared.page.Page.{Page}
 use Rattle.streetmap_rows.specs.Keeping.{Keeps}
 use Rattle.streetmap_rows.specs.Views.{collection_view}
 use Rattle.streetmap_rows.specs.declared.fault.ReadFault.{ReadFault}
-use Rattle.streetmap_reading.specs.Candidates.{dated_row}
+use Rattle.streetmap_reading.specs.Candidates.{dated_row, ShowsOf}
 use Rattle.streetmap_reading.specs.Taking.{Stopped}
 
 -- a look at the database of a state: the answer is as it is in the state, and nothing changes
@@ -56,9 +58,19 @@ IsRunUnder name first last property old new result =
     → MatchResult result (λ fs. (fs.items ≡ run_of first last c) × IsUnchanged old new)
     (Stopped old new)
 
+-- the row that a query shows, which shows one at most
+abbrev pub IsOnlyRow : List ℕ → Row → Seen → Seen → Result (Option Row) ReadFault → Type 0
+IsOnlyRow sql params old new result =
+    (o : Option Row) → old.step_limit ≡ None → ShowsOf sql params old.now (option_to_list o)
+    → MatchResult result (λ row. (row ≡ o) × IsUnchanged old new) (Stopped old new)
+
 -- the row of a feature, where the feature is there
 abbrev pub IsTextRow : Text → Text → State → Option Row → Type 0
 IsTextRow name id s o = o ≡ option_map dated_row (feature_in s name id)
+
+-- a row that is found is that of the feature; where none is found, nothing is said
+abbrev pub IsTextRowIfFound : Text → Text → State → Option Row → Type 0
+IsTextRowIfFound name id s o = IfSome o (λ row. IsTextRow name id s (Some row))
 
 -- the feature of this collection with this id; none where the collection is not there, or the
 -- feature is not in it
@@ -71,3 +83,12 @@ IsFeatureIn name row old new result =
     (s : State) (id : Text) (f : FeatureValue) → old.step_limit ≡ None → IsTrue old.is_open
     → Keeps s old.now → feature_in s name id ≡ Some f → row ≡ dated_row f
     → MatchResult result (λ found. (found ≡ f) × IsUnchanged old new) (Stopped old new)
+
+-- the feature of this collection whose row was looked for; none where no row was found
+abbrev pub IsFeatureFound : Text → Option Row → Seen → Seen
+    → Result (Option FeatureValue) ReadFault → Type 0
+IsFeatureFound name row old new result =
+    (s : State) (id : Text) → old.step_limit ≡ None → IsTrue old.is_open → Keeps s old.now
+    → IsTextRow name id s row
+    → MatchResult result (λ found. IsFeatureOf name id s found × IsUnchanged old new)
+    (Stopped old new)

@@ -1,10 +1,10 @@
 -- The texts of the statements.
 use Rattle.std.specs.Prelude.{ℕ, List, codes}
 
--- the ids, extents and seconds of a collection's features
+-- the ids, extents, seconds and rowids of a collection's features
 abbrev pub select_outlines : List ℕ
 select_outlines = codes
-    "SELECT id, x0, y0, x1, y1, s0, s1 FROM streetmap_features WHERE collection = ?1 ORDER BY id"
+    "SELECT id, x0, y0, x1, y1, s0, s1, rowid FROM streetmap_features WHERE collection = ?1 ORDER BY id"
 
 -- the extents of a collection's features
 abbrev pub select_extents : List ℕ
@@ -20,3 +20,8 @@ select_run = codes
 abbrev pub select_text : List ℕ
 select_text = codes
     "SELECT body, s0 FROM streetmap_features WHERE collection = ?1 AND id = ?2"
+
+-- the same, where the feature's row has this rowid
+abbrev pub select_text_at : List ℕ
+select_text_at = codes
+    "SELECT body, s0 FROM streetmap_features WHERE rowid = ?3 AND collection = ?1 AND id = ?2"

@@ -1,5 +1,5 @@
 -- What the rows of listings show, and which rows can be read.
-use Rattle.std.specs.Prelude.{◌≡◌, ℤ, [], ◌∷◌, Option, option_map, IfSome, IsUtf8}
+use Rattle.std.specs.Prelude.{◌≡◌, ℤ, [], ◌∷◌, ◌++◌, Option, option_map, IfSome, IsUtf8}
 use Rattle.sqlite.specs.declared.types.Value.TheVariants.{Int, Text as Words}
 use Rattle.sqlite.specs.Order.{Row}
 use Rattle.sqlite.specs.Values.{or_null}
@@ -36,16 +36,24 @@ outline_row o =
     ∷ or_null Int (option_map (λ (s : ℤ × ℤ). s.0) o.seconds)
     ∷ or_null Int (option_map (λ (s : ℤ × ℤ). s.1) o.seconds) ∷ []
 
+-- an outline, and the rowid of its row
+abbrev pub PlacedOutline : Type 0
+PlacedOutline = FeatureOutlineValue × ℤ
+
+-- the row that shows both: the outline, and behind it the rowid
+abbrev pub placed_row : PlacedOutline → Row
+placed_row p = outline_row p.0 ++ Int p.1 ∷ []
+
 -- the id is a text, and the extent a box
 pub record IsOutline (o : FeatureOutlineValue) : Type 0 where
   pub id : IsUtf8 o.id
   pub extent : IfSome o.extent IsBox
 
--- the row of an outline
+-- the row of an outline and a rowid
 pub record IsOutlineRow (row : Row) : Type 0 where
-  pub outline : FeatureOutlineValue
-  pub fine : IsOutline outline
-  pub is : row ≡ outline_row outline
+  pub placed : PlacedOutline
+  pub fine : IsOutline placed.0
+  pub is : row ≡ placed_row placed
 
 -- the row of the extent of a feature
 pub record IsExtentRow (row : Row) : Type 0 where

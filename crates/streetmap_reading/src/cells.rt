@@ -65,6 +65,17 @@ fn number_at(row: &Row, at: usize) -> Result<Option<i64>, ReadFault>
     }
 }
 
+/// The integer in a cell.
+pub fn integer_at(row: &Row, at: usize) -> Result<i64, ReadFault>
+    ensures reads { (n : ℤ) → at < length row.now → column row.now at ≡ Int n → result ≡ Ok n }
+    ensures refuses { IfErr result (Refuses (Unit {0})) }
+{
+    match row.get_ref(at) {
+        Ok(ValueRef::Int(number)) => Ok(number),
+        _ => Err(ReadFault::Unread),
+    }
+}
+
 /// The box of four bounds, in millimetres; none where there are none.
 fn box_of(
     west: Option<i64>,

@@ -1,11 +1,13 @@
 //! One feature, by its collection and its id.
-ghost use Rattle.std.specs.Prelude.{◌≡◌, None, IsTrue, false};
+ghost use Rattle.std.specs.Prelude.{◌≡◌, None, IsTrue, false, string_bytes};
 ghost use Rattle.sqlite.specs.Held.{state};
-ghost use Rattle.sqlite.specs.State.{HasCleanDisk, Survives};
+ghost use Rattle.sqlite.specs.State.{HasCleanDisk, Survives, CommitsShowing};
+ghost use Rattle.sqlite.specs.Values.{bound};
 ghost use Rattle.streetmap_geojson.specs.FeatureValue.{FeatureValue};
 ghost use Rattle.streetmap_reading.specs.Candidates.{dated_row};
 ghost use Rattle.streetmap_reading.specs.Looking.{LooksInto, Stays, IsTextRow, IsFeatureOf};
-ghost use Rattle.streetmap_reading.specs.Looking.{IsFeatureIn};
+ghost use Rattle.streetmap_reading.specs.Looking.{IsOnlyRow, IsTextRowIfFound, IsFeatureIn};
+ghost use Rattle.streetmap_reading.specs.Looking.{IsFeatureFound};
 
 use crate::candidates::read_row;
 use crate::page::{collection_row, property_in};
@@ -14,7 +16,27 @@ use sqlite::types::ValueRef;
 use sqlite::{Alter, Connection, Row, params};
 use std::alloc::Global;
 use streetmap_geojson::Feature;
+use streetmap_ledger::FeatureOutline;
 use streetmap_rows::ReadFault;
+
+/// The row that a query shows, which shows one at most; none where it shows none.
+fn only_row<S: Alter>(
+    conn: &mut Connection<S>,
+    sql: &str,
+    params: &[ValueRef<'_>],
+) -> Result<Option<Row>, ReadFault>
+    ensures finds { HasCleanDisk (state S.Store conn.new)
+        → IsOnlyRow sql.now (bound params.now) (state S.Store conn.old) (state S.Store conn.new)
+        result }
+    ensures mode { conn.old.in_transaction ≡ false → conn.new.in_transaction ≡ false }
+    ensures survives { Survives (state S.Store conn.old) (state S.Store conn.new)
+        (CommitsShowing sql.now (bound params.now) (state S.Store conn.old)) }
+{
+    match conn.query_all(sql, params) {
+        Ok(mut rows) => Ok(rows.pop()),
+        Err(error) => Err(ReadFault::Store(error)),
+    }
+}
 
 /// The row that shows the text of a feature and the first second of its time; none where it is not
 /// there.
@@ -30,12 +52,55 @@ fn text_row<S: Alter>(
     ensures survives { Survives (state S.Store conn.old) (state S.Store conn.new) (λ _. Unit {0}) }
     ensures stays { Stays (state S.Store conn.old) (state S.Store conn.new) }
 {
-    match conn.query_all(
+    only_row(
+        conn,
         "SELECT body, s0 FROM streetmap_features WHERE collection = ?1 AND id = ?2",
         params![collection, id],
-    ) {
-        Ok(mut rows) => Ok(rows.pop()),
-        Err(error) => Err(ReadFault::Store(error)),
+    )
+}
+
+/// The same row, where it has this rowid; none where it has another one or is not there.
+fn text_row_at<S: Alter>(
+    conn: &mut Connection<S>,
+    collection: &str,
+    id: &str,
+    rowid: i64,
+) -> Result<Option<Row>, ReadFault>
+    ensures finds { HasCleanDisk (state S.Store conn.new)
+        → LooksInto (IsTextRowIfFound collection.now id.now) (state S.Store conn.old)
+        (state S.Store conn.new) result }
+    ensures mode { conn.old.in_transaction ≡ false → conn.new.in_transaction ≡ false }
+    ensures survives { Survives (state S.Store conn.old) (state S.Store conn.new) (λ _. Unit {0}) }
+    ensures stays { Stays (state S.Store conn.old) (state S.Store conn.new) }
+{
+    only_row(
+        conn,
+        "SELECT body, s0 FROM streetmap_features WHERE rowid = ?3 AND collection = ?1 AND id = ?2",
+        params![collection, id, rowid],
+    )
+}
+
+/// The row of the feature that an outline is of, looked for first where its rowid says; none where
+/// the feature is not there.
+fn outlined_row<S: Alter>(
+    conn: &mut Connection<S>,
+    collection: &str,
+    outline: &FeatureOutline,
+) -> Result<Option<Row>, ReadFault>
+    ensures finds { HasCleanDisk (state S.Store conn.new)
+        → LooksInto (IsTextRow collection.now (string_bytes outline.now.id))
+        (state S.Store conn.old) (state S.Store conn.new) result }
+    ensures mode { conn.old.in_transaction ≡ false → conn.new.in_transaction ≡ false }
+    ensures survives { Survives (state S.Store conn.old) (state S.Store conn.new) (λ _. Unit {0}) }
+    ensures stays { Stays (state S.Store conn.old) (state S.Store conn.new) }
+{
+    let id = outline.id.as_str();
+    let Some(rowid) = outline.rowid else {
+        return text_row(conn, collection, id);
+    };
+    match text_row_at(conn, collection, id, rowid)? {
+        Some(row) => Ok(Some(row)),
+        None => text_row(conn, collection, id),
     }
 }
 
@@ -89,6 +154,27 @@ fn feature_in<S: Alter>(
     }
 }
 
+/// The feature of a row that was looked for; `None` where none was found.
+fn found_feature<S: Alter>(
+    alloc: Global,
+    conn: &mut Connection<S>,
+    collection: &str,
+    found: Option<Row>,
+) -> Result<Option<Feature>, ReadFault>
+    ensures shows { HasCleanDisk (state S.Store conn.new)
+        → IsFeatureFound collection.now found (state S.Store conn.old) (state S.Store conn.new)
+        result }
+    ensures mode { conn.old.in_transaction ≡ false → conn.new.in_transaction ≡ false }
+    ensures survives { Survives (state S.Store conn.old) (state S.Store conn.new) (λ _. Unit {0}) }
+    ensures stays { Stays (state S.Store conn.old) (state S.Store conn.new) }
+{
+    let Some(row) = found else {
+        return Ok(None);
+    };
+    let feature = feature_in(alloc, conn, collection, &row)?;
+    Ok(Some(feature))
+}
+
 /// A feature of a collection; `None` where the collection or the feature is not there.
 ///
 /// # Errors
@@ -107,9 +193,30 @@ pub fn feature_of<S: Alter>(
     ensures survives { Survives (state S.Store conn.old) (state S.Store conn.new) (λ _. Unit {0}) }
     ensures stays { Stays (state S.Store conn.old) (state S.Store conn.new) }
 {
-    let Some(row) = text_row(conn, collection, id)? else {
-        return Ok(None);
-    };
-    let feature = feature_in(alloc, conn, collection, &row)?;
-    Ok(Some(feature))
+    let found = text_row(conn, collection, id)?;
+    found_feature(alloc, conn, collection, found)
+}
+
+/// The feature of a collection that an outline is of, by the outline's id; `None` where the
+/// collection or the feature is not there. Its row is looked for first where the outline's rowid
+/// says, and by its id where that is no row or another feature's.
+///
+/// # Errors
+///
+/// As `page_of`.
+pub fn feature_outlined_of<S: Alter>(
+    alloc: Global,
+    conn: &mut Connection<S>,
+    collection: &str,
+    outline: &FeatureOutline,
+) -> Result<Option<Feature>, ReadFault>
+    ensures shows { HasCleanDisk (state S.Store conn.new)
+        → LooksInto (IsFeatureOf collection.now (string_bytes outline.now.id))
+        (state S.Store conn.old) (state S.Store conn.new) result }
+    ensures mode { conn.old.in_transaction ≡ false → conn.new.in_transaction ≡ false }
+    ensures survives { Survives (state S.Store conn.old) (state S.Store conn.new) (λ _. Unit {0}) }
+    ensures stays { Stays (state S.Store conn.old) (state S.Store conn.new) }
+{
+    let found = outlined_row(conn, collection, outline)?;
+    found_feature(alloc, conn, collection, found)
 }

@@ -4,14 +4,16 @@
 //! extent and seconds overlap what is asked, by one of four statements, one row at a time and in
 //! order of ids, and hands each feature to `PageFold`. `feature_of` answers one feature as the
 //! state has it, by its collection and its id, with the time that the collection's time property
-//! tells, and `run_of` the features of a collection whose ids stand between two, by one statement.
-//! Nothing changes, and a stop may leave no more than before. Where one gives up it says why: for
-//! memory, because a statement failed, or at a row that is none that this product writes; the last
-//! never on the tables of a state (`streetmap_rows`' `ReadFault`).
+//! tells; `feature_outlined_of` does so by an outline of it, and looks first at the row with the
+//! outline's rowid, which it takes for the feature's where the row says so. `run_of` answers the
+//! features of a collection whose ids stand between two, by one statement. Nothing changes, and a
+//! stop may leave no more than before. Where one gives up it says why: for memory, because a
+//! statement failed, or at a row that is none that this product writes; the last never on the
+//! tables of a state (`streetmap_rows`' `ReadFault`).
 //!
 //! `summary_of` and `summaries_of` tell of one collection and of all, and `outlines_of` lists a
-//! collection's features by what is stored beside their bodies, in one pass; none of them reads a
-//! body.
+//! collection's features by what is stored beside their bodies, with their rowids, in one pass;
+//! none of them reads a body.
 //!
 //! `batch_of` answers the batch that was accepted with a serial, and `batches_of` those behind one,
 //! in order and as many as there is room for: each by one statement over the index of the column
@@ -41,7 +43,7 @@ mod summaries;
 
 pub use batches::{batch_of, batches_of};
 pub use cells::{text_at, text_if_at};
-pub use feature::feature_of;
+pub use feature::{feature_of, feature_outlined_of};
 pub use fold::{RowFold, fold_rows};
 pub use outlines::outlines_of;
 pub use page::page_of;

@@ -1,15 +1,14 @@
 //! Outlines of the features of a collection.
-ghost use Rattle.std.specs.Prelude.{◌≡◌, false, IfErr, MatchResult};
+ghost use Rattle.std.specs.Prelude.{◌≡◌, Some, false, IfErr, MatchResult};
 ghost use Rattle.sqlite.specs.Held.{state};
 ghost use Rattle.sqlite.specs.State.{HasCleanDisk, Survives};
-ghost use Rattle.streetmap_ledger.specs.Outlines.{FeatureOutlineValue};
 ghost use Rattle.streetmap_ledger.specs.OutlineView.{feature_outline_value};
 ghost use Rattle.streetmap_reading.specs.Looking.{LooksInto, Stays};
 ghost use Rattle.streetmap_reading.specs.Folding.{IsForMemory, Refuses};
 ghost use Rattle.streetmap_reading.specs.Telling.{AreOutlinesOf, AreOutlinesIn};
-ghost use Rattle.streetmap_reading.specs.Views.{outline_row, IsOutline};
+ghost use Rattle.streetmap_reading.specs.Views.{PlacedOutline, placed_row, IsOutline};
 
-use crate::cells::{box_at, seconds_at, text_at};
+use crate::cells::{box_at, integer_at, seconds_at, text_at};
 use crate::fold::{RowFold, fold_rows};
 use crate::page::collection_row;
 use sqlite::{Alter, Connection, Row, params};
@@ -17,20 +16,22 @@ use std::alloc::Global;
 use streetmap_ledger::FeatureOutline;
 use streetmap_rows::ReadFault;
 
-/// The outline that a row shows.
+/// The outline that a row shows, with its rowid.
 fn outline_in(row: &Row) -> Result<FeatureOutline, ReadFault>
-    ensures reads { (o : FeatureOutlineValue) → row.now ≡ outline_row o → IsOutline o
-        → MatchResult result (λ outline. feature_outline_value outline ≡ o) IsForMemory }
+    ensures reads { (p : PlacedOutline) → row.now ≡ placed_row p → IsOutline p.0
+        → MatchResult result (λ outline. (feature_outline_value outline ≡ p.0)
+        × (outline.rowid ≡ Some p.1)) IsForMemory }
     ensures refuses { IfErr result (Refuses (Unit {0})) }
 {
     let id = text_at(row, 0)?;
     let extent = box_at(row, 1)?;
     let seconds = seconds_at(row, 5)?;
+    let rowid = integer_at(row, 7)?;
     Ok(FeatureOutline {
         id,
         extent,
         seconds,
-        rowid: None,
+        rowid: Some(rowid),
     })
 }
 
@@ -67,7 +68,7 @@ fn outlines_in<S: Alter>(
     let mut outlines = Vec::new(alloc);
     fold_rows(
         conn,
-        "SELECT id, x0, y0, x1, y1, s0, s1 FROM streetmap_features WHERE collection = ?1 ORDER BY id",
+        "SELECT id, x0, y0, x1, y1, s0, s1, rowid FROM streetmap_features WHERE collection = ?1 ORDER BY id",
         params![collection],
         &mut outlines,
     )?;

@@ -1,19 +1,19 @@
-use Rattle.std.proofs.Common.{◌≡◌, ◌∷◌, [], Ok, Err, map, ap, sym, ◌∙◌}
+use Rattle.std.proofs.Common.{◌∷◌, [], Ok, Err, map, sym, ◌∙◌}
 use Rattle.std.specs.FinMap.{entries}
 use Rattle.std.specs.List.{AllByRecursion}
 use Rattle.sqlite.specs.Held.{state}
 use Rattle.sqlite.specs.declared.types.Value.TheVariants.{Text as Words}
-use Rattle.streetmap_ledger.specs.Outlines.{feature_outline_of}
-use Rattle.streetmap_ledger.specs.OutlineView.{feature_outline_values}
 use Rattle.streetmap_rows.proofs.ResultCases.{handed_on}
 use Rattle.streetmap_reading.proofs.Folded.{folded}
+use Rattle.streetmap_reading.proofs.OneRowMore.{outlines_begun}
 use Rattle.streetmap_reading.proofs.PageStatements.{stays_by, survives_any}
 use Rattle.streetmap_reading.specs.Held.{HoldsOutlines}
 use Rattle.streetmap_reading.specs.Statements.{select_outlines}
 use Rattle.streetmap_reading.specs.Telling.{features_in}
-use Rattle.streetmap_reading.specs.Views.{outline_row, IsOutlineRow}
-use Rattle.streetmap_reading.proofs.RowsInTurn.{map_again, none_mapped}
-use Rattle.streetmap_reading.proofs.ShownOutlines.{outlines_at, outlines_fine, outline_rows}
+use Rattle.streetmap_reading.specs.Views.{placed_row, IsOutlineRow}
+use Rattle.streetmap_reading.proofs.RowsInTurn.{map_again}
+use Rattle.streetmap_reading.proofs.ShownOutlines.{placed, outlines_at, outlines_fine}
+use Rattle.streetmap_reading.proofs.ShownOutlines.{outline_rows, outlines_are}
 use Rattle.streetmap_reading.proofs.outlines.outlines_in.Goals as goal
 
 pub returns-clause-shows : goal.returns-clause-shows
@@ -23,17 +23,13 @@ returns-clause-shows g c clean = λ s limit keeps.
     let new = state g.S.Store c.fold_rows.new.conn in
     let es = entries (features_in s name) in
     let all = rw c.params-to_sql.ensures at (c.in_ok-fold_rows.ensures.takes clean) in
-    let none : feature_outline_values c.new-outlines.result.items ≡ [] =
-    ap feature_outline_values c.new-outlines.ensures.items in
     let took = folded (λ _. HoldsOutlines) (λ _. AllByRecursion IsOutlineRow) select_outlines
     (Words name ∷ []) old new c.new-outlines.result c.fold_rows.new.fold _
     (outlines_at _ s keeps name) limit (outline_rows _ s keeps name) (Ok tt) all
-    (λ vs is fine. none ∙ sym (none_mapped outline_row vs is)) in (
-      took.0 (map (λ e. feature_outline_of e.0 e.1) es)
-          (sym (map_again outline_row (λ e. feature_outline_of e.0 e.1) es))
-          (outlines_fine _ s keeps name),
-      took.1,
-    )
+    (outlines_begun c.new-outlines.result c.new-outlines.ensures.items) in
+    let told = took.0 (map (placed _ s keeps name) es)
+    (sym (map_again placed_row (placed _ s keeps name) es)) (outlines_fine _ s keeps name) in
+    (told.0 ∙ outlines_are _ s keeps name, took.1)
 
 pub returns-in_err-fold_rows-clause-shows : goal.returns-in_err-fold_rows-clause-shows
 returns-in_err-fold_rows-clause-shows g c clean = λ s limit keeps.
@@ -41,12 +37,10 @@ returns-in_err-fold_rows-clause-shows g c clean = λ s limit keeps.
     let old = state g.S.Store c.args.conn.now in
     let new = state g.S.Store c.fold_rows.new.conn in
     let all = rw c.params-to_sql.ensures at (c.in_err-fold_rows.ensures.takes clean) in
-    let none : feature_outline_values c.new-outlines.result.items ≡ [] =
-    ap feature_outline_values c.new-outlines.ensures.items in
     let told = folded (λ _. HoldsOutlines) (λ _. AllByRecursion IsOutlineRow) select_outlines
     (Words name ∷ []) old new c.new-outlines.result c.fold_rows.new.fold _
     (outlines_at _ s keeps name) limit (outline_rows _ s keeps name) (Err c.in_err-fold_rows.field-0.0) all
-    (λ vs is fine. none ∙ sym (none_mapped outline_row vs is)) in
+    (outlines_begun c.new-outlines.result c.new-outlines.ensures.items) in
     handed_on _ _ _ _ c.from_residual.ensures.1 told
 
 pub returns-clause-stays : goal.returns-clause-stays

@@ -1,18 +1,16 @@
 use Rattle.streetmap_rows.proofs.ResultCases.{handed_on}
-use Rattle.streetmap_ledger.specs.OutlineView.{feature_outline_value}
-use Rattle.streetmap_reading.specs.Views.{outline_row, IsOutline, IsOutlineRow}
-use Rattle.streetmap_reading.proofs.OneRowMore.{not_taken, one_more}
+use Rattle.streetmap_reading.specs.Views.{IsOutlineRow}
+use Rattle.streetmap_reading.proofs.OneRowMore.{not_taken, outlines_more}
 use Rattle.streetmap_reading.proofs.outlines.VecFeatureOutlineRowFold.take.Goals as goal
 
 pub returns : goal.returns
 returns c = λ start rows held.
-    one_more feature_outline_value outline_row IsOutline c.args.self.now.items
-    c.push.new.self.items c.in_ok-outline.outline rows c.args.row.now c.in_ok-push.ensures.items
-    held c.in_ok-outline.ensures.reads
+    outlines_more c.args.self.now c.push.new.self c.in_ok-outline.outline rows c.args.row.now
+    c.in_ok-push.ensures.items held c.in_ok-outline.ensures.reads
 
 pub returns-in_err-outline : goal.returns-in_err-outline
 returns-in_err-outline c = λ start rows held.
     let told = c.in_err-outline.ensures in
     handed_on _ _ _ _ c.from_residual.ensures.1
     (not_taken IsOutlineRow rows c.args.row.now _ told.refuses
-    (λ it. told.reads it.outline it.is it.fine))
+    (λ it. told.reads it.placed it.is it.fine))
