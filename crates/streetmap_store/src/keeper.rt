@@ -33,7 +33,8 @@ use streetmap_ledger::{
 };
 use streetmap_query::Query;
 use streetmap_reading::{
-    batch_of, batches_of, feature_of, outlines_of, page_of, run_of, summaries_of, summary_of,
+    batch_of, batches_of, feature_of, feature_outlined_of, outlines_of, page_of, run_of,
+    summaries_of, summary_of,
 };
 use streetmap_rows::{ReadFault, Shut, Stop, settle};
 use streetmap_tables::{MakeFault, TablesFault, apply_batch, make_tables, open_tables};
@@ -386,6 +387,20 @@ impl<S: Alter> Keeper for TableKeeper<S> {
             return Err(Fault::Reopen);
         }
         match feature_of(self.alloc, &mut self.conn, collection, id) {
+            Ok(feature) => Ok(feature),
+            Err(fault) => Err(give_up(&mut self.conn, &mut self.shut, fault)),
+        }
+    }
+
+    fn feature_outlined(
+        &mut self,
+        collection: &str,
+        outline: &FeatureOutline,
+    ) -> Result<Option<Feature>, Fault> {
+        if self.shut.is_some() {
+            return Err(Fault::Reopen);
+        }
+        match feature_outlined_of(self.alloc, &mut self.conn, collection, outline) {
             Ok(feature) => Ok(feature),
             Err(fault) => Err(give_up(&mut self.conn, &mut self.shut, fault)),
         }
