@@ -15,7 +15,7 @@ ghost use Rattle.streetmap_index.specs.declared.chunk.Chunk.{Chunk};
 
 use crate::chunk::Chunk;
 use crate::in_cells::{cells_of, list_extent, list_outlines, renew};
-use crate::selection::{count_selected, is_passed_over};
+use crate::selection::{count_by_bounds, is_passed_over};
 use std::alloc::{AllocError, Global};
 use streetmap_cells::{Cells, Marks};
 use streetmap_grid::GridBox;
@@ -203,7 +203,7 @@ impl Chunks {
         let cells = Cells::cost(area);
         let mut near: i64 = 0;
         for chunk in &self.chunks {
-            if !is_passed_over(query, chunk) && count_selected(query, chunk).is_none() {
+            if !is_passed_over(query, chunk) && count_by_bounds(query, chunk).is_none() {
                 near = near.saturating_add(1);
                 if near > cells {
                     return true;

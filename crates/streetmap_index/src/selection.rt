@@ -113,7 +113,7 @@ fn lies_whole_within_box(query: &Query, chunk: &Chunk) -> bool
 /// How many features of a chunk the query selects, where its bounds tell that it selects all those
 /// that a page examines: all of them where no box is asked, else those with an extent. None where
 /// they do not tell.
-fn count_by_bounds(query: &Query, chunk: &Chunk) -> Option<u64>
+pub fn count_by_bounds(query: &Query, chunk: &Chunk) -> Option<u64>
     ensures { IsBounded chunk.now
         → IfSome result (CountsWhole (query_value query.now) chunk.now) }
 {
