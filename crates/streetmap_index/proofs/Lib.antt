@@ -16,3 +16,4 @@ pub mod Listed
 pub mod Counting
 pub mod Ordered
 pub mod Runs
+pub mod Blocks

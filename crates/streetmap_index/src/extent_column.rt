@@ -3,7 +3,7 @@
 //! each other one, in place of all that an outline has. Where it only counts, and each extent that
 //! overlaps the box tells that its feature meets it, no outline is looked at.
 ghost use Rattle.std.specs.Prelude.{◌≡◌, ◌<◌, ◌↔◌, List, All, Some, IsSome, IfSome, IsTrue, false};
-ghost use Rattle.std.specs.Prelude.{not, length, slice_get};
+ghost use Rattle.std.specs.Prelude.{not, length, slice_get, ◌≤◌};
 ghost use Rattle.std.specs.List.{count_by};
 ghost use Rattle.streetmap_geojson.specs.FeatureValue.{FeatureValue};
 ghost use Rattle.streetmap_query.specs.QueryValue.{QueryValue};
@@ -20,6 +20,9 @@ use streetmap_cells::Envelope;
 use streetmap_grid::GridBox;
 use streetmap_ledger::FeatureOutline;
 use streetmap_query::Query;
+
+/// How many extents are counted at a time: few enough for a count of 32 bits.
+const BLOCK: usize = 4_096;
 
 /// What is kept of an extent. Where there is none it ends at the corner of the grid, so that no box
 /// overlaps it.
@@ -81,6 +84,25 @@ pub fn lies_outside(window: Option<Envelope>, extents: &[Envelope], place: usize
 }
 
 /// How many of the extents overlap the window, where each of these has three bounds in it; none
+/// where one has not. No extent decides where to go on: among extents in no order the processor
+/// guesses such a branch wrong, and without one it looks at four of them at once.
+fn count_in_block(window: &Envelope, extents: &[Envelope]) -> Option<u32>
+    requires { length extents.now ≤ BLOCK }
+    ensures count { IfSome result (λ count. count
+        ≡ count_by (λ e. overlaps e window.now) extents.now) }
+    ensures told { IsSome result ↔ All (λ e. TellsWhetherMet e window.now) extents.now }
+{
+    let mut count: u32 = 0;
+    let mut is_told = true;
+    for extent in extents {
+        let overlaps = extent.overlaps(window);
+        count += u32::from(overlaps);
+        is_told &= !overlaps | has_three_bounds_in(extent, window);
+    }
+    if is_told { Some(count) } else { None }
+}
+
+/// How many of the extents overlap the window, where each of these has three bounds in it; none
 /// where one has not.
 pub fn count_in_window(window: &Envelope, extents: &[Envelope]) -> Option<u64>
     ensures count { IfSome result (λ count. count
@@ -88,14 +110,8 @@ pub fn count_in_window(window: &Envelope, extents: &[Envelope]) -> Option<u64>
     ensures told { IsSome result ↔ All (λ e. TellsWhetherMet e window.now) extents.now }
 {
     let mut count = 0;
-    for extent in extents {
-        if !extent.overlaps(window) {
-            continue;
-        }
-        if !has_three_bounds_in(extent, window) {
-            return None;
-        }
-        count += 1;
+    for block in extents.chunks(BLOCK) {
+        count += u64::from(count_in_block(window, block)?);
     }
     Some(count)
 }

@@ -1,6 +1,5 @@
 //! What an extent tells of a geometry that may meet a box.
 ghost use Rattle.std.specs.Prelude.{◌≡◌, ◌↔◌, Option, IsTrue, true, option_map};
-ghost use Rattle.std.specs.List.{count_by};
 ghost use Rattle.streetmap_grid.specs.Extent.{extent_of};
 ghost use Rattle.streetmap_grid.specs.Meeting.{geometry_meets};
 ghost use Rattle.streetmap_grid.specs.Values.{GeometryValue};
@@ -14,23 +13,23 @@ use streetmap_cells::Envelope;
 use streetmap_grid::GridBox;
 use streetmap_query::Query;
 
-/// How many of two bounds lie between two others, or are one of them.
-fn count_between(low: u32, high: u32, bounds: [u32; 2]) -> usize
-    ensures { result ≡ count_by (is_between low high) bounds }
+/// Whether a bound lies between two others, or is one of them. Both are compared and neither
+/// decides alone: among bounds in no order the processor guesses such a branch wrong.
+fn lies_between(low: u32, high: u32, at: u32) -> bool
+    ensures { result ≡ is_between low high at }
 {
-    bounds
-        .iter()
-        .filter(|at| low <= **at && **at <= high)
-        .count()
+    (low <= at) & (at <= high)
 }
 
 /// Whether three of the four bounds of an extent, or all, lie between those of a window.
 pub fn has_three_bounds_in(extent: &Envelope, window: &Envelope) -> bool
     ensures { IsTrue result ↔ HasThreeBoundsIn extent.now window.now }
 {
-    let across = count_between(window.x0, window.x1, [extent.x0, extent.x1]);
-    let along = count_between(window.y0, window.y1, [extent.y0, extent.y1]);
-    across + along >= 3
+    let west = lies_between(window.x0, window.x1, extent.x0);
+    let east = lies_between(window.x0, window.x1, extent.x1);
+    let south = lies_between(window.y0, window.y1, extent.y0);
+    let north = lies_between(window.y0, window.y1, extent.y1);
+    u32::from(west) + u32::from(east) + u32::from(south) + u32::from(north) >= 3
 }
 
 /// Whether an extent tells that its geometry meets the box, where one is asked. Each bound of an

@@ -114,6 +114,7 @@ fn is_timeless(row: &Row) -> bool
 /// The feature of a row, whose time its collection's time property says.
 fn timed_feature<S: Alter>(
     alloc: Global,
+    scratch: &mut Scratch,
     conn: &mut Connection<S>,
     collection: &str,
     row: &Row,
@@ -129,13 +130,14 @@ fn timed_feature<S: Alter>(
         return Err(ReadFault::Unread);
     };
     let time = property_in(&head)?;
-    read_row(alloc, &mut Scratch::new(alloc), row, time.as_deref())
+    read_row(alloc, scratch, row, time.as_deref())
 }
 
 /// The feature of a row. A feature without a time is the same under any time property, so its
 /// collection is not asked.
 fn feature_in<S: Alter>(
     alloc: Global,
+    scratch: &mut Scratch,
     conn: &mut Connection<S>,
     collection: &str,
     row: &Row,
@@ -148,15 +150,16 @@ fn feature_in<S: Alter>(
     ensures stays { Stays (state S.Store conn.old) (state S.Store conn.new) }
 {
     if is_timeless(row) {
-        read_row(alloc, &mut Scratch::new(alloc), row, None)
+        read_row(alloc, scratch, row, None)
     } else {
-        timed_feature(alloc, conn, collection, row)
+        timed_feature(alloc, scratch, conn, collection, row)
     }
 }
 
 /// The feature of a row that was looked for; `None` where none was found.
 fn found_feature<S: Alter>(
     alloc: Global,
+    scratch: &mut Scratch,
     conn: &mut Connection<S>,
     collection: &str,
     found: Option<Row>,
@@ -171,7 +174,7 @@ fn found_feature<S: Alter>(
     let Some(row) = found else {
         return Ok(None);
     };
-    let feature = feature_in(alloc, conn, collection, &row)?;
+    let feature = feature_in(alloc, scratch, conn, collection, &row)?;
     Ok(Some(feature))
 }
 
@@ -182,6 +185,7 @@ fn found_feature<S: Alter>(
 /// As `page_of`.
 pub fn feature_of<S: Alter>(
     alloc: Global,
+    scratch: &mut Scratch,
     conn: &mut Connection<S>,
     collection: &str,
     id: &str,
@@ -194,7 +198,7 @@ pub fn feature_of<S: Alter>(
     ensures stays { Stays (state S.Store conn.old) (state S.Store conn.new) }
 {
     let found = text_row(conn, collection, id)?;
-    found_feature(alloc, conn, collection, found)
+    found_feature(alloc, scratch, conn, collection, found)
 }
 
 /// The feature of a collection that an outline is of, by the outline's id; `None` where the
@@ -206,6 +210,7 @@ pub fn feature_of<S: Alter>(
 /// As `page_of`.
 pub fn feature_outlined_of<S: Alter>(
     alloc: Global,
+    scratch: &mut Scratch,
     conn: &mut Connection<S>,
     collection: &str,
     outline: &FeatureOutline,
@@ -218,5 +223,5 @@ pub fn feature_outlined_of<S: Alter>(
     ensures stays { Stays (state S.Store conn.old) (state S.Store conn.new) }
 {
     let found = outlined_row(conn, collection, outline)?;
-    found_feature(alloc, conn, collection, found)
+    found_feature(alloc, scratch, conn, collection, found)
 }

@@ -25,6 +25,7 @@ ghost use Rattle.streetmap_store.specs.Serving.{cause_in, error_in, count_after,
 ghost use Rattle.streetmap_store.specs.Serving.{LeavesCommitted};
 ghost use Rattle.streetmap_store.specs.Sparing.{LeavesStates};
 
+use json::Scratch;
 use sqlite::{Alter, Connection, Error};
 use std::alloc::Global;
 use streetmap_geojson::Feature;
@@ -44,6 +45,8 @@ use streetmap_tables::{MakeFault, TablesFault, apply_batch, make_tables, open_ta
 pub struct TableKeeper<S: Alter> {
     alloc: Global,
     conn: Connection<S>,
+    /// Memory for reading the texts of features, one after the other.
+    scratch: Scratch,
     /// How many batches were accepted.
     count: u64,
     shut: Option<Shut>,
@@ -167,6 +170,7 @@ impl<S: Alter> TableKeeper<S> {
             Ok(()) => Ok(TableKeeper {
                 alloc,
                 conn,
+                scratch: Scratch::new(alloc),
                 count: 0,
                 shut: None,
             }),
@@ -247,6 +251,7 @@ impl<S: Alter> TableKeeper<S> {
             Ok(count) => Ok(TableKeeper {
                 alloc,
                 conn,
+                scratch: Scratch::new(alloc),
                 count,
                 shut: None,
             }),
@@ -261,6 +266,7 @@ impl<S: Alter> TableKeeper<S> {
         let TableKeeper {
             alloc: _,
             conn,
+            scratch: _,
             count: _,
             shut: _,
         } = self;
@@ -386,7 +392,13 @@ impl<S: Alter> Keeper for TableKeeper<S> {
         if self.shut.is_some() {
             return Err(Fault::Reopen);
         }
-        match feature_of(self.alloc, &mut self.conn, collection, id) {
+        match feature_of(
+            self.alloc,
+            &mut self.scratch,
+            &mut self.conn,
+            collection,
+            id,
+        ) {
             Ok(feature) => Ok(feature),
             Err(fault) => Err(give_up(&mut self.conn, &mut self.shut, fault)),
         }
@@ -400,7 +412,13 @@ impl<S: Alter> Keeper for TableKeeper<S> {
         if self.shut.is_some() {
             return Err(Fault::Reopen);
         }
-        match feature_outlined_of(self.alloc, &mut self.conn, collection, outline) {
+        match feature_outlined_of(
+            self.alloc,
+            &mut self.scratch,
+            &mut self.conn,
+            collection,
+            outline,
+        ) {
             Ok(feature) => Ok(feature),
             Err(fault) => Err(give_up(&mut self.conn, &mut self.shut, fault)),
         }

@@ -1,33 +1,30 @@
-use Rattle.std.proofs.Common.{sym, ◌∙◌, arith}
-use Rattle.std.proofs.lemmas.Bool.{both_ways}
-use Rattle.std.proofs.lemmas.List.Elements.{All-more}
-use Rattle.std.proofs.lemmas.List.Sums.{count_by_more_yes, count_by_more_no}
+use Rattle.std.proofs.Common.{cond, length, List, ◌++◌, sym, ap, ◌∙◌, arith, rules, append_assoc, length-append, refl}
+use Rattle.std.specs.List.{count_by}
+use Rattle.std.specs.Slice.Iter.{chunks_rest}
+use Rattle.std.proofs.lemmas.List.Elements.{All-append}
+use Rattle.std.proofs.lemmas.List.Sums.{sum_by-append, count_by-le-length}
 use Rattle.streetmap_cells.specs.Envelopes.{overlaps}
+use Rattle.streetmap_cells.specs.declared.envelope.Envelope.{Envelope}
 use Rattle.streetmap_index.specs.Within.{TellsWhetherMet}
 use Rattle.streetmap_index.proofs.extent_column.count_in_window.Goals as goal
 
-pub loop-extent-preserved-then-not-overlaps : goal.loop-extent-preserved-then-not-overlaps
-loop-extent-preserved-then-not-overlaps c =
-    let inv = c.loop-extent.invariant in
+pub loop-block-preserved : goal.loop-block-preserved
+loop-block-preserved c =
     let window = c.args.window.now in
-    let es = c.args.extents.now in
-    let i = c.loop-extent.extent-index in
-    let off = sym c.overlaps.ensures ∙ c.if-not-overlaps.true in
-    record {
-      counted = inv.counted ∙ sym (count_by_more_no (λ e. overlaps e window) es i _ c.loop-extent-test.true off);
-      few = omega arith;
-      told = All-more (λ e. TellsWhetherMet e window) es i _ c.loop-extent-test.true inv.told (λ on. absurd (both_ways _ off on));
-    }
-
-pub loop-extent-preserved : goal.loop-extent-preserved
-loop-extent-preserved c =
-    let inv = c.loop-extent.invariant in
-    let window = c.args.window.now in
-    let es = c.args.extents.now in
-    let i = c.loop-extent.extent-index in
-    let more = count_by_more_yes (λ e. overlaps e window) es i _ c.loop-extent-test.true (sym c.overlaps.ensures ∙ c.if-not-overlaps.false) in
-    record {
-      counted = omega (arith, more, inv.counted);
-      few = omega arith;
-      told = All-more (λ e. TellsWhetherMet e window) es i _ c.loop-extent-test.true inv.told (λ on. c.has_three_bounds_in.ensures.0 c.if-not-has_three_bounds_in.false);
-    }
+    let block = c.in-Some.block.now in
+    let steps = c.in-Some.ensures.steps in
+    let so_far = c.loop-block.invariant.3 in
+    let done = so_far.0 in
+    let here = c.in_ok-count_in_block.ensures in
+    let both = sum_by-append (λ e. cond (overlaps e window) 1 0) done block in (
+      search rules,
+      tt,
+      steps.0 ∙ c.loop-block.invariant.2,
+      (
+        done ++ block,
+        append_assoc done block _ ∙ ap (λ (es : List Envelope). done ++ es) (sym steps.1.0) ∙ so_far.1,
+        omega (arith, both, so_far.2, here.count, c.from.ensures),
+        omega (arith, so_far.3, here.count, c.from.ensures, length-append done block, count_by-le-length (λ e. overlaps e window) block),
+        All-append (λ e. TellsWhetherMet e window) done block so_far.4 (here.told.0 refl),
+      ),
+    )

@@ -1,13 +1,18 @@
-use Rattle.std.proofs.Common.{◌≡◌, ◌≤◌, All, take}
+use Rattle.std.proofs.Common.{◌≡◌, ◌≤◌, List, ◌++◌, All, length}
 use Rattle.std.specs.List.{count_by}
+use Rattle.std.specs.Slice.Iter.{chunks_rest, chunks_size}
 use Rattle.streetmap_cells.specs.Envelopes.{overlaps}
+use Rattle.streetmap_cells.specs.declared.envelope.Envelope.{Envelope}
 use Rattle.streetmap_index.specs.Within.{TellsWhetherMet}
 use Rattle.streetmap_index.proofs.extent_column.count_in_window.Given as goal
 
--- so many of the extents so far overlap the window, and each of these has three bounds in it
-abbrev pub invariant-loop-extent : goal.invariant-loop-extent
-invariant-loop-extent l = record {
-  counted : l.count ≡ count_by (λ e. overlaps e l.window) (take l.extent-index l.extents);
-  few : l.count ≤ l.extent-index;
-  told : All (λ e. TellsWhetherMet e l.window) (take l.extent-index l.extents);
-}
+-- of the extents so far, so many overlap the window, and each of these has three bounds in it
+abbrev pub invariant-loop-block : goal.invariant-loop-block
+invariant-loop-block l =
+    goal.iterator-loop-block.can_next l.block-iterator
+    × goal.iterator-loop-block.is_finite l.block-iterator
+    × (chunks_size l.block-iterator ≡ 4096)
+    × ((done : List Envelope) × (done ++ chunks_rest l.block-iterator ≡ l.extents)
+    × (l.count ≡ count_by (λ e. overlaps e l.window) done)
+    × (l.count ≤ length done)
+    × All (λ e. TellsWhetherMet e l.window) done)
