@@ -28,6 +28,10 @@ const MOST_IN_CHUNK: usize = 256;
 /// How many outlines a chunk has that is learnt, which leaves room for others.
 const LEARNT_IN_CHUNK: usize = 128;
 
+/// How many chunks are passed over by their bounds in the time that a search of cells takes for one
+/// of the first level, and for its part of the others.
+const CHUNKS_A_CELL: i64 = 64;
+
 /// Outlines of features in byte order of ids: those of each chunk behind those of the chunk before
 /// it, and no chunk is empty.
 #[derive(Drop)]
@@ -195,12 +199,18 @@ impl Chunks {
         }
     }
 
-    /// Whether to look for the box in the cells: where a page would go over more chunks with no
-    /// marks than the search goes over cells. To go over a chunk costs more than to go over a cell.
+    /// Whether to look for the box in the cells. With no marks a page passes over each chunk by its
+    /// bounds. So where there are very many chunks for the cells that a search goes over, it is the
+    /// cheaper way wherever the box lies. Else it is where a page would go over more chunks with no
+    /// marks than the search goes over cells: to go over a chunk costs more than to go over a cell.
     /// Where ids follow places few chunks are near a small box, and a search would only add to
     /// them.
     fn is_cheaper_by_cells(&self, query: &Query, area: &GridBox) -> bool {
         let cells = Cells::cost(area);
+        let chunks = i64::try_from(self.chunks.len()).unwrap_or(i64::MAX);
+        if cells.saturating_mul(CHUNKS_A_CELL) <= chunks {
+            return true;
+        }
         let mut near: i64 = 0;
         for chunk in &self.chunks {
             if !is_passed_over(query, chunk) && count_by_bounds(query, chunk).is_none() {
