@@ -1,5 +1,5 @@
 -- What an edit in the chunk that an id is for does to the outlines of all chunks.
-use Rattle.std.proofs.Common.{◌≡◌, ℕ, zero, suc, ◌+◌, ◌-◌, ◌<◌, List, [], ◌∷◌, ◌++◌, Bool, true, false, T, length, take, drop, get_or, reverse, set, string_bytes, refl, sym, ap, subst, ◌∙◌, arith, append_assoc, append-nil}
+use Rattle.std.proofs.Common.{◌≡◌, ℕ, zero, suc, ◌+◌, ◌-◌, ◌<◌, List, [], ◌∷◌, ◌++◌, Bool, true, false, T, length, take, drop, get_or, set, string_bytes, refl, sym, ap, subst, ◌∙◌, arith, append_assoc, append-nil}
 use Rattle.std.specs.Prelude.{◌&&◌, ◌≤◌, not, slice_index_or}
 use Rattle.std.specs.List as list
 use Rattle.std.specs.List.Sorted.{IsPartitionedBy, IsPartitionPoint}
@@ -9,7 +9,7 @@ use Rattle.std.specs.declared.cmp.Ordering.TheVariants.{Less, Equal, Greater}
 use Rattle.std.specs.Cmp.Lexicographic.{nat_list_cmp_total}
 use Rattle.std.specs.FinMap.{entries, entries_sorted, insert, remove, put, is_sorted, from_sorted, entries-from_sorted, entries-insert}
 use Rattle.std.specs.FinMap.Entries.{below_all, where_key}
-use Rattle.std.proofs.lemmas.List.{map-append, reverse-append, take-append-drop, length-drop, drop_more}
+use Rattle.std.proofs.lemmas.List.{map-append, take-append-drop, length-drop, drop_more}
 use Rattle.std.proofs.lemmas.List.Elements.{All-nil, All-head, All-tail, filter-append}
 use Rattle.streetmap_geojson.specs.FeatureValue.{FeatureValue}
 use Rattle.streetmap_batch.specs.Text.{Text, text_cmp}
@@ -335,15 +335,6 @@ shed_at (x ∷ cs) (suc i) c within at none = ap (λ xs. x.outlines.items ++ xs)
 -- ---- what is left behind a place
 pub dropped_some : (os last : List FeatureOutline) (n : ℕ) → last ≡ drop n os → n < length os → 0 < length last
 dropped_some os last n is h = let left : length last ≡ length os - n = ap length is ∙ length-drop n os in omega arith
-
--- ---- chunks that are cut off from the end of outlines, the last one first
-pub last_pushed : (cs ds : List Chunk) (last : Chunk) → ds ≡ cs ++ last ∷ [] → joined (reverse ds) ≡ last.outlines.items ++ joined (reverse cs)
-last_pushed cs ds last is = ap joined (ap reverse is ∙ reverse-append cs (last ∷ []))
-
-pub cut_off : (os front : List FeatureOutline) (n : ℕ) (cs ds : List Chunk) (last : Chunk) → front ≡ take n os → last.outlines.items ≡ drop n os → ds ≡ cs ++ last ∷ [] → front ++ joined (reverse ds) ≡ os ++ joined (reverse cs)
-cut_off os front n cs ds last p q is =
-    ap (λ xs. front ++ xs) (last_pushed cs ds last is)
-    ∙ (sym (append_assoc front last.outlines.items (joined (reverse cs))) ∙ ap (λ xs. xs ++ joined (reverse cs)) (ap (λ xs. xs ++ last.outlines.items) p ∙ (ap (λ xs. take n os ++ xs) q ∙ take-append-drop n os)))
 
 -- ---- the chunk that comes next
 pub next_chunk : (cs : List Chunk) (i : ℕ) (c : Chunk) (os : List FeatureOutline) → i < length cs → c ≡ get_or cs i c → os ≡ c.outlines.items → joined (drop i cs) ≡ os ++ joined (drop (i + 1) cs)

@@ -17,3 +17,4 @@ pub mod Counting
 pub mod Ordered
 pub mod Runs
 pub mod Blocks
+pub mod CutUp

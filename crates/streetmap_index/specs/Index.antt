@@ -1,6 +1,7 @@
 -- What an index knows of collections without reading their features.
 use Rattle.std.specs.Prelude.{◌≡◌, ◌<◌, ℕ, ℤ, ◌≤ℤ◌, Bool, List, [], ◌∷◌, All, length, map, is_some}
 use Rattle.std.specs.Prelude.{Option, None, Some, IsSome, IsTrue, String, string_bytes, slice_get}
+use Rattle.std.specs.Prelude.{Vec}
 use Rattle.std.specs.Option.{option_map}
 use Rattle.std.specs.Ordering.{is_eq}
 use Rattle.std.specs.Map.{lookup}
@@ -39,6 +40,10 @@ IsOutlineOf o f = feature_outline_value o ≡ feature_outline_of f.id f
 -- the outlines of all chunks, those of each one behind those of the chunk before it
 abbrev pub joined : List Chunk → List FeatureOutline
 joined chunks = flat_map (λ chunk. chunk.outlines.items) chunks
+
+-- the outlines of runs, put together
+abbrev pub joined_runs : List (Vec FeatureOutline Global) → List FeatureOutline
+joined_runs runs = flat_map (λ run. run.items) runs
 
 -- they are the outlines of these features, in byte order of ids
 abbrev pub AreOutlines : List FeatureOutline → Features → Type 0

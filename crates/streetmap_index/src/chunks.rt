@@ -1,13 +1,13 @@
 //! Outlines of features in byte order of ids, in chunks, so that one that comes or goes moves few
 //! others.
 ghost use Rattle.std.specs.Prelude.{◌≡◌, ℕ, ◌+◌, ◌<◌, [], true, false, IfOk, IfSome, OnOk, length};
-ghost use Rattle.std.specs.Prelude.{slice_index_or};
+ghost use Rattle.std.specs.Prelude.{All, slice_index_or};
 ghost use Rattle.std.specs.FinMap.{insert, remove};
 ghost use Rattle.streetmap_geojson.specs.FeatureValue.{FeatureValue};
 ghost use Rattle.streetmap_query.specs.Views.{query_value};
 ghost use Rattle.streetmap_ledger.specs.State.{Features};
 ghost use Rattle.streetmap_index.specs.Taking.{MarksCandidates};
-ghost use Rattle.streetmap_index.specs.Index.{joined, IsOutlineOf, AreFilled, AreBounded};
+ghost use Rattle.streetmap_index.specs.Index.{joined, joined_runs, IsOutlineOf, AreFilled, AreBounded};
 ghost use Rattle.streetmap_index.specs.Index.{AreChunksOf, AreListed, IsListedIf};
 ghost use Rattle.streetmap_index.specs.Index.{AreListedChunksOf};
 ghost use Rattle.streetmap_index.specs.Chunks.{reaches as reaches_of};
@@ -48,24 +48,42 @@ fn number_after(chunks: &[Chunk]) -> u32 {
     u32::try_from(chunks.len()).unwrap_or(u32::MAX)
 }
 
-/// Moves outlines into chunks.
-fn cut_up(alloc: Global, mut outlines: Vec<FeatureOutline>) -> Result<Vec<Chunk>, AllocError>
-    ensures same { IfOk result (λ made. joined made.items ≡ outlines.items) }
-    ensures filled { IfOk result (λ made. AreFilled made.items) }
-    ensures bounded { IfOk result (λ made. AreBounded made.items) }
+/// Cuts outlines into runs of as many as a chunk has that is learnt, but for the first run, which
+/// may have fewer.
+fn cut_up(
+    alloc: Global,
+    mut outlines: Vec<FeatureOutline>,
+) -> Result<Vec<Vec<FeatureOutline>>, AllocError>
+    ensures same { IfOk result (λ runs. joined_runs runs.items ≡ outlines.items) }
+    ensures filled { IfOk result (λ runs. All (λ run. 0 < length run.items) runs.items) }
 {
-    let mut chunks = Vec::new(alloc);
+    let mut runs = Vec::new(alloc);
     while outlines.len() > LEARNT_IN_CHUNK {
         let last = outlines.split_off(outlines.len() - LEARNT_IN_CHUNK)?;
-        let number = number_after(chunks.as_slice());
-        chunks.push(Chunk::new(alloc, number, last))?;
+        runs.push(last)?;
     }
     if !outlines.is_empty() {
         outlines.shrink_to_fit();
-        let number = number_after(chunks.as_slice());
-        chunks.push(Chunk::new(alloc, number, outlines))?;
+        runs.push(outlines)?;
     }
-    chunks.reverse();
+    runs.reverse();
+    Ok(runs)
+}
+
+/// Chunks of runs of outlines. All outlines are in their place before, so that the extents of one
+/// chunk come to stand behind those of the chunk before it: a page of a large box goes over the
+/// extents of all, and the processor reads on ahead of it.
+fn chunks_of(alloc: Global, runs: Vec<Vec<FeatureOutline>>) -> Result<Vec<Chunk>, AllocError>
+    ensures same { IfOk result (λ made. joined made.items ≡ joined_runs runs.items) }
+    ensures filled { All (λ run. 0 < length run.items) runs.items
+        → IfOk result (λ made. AreFilled made.items) }
+    ensures bounded { IfOk result (λ made. AreBounded made.items) }
+{
+    let mut chunks = Vec::new(alloc);
+    for run in runs {
+        let number = number_after(chunks.as_slice());
+        chunks.push(Chunk::new(alloc, number, run))?;
+    }
     Ok(chunks)
 }
 
@@ -77,7 +95,8 @@ impl Chunks {
         ensures bounded { IfOk result (λ made. AreBounded made.chunks.items) }
         ensures listed { IfOk result (λ made. AreListed made.cells made.chunks.items) }
     {
-        let chunks = cut_up(alloc, outlines)?;
+        let runs = cut_up(alloc, outlines)?;
+        let chunks = chunks_of(alloc, runs)?;
         let cells = cells_of(alloc, chunks.as_slice())?;
         let next = number_after(chunks.as_slice());
         Ok(Chunks {

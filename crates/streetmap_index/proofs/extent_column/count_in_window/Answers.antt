@@ -1,6 +1,4 @@
-use Rattle.std.proofs.Common.{cond, length, List, ◌++◌, sym, ap, ◌∙◌, arith, rules, append_assoc, length-append, refl}
-use Rattle.std.specs.List.{count_by}
-use Rattle.std.specs.Slice.Iter.{chunks_rest}
+use Rattle.std.proofs.Common.{cond, List, ◌++◌, sym, ap, ◌∙◌, arith, rules, append_assoc, length-append, refl}
 use Rattle.std.proofs.lemmas.List.Elements.{All-append}
 use Rattle.std.proofs.lemmas.List.Sums.{sum_by-append, count_by-le-length}
 use Rattle.streetmap_cells.specs.Envelopes.{overlaps}
