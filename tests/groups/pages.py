@@ -1,16 +1,19 @@
 """Pages of boxes as features come, move and go, beside what plain Python finds.
 
-The collection has more features than a chunk of the index holds, half of them under ids that follow
-their places.
+A first collection has more features than a chunk of the index holds, half of them under ids that
+follow their places. A second one has more than are learnt in order of their ids, and its rows stand
+among those of a third.
 """
 
 from collections.abc import Iterator
 from random import Random
 
 from harness import Context
-from messages import Answer, Edit, OPEN_LAMPS, batch, delete, feature, get, point, put
+from messages import Answer, Edit, batch, delete, feature, get, open_collection, point, put
 
 ROWS, OTHERS, TURNS, LIMIT = 2_500, 2_500, 60, 20
+# More than 32,768, and the most edits of a batch.
+MANY, FEW, A_BATCH = 33_000, 3_000, 10_000
 Place = tuple[int, int]
 Page = tuple[list[str], int]
 
@@ -18,8 +21,9 @@ Page = tuple[list[str], int]
 class Town:
     """Features that are points, or have no geometry, and the edits that change them."""
 
-    def __init__(self, seed: int) -> None:
+    def __init__(self, seed: int, collection: str = "lamps") -> None:
         self.random = Random(seed)
+        self.collection = collection
         self.places: dict[str, Place | None] = {}
 
     def some_place(self, size: int) -> Place:
@@ -30,23 +34,27 @@ class Town:
 
     def put(self, operation: str, name: str, place: Place | None) -> Edit:
         self.places[name] = place
-        return put(operation, "lamps", feature(name, place and point(*place)))
+        return put(operation, self.collection, feature(name, place and point(*place)))
 
     def delete(self, name: str) -> Edit:
         del self.places[name]
-        return delete("lamps", name)
+        return delete(self.collection, name)
 
     def first_edits(self) -> list[Edit]:
         edits = []
         for at in range(ROWS):
             corner = (at % 50 * 40 - 1000, at // 50 * 40 - 1000)
             edits.append(self.put("insert", f"row-{at:04}", corner))
-        others = []
-        for _ in range(OTHERS):
+        return edits + self.scattered(OTHERS)
+
+    def scattered(self, count: int) -> list[Edit]:
+        """Inserts of features under ids in no order, one in a hundred without a place."""
+        edits = []
+        for _ in range(count):
             place = self.some_place(1000) if self.random.random() < 0.99 else None
-            others.append(self.put("insert", self.some_name(), place))
-        self.random.shuffle(others)
-        return edits + others
+            edits.append(self.put("insert", self.some_name(), place))
+        self.random.shuffle(edits)
+        return edits
 
     def next_edits(self) -> list[Edit]:
         names = self.random.sample(sorted(self.places), 12)
@@ -67,7 +75,7 @@ class Town:
                 if place and west <= place[0] <= east and south <= place[1] <= north
             )
             box = f"{west},{south},{east},{north}"
-            sent = get(f"/collections/lamps/items?bbox={box}&limit={LIMIT}")
+            sent = get(f"/collections/{self.collection}/items?bbox={box}&limit={LIMIT}")
             yield sent, (found[:LIMIT], len(found))
 
 
@@ -76,7 +84,17 @@ def page_of(answer: Answer) -> Page:
     return [it["id"] for it in page["features"]], page["numberMatched"]
 
 
-def run(context: Context) -> None:
+def check_pages(context: Context, what: str, answers: list[Answer], wanted: list[Page]) -> None:
+    """Whether each request was answered, and each page is the one that is wanted."""
+    context.check(f"{what}: each is answered", {answer.status for answer in answers}, {200})
+    found = [page_of(answer) for answer in answers if b"FeatureCollection" in answer.body]
+    context.check(f"{what}: the number of pages", len(found), len(wanted))
+    for number, (got, page) in enumerate(zip(found, wanted)):
+        context.check(f"{what}: page {number}", got, page)
+
+
+def check_changes(context: Context) -> None:
+    """Pages between batches of edits, which the index follows."""
     town, requests, wanted = Town(1), [], []
 
     def look() -> None:
@@ -84,14 +102,33 @@ def run(context: Context) -> None:
             requests.append(sent)
             wanted.append(page)
 
-    requests.append(batch("all", [OPEN_LAMPS, *town.first_edits()]))
+    requests.append(batch("all", [open_collection("lamps"), *town.first_edits()]))
     for turn in range(TURNS):
         look()
         requests.append(batch(f"b{turn}", town.next_edits()))
     look()
     answers = context.pipe(context.new_file("town.db"), *requests)
-    context.check("each is answered", {answer.status for answer in answers}, {200})
-    found = [page_of(answer) for answer in answers if b"FeatureCollection" in answer.body]
-    context.check("the number of pages", len(found), len(wanted))
-    for number, (got, page) in enumerate(zip(found, wanted)):
-        context.check(f"page {number} of a box of a town", got, page)
+    check_pages(context, "a town", answers, wanted)
+
+
+def check_many(context: Context) -> None:
+    """A large collection whose rows stand among those of another, both learnt from the file."""
+    towns = [Town(2, "lamps"), Town(3, "trees")]
+    edits = towns[0].scattered(MANY) + towns[1].scattered(FEW)
+    towns[0].random.shuffle(edits)
+    edits = [open_collection(town.collection) for town in towns] + edits
+    starts = range(0, len(edits), A_BATCH)
+    batches = [batch(f"b{start}", edits[start : start + A_BATCH]) for start in starts]
+    file = context.new_file("many.db", *batches)
+    requests, wanted = [], []
+    for turn in range(4):
+        for sent, page in [*towns[0].pages(), *towns[1].pages()]:
+            requests.append(sent)
+            wanted.append(page)
+        requests.append(batch(f"c{turn}", towns[turn % 2].next_edits()))
+    check_pages(context, "a large town", context.pipe(file, *requests), wanted)
+
+
+def run(context: Context) -> None:
+    check_changes(context)
+    check_many(context)

@@ -19,6 +19,8 @@ use Rattle.streetmap_rows.specs.Holds.{same_text, KeyPair, pair_key, has_pair}
 use Rattle.streetmap_rows.proofs.HeldKeys.{cells_of, there}
 use Rattle.streetmap_rows.proofs.TextKeys.{text_is, text_self, pair_is, pair_self, column_later}
 use Rattle.streetmap_rows.proofs.OrderedRows.{Says, AreRowsOf, keeps, text_in, ordered_query, shows_entries, if_passes, passed, passing, sorted_passing, find_passing}
+use Rattle.streetmap_rows.proofs.AnyOrder.{AreEachOnce, shows_each}
+use Rattle.streetmap_rows.specs.Queries.{over}
 use Rattle.streetmap_rows.specs.Rows.{AreOf, feature_at, feature_cells}
 use Rattle.streetmap_rows.specs.Tables.{Roots}
 use Rattle.streetmap_reading.specs.Candidates.{candidate_row}
@@ -67,7 +69,7 @@ module _ (s : State) (roots : Roots) (db : Trees) (of : AreOf s roots db) (name 
   abbrev chosen_rows : List Row
   chosen_rows = filter (keeps terms params) all_rows
 
-  abbrev value_of : Text → Option FeatureValue
+  abbrev pub value_of : Text → Option FeatureValue
   value_of q = if_passes test (get kept q)
 
   -- a row that is chosen is of the collection, and its feature passes
@@ -102,6 +104,10 @@ module _ (s : State) (roots : Roots) (db : Trees) (of : AreOf s roots db) (name 
   pub shows_chosen_in : nat_le (2 ^ 31) roots.features ≡ false → (shown : List Row) → IsAnswerAs Null (ordered_query roots.features terms project 2) (overlay db []) params shown → shown ≡ map (λ e. view e.0 e.1) (passing test (entries kept))
   shows_chosen_in low shown answer =
       shows_entries roots.features terms project 2 params value_of view db low feature_rows shown answer (passing test (entries kept)) (sorted_passing test (entries kept) (entries_sorted kept)) (λ q. ap (if_passes test) (get-entries kept q) ∙ find_passing test (entries kept) (entries_sorted kept) q)
+
+  -- in any order, the query shows each chosen feature once
+  pub shows_chosen_once : nat_le (2 ^ 31) roots.features ≡ false → (shown : List Row) → IsAnswerAs Null (over roots.features terms project) (overlay db []) params shown → AreEachOnce value_of view shown
+  shows_chosen_once low shown answer = shows_each roots.features terms project 2 params value_of view db low feature_rows shown answer
 
 module _ (s : State) (roots : Roots) (db : Trees) (of : AreOf s roots db) (name : Text) (kept : Features) (kept_is : (q : Text) → get kept q ≡ feature_at s (name, q)) (terms : List Term) (params : Row) (test : FeatureValue → Bool) (chooses : Chooses terms params name test)
     (project : List Term) (view : Text → FeatureValue → Row) (shows : Shows project params view) where

@@ -3,7 +3,8 @@ use Rattle.std.proofs.Common.{◌≡◌, ℕ, ◌^◌, true, false, List, [], �
 use Rattle.std.specs.Prelude.{nat_lt, nat_le}
 use Rattle.std.proofs.lemmas.Bool.{lt-ltb, leb-false}
 use Rattle.sqlite_tied.specs.Compute.{everything}
-use Rattle.streetmap_rows.proofs.Meaning.{Part, Selection, IsSelect, SelectMeans, SelectNever}
+use Rattle.streetmap_rows.proofs.Meaning.{Column, Part, Selection, IsSelect, SelectMeans}
+use Rattle.streetmap_rows.proofs.Meaning.{SelectNever, where_equal_in_turn}
 use Rattle.streetmap_rows.proofs.Meaning.{a_text, a_number, given, where_equal, where_at_least}
 use Rattle.streetmap_rows.proofs.Meaning.{where_at_most, select_means, select_never}
 use Rattle.streetmap_rows.specs.Tables.{features}
@@ -41,6 +42,63 @@ select_extents_means = select_means selects_extents select_extents_is
 
 pub select_extents_never : SelectNever selects_extents
 select_extents_never = select_never selects_extents select_extents_is
+
+-- ---- select_outlines, and select_outlines_in_turn
+
+abbrev outline_columns : List Column
+outline_columns =
+    (codes "id", 2) ∷ (codes "x0", 4) ∷ (codes "y0", 5) ∷ (codes "x1", 6) ∷ (codes "y1", 7)
+    ∷ (codes "s0", 8) ∷ (codes "s1", 9) ∷ (codes "rowid", 0) ∷ []
+
+abbrev selects_outlines : Selection
+selects_outlines = record {
+  text = text.select_outlines;
+  parameters = a_text ∷ [];
+  table = features;
+  shown = outline_columns;
+  conditions = in_collection;
+  by = (codes "id", 2) ∷ [];
+}
+
+select_outlines_is : IsSelect selects_outlines
+unfolding everything
+select_outlines_is = record {
+  says = (refl, refl, omega arith, refl);
+  resolved = λ schema tree it.
+      rw (it.named, it.listed, is_stored tree it.low, it.listed, it.listed, it.listed) refl;
+  accepted = λ schema tree it. rw (it.low, it.by_tree) (refl, λ t. refl);
+}
+
+pub select_outlines_means : SelectMeans selects_outlines
+select_outlines_means = select_means selects_outlines select_outlines_is
+
+pub select_outlines_never : SelectNever selects_outlines
+select_outlines_never = select_never selects_outlines select_outlines_is
+
+abbrev selects_in_turn : Selection
+selects_in_turn = record {
+  text = text.select_outlines_in_turn;
+  parameters = a_text ∷ [];
+  table = features;
+  shown = outline_columns;
+  conditions = where_equal_in_turn (codes "collection", 1) (given 1) ∷ [];
+  by = [];
+}
+
+select_in_turn_is : IsSelect selects_in_turn
+unfolding everything
+select_in_turn_is = record {
+  says = (refl, refl, omega arith, refl);
+  resolved = λ schema tree it.
+      rw (it.named, it.listed, is_stored tree it.low, it.listed, it.listed) refl;
+  accepted = λ schema tree it. rw (it.low, it.by_tree) (refl, λ t. refl);
+}
+
+pub select_in_turn_means : SelectMeans selects_in_turn
+select_in_turn_means = select_means selects_in_turn select_in_turn_is
+
+pub select_in_turn_never : SelectNever selects_in_turn
+select_in_turn_never = select_never selects_in_turn select_in_turn_is
 
 -- ---- select_run
 

@@ -1,7 +1,7 @@
 pub mod PositionBounds
 pub mod TermsChoose
 pub mod Compiles
-pub mod OutlineCompiles
+pub mod SortedOutlines
 pub mod FeatureStatement
 pub mod Folded
 pub mod NextRow

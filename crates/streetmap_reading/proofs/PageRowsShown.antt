@@ -35,7 +35,7 @@ use Rattle.streetmap_rows.proofs.Compiles.{one, select_all_means, select_all_nev
 use Rattle.streetmap_rows.proofs.PutCollection.{name_cell}
 use Rattle.streetmap_rows.proofs.KeyLooks.{named_is}
 use Rattle.streetmap_rows.proofs.TablesInSchema as placing
-use Rattle.streetmap_reading.specs.Candidates.{candidate_row, ShowsOf}
+use Rattle.streetmap_reading.specs.Candidates.{candidate_row, ShowsSuch, ShowsOf}
 use Rattle.streetmap_rows.specs.Stored.{IsStored}
 use Rattle.streetmap_reading.specs.Choosing.{is_chosen, chosen_of}
 use Rattle.streetmap_rows.specs.Views.{collection_view}
@@ -64,9 +64,9 @@ module _ (s : State) (db : Database) (keeps : Keeps s db) (name : Text) (c : Col
 -- ---- each statement of a page
 
 -- what a query that no rule refuses shows
-pub shows_by : (sql : List ℕ) (params : Row) (db : Database) (q : Query) (names : List (List ℕ)) (rows : List Row) → Means db.schema sql (length params) (Select (program q) names)
-    → ((e : Error) → RefusesQuery None db (program q) params e → ⊥) → ((given : List Row) → IsAnswerAs Null q (overlay db.trees []) params given → given ≡ rows) → ShowsOf sql params db rows
-shows_by sql params db q names rows it never only = record {
+pub shows_such : (sql : List ℕ) (params : Row) (db : Database) (q : Query) (names : List (List ℕ)) (Are : List Row → Type 0) → Means db.schema sql (length params) (Select (program q) names)
+    → ((e : Error) → RefusesQuery None db (program q) params e → ⊥) → ((given : List Row) → IsAnswerAs Null q (overlay db.trees []) params given → Are given) → ShowsSuch sql params db Are
+shows_such sql params db q names Are it never only = record {
   plain = is_plain db.schema sql (length params) _ it;
   unlisted = unlisted db.schema sql (length params) _ it;
   program = program q;
@@ -77,6 +77,10 @@ shows_by sql params db q names rows it never only = record {
   answers = λ given h. only given (h.answer Null);
   never = never;
 }
+
+pub shows_by : (sql : List ℕ) (params : Row) (db : Database) (q : Query) (names : List (List ℕ)) (rows : List Row) → Means db.schema sql (length params) (Select (program q) names)
+    → ((e : Error) → RefusesQuery None db (program q) params e → ⊥) → ((given : List Row) → IsAnswerAs Null q (overlay db.trees []) params given → given ≡ rows) → ShowsOf sql params db rows
+shows_by sql params db q names rows = shows_such sql params db q names (λ given. given ≡ rows)
 
 module _ (db : Database) (s : State) (keeps : Keeps s db) (name : Text) where
   abbrev roots : Roots

@@ -11,9 +11,9 @@ use Rattle.sqlite.proofs.Callers.{IsPlain, command_of}
 use Rattle.streetmap_rows.specs.Failing.{IsOfStore, HasReason}
 use Rattle.streetmap_rows.proofs.ErrorReasons.{queried}
 use Rattle.streetmap_rows.proofs.StoreErrors.{failure_is}
-use Rattle.streetmap_reading.specs.Candidates.{IsOneStatement, ShowsOf}
+use Rattle.streetmap_reading.specs.Candidates.{IsOneStatement, ShowsSuch}
 
-module _ (sql : List ℕ) (params : Row) (old new : Seen) (rows : List Row) (shows : ShowsOf sql params old.now rows) (limit : old.step_limit ≡ None) where
+module _ (sql : List ℕ) (params : Row) (old new : Seen) (Are : List Row → Type 0) (shows : ShowsSuch sql params old.now Are) (limit : old.step_limit ≡ None) where
   by : (e : Error) → FailsToQuery sql params old new e → IsOfStore e × KeepsCommit old new
   unfolding FailsToQuery IsNotRun
   by e (inl (inl ((inl missing), same))) = absurd (subst IsPlain missing.1 shows.plain)

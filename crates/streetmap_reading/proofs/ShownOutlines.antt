@@ -1,5 +1,5 @@
 -- What the statements over all features of a collection, and over all collections, show of the database of a state.
-use Rattle.std.proofs.Common.{◌≡◌, ◌≢◌, ℕ, ℤ, pos, suc, List, [], ◌∷◌, map, filter, find, codes, drop, Option, Some, None, option_map, refl, sym, ap, subst, ◌∙◌, IsUtf8}
+use Rattle.std.proofs.Common.{◌≡◌, ◌≢◌, ℕ, ℤ, pos, suc, List, [], ◌∷◌, Vec, map, filter, find, codes, drop, Option, Some, None, option_map, refl, sym, ap, subst, ◌∙◌, IsUtf8}
 use Rattle.std.specs.Option.{option_and_then, option_map_or}
 use Rattle.std.specs.FinMap.{get, empty, entries, entries_sorted, get-entries, get-empty}
 use Rattle.std.specs.List.{AllByRecursion}
@@ -26,7 +26,7 @@ use Rattle.streetmap_rows.specs.Holds.{first_key, is_first, KeyPair, pair_key, h
 use Rattle.streetmap_rows.proofs.NamedTables.{IsFound}
 use Rattle.streetmap_rows.proofs.HeldKeys.{cells_of, there, find_own}
 use Rattle.streetmap_rows.proofs.TextKeys.{first_is, first_self, pair_is, pair_self, column_later}
-use Rattle.streetmap_rows.proofs.OrderedRows.{Says, AreRowsOf, keeps, ordered_query, shows_entries, passing, mapped_has, find_has}
+use Rattle.streetmap_rows.proofs.OrderedRows.{Says, AreRowsOf, keeps, ordered_query, shows_entries, if_passes, passed, passing, mapped_has, find_has}
 use Rattle.streetmap_rows.specs.Keeping.{Keeps}
 use Rattle.streetmap_rows.specs.Rows.{AreOf, feature_at, feature_cells, collection_cells, extent_in, seconds_in}
 use Rattle.streetmap_rows.specs.Stands.{HasTextNames}
@@ -34,18 +34,28 @@ use Rattle.streetmap_rows.specs.Statements.{select_collections}
 use Rattle.streetmap_rows.specs.Tables.{Roots, features, collections, features_name, collections_name}
 use Rattle.streetmap_rows.proofs.Compiles.{select_collections_means, select_collections_never}
 use Rattle.streetmap_rows.proofs.TablesInSchema as placing
-use Rattle.streetmap_reading.specs.Candidates.{ShowsOf}
+use Rattle.streetmap_reading.specs.Candidates.{ShowsSuch, ShowsOf}
 use Rattle.streetmap_reading.specs.Choosing.{is_chosen}
-use Rattle.streetmap_reading.proofs.TermsChoose.{in_collection, all_chooses}
-use Rattle.streetmap_reading.proofs.ChosenInOrder.{ShowsIn, shows_chosen_in}
-use Rattle.streetmap_reading.proofs.PageRowsShown.{shows_by}
-use Rattle.streetmap_reading.specs.Statements.{select_outlines, select_extents}
+use Rattle.streetmap_reading.proofs.TermsChoose.{in_collection, in_collection_in_turn, all_chooses, chooses_in_turn}
+use Rattle.streetmap_reading.proofs.ChosenInOrder.{ShowsIn, shows_chosen_in, shows_chosen_once}
+use Rattle.streetmap_reading.proofs.PageRowsShown.{shows_by, shows_such}
+use Rattle.streetmap_reading.specs.Statements.{select_outlines, select_outlines_in_turn, select_extents}
 use Rattle.streetmap_reading.specs.Telling.{features_in}
 use Rattle.streetmap_reading.specs.Views.{PlacedOutline, placed_row, extent_row, feature_extent, IsOutline, IsOutlineRow, IsExtentRow, IsHeadRow}
 use Rattle.streetmap_reading.proofs.PositionBounds.{extent_is_box}
 use Rattle.streetmap_reading.proofs.Compiles.{select_extents_means, select_extents_never}
-use Rattle.streetmap_reading.proofs.OutlineCompiles.{select_outlines_means, select_outlines_never}
+use Rattle.streetmap_reading.proofs.Compiles.{select_outlines_means, select_outlines_never}
+use Rattle.streetmap_reading.proofs.Compiles.{select_in_turn_means, select_in_turn_never}
+use Rattle.streetmap_rows.proofs.AnyOrder.{AreEachOnce}
+use Rattle.streetmap_rows.specs.Queries.{over}
 use Rattle.streetmap_reading.proofs.RowsInTurn.{map_again}
+use Rattle.streetmap_reading.proofs.SortedOutlines.{sorted_are}
+use Rattle.streetmap_reading.specs.Held.{HoldsOutlines}
+use Rattle.streetmap_reading.specs.Telling.{comes_before}
+use Rattle.streetmap_ledger.specs.OutlineView.{feature_outline_values}
+use Rattle.streetmap_ledger.specs.declared.outline.FeatureOutline.{FeatureOutline}
+use Rattle.std.specs.declared.alloc.Global.{Global}
+use Rattle.std.specs.List.Sorted.{IsPermutation, IsSortedBy}
 
 abbrev outline_terms : List Term
 outline_terms = col 1 2 ∷ col 1 4 ∷ col 1 5 ∷ col 1 6 ∷ col 1 7 ∷ col 1 8 ∷ col 1 9 ∷ col 1 0 ∷ []
@@ -120,10 +130,27 @@ module _ (db : Database) (s : State) (kept : Keeps s db) where
         let found : find (has_pair (name, (pair_key r).1)) all_rows ≡ Some r = subst (λ n. find (has_pair (n, (pair_key r).1)) all_rows ≡ Some r) of_name (find_own pair_key has_pair pair_is pair_self all_rows r of.features.apart there) in
         int_is (rowid r) (all_has _ all_rows r of.features.keyed there) ∙ ap (λ o. Int (option_map_or (λ (x : Row). id_in (rowid x)) o (pos 0))) (sym found)
 
-    pub outlines_at : ShowsOf select_outlines params db (map (λ e. placed_row (placed e)) (entries (features_in s name)))
+    abbrev placed_as : Text → FeatureValue → Row
+    placed_as id f = placed_row (placed (id, f))
+
+    shows_placed : ShowsIn all_rows name outline_terms params placed_as
     unfolding placed
-    outlines_at = shows_by select_outlines params db (ordered_query roots.features tests outline_terms 2) (codes "id" ∷ codes "x0" ∷ codes "y0" ∷ codes "x1" ∷ codes "y1" ∷ codes "s0" ∷ codes "s1" ∷ codes "rowid" ∷ []) _ (select_outlines_means db.schema roots.features in_features) (select_outlines_never db.schema roots.features in_features db.trees name)
-        (shown_of outline_terms (λ id f. placed_row (placed (id, f))) (λ r f there of_name cells. outline_cells params r (pair_key r) f (rowid_of (pair_key r).1) cells (rowid_is r there of_name)))
+    shows_placed r f there of_name cells = outline_cells params r (pair_key r) f (rowid_of (pair_key r).1) cells (rowid_is r there of_name)
+
+    abbrev outline_names : List (List ℕ)
+    outline_names = codes "id" ∷ codes "x0" ∷ codes "y0" ∷ codes "x1" ∷ codes "y1" ∷ codes "s0" ∷ codes "s1" ∷ codes "rowid" ∷ []
+
+    pub outlines_at : ShowsOf select_outlines params db (map (λ e. placed_row (placed e)) (entries (features_in s name)))
+    outlines_at = shows_by select_outlines params db (ordered_query roots.features tests outline_terms 2) outline_names _ (select_outlines_means db.schema roots.features in_features) (select_outlines_never db.schema roots.features in_features db.trees name)
+        (shown_of outline_terms placed_as shows_placed)
+
+    -- in any order, each once
+    abbrev pub AreOnce : List Row → Type 0
+    AreOnce = AreEachOnce (λ q. if_passes (is_chosen None None) (get (features_in s name) q)) placed_as
+
+    pub outlines_in_turn_at : ShowsSuch select_outlines_in_turn params db AreOnce
+    outlines_in_turn_at = shows_such select_outlines_in_turn params db (over roots.features (in_collection_in_turn ∷ []) outline_terms) outline_names _ (select_in_turn_means db.schema roots.features in_features) (select_in_turn_never db.schema roots.features in_features db.trees name)
+        (shows_chosen_once s roots db.trees of name (features_in s name) get_in (in_collection_in_turn ∷ []) params (is_chosen None None) (λ r p f cells is. chooses_in_turn name r p f cells) outline_terms placed_as shows_placed in_features.low)
 
     pub extents_at : ShowsOf select_extents params db (map (λ e. extent_row (feature_extent e.1)) (entries (features_in s name)))
     extents_at = shows_by select_extents params db (ordered_query roots.features tests extent_terms 2) (codes "x0" ∷ codes "y0" ∷ codes "x1" ∷ codes "y1" ∷ []) _ (select_extents_means db.schema roots.features in_features) (select_extents_never db.schema roots.features in_features db.trees name)
@@ -144,8 +171,11 @@ module _ (db : Database) (s : State) (kept : Keeps s db) where
         go None at found = absurd (cc)
         go (Some c) at found = let it = (kept.well.made name c at).holds q f found in subst IsUtf8 it.named (IsUtf8-from_is_utf8 f.id it.is.text)
 
+    outline_of_stored : (e : Text × FeatureValue) → feature_at s (name, e.0) ≡ Some e.1 → IsOutline (feature_outline_of e.0 e.1)
+    outline_of_stored e is = record { id = id_text e.0 e.1 is; extent = extent_is_box e.1.geometry (kept.rows.readable.features (name, e.0) e.1 is).made }
+
     outline_fine : (e : Text × FeatureValue) → Has (entries (features_in s name)) e → IsOutline (feature_outline_of e.0 e.1)
-    outline_fine e h = record { id = id_text e.0 e.1 (stands_at e h); extent = extent_is_box e.1.geometry (fine_at e h).made }
+    outline_fine e h = outline_of_stored e (stands_at e h)
 
     pub outlines_fine : AllByRecursion (λ (p : PlacedOutline). IsOutline p.0) (map placed (entries (features_in s name)))
     unfolding placed
@@ -159,6 +189,28 @@ module _ (db : Database) (s : State) (kept : Keeps s db) where
     pub outlines_are : map (λ p. p.0) (map placed (entries (features_in s name))) ≡ map (λ e. feature_outline_of e.0 e.1) (entries (features_in s name))
     unfolding placed
     outlines_are = map_again (λ p. p.0) placed (entries (features_in s name))
+
+    -- ---- the rows of the outlines in any order
+
+    once_stands : (rows : List Row) (once : AreOnce rows) (e : Text × FeatureValue) → Has once.es e → get (features_in s name) e.0 ≡ Some e.1
+    once_stands rows once e h = (passed (is_chosen None None) (get (features_in s name) e.0) e.1 (once.each e h)).0
+
+    -- each row is that of an outline
+    once_outline : (rows : List Row) (once : AreOnce rows) (e : Text × FeatureValue) → Has once.es e → IsOutline (feature_outline_of e.0 e.1)
+    once_outline rows once e h = outline_of_stored e (sym (get_in e.0) ∙ once_stands rows once e h)
+
+    pub once_fine : (rows : List Row) → AreOnce rows → AllByRecursion IsOutlineRow rows
+    unfolding placed
+    once_fine rows once = all_from IsOutlineRow rows (λ r h.
+        let e = mapped_has (λ (e : Text × FeatureValue). placed_as e.0 e.1) once.es r (subst (λ l. Has l r) once.is h) in
+        record { placed = placed e.0; fine = once_outline rows once e.0 e.1; is = e.2 })
+
+    -- sorted by their ids they are the outlines of the collection's features
+    pub outlines_once : (rows : List Row) (once : AreOnce rows) (os : Vec FeatureOutline Global) (sorted : List FeatureOutline) → HoldsOutlines os rows → IsPermutation os.items sorted → IsSortedBy comes_before sorted → feature_outline_values sorted ≡ map (λ e. feature_outline_of e.0 e.1) (entries (features_in s name))
+    unfolding placed
+    outlines_once rows once os sorted holds same up =
+        let told = holds (map placed once.es) (once.is ∙ sym (map_again placed_row placed once.es)) (all_from (λ (p : PlacedOutline). IsOutline p.0) _ (λ p h. let e = mapped_has placed once.es p h in subst (λ (x : PlacedOutline). IsOutline x.0) (sym e.2) (once_outline rows once e.0 e.1))) in
+        sorted_are (features_in s name) once.es once.apart (once_stands rows once) (λ q f is. once.all q f (ap (if_passes (is_chosen None None)) is)) os.items sorted (told.0 ∙ map_again (λ p. p.0) placed once.es) same up
 
     pub geometries_fine : AllByRecursion (λ (f : FeatureValue). IsGeometryIf f.geometry) (map (λ e. e.1) (entries (features_in s name)))
     geometries_fine = all_from (λ (f : FeatureValue). IsGeometryIf f.geometry) _ (λ f h. let e = mapped_has (λ (e : Text × FeatureValue). e.1) (entries (features_in s name)) f h in subst (λ (x : FeatureValue). IsGeometryIf x.geometry) (sym e.2) (fine_at e.0 e.1).made)

@@ -1,6 +1,6 @@
 -- Why rows of a query were not all taken, after others were.
 use Rattle.std.proofs.Common.{◌≡◌, ◌≤◌, inl, ℕ, List, [], ◌∷◌, ◌++◌, Option, None, Some, Ok, Err}
-use Rattle.std.proofs.Common.{Result, MatchResult, subst}
+use Rattle.std.proofs.Common.{Bool, true, false, Result, MatchResult, subst}
 use Rattle.sqlite.specs.declared.error.Error.{Error}
 use Rattle.sqlite.specs.Order.{Row}
 use Rattle.sqlite.specs.Store.{Ghosts}
@@ -14,6 +14,7 @@ use Rattle.streetmap_rows.specs.declared.fault.ReadFault.{ReadFault}
 use Rattle.streetmap_rows.specs.declared.fault.ReadFault.TheVariants.{Memory, Store, Unread}
 use Rattle.streetmap_reading.specs.Seeing.{IsSimpleIn, QueryShows, QueryIsRefused}
 use Rattle.streetmap_reading.specs.Folding.{Refuses, IsSameOrUndone, AreWrong, StopsQuery}
+use Rattle.streetmap_reading.specs.Folding.{ShowsOrBegins}
 use Rattle.streetmap_reading.proofs.Seeing.{undone_then, shown_there, begins_there, fails_there}
 use Rattle.streetmap_reading.proofs.Seeing.{failed_undone, seen, unseen}
 
@@ -85,25 +86,28 @@ module _ {F : Type 0} (Holds : F → F → List Row → Type 0) (IsGood : F → 
     reason_on a b c e first (λ live. inl same.0.is_open) second h.2,
   )
 
-  pub took_on : (start after : F) (a b c : Seen) (r : Result (Unit {0}) ReadFault)
+  -- what was taken of the rows that it shows
+  abbrev TookSome : Seen → Seen → F → F → Bool → Type 0
+  TookSome seen new start after all = ((rows : List Row)
+      × ShowsOrBegins all sql params seen rows × Holds start after rows) × IsUnchanged seen new
+
+  pub some_on : (start after : F) (a b c : Seen) (r : Result Bool ReadFault)
       → IsSimpleIn a.now.schema sql → IsUnchanged a b → b.step_limit ≡ a.step_limit
       → a.faults ≤ b.faults → b.faults ≤ c.faults
-      → MatchResult r (λ _. ((rows : List Row) × QueryShows sql params b rows
-      × Holds start after rows) × IsUnchanged b c) (StopsQuery Holds IsGood sql params start b c)
-      → MatchResult r (λ _. ((rows : List Row) × QueryShows sql params a rows
-      × Holds start after rows) × IsUnchanged a c) (StopsQuery Holds IsGood sql params start a c)
-  took_on start after a b c (Ok u) simple same limit first second h =
+      → MatchResult r (TookSome b c start after) (StopsQuery Holds IsGood sql params start b c)
+      → MatchResult r (TookSome a c start after) (StopsQuery Holds IsGood sql params start a c)
+  some_on start after a b c (Ok true) simple same limit first second h =
       let shown = sees_on sql params a b simple same h.0.0 h.0.1 in
       ((h.0.0, shown, h.0.2), unchanged_then a b c same h.1)
-  took_on start after a b c (Err fault) simple same limit first second h =
+  some_on start after a b c (Ok false) simple same limit first second h =
+      let begins = begins_there sql params b b a simple same.0.now_is h.0.0 h.0.1 in
+      ((h.0.0, begins, h.0.2), unchanged_then a b c same h.1)
+  some_on start after a b c (Err fault) simple same limit first second h =
       stops_on start a b c fault simple same limit first second h
 
-  pub took_at : (start after : F) (a b c : Seen) (r : Result (Unit {0}) ReadFault) → b ≡ c
-      → MatchResult r (λ _. ((rows : List Row) × QueryShows sql params a rows
-      × Holds start after rows) × IsUnchanged a b) (StopsQuery Holds IsGood sql params start a b)
-      → MatchResult r (λ _. ((rows : List Row) × QueryShows sql params a rows
-      × Holds start after rows) × IsUnchanged a c) (StopsQuery Holds IsGood sql params start a c)
-  took_at start after a b c r same h =
-      subst (λ s. MatchResult r (λ _. ((rows : List Row) × QueryShows sql params a rows
-      × Holds start after rows) × IsUnchanged a s)
+  pub some_at : (start after : F) (a b c : Seen) (r : Result Bool ReadFault) → b ≡ c
+      → MatchResult r (TookSome a b start after) (StopsQuery Holds IsGood sql params start a b)
+      → MatchResult r (TookSome a c start after) (StopsQuery Holds IsGood sql params start a c)
+  some_at start after a b c r same h =
+      subst (λ s. MatchResult r (TookSome a s start after)
       (StopsQuery Holds IsGood sql params start a s)) same h

@@ -4,12 +4,12 @@ use Rattle.std.specs.Prelude.{int_le}
 use Rattle.std.specs.Ordering.{is_le, is_ge, int_cmp, MatchOrdering}
 use Rattle.std.specs.Cmp.{int_ranks}
 use Rattle.std.proofs.lemmas.Int.{ints}
-use Rattle.sqlite.specs.declared.types.Value.TheVariants.{Int, Text as Words}
+use Rattle.sqlite.specs.declared.types.Value.TheVariants.{Null, Int, Text as Words}
 use Rattle.sqlite.specs.Order.{Row, column}
 use Rattle.sqlite.specs.Values.{or_null}
-use Rattle.sqlite.specs.Term.{Term, col}
+use Rattle.sqlite.specs.Term.{Term, col, lit, op2}
 use Rattle.sqlite_sql.specs.Ops.{binary, is_true}
-use Rattle.sqlite_sql.specs.declared.ops.BinaryOp.TheVariants.{Compare}
+use Rattle.sqlite_sql.specs.declared.ops.BinaryOp.TheVariants.{Coalesce, Compare}
 use Rattle.sqlite_sql.specs.declared.ops.CompareOp.TheVariants.{Eq, Le, Ge}
 use Rattle.sqlite_value.specs.declared.keys.Collation.TheVariants.{Binary}
 use Rattle.sqlite_value.specs.Order.{value_cmp}
@@ -132,6 +132,10 @@ in_time_is i f = go f.time
 abbrev pub in_collection : Term
 in_collection = equal_terms (col 1 1) (col 0 0)
 
+-- the same, where no row is looked for by it
+abbrev pub in_collection_in_turn : Term
+in_collection_in_turn = equal_terms (op2 Coalesce (col 1 1) (lit Null)) (col 0 0)
+
 abbrev pub box_terms : List Term → List Term
 box_terms more = at_most (col 1 4) (col 0 1) ∷ at_least (col 1 6) (col 0 2) ∷ at_most (col 1 5) (col 0 3) ∷ at_least (col 1 7) (col 0 4) ∷ more
 
@@ -182,6 +186,10 @@ module _ (r : Row) (p : KeyPair) (f : FeatureValue) (cells : drop 1 r ≡ featur
   all_rows : (name : Text) → keeps (in_collection ∷ []) (Words name ∷ []) r ≡ (same_text p.0 name && is_chosen None None f)
   all_rows name = ap (λ b. b && true) (named_is name)
 
+  rows_in_turn : (name : Text) → keeps (in_collection_in_turn ∷ []) (Words name ∷ []) r ≡ (same_text p.0 name && is_chosen None None f)
+  unfolding binary
+  rows_in_turn name = ap (λ b. b && true) (ap (λ v. is_true (binary (Compare Eq Binary) (binary Coalesce v Null) (Words name))) one ∙ equal_texts p.0 name)
+
   box_rows : (name : Text) (b : BoxValue) → keeps (in_collection ∷ box_terms []) (Words name ∷ box_params b []) r ≡ (same_text p.0 name && is_chosen (Some b) None f)
   box_rows name b =
       (λ i. named_is name i && (most 4 (west f) b.x1 four i && (least 6 (east f) b.x0 six i && (most 5 (south f) b.y1 five i && (least 7 (north f) b.y0 seven i && true)))))
@@ -213,6 +221,9 @@ module _ (r : Row) (p : KeyPair) (f : FeatureValue) (cells : drop 1 r ≡ featur
 
 pub all_chooses : (name : Text) → Chooses (in_collection ∷ []) (Words name ∷ []) name (is_chosen None None)
 all_chooses name r p f cells = all_rows r p f cells name
+
+pub chooses_in_turn : (name : Text) → Chooses (in_collection_in_turn ∷ []) (Words name ∷ []) name (is_chosen None None)
+chooses_in_turn name r p f cells = rows_in_turn r p f cells name
 
 pub box_chooses : (name : Text) (b : BoxValue) → Chooses (in_collection ∷ box_terms []) (Words name ∷ box_params b []) name (is_chosen (Some b) None)
 box_chooses name b r p f cells = box_rows r p f cells name b

@@ -30,8 +30,10 @@ abbrev pub IsOneStatement : List ℕ → Row → Result Compiled CompileError �
 IsOneStatement sql params (Ok c) = (length sql ≤ c.tail) × (length params ≡ length c.names)
 IsOneStatement sql params (Err e) = ⊥
 
--- the text is a query of this database that shows these rows, and that no rule refuses
-pub record ShowsOf (sql : List ℕ) (params : Row) (db : Database) (rows : List Row) : Type 0 where
+-- the text is a query of this database that shows rows of which this holds, and that no rule
+-- refuses
+pub record ShowsSuch (sql : List ℕ) (params : Row) (db : Database) (Are : List Row → Type 0)
+    : Type 0 where
   pub plain : IsPlain (understood db.schema sql)
   pub unlisted : reads_listing db.schema sql ≡ false
   pub program : Program
@@ -39,6 +41,10 @@ pub record ShowsOf (sql : List ℕ) (params : Row) (db : Database) (rows : List 
   pub is : command_of (understood db.schema sql) ≡ Select program names
   pub whole : IsOneStatement sql params (understood db.schema sql)
   pub starts : (given : List Row) → ReadsFirst (Select program names) db params given
-      → (tail : List Row) × (given ++ tail ≡ rows)
-  pub answers : (given : List Row) → Reads (Select program names) db params given → given ≡ rows
+      → (tail : List Row) × Are (given ++ tail)
+  pub answers : (given : List Row) → Reads (Select program names) db params given → Are given
   pub never : (e : Error) → RefusesQuery None db program params e → ⊥
+
+-- it shows these rows
+abbrev pub ShowsOf : List ℕ → Row → Database → List Row → Type 0
+ShowsOf sql params db rows = ShowsSuch sql params db (λ given. given ≡ rows)

@@ -25,6 +25,11 @@ Refuses why (Store e) = ⊥
 abbrev pub IsSameOrUndone : Seen → Seen → Type 0
 IsSameOrUndone old new = IsUnchanged old new ⊎ IsRolledBack old new
 
+-- the query shows these rows, or begins with them
+abbrev pub ShowsOrBegins : Bool → List ℕ → Row → Seen → List Row → Type 0
+ShowsOrBegins true = QueryShows
+ShowsOrBegins false = QueryBegins
+
 module _ {F : Type 0} (Holds : F → F → List Row → Type 0)
     (IsGood : F → List Row → Type 0) where
   -- no good rows begin with these
@@ -55,6 +60,13 @@ module _ {F : Type 0} (Holds : F → F → List Row → Type 0)
       → MatchResult result (λ _. ((rows : List Row) × QueryShows sql params old rows
       × Holds before after rows) × IsUnchanged old new) (StopsQuery sql params before old new)
 
+  -- rows that the query shows were taken, the first ones or all, as is answered
+  abbrev pub TakesSome : List ℕ → Row → Seen → Seen → F → F → Result Bool ReadFault → Type 0
+  TakesSome sql params old new before after result =
+      IsSimpleIn old.now.schema sql → Holds before before []
+      → MatchResult result (λ all. ((rows : List Row) × ShowsOrBegins all sql params old rows
+      × Holds before after rows) × IsUnchanged old new) (StopsQuery sql params before old new)
+
   module _ {S : Type 0} (g : Ghosts S) where
     -- one row more was taken, or there was none
     abbrev pub TookNext : List ℕ → Row → F → List Row → Held S → Held S → F → Bool
@@ -74,10 +86,11 @@ module _ {F : Type 0} (Holds : F → F → List Row → Type 0)
         (StopsQuery sql params start (state g old) (state g new))
 
     -- before any of them was taken
-    abbrev pub TakesRest : Held S → Held S → F → F → Result (Unit {0}) ReadFault → Type 0
-    TakesRest old new before after result =
+    abbrev pub TakesFirst : Held S → Held S → F → F → Result Bool ReadFault → Type 0
+    TakesFirst old new before after result =
         (sql : List ℕ) (params : Row) (start : F) → IsSimpleIn old.schema sql
         → HasGiven g sql params old [] → Holds start before []
-        → MatchResult result (λ _. ((rows : List Row) × QueryShows sql params (state g old) rows
-        × Holds start after rows) × IsUnchanged (state g old) (state g new))
+        → MatchResult result (λ all. ((rows : List Row)
+        × ShowsOrBegins all sql params (state g old) rows × Holds start after rows)
+        × IsUnchanged (state g old) (state g new))
         (StopsQuery sql params start (state g old) (state g new))

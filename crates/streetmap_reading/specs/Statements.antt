@@ -6,6 +6,11 @@ abbrev pub select_outlines : List ℕ
 select_outlines = codes
     "SELECT id, x0, y0, x1, y1, s0, s1, rowid FROM streetmap_features WHERE collection = ?1 ORDER BY id"
 
+-- the same in any order, where the rows of the table are gone over and none is looked for
+abbrev pub select_outlines_in_turn : List ℕ
+select_outlines_in_turn = codes
+    "SELECT id, x0, y0, x1, y1, s0, s1, rowid FROM streetmap_features WHERE +collection = ?1"
+
 -- the extents of a collection's features
 abbrev pub select_extents : List ℕ
 select_extents = codes

@@ -1,12 +1,14 @@
 -- What looks over all features of a collection, or all collections, answer.
-use Rattle.std.specs.Prelude.{◌≡◌, map, Option, option_map, Some, Vec, Result, IsTrue}
+use Rattle.std.specs.Prelude.{◌≡◌, map, Option, option_map, Some, Vec, Result, IsTrue, IfSome}
+use Rattle.std.specs.Prelude.{Bool, string_bytes}
+use Rattle.std.specs.Ordering.{is_lt}
 use Rattle.std.specs.Option.{option_map_or}
 use Rattle.std.specs.FinMap.{get, values, entries, empty}
 use Rattle.std.specs.declared.alloc.Global.{Global}
 use Rattle.sqlite.specs.State.{State as Seen}
 use Rattle.streetmap_grid.specs.declared.grid_box.GridBox.{GridBox}
 use Rattle.streetmap_grid.specs.Views.{box_value}
-use Rattle.streetmap_batch.specs.Text.{Text}
+use Rattle.streetmap_batch.specs.Text.{Text, text_cmp}
 use Rattle.streetmap_ledger.specs.State.{State, Collection, Features}
 use Rattle.streetmap_ledger.specs.Outlines.{feature_outline_of, outlines_in}
 use Rattle.streetmap_ledger.specs.OutlineView.{feature_outline_values}
@@ -43,6 +45,14 @@ features_in s name = option_map_or (λ (c : Collection). c.features) (get s.coll
 abbrev pub AreOutlinesIn : Text → State → Vec FeatureOutline Global → Type 0
 AreOutlinesIn name s os = feature_outline_values os.items
     ≡ map (λ e. feature_outline_of e.0 e.1) (entries (features_in s name))
+
+-- the same, where they are told
+abbrev pub AreOutlinesIfIn : Text → State → Option (Vec FeatureOutline Global) → Type 0
+AreOutlinesIfIn name s found = IfSome found (AreOutlinesIn name s)
+
+-- the id of the one comes before that of the other
+abbrev pub comes_before : FeatureOutline → FeatureOutline → Bool
+comes_before one other = is_lt (text_cmp (string_bytes one.id) (string_bytes other.id))
 
 -- the extent of its features
 abbrev pub IsExtentIn : Text → State → Option GridBox → Type 0

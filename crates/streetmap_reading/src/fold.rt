@@ -4,7 +4,8 @@ ghost use Rattle.sqlite.specs.Held.{state};
 ghost use Rattle.sqlite.specs.Order.{Row as Cells};
 ghost use Rattle.sqlite.specs.State.{HasCleanDisk, Survives, CommitsShowing};
 ghost use Rattle.sqlite.specs.Values.{bound};
-ghost use Rattle.streetmap_reading.specs.Folding.{TakesRow, TakesNext, TakesRest, TakesAll};
+ghost use Rattle.streetmap_reading.specs.Folding.{TakesRow, TakesNext, TakesFirst};
+ghost use Rattle.streetmap_reading.specs.Folding.{TakesSome, TakesAll};
 
 use sqlite::types::ValueRef;
 use sqlite::{Alter, Connection, Error, ErrorCode, Row, Rows};
@@ -46,24 +47,55 @@ fn take_next<S: Alter, F: RowFold>(rows: &mut Rows<'_, S>, fold: &mut F) -> Resu
     Ok(true)
 }
 
-/// Takes the rows of a query that has begun, up to the last.
-fn take_rest<S: Alter, F: RowFold>(rows: &mut Rows<'_, S>, fold: &mut F) -> Result<(), ReadFault>
+/// Takes the first rows of a query that has begun, as many as `most`, and answers whether it saw
+/// that these are all.
+fn take_first<S: Alter, F: RowFold>(
+    rows: &mut Rows<'_, S>,
+    fold: &mut F,
+    most: u64,
+) -> Result<bool, ReadFault>
     ensures same_reference { rows.new.conn.ghost_name ≡ rows.old.conn.ghost_name }
     ensures takes { HasCleanDisk (state S.Store rows.new.conn.now)
-        → TakesRest F.holds F.is_good S.Store rows.old.conn.now rows.new.conn.now fold.old
+        → TakesFirst F.holds F.is_good S.Store rows.old.conn.now rows.new.conn.now fold.old
         fold.new result }
     ensures mode { rows.old.conn.now.in_transaction ≡ false
         → rows.new.conn.now.in_transaction ≡ false }
     ensures survives { Survives (state S.Store rows.old.conn.now) (state S.Store rows.new.conn.now)
         (λ _. ⊥) }
 {
-    'rows: for _ in 0..u64::MAX {
+    'rows: for _ in 0..most {
         let took = take_next(rows, fold)?;
         if !took {
-            return Ok(());
+            return Ok(true);
         }
     }
-    Err(ReadFault::Store(Error::SqliteFailure(ErrorCode::TooBig)))
+    Ok(false)
+}
+
+/// Takes the first rows of a query, as many as `most`, and answers whether it saw that these are
+/// all.
+///
+/// # Errors
+///
+/// As `fold_rows`.
+pub fn fold_first<S: Alter, F: RowFold>(
+    conn: &mut Connection<S>,
+    sql: &str,
+    params: &[ValueRef<'_>],
+    fold: &mut F,
+    most: u64,
+) -> Result<bool, ReadFault>
+    ensures takes { HasCleanDisk (state S.Store conn.new)
+        → TakesSome F.holds F.is_good sql.now (bound params.now) (state S.Store conn.old)
+        (state S.Store conn.new) fold.old fold.new result }
+    ensures mode { conn.old.in_transaction ≡ false → conn.new.in_transaction ≡ false }
+    ensures survives { Survives (state S.Store conn.old) (state S.Store conn.new)
+        (CommitsShowing sql.now (bound params.now) (state S.Store conn.old)) }
+{
+    match conn.query(sql, params) {
+        Ok(mut rows) => take_first(&mut rows, fold, most),
+        Err(error) => Err(ReadFault::Store(error)),
+    }
 }
 
 /// Takes all rows of a query.
@@ -86,8 +118,9 @@ pub fn fold_rows<S: Alter, F: RowFold>(
     ensures survives { Survives (state S.Store conn.old) (state S.Store conn.new)
         (CommitsShowing sql.now (bound params.now) (state S.Store conn.old)) }
 {
-    match conn.query(sql, params) {
-        Ok(mut rows) => take_rest(&mut rows, fold),
-        Err(error) => Err(ReadFault::Store(error)),
+    let all = fold_first(conn, sql, params, fold, u64::MAX)?;
+    if !all {
+        return Err(ReadFault::Store(Error::SqliteFailure(ErrorCode::TooBig)));
     }
+    Ok(())
 }

@@ -6,10 +6,12 @@ ghost use Rattle.streetmap_ledger.specs.OutlineView.{feature_outline_value};
 ghost use Rattle.streetmap_reading.specs.Looking.{LooksInto, Stays};
 ghost use Rattle.streetmap_reading.specs.Folding.{IsForMemory, Refuses};
 ghost use Rattle.streetmap_reading.specs.Telling.{AreOutlinesOf, AreOutlinesIn};
+ghost use Rattle.streetmap_reading.specs.Telling.{AreOutlinesIfIn, comes_before};
+ghost use Rattle.std.specs.List.Sorted.{IsPermutation, IsSortedBy};
 ghost use Rattle.streetmap_reading.specs.Views.{PlacedOutline, placed_row, IsOutline};
 
 use crate::cells::{box_at, integer_at, seconds_at, text_at};
-use crate::fold::{RowFold, fold_rows};
+use crate::fold::{RowFold, fold_first, fold_rows};
 use crate::page::collection_row;
 use sqlite::{Alter, Connection, Row, params};
 use std::alloc::Global;
@@ -51,9 +53,49 @@ impl RowFold for Vec<FeatureOutline> {
     }
 }
 
-/// The outlines of the features of a collection, in byte order of ids; none of one that is not
-/// there.
-fn outlines_in<S: Alter>(
+/// How many outlines are read in order of their ids. Each of their rows is looked for in the table,
+/// which takes several times as long as going to the next row.
+const MOST_BY_IDS: u64 = 32_768;
+
+/// The outlines of the features of a collection, in byte order of ids, where there are fewer than
+/// `MOST_BY_IDS`; else none.
+fn outlines_by_ids<S: Alter>(
+    alloc: Global,
+    conn: &mut Connection<S>,
+    collection: &str,
+) -> Result<Option<Vec<FeatureOutline>>, ReadFault>
+    ensures shows { HasCleanDisk (state S.Store conn.new)
+        → LooksInto (AreOutlinesIfIn collection.now) (state S.Store conn.old)
+        (state S.Store conn.new) result }
+    ensures mode { conn.old.in_transaction ≡ false → conn.new.in_transaction ≡ false }
+    ensures survives { Survives (state S.Store conn.old) (state S.Store conn.new) (λ _. Unit {0}) }
+    ensures stays { Stays (state S.Store conn.old) (state S.Store conn.new) }
+{
+    let mut outlines = Vec::new(alloc);
+    let all = fold_first(
+        conn,
+        "SELECT id, x0, y0, x1, y1, s0, s1, rowid FROM streetmap_features WHERE collection = ?1 ORDER BY id",
+        params![collection],
+        &mut outlines,
+        MOST_BY_IDS,
+    )?;
+    if !all {
+        return Ok(None);
+    }
+    Ok(Some(outlines))
+}
+
+/// Sorts outlines by their ids.
+fn sort_by_ids(outlines: &mut Vec<FeatureOutline>)
+    ensures same { IsPermutation outlines.old.items outlines.new.items }
+    ensures sorted { IsSortedBy comes_before outlines.new.items }
+{
+    outlines.sort_unstable_by(|one, other| one.id.as_str().cmp(other.id.as_str()));
+}
+
+/// The outlines of the features of a collection, in byte order of ids, by going over all rows of
+/// the table.
+fn outlines_by_rows<S: Alter>(
     alloc: Global,
     conn: &mut Connection<S>,
     collection: &str,
@@ -68,11 +110,33 @@ fn outlines_in<S: Alter>(
     let mut outlines = Vec::new(alloc);
     fold_rows(
         conn,
-        "SELECT id, x0, y0, x1, y1, s0, s1, rowid FROM streetmap_features WHERE collection = ?1 ORDER BY id",
+        "SELECT id, x0, y0, x1, y1, s0, s1, rowid FROM streetmap_features WHERE +collection = ?1",
         params![collection],
         &mut outlines,
     )?;
+    sort_by_ids(&mut outlines);
     Ok(outlines)
+}
+
+/// The outlines of the features of a collection, in byte order of ids; none of one that is not
+/// there.
+fn outlines_in<S: Alter>(
+    alloc: Global,
+    conn: &mut Connection<S>,
+    collection: &str,
+) -> Result<Vec<FeatureOutline>, ReadFault>
+    ensures shows { HasCleanDisk (state S.Store conn.new)
+        → LooksInto (AreOutlinesIn collection.now) (state S.Store conn.old) (state S.Store conn.new)
+        result }
+    ensures mode { conn.old.in_transaction ≡ false → conn.new.in_transaction ≡ false }
+    ensures survives { Survives (state S.Store conn.old) (state S.Store conn.new) (λ _. Unit {0}) }
+    ensures stays { Stays (state S.Store conn.old) (state S.Store conn.new) }
+{
+    let few = outlines_by_ids(alloc, conn, collection)?;
+    match few {
+        Some(outlines) => Ok(outlines),
+        None => outlines_by_rows(alloc, conn, collection),
+    }
 }
 
 /// The outlines of the features of a collection, in byte order of ids; `None` where the collection

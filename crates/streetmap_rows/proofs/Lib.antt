@@ -19,6 +19,7 @@ pub mod KeyLooks
 pub mod Meaning
 pub mod StoreErrors
 pub mod OrderedRows
+pub mod AnyOrder
 pub mod StatementParts
 pub mod TablesInSchema
 pub mod PutBatch

@@ -13,7 +13,7 @@ use Rattle.sqlite.specs.Schema.{Schema}
 use Rattle.sqlite.specs.Source.TheVariants.{Values}
 use Rattle.sqlite.specs.Command.TheVariants.{Insert, Select}
 use Rattle.sqlite.specs.Effect.{RefusesQuery}
-use Rattle.sqlite_sql.specs.declared.ops.BinaryOp.TheVariants.{Compare}
+use Rattle.sqlite_sql.specs.declared.ops.BinaryOp.TheVariants.{Coalesce, Compare}
 use Rattle.sqlite_sql.specs.declared.ops.CompareOp.TheVariants.{Gt}
 use Rattle.sqlite_value.specs.declared.keys.Collation.{Collation}
 use Rattle.sqlite_value.specs.declared.keys.Collation.TheVariants.{Binary}
@@ -21,6 +21,7 @@ use Rattle.sqlite_value.specs.declared.keys.Key.{Key}
 use Rattle.sqlite_ast.specs.declared.Expr.{Expr}
 use Rattle.sqlite_ast.specs.declared.Expr.TheVariants as expr
 use Rattle.sqlite_ast.specs.declared.Binary.TheVariants as op
+use Rattle.sqlite_ast.specs.declared.Unary.TheVariants as unary
 use Rattle.sqlite_ast.specs.declared.Core.{Core, roll-Core}
 use Rattle.sqlite_ast.specs.declared.Sort.{Sort, roll-Sort}
 use Rattle.sqlite_ast.specs.declared.Select.{Select as Selects, out-Select, roll-Select}
@@ -71,6 +72,13 @@ quoted t = (expr.Text t, lit (Words t))
 
 abbrev pub where_equal : Column → Part → Part
 where_equal c v = (expr.Binary op.Eq (named_column c.0) v.0, equal_terms (col 1 c.1) v.1)
+
+-- the same, where each row is to be gone over and none looked for by the column
+abbrev pub where_equal_in_turn : Column → Part → Part
+where_equal_in_turn c v = (
+  expr.Binary op.Eq (expr.Unary unary.Plus (named_column c.0)) v.0,
+  equal_terms (op2 Coalesce (col 1 c.1) (lit Null)) v.1,
+)
 
 abbrev pub where_at_most : Column → Part → Part
 where_at_most c v = (expr.Binary op.Le (named_column c.0) v.0, at_most (col 1 c.1) v.1)
@@ -240,12 +248,17 @@ order_of s = map (λ (c : Column). (col 1 c.1, rising)) s.by
 abbrev pub query_in : Selection → ℕ → Query
 query_in s tree = over_in tree (meant s.conditions) (project_of s) (order_of s)
 
+-- the columns of our tables are compared byte by byte; the rowid, at place 0, has no collation
+abbrev collation_of : ℕ → Option Collation
+collation_of zero = None
+collation_of (suc n) = Some Binary
+
 -- the same, as the resolver gives it with its columns
 abbrev draft_in : Selection → ℕ → Draft
 draft_in s tree = draft tree (meant s.conditions) (project_of s) (order_of s)
 
 abbrev shown_in : Selection → ℕ → Draft × List (List ℕ) × List (Option Collation)
-shown_in s tree = (draft_in s tree, names_of s, map (λ (c : Column). Some Binary) s.shown)
+shown_in s tree = (draft_in s tree, names_of s, map (λ (c : Column). collation_of c.1) s.shown)
 
 abbrev pub IsThere : Selection → Schema → ℕ → Type 0
 IsThere s schema tree = IsFound schema (s.table 0).name (s.table tree)

@@ -68,7 +68,7 @@ mapped_has f [] y h = absurd h
 mapped_has f (x ∷ xs) y (inl same) = (x, inl refl, same)
 mapped_has f (x ∷ xs) y (inr later) = let r = mapped_has f xs y later in (r.0, inr r.1, r.2)
 
-moved : {A : Type 0} (xs ys : List A) (x : A) → IsPermutation xs ys → Has xs x → Has ys x
+pub moved : {A : Type 0} (xs ys : List A) (x : A) → IsPermutation xs ys → Has xs x → Has ys x
 moved xs ys x p h = has_contained ys x (Contains-permutation xs ys x p (contains_had xs x h))
 
 ended : (o : Ordering) → ordering_then o Equal ≡ o
@@ -92,7 +92,7 @@ below : {V : Type 0} (k : Text) (es : List (Text × V)) → AllByRecursion (λ y
 below k [] h = tt
 below k (e ∷ es) h = both _ _ (subst (λ r. T (is_lt r)) (sym h.0) tt) (below k es h.1)
 
-rising : {V : Type 0} (es : List (Text × V)) → IsStrictlySortedBy text_cmp (map (λ e. e.0) es) → T (is_sorted text_cmp es)
+pub rising : {V : Type 0} (es : List (Text × V)) → IsStrictlySortedBy text_cmp (map (λ e. e.0) es) → T (is_sorted text_cmp es)
 unfolding IsStrictlySortedBy
 rising [] h = tt
 rising (e ∷ es) h = both _ _ (below e.0 es h.0) (rising es h.1)
@@ -127,8 +127,8 @@ none_below k (f ∷ fs) all = elim (cases_Bool (same_text k f.0)) [
 
 -- ---- what is shown of entries
 
-module _ {V : Type 0} (view : Text → V → Row) where
-  abbrev viewed : List (Text × V) → List Keyed
+module _ {V B : Type 0} (view : Text → V → B) where
+  abbrev pub viewed : List (Text × V) → List (Text × B)
   viewed es = map (λ e. (e.0, view e.0 e.1)) es
 
   below_viewed : (k : Text) (es : List (Text × V)) → T (below_all text_cmp k es) → T (below_all text_cmp k (viewed es))
@@ -146,9 +146,43 @@ module _ {V : Type 0} (view : Text → V → Row) where
     | inr other ↦ rw other (find_viewed es q)
   ]
 
-  rows_viewed : (es : List (Text × V)) → map (λ (e : Keyed). e.1) (viewed es) ≡ map (λ e. view e.0 e.1) es
+  pub rows_viewed : (es : List (Text × V)) → map (λ (e : Text × B). e.1) (viewed es) ≡ map (λ e. view e.0 e.1) es
   rows_viewed [] = refl
   rows_viewed (e ∷ es) = ap (λ l. view e.0 e.1 ∷ l) (rows_viewed es)
+
+-- a list in order of texts, in which each shows the value of its text, and no value is left out
+pub record AreListed {V B : Type 0} (value_of : Text → Option V) (view : Text → V → B) (es : List (Text × B)) : Type 0 where
+  pub in_order : T (is_sorted text_cmp es)
+  pub said : (e : Text × B) → Has es e → (v : V) × (value_of e.0 ≡ Some v) × (e.1 ≡ view e.0 v)
+  pub all : (q : Text) (v : V) → value_of q ≡ Some v → (w : B) × Has es (q, w)
+
+module _ {V B : Type 0} (value_of : Text → Option V) (view : Text → V → B) (es : List (Text × B)) (it : AreListed value_of view es) where
+  entry_of : (q : Text) → find text_cmp q es ≡ option_map (view q) (value_of q)
+  entry_of q = go (find text_cmp q es) refl (value_of q) refl
+    where
+      go : (o : Option B) → find text_cmp q es ≡ o → (g : Option V) → value_of q ≡ g → find text_cmp q es ≡ option_map (view q) (value_of q)
+      go (Some w) some g is = let r = it.said (q, w) (found_in es q w some) in some ∙ ap Some r.2 ∙ sym (ap (option_map (view q)) r.1)
+      go None none None is = none ∙ sym (ap (option_map (view q)) is)
+      go None none (Some v) is = let r = it.all q v is in absurd (let clash = sym none ∙ find_has es q r.0 it.in_order r.1 in cc)
+
+  -- it shows the entries whose values these are
+  pub listed_is : (kept : List (Text × V)) → T (is_sorted text_cmp kept) → ((q : Text) → value_of q ≡ find text_cmp q kept) → es ≡ viewed view kept
+  listed_is kept up are = same_entries text_cmp nat_list_cmp_total one_text es (viewed view kept) it.in_order (sorted_viewed view kept up) (λ q. entry_of q ∙ ap (option_map (view q)) (are q) ∙ sym (find_viewed view kept q))
+
+-- texts of which none comes before the one before it, and none stands twice, so each is below the next
+pub rises : (names : List Text) → ((k : ℕ) → k + 1 < length names → is_lt (text_cmp (get_or names (k + 1) []) (get_or names k [])) ≡ false) → IsDistinct same_text names → IsStrictlySortedBy text_cmp names
+rises names order distinct = sorted_from_all_adjacent nat_list_cmp_total names [] (λ k low. less (get_or names k []) (get_or names (k + 1) []) (apart_from_distinct same_text names k (k + 1) [] distinct (omega arith) low) (order k low))
+  where
+    less : (a b : Text) → same_text a b ≡ false → is_lt (text_cmp b a) ≡ false → text_cmp a b ≡ Less
+    less a b other high = go (text_cmp a b) refl
+      where
+        go : (o : Ordering) → text_cmp a b ≡ o → text_cmp a b ≡ Less
+        go Less is = is
+        go Equal is = absurd (both_ways _ other (ap is_eq is))
+        go Greater is = absurd (both_ways _ high (ap is_lt (nat_list_cmp_total.antisymm b a) ∙ ap (λ o. is_lt (ordering_reverse o)) is))
+
+pub text_flips : (x y : Text) → same_text x y ≡ same_text y x
+text_flips x y = (eq_by_cmp_equiv nat_list_cmp_total).symm x y
 
 -- ---- the rows of entries
 
@@ -164,6 +198,17 @@ pub record AreRowsOf {V : Type 0} (value_of : Text → Option V) (view : Text �
   pub apart : IsAscending (λ a b. text_in at a ≢ text_in at b) rows
   pub each : (r : Row) → Has rows r → Says value_of view at shows r
   pub all : (q : Text) (v : V) → value_of q ≡ Some v → (r : Row) × Has rows r × (text_in at r ≡ q)
+
+-- texts of rows that differ
+pub apart_texts : (at : ℕ) (rs : List Row) → IsAscending (λ a b. text_in at a ≢ text_in at b) rs → IsDistinct same_text (map (text_in at) rs)
+unfolding IsDistinct
+apart_texts at [] apart = tt
+apart_texts at (r ∷ rs) apart = (
+  all_from _ _ (λ id h. false_from_ne_true _ (λ same.
+      let x = mapped_has (text_in at) rs id h in
+      all_has _ rs x.0 apart.0 x.1 (text_is _ _ same ∙ x.2))),
+  apart_texts at rs apart.1,
+)
 
 module _ (tree : ℕ) (tests project : List Term) (at : ℕ) (params : Row) where
   abbrev query : Query
@@ -187,18 +232,10 @@ module _ (tree : ℕ) (tests project : List Term) (at : ℕ) (params : Row) wher
 
   -- in order and with no key twice, so each key is below the next
   strictly : (es : List Keyed) → IsSorted (output_cmp query) (map unkey es) → IsDistinct same_text (map (λ e. e.0) es) → T (is_sorted text_cmp es)
-  strictly es sorted distinct = rising es (sorted_from_all_adjacent nat_list_cmp_total names [] (λ k low. less (get_or names k []) (get_or names (k + 1) []) (apart_from_distinct same_text names k (k + 1) [] distinct (omega arith) low) (order k low)))
+  strictly es sorted distinct = rising es (rises names order distinct)
     where
       names : List Text
       names = map (λ e. e.0) es
-
-      less : (a b : Text) → same_text a b ≡ false → is_lt (text_cmp b a) ≡ false → text_cmp a b ≡ Less
-      less a b other high = go (text_cmp a b) refl
-        where
-          go : (o : Ordering) → text_cmp a b ≡ o → text_cmp a b ≡ Less
-          go Less is = is
-          go Equal is = absurd (both_ways _ other (ap is_eq is))
-          go Greater is = absurd (both_ways _ high (ap is_lt (nat_list_cmp_total.antisymm b a) ∙ ap (λ o. is_lt (ordering_reverse o)) is))
 
       order : (k : ℕ) → k + 1 < length names → is_lt (text_cmp (get_or names (k + 1) []) (get_or names k [])) ≡ false
       order k low =
@@ -212,15 +249,11 @@ module _ (tree : ℕ) (tests project : List Term) (at : ℕ) (params : Row) wher
           ap₂ (λ x y. is_lt (text_cmp x y)) two one ∙ ap is_lt (sym (by_text (get_or es (k + 1) d) (get_or es k d))) ∙ ap₂ (λ x y. is_lt (output_cmp query x y)) (sym after) (sym before) ∙ sorted k (unkey d) (omega arith) (omega arith)
 
   distinct : (rs : List Row) → IsAscending (λ a b. text_in at a ≢ text_in at b) rs → IsDistinct same_text (map (λ (e : Keyed). e.0) (map keyed_of rs))
-  unfolding IsDistinct
-  distinct [] apart = tt
-  distinct (r ∷ rs) apart = (
-    all_from _ _ (λ id h. false_from_ne_true _ (λ same.
-        let e = mapped_has (λ (e : Keyed). e.0) (map keyed_of rs) id h in
-        let x = mapped_has keyed_of rs e.0 e.1 in
-        all_has _ rs x.0 apart.0 x.1 (text_is _ _ same ∙ e.2 ∙ ap (λ (y : Keyed). y.0) x.2))),
-    distinct rs apart.1,
-  )
+  distinct rs apart = subst (IsDistinct same_text) (sym (names_of rs)) (apart_texts at rs apart)
+    where
+      names_of : (rs : List Row) → map (λ (e : Keyed). e.0) (map keyed_of rs) ≡ map (text_in at) rs
+      names_of [] = refl
+      names_of (r ∷ rs) = ap (λ l. text_in at r ∷ l) (names_of rs)
 
   module _ {V : Type 0} (value_of : Text → Option V) (view : Text → V → Row) (db : Trees) (low : nat_le (2 ^ 31) tree ≡ false) (of : AreRowsOf value_of view at shows (filter (keeps tests params) (db tree))) (shown : List Row)
       (answer : IsAnswerAs Null query (overlay db []) params shown) where
@@ -251,12 +284,9 @@ module _ (tree : ℕ) (tests project : List Term) (at : ℕ) (params : Row) wher
     unfolding es
     ordered_is = unkeyed_again answer.ordered (λ o h. let e = mapped_has unkey qs o (moved answer.ordered (map unkey qs) o (IsPermutation-sym _ _ same) h) in ap (λ x. unkey (key x)) e.2 ∙ sym e.2)
 
-    flips : (x y : Text) → same_text x y ≡ same_text y x
-    flips x y = (eq_by_cmp_equiv nat_list_cmp_total).symm x y
-
     in_order : T (is_sorted text_cmp es)
     unfolding qs rows
-    in_order = strictly es (subst (IsSorted (output_cmp query)) (sym ordered_is) answer.sorted) (IsDistinct-IsPermutation same_text flips _ _ (IsPermutation-map (λ (e : Keyed). e.0) qs es keyed_move) (distinct (filter (keeps tests params) (db tree)) of.apart))
+    in_order = strictly es (subst (IsSorted (output_cmp query)) (sym ordered_is) answer.sorted) (IsDistinct-IsPermutation same_text text_flips _ _ (IsPermutation-map (λ (e : Keyed). e.0) qs es keyed_move) (distinct (filter (keeps tests params) (db tree)) of.apart))
 
     -- what is listed is what a row says
     said : (e : Keyed) → Has es e → (v : V) × (value_of e.0 ≡ Some v) × (e.1 ≡ view e.0 v)
@@ -274,18 +304,13 @@ module _ (tree : ℕ) (tests project : List Term) (at : ℕ) (params : Row) wher
         let r = of.all q v is in
         (shows r.0, subst (λ k. Has es (k, shows r.0)) r.2 (moved qs es (keyed_of r.0) keyed_move (has_mapped keyed_of rows r.0 r.1)))
 
-    entry_of : (q : Text) → find text_cmp q es ≡ option_map (view q) (value_of q)
-    entry_of q = go (find text_cmp q es) refl (value_of q) refl
-      where
-        go : (o : Option Row) → find text_cmp q es ≡ o → (g : Option V) → value_of q ≡ g → find text_cmp q es ≡ option_map (view q) (value_of q)
-        go (Some w) some g is = let r = said (q, w) (found_in es q w some) in some ∙ ap Some r.2 ∙ sym (ap (option_map (view q)) r.1)
-        go None none None is = none ∙ sym (ap (option_map (view q)) is)
-        go None none (Some v) is = let r = is_listed q v is in absurd (let clash = sym none ∙ find_has es q r.0 in_order r.1 in cc)
+    listed : AreListed value_of view es
+    listed = record { in_order = in_order; said = said; all = is_listed }
 
     -- the query shows the entries whose values these are, in order of their texts
     pub shows_entries : (kept : List (Text × V)) → T (is_sorted text_cmp kept) → ((q : Text) → value_of q ≡ find text_cmp q kept) → shown ≡ map (λ e. view e.0 e.1) kept
     shows_entries kept up are =
-        let all : es ≡ viewed view kept = same_entries text_cmp nat_list_cmp_total one_text es (viewed view kept) in_order (sorted_viewed view kept up) (λ q. entry_of q ∙ ap (option_map (view q)) (are q) ∙ sym (find_viewed view kept q)) in
+        let all = listed_is value_of view es listed kept up are in
         answer.shown ∙ ap (map (λ (o : Output). o.1)) (sym ordered_is) ∙ ap (λ l. map (λ (o : Output). o.1) (map unkey l)) all ∙ twice (viewed view kept) ∙ rows_viewed view kept
       where
         twice : (xs : List Keyed) → map (λ (o : Output). o.1) (map unkey xs) ≡ map (λ (e : Keyed). e.1) xs

@@ -1,36 +1,31 @@
-use Rattle.std.proofs.Common.{rules}
+use Rattle.std.proofs.Common.{◌≡◌, inl, refl, subst, true, rules}
 use Rattle.sqlite.specs.Held.{state}
-use Rattle.sqlite.specs.State.{HasCleanDisk}
+use Rattle.sqlite.specs.declared.error.Error.TheVariants.{SqliteFailure}
+use Rattle.sqlite.specs.declared.error.ErrorCode.TheVariants.{TooBig}
+use Rattle.streetmap_rows.proofs.ErrorReasons.{other}
+use Rattle.streetmap_rows.proofs.ResultCases.{handed_on}
 use Rattle.sqlite.specs.Values.{bound}
-use Rattle.streetmap_reading.proofs.BetweenRows.{clean_before}
-use Rattle.streetmap_reading.proofs.Seeing.{begun, simple_there}
-use Rattle.streetmap_reading.proofs.Stopping.{took_on, took_at, refused}
+use Rattle.streetmap_reading.specs.Folding.{ShowsOrBegins}
 use Rattle.streetmap_reading.proofs.fold.fold_rows.Goals as goal
 
-pub returns-in-Err-clause-takes : goal.returns-in-Err-clause-takes
-returns-in-Err-clause-takes g c clean = λ simple held.
-    let old = state g.S.Store c.args.conn.now in
-    let new = state g.S.Store c.query.follows.lender-at-none in
-    let left = rw c.in-Err.is at c.query.follows.holds-at-none in
-    refused c.args.sql.now (bound c.args.params.now) old new c.in-Err.error simple (left.err clean)
+pub returns-clause-takes : goal.returns-clause-takes
+returns-clause-takes g c clean = λ simple held.
+    let took = c.in_ok-all.ensures.takes clean simple held in
+    let whole : c.in_ok-all.all ≡ true = search rules in
+    let shown = subst (λ all. ShowsOrBegins all c.args.sql.now (bound c.args.params.now)
+    (state g.S.Store c.args.conn.now) took.0.0) whole took.0.1 in
+    ((took.0.0, shown, took.0.2), took.1)
 
-pub returns-in-Ok-clause-takes : goal.returns-in-Ok-clause-takes
-returns-in-Ok-clause-takes g c clean = λ simple held.
-    let sql = c.args.sql.now in
-    let params = bound c.args.params.now in
+pub returns-then-not-all-clause-takes : goal.returns-then-not-all-clause-takes
+returns-then-not-all-clause-takes g c clean = λ simple held.
     let old = state g.S.Store c.args.conn.now in
-    let mid = state g.S.Store c.in-Ok.rows.conn.now in
-    let new = state g.S.Store c.take_rest.new.rows.conn.now in
-    let query = c.in-Ok.ensures in
-    let rest = c.take_rest.ensures in
-    let late : HasCleanDisk new = search rules in
-    let early = clean_before _ _ _ rest.survives late in
-    let start = begun sql params g.S.Store c.args.conn.now c.in-Ok.rows.conn.now simple
-    (query.begun early) in
-    let still = simple_there sql mid old start.1.0.now_is simple in
-    let took = rest.takes late sql params c.args.fold.now still start.0 held in
-    let done = took_on g.F.RowFold.holds g.F.RowFold.is_good sql params c.args.fold.now
-    c.take_rest.new.fold old mid new c.take_rest.result simple start.1 query.survives.limit
-    query.survives.counts rest.survives.counts took in
-    took_at g.F.RowFold.holds g.F.RowFold.is_good sql params c.args.fold.now c.take_rest.new.fold
-    old new _ c.take_rest.result (search rules) done
+    let new = state g.S.Store c.fold_first.new.conn in
+    let took = c.in_ok-all.ensures.takes clean simple held in (
+      λ of. absurd (of (search rules)),
+      inl took.1,
+      other old new (SqliteFailure TooBig) refl,
+    )
+
+pub returns-in_err-all-clause-takes : goal.returns-in_err-all-clause-takes
+returns-in_err-all-clause-takes g c clean = λ simple held.
+    handed_on _ _ _ _ c.from_residual.ensures.1 (c.in_err-all.ensures.takes clean simple held)

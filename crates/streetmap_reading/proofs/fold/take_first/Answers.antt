@@ -1,15 +1,12 @@
-use Rattle.std.proofs.Common.{◌≡◌, inl, subst, ◌∙◌, refl, ◌∷◌, [], ◌++◌, rules, true, false}
+use Rattle.std.proofs.Common.{◌≡◌, subst, ◌∙◌, refl, ◌∷◌, [], ◌++◌, rules, true, false}
 use Rattle.sqlite.specs.Held.{state}
-use Rattle.sqlite.specs.declared.error.Error.TheVariants.{SqliteFailure}
-use Rattle.sqlite.specs.declared.error.ErrorCode.TheVariants.{TooBig}
-use Rattle.sqlite.proofs.Callers.{unchanged_then}
+use Rattle.sqlite.proofs.Callers.{given_begin, unchanged_then}
 use Rattle.streetmap_rows.proofs.ResultCases.{handed_on}
-use Rattle.streetmap_rows.proofs.ErrorReasons.{other}
 use Rattle.streetmap_reading.specs.Folding.{TookNext}
 use Rattle.streetmap_reading.proofs.BetweenRows.{given_open, survives_still, survives_on, clean_before}
-use Rattle.streetmap_reading.proofs.Seeing.{simple_there}
+use Rattle.streetmap_reading.proofs.Seeing.{simple_there, begins_there}
 use Rattle.streetmap_reading.proofs.Stopping.{stops_on, sees_on}
-use Rattle.streetmap_reading.proofs.fold.take_rest.Goals as goal
+use Rattle.streetmap_reading.proofs.fold.take_first.Goals as goal
 
 pub rows-init : goal.rows-init
 rows-init g c =
@@ -86,8 +83,8 @@ pub returns-clause-takes : goal.returns-clause-takes
 returns-clause-takes g c clean = λ sql params start simple given held.
     let old = state g.S.Store c.args.rows.now.conn.now in
     let new = state g.S.Store c.rows.rows.conn.now in
-    let t = c.rows.invariant.1.took clean sql params start simple given held in (
-      λ of. absurd (of (search rules)),
-      inl t.same,
-      other old new (SqliteFailure TooBig) refl,
+    let t = c.rows.invariant.1.took clean sql params start simple given held in
+    let first = given_begin g.S.Store sql params c.rows.rows.conn.now t.done t.given in (
+      (t.done, begins_there sql params new new old simple t.same.0.now_is t.done first, t.held),
+      t.same,
     )
