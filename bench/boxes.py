@@ -1,12 +1,14 @@
 """Times pages of boxes over HTTP, where ids follow places and where they are shuffled.
 
     python3 bench/boxes.py PROGRAM [--features 100000 1000000] [--asked 200] [--beside OTHER]
+        [--servers]
 
 A town is a square with one line of up to 30 m for each 100 m2. Its features are posted in batches
 of 1,000 to `streetmap serve` on 127.0.0.1, and each request goes over one connection. Beside each
 page stand a scan of the same file by Python's sqlite3 and, where SQLite has it, an R*Tree in
 memory.
 `--beside` times a second program, such as an older build, on files of its own in the same run.
+`--servers` times QGIS Server and MapServer too, where these are installed (`map_servers.py`).
 Times are medians in milliseconds.
 """
 
@@ -14,6 +16,7 @@ from __future__ import annotations
 
 import argparse
 import http.client
+import importlib
 import json
 import random
 import shutil
@@ -27,9 +30,12 @@ import time
 from collections.abc import Callable, Iterator
 from contextlib import contextmanager
 from dataclasses import dataclass
+from itertools import islice
 from pathlib import Path
 
 BATCH = 1_000
+# How many pages of a kind QGIS Server and MapServer are asked for at most.
+MOST_OF_SERVERS = 20
 LONGEST = 30_000
 SPACING = 10_000
 ORDERS = ("follow", "shuffled")
@@ -65,14 +71,20 @@ class Town:
             "type": "Feature",
         }
 
+    def lines(self) -> Iterator[dict]:
+        """All features, in order of their places."""
+        chance = random.Random(7)
+        for at in range(self.features):
+            yield self.feature(at, chance)
+
     def batches(self) -> Iterator[dict]:
         """An opened collection and then its features, in batches of 1,000."""
-        chance = random.Random(7)
+        lines = self.lines()
         yield {"key": "open", "edits": [{"op": "open", "collection": "town"}]}
         for first in range(0, self.features, BATCH):
             edits = [
-                {"op": "insert", "collection": "town", "feature": self.feature(at, chance)}
-                for at in range(first, min(first + BATCH, self.features))
+                {"op": "insert", "collection": "town", "feature": feature}
+                for feature in islice(lines, BATCH)
             ]
             yield {"key": f"b{first}", "edits": edits}
 
@@ -310,12 +322,27 @@ def time_plain(file: Path, town: Town, asked: int) -> dict[str, tuple[float, flo
     return took
 
 
+def time_servers(town: Town, folder: Path, asked: int) -> dict[str, dict[str, float]]:
+    """What QGIS Server and MapServer take for each page, by their names."""
+    # What they are started by is of the other measures, and free ports of the test groups.
+    sys.path.append(str(Path(__file__).resolve().parents[1] / "tests"))
+    servers = importlib.import_module("map_servers")
+    took: dict[str, dict[str, float]] = {}
+    with servers.beside(town.lines(), town.width, folder) as services:
+        for service in services:
+            took[service.name] = {}
+            for question in QUESTIONS:
+                areas = [area for _, area in question.queries(town, asked)][:MOST_OF_SERVERS]
+                took[service.name][question.name] = servers.median(service, areas, question.limit)
+    return took
+
+
 def shown(value: float | None) -> str:
     """A figure of a table, or a dash."""
     return "-" if value is None else f"{value:,.2f}"
 
 
-def report(town: Town, programs: list[Path], folder: Path, asked: int) -> None:
+def report(town: Town, programs: list[Path], folder: Path, asked: int, servers: bool) -> None:
     """Makes the town's files, times them and prints a table."""
     columns = []
     for number, program in enumerate(programs):
@@ -326,17 +353,20 @@ def report(town: Town, programs: list[Path], folder: Path, asked: int) -> None:
         took.update(time_program(program, file, town, asked))
         took["export, MB a second"] = time_export(program, file)
         columns.append((took, plain))
+    others = time_servers(town, folder, asked) if servers else {}
     ids = "that follow places" if town.order == "follow" else "shuffled"
     print(f"\n{town.features:,} features, ids {ids}:")
     names = [
         program.name if number == 0 else f"beside: {program.name}"
         for number, program in enumerate(programs)
     ]
-    print("| What | " + " | ".join([*names, "SQLite, scan", "SQLite, R*Tree"]) + " |")
-    print("|---" * (len(names) + 3) + "|")
+    names += ["SQLite, scan", "SQLite, R*Tree", *others]
+    print("| What | " + " | ".join(names) + " |")
+    print("|---" * (len(names) + 1) + "|")
     for name in columns[0][0]:
         scan, tree = columns[0][1].get(name, (None, None))
         figures = [took.get(name) for took, _ in columns] + [scan, tree]
+        figures += [took.get(name) for took in others.values()]
         print("| " + " | ".join([name, *(shown(figure) for figure in figures)]) + " |")
 
 
@@ -347,6 +377,7 @@ def main() -> None:
     reader.add_argument("--features", type=int, nargs="+", default=[100_000, 1_000_000])
     reader.add_argument("--asked", type=int, default=200, help="pages of a small box")
     reader.add_argument("--beside", type=Path, help="a second program to time in the same run")
+    reader.add_argument("--servers", action="store_true", help="QGIS Server and MapServer too")
     words = reader.parse_args()
     programs = [words.program.resolve()]
     if words.beside:
@@ -355,7 +386,7 @@ def main() -> None:
         for order in ORDERS:
             folder = Path(tempfile.mkdtemp(prefix="boxes"))
             try:
-                report(Town(features, order), programs, folder, words.asked)
+                report(Town(features, order), programs, folder, words.asked, words.servers)
             finally:
                 shutil.rmtree(folder)
 

@@ -78,7 +78,7 @@ MAP
   WEB METADATA "oga_onlineresource" "http://127.0.0.1/town" "ows_enable_request" "*" END END
   LAYER
     NAME "lamps"
-    TYPE POINT
+    TYPE {kind}
     STATUS ON
     TEMPLATE "none"
     CONNECTIONTYPE OGR
@@ -225,8 +225,9 @@ def by_fastcgi(program: Path, folder: Path, seen: dict[str, str]) -> Iterator[in
                 stdout=errors,
                 stderr=errors,
             )
+            # QGIS Server goes on where it is asked to end.
             started.callback(process.wait)
-            started.callback(process.terminate)
+            started.callback(process.kill)
         _, port = started.enter_context(nginx(folder, FASTCGI.format(folder=folder), []))
         yield port
 
@@ -243,11 +244,13 @@ def qgis_server(lamps: Path, folder: Path) -> Iterator[Service]:
 
 
 @contextlib.contextmanager
-def mapserver(lamps: Path, folder: Path) -> Iterator[Service]:
+def mapserver(
+    lamps: Path, folder: Path, kind: str = "POINT", reach: tuple[int, int] = (3_160, 3_170)
+) -> Iterator[Service]:
     town, maps = lamps.with_suffix(".map"), lamps.with_suffix(".conf")
-    east, north = EASTING + 3_160, NORTHING + 3_170
+    east, north = EASTING + reach[0], NORTHING + reach[1]
     bounds = {"easting": EASTING, "northing": NORTHING, "east": east, "north": north}
-    town.write_text(MAP.format(lamps=lamps, **bounds))
+    town.write_text(MAP.format(lamps=lamps, kind=kind, **bounds))
     maps.write_text(MAPS.format(town=town))
     with by_fastcgi(MAPSERVER, folder, {"MAPSERVER_CONFIG_FILE": str(maps)}) as port:
         yield Service("MapServer", port, "/town/ogcapi/collections/lamps/items?f=json")

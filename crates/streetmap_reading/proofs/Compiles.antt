@@ -13,18 +13,24 @@ use Rattle.streetmap_reading.specs.Statements as text
 abbrev in_collection : List Part
 in_collection = where_equal (codes "collection", 1) (given 1) ∷ []
 
+abbrev in_turn : List Part
+in_turn = where_equal_in_turn (codes "collection", 1) (given 1) ∷ []
+
+abbrev extent_columns : List Column
+extent_columns = (codes "x0", 4) ∷ (codes "y0", 5) ∷ (codes "x1", 6) ∷ (codes "y1", 7) ∷ []
+
 -- a table that is stored has rowids, which one that a statement computes has not
 pub is_stored : (tree : ℕ) → nat_le (2 ^ 31) tree ≡ false → nat_lt tree (2 ^ 31) ≡ true
 is_stored tree low = lt-ltb tree (2 ^ 31) (leb-false (2 ^ 31) tree low)
 
--- ---- select_extents
+-- ---- select_extents, and select_extents_in_turn
 
 abbrev selects_extents : Selection
 selects_extents = record {
   text = text.select_extents;
   parameters = a_text ∷ [];
   table = features;
-  shown = (codes "x0", 4) ∷ (codes "y0", 5) ∷ (codes "x1", 6) ∷ (codes "y1", 7) ∷ [];
+  shown = extent_columns;
   conditions = in_collection;
   by = (codes "id", 2) ∷ [];
 }
@@ -42,6 +48,30 @@ select_extents_means = select_means selects_extents select_extents_is
 
 pub select_extents_never : SelectNever selects_extents
 select_extents_never = select_never selects_extents select_extents_is
+
+abbrev selects_extents_in_turn : Selection
+selects_extents_in_turn = record {
+  text = text.select_extents_in_turn;
+  parameters = a_text ∷ [];
+  table = features;
+  shown = extent_columns;
+  conditions = in_turn;
+  by = [];
+}
+
+select_extents_in_turn_is : IsSelect selects_extents_in_turn
+unfolding everything
+select_extents_in_turn_is = record {
+  says = (refl, refl, omega arith, refl);
+  resolved = λ schema tree it. rw (it.named, it.listed, it.listed, it.listed) refl;
+  accepted = λ schema tree it. rw (it.low, it.by_tree) (refl, λ t. refl);
+}
+
+pub select_extents_in_turn_means : SelectMeans selects_extents_in_turn
+select_extents_in_turn_means = select_means selects_extents_in_turn select_extents_in_turn_is
+
+pub select_extents_in_turn_never : SelectNever selects_extents_in_turn
+select_extents_in_turn_never = select_never selects_extents_in_turn select_extents_in_turn_is
 
 -- ---- select_outlines, and select_outlines_in_turn
 
@@ -81,7 +111,7 @@ selects_in_turn = record {
   parameters = a_text ∷ [];
   table = features;
   shown = outline_columns;
-  conditions = where_equal_in_turn (codes "collection", 1) (given 1) ∷ [];
+  conditions = in_turn;
   by = [];
 }
 

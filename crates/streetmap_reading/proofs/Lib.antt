@@ -2,6 +2,7 @@ pub mod PositionBounds
 pub mod TermsChoose
 pub mod Compiles
 pub mod SortedOutlines
+mod BoundsTurned
 pub mod FeatureStatement
 pub mod Folded
 pub mod NextRow

@@ -46,11 +46,19 @@ use Rattle.streetmap_reading.proofs.PositionBounds.{extent_is_box}
 use Rattle.streetmap_reading.proofs.Compiles.{select_extents_means, select_extents_never}
 use Rattle.streetmap_reading.proofs.Compiles.{select_outlines_means, select_outlines_never}
 use Rattle.streetmap_reading.proofs.Compiles.{select_in_turn_means, select_in_turn_never}
+use Rattle.streetmap_reading.proofs.Compiles.{select_extents_in_turn_means, select_extents_in_turn_never}
+use Rattle.streetmap_reading.proofs.BoundsTurned.{bounds_turned}
+use Rattle.streetmap_reading.specs.Statements.{select_extents_in_turn}
+use Rattle.streetmap_rows.proofs.OrderedRows.{has_mapped, found_in}
+use Rattle.std.specs.FinMap.{values}
+use Rattle.streetmap_grid.specs.declared.grid_box.GridBox.{GridBox}
+use Rattle.streetmap_grid.specs.Bounds.{AreBounds}
+use Rattle.streetmap_ledger.specs.Summaries.{all_vertices}
 use Rattle.streetmap_rows.proofs.AnyOrder.{AreEachOnce}
 use Rattle.streetmap_rows.specs.Queries.{over}
 use Rattle.streetmap_reading.proofs.RowsInTurn.{map_again}
 use Rattle.streetmap_reading.proofs.SortedOutlines.{sorted_are}
-use Rattle.streetmap_reading.specs.Held.{HoldsOutlines}
+use Rattle.streetmap_reading.specs.Held.{HoldsOutlines, HoldsBounds}
 use Rattle.streetmap_reading.specs.Telling.{comes_before}
 use Rattle.streetmap_ledger.specs.OutlineView.{feature_outline_values}
 use Rattle.streetmap_ledger.specs.declared.outline.FeatureOutline.{FeatureOutline}
@@ -156,6 +164,16 @@ module _ (db : Database) (s : State) (kept : Keeps s db) where
     extents_at = shows_by select_extents params db (ordered_query roots.features tests extent_terms 2) (codes "x0" ∷ codes "y0" ∷ codes "x1" ∷ codes "y1" ∷ []) _ (select_extents_means db.schema roots.features in_features) (select_extents_never db.schema roots.features in_features db.trees name)
         (shown_of extent_terms (λ id f. extent_row (feature_extent f)) (extent_cells all_rows name params))
 
+    abbrev extent_as : Text → FeatureValue → Row
+    extent_as id f = extent_row (feature_extent f)
+
+    abbrev pub AreExtentsOnce : List Row → Type 0
+    AreExtentsOnce = AreEachOnce (λ q. if_passes (is_chosen None None) (get (features_in s name) q)) extent_as
+
+    pub extents_in_turn_at : ShowsSuch select_extents_in_turn params db AreExtentsOnce
+    extents_in_turn_at = shows_such select_extents_in_turn params db (over roots.features (in_collection_in_turn ∷ []) extent_terms) (codes "x0" ∷ codes "y0" ∷ codes "x1" ∷ codes "y1" ∷ []) _ (select_extents_in_turn_means db.schema roots.features in_features) (select_extents_in_turn_never db.schema roots.features in_features db.trees name)
+        (shows_chosen_once s roots db.trees of name (features_in s name) get_in (in_collection_in_turn ∷ []) params (is_chosen None None) (λ r p f cells is. chooses_in_turn name r p f cells) extent_terms extent_as (extent_cells all_rows name params) in_features.low)
+
     -- ---- what is shown can be read
 
     stands_at : (e : Text × FeatureValue) → Has (entries (features_in s name)) e → feature_at s (name, e.0) ≡ Some e.1
@@ -211,6 +229,37 @@ module _ (db : Database) (s : State) (kept : Keeps s db) where
     outlines_once rows once os sorted holds same up =
         let told = holds (map placed once.es) (once.is ∙ sym (map_again placed_row placed once.es)) (all_from (λ (p : PlacedOutline). IsOutline p.0) _ (λ p h. let e = mapped_has placed once.es p h in subst (λ (x : PlacedOutline). IsOutline x.0) (sym e.2) (once_outline rows once e.0 e.1))) in
         sorted_are (features_in s name) once.es once.apart (once_stands rows once) (λ q f is. once.all q f (ap (if_passes (is_chosen None None)) is)) os.items sorted (told.0 ∙ map_again (λ p. p.0) placed once.es) same up
+
+    -- ---- the rows of the extents in any order
+
+    extent_stands : (rows : List Row) (once : AreExtentsOnce rows) (e : Text × FeatureValue) → Has once.es e → get (features_in s name) e.0 ≡ Some e.1
+    extent_stands rows once e h = (passed (is_chosen None None) (get (features_in s name) e.0) e.1 (once.each e h)).0
+
+    geometry_fine : (rows : List Row) (once : AreExtentsOnce rows) (e : Text × FeatureValue) → Has once.es e → IsGeometryIf e.1.geometry
+    geometry_fine rows once e h = (kept.rows.readable.features (name, e.0) e.1 (sym (get_in e.0) ∙ extent_stands rows once e h)).made
+
+    pub extents_once_fine : (rows : List Row) → AreExtentsOnce rows → AllByRecursion IsExtentRow rows
+    extents_once_fine rows once = all_from IsExtentRow rows (λ r h.
+        let e = mapped_has (λ (e : Text × FeatureValue). extent_as e.0 e.1) once.es r (subst (λ l. Has l r) once.is h) in
+        record { feature = e.0.1; fine = geometry_fine rows once e.0 e.1; is = e.2 })
+
+    -- their bounds are those of the collection's features
+    pub extents_once : (rows : List Row) (once : AreExtentsOnce rows) (o : Option GridBox) → HoldsBounds o rows → AreBounds (all_vertices (values (features_in s name))) o
+    extents_once rows once o holds =
+        let fs = map (λ (e : Text × FeatureValue). e.1) once.es in
+        let told = holds fs (once.is ∙ sym (map_again (λ f. extent_row (feature_extent f)) (λ e. e.1) once.es)) (all_from (λ (f : FeatureValue). IsGeometryIf f.geometry) fs (λ f h. let e = mapped_has (λ (e : Text × FeatureValue). e.1) once.es f h in subst (λ (x : FeatureValue). IsGeometryIf x.geometry) (sym e.2) (geometry_fine rows once e.0 e.1))) in
+        bounds_turned fs (values (features_in s name)) (λ f h. to f (mapped_has (λ (e : Text × FeatureValue). e.1) once.es f h)) (λ f h. from f (mapped_has (λ (e : Text × FeatureValue). e.1) (entries (features_in s name)) f h)) o told
+      where
+        to : (f : FeatureValue) → (e : Text × FeatureValue) × Has once.es e × (f ≡ e.1) → Has (values (features_in s name)) f
+        to f e = subst (Has (values (features_in s name))) (sym e.2) (has_mapped (λ (x : Text × FeatureValue). x.1) (entries (features_in s name)) e.0 (found_in (entries (features_in s name)) e.0.0 e.0.1 (sym (get-entries (features_in s name) e.0.0) ∙ extent_stands rows once e.0 e.1)))
+
+        from : (f : FeatureValue) → (e : Text × FeatureValue) × Has (entries (features_in s name)) e × (f ≡ e.1) → Has (map (λ (e : Text × FeatureValue). e.1) once.es) f
+        from f e =
+            let at : get (features_in s name) e.0.0 ≡ Some e.0.1 = get-entries (features_in s name) e.0.0 ∙ find_has (entries (features_in s name)) e.0.0 e.0.1 (entries_sorted (features_in s name)) e.1 in
+            let x = mapped_has (λ (x : Text × FeatureValue). x.0) once.es e.0.0 (once.all e.0.0 e.0.1 (ap (if_passes (is_chosen None None)) at)) in
+            let both : Some x.0.1 ≡ Some e.0.1 = sym (extent_stands rows once x.0 x.1) ∙ ap (get (features_in s name)) (sym x.2) ∙ at in
+            let same : x.0.1 ≡ e.0.1 = cc in
+            subst (Has (map (λ (e : Text × FeatureValue). e.1) once.es)) (same ∙ sym e.2) (has_mapped (λ (x : Text × FeatureValue). x.1) once.es x.0 x.1)
 
     pub geometries_fine : AllByRecursion (λ (f : FeatureValue). IsGeometryIf f.geometry) (map (λ e. e.1) (entries (features_in s name)))
     geometries_fine = all_from (λ (f : FeatureValue). IsGeometryIf f.geometry) _ (λ f h. let e = mapped_has (λ (e : Text × FeatureValue). e.1) (entries (features_in s name)) f h in subst (λ (x : FeatureValue). IsGeometryIf x.geometry) (sym e.2) (fine_at e.0 e.1).made)

@@ -16,6 +16,11 @@ abbrev pub select_extents : List ℕ
 select_extents = codes
     "SELECT x0, y0, x1, y1 FROM streetmap_features WHERE collection = ?1 ORDER BY id"
 
+-- the same in any order, where the rows of the table are gone over and none is looked for
+abbrev pub select_extents_in_turn : List ℕ
+select_extents_in_turn = codes
+    "SELECT x0, y0, x1, y1 FROM streetmap_features WHERE +collection = ?1"
+
 -- the texts of the features whose ids stand between two
 abbrev pub select_run : List ℕ
 select_run = codes

@@ -59,6 +59,10 @@ abbrev pub IsExtentIn : Text → State → Option GridBox → Type 0
 IsExtentIn name s extent = option_map box_value extent
     ≡ extent_if (all_vertices (values (features_in s name)))
 
+-- the same, where it is told
+abbrev pub IsExtentIfIn : Text → State → Option (Option GridBox) → Type 0
+IsExtentIfIn name s found = IfSome found (IsExtentIn name s)
+
 -- what is told of it, from what is told before its extent is known
 abbrev pub CompletesHead : Summary → State → Summary → Type 0
 CompletesHead head s summary = (name : Text) (c : Collection) → get s.collections name ≡ Some c

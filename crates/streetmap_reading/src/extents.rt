@@ -9,11 +9,12 @@ ghost use Rattle.streetmap_grid.specs.Views.{box_value};
 ghost use Rattle.streetmap_grid.specs.WellFormed.{IsBox};
 ghost use Rattle.streetmap_reading.specs.Folding.{Refuses};
 ghost use Rattle.streetmap_reading.specs.Looking.{LooksInto, Stays};
-ghost use Rattle.streetmap_reading.specs.Telling.{IsExtentIn};
+ghost use Rattle.streetmap_reading.specs.Telling.{IsExtentIn, IsExtentIfIn};
 ghost use Rattle.streetmap_reading.specs.Views.{extent_row};
 
 use crate::cells::box_at;
-use crate::fold::{RowFold, fold_rows};
+use crate::fold::{RowFold, fold_first, fold_rows};
+use crate::ordering::most_by_ids;
 use sqlite::{Alter, Connection, Row, params};
 use streetmap_grid::GridBox;
 use streetmap_rows::ReadFault;
@@ -55,9 +56,35 @@ impl RowFold for Option<GridBox> {
     }
 }
 
-/// The extent of the features of a collection, in millimetres; none where no feature has a
-/// geometry, or the collection is not there.
-pub fn extent_of<S: Alter>(
+/// The extent of the features of a collection, where they are fewer than `most`; else none.
+fn extent_by_ids<S: Alter>(
+    conn: &mut Connection<S>,
+    collection: &str,
+    most: u64,
+) -> Result<Option<Option<GridBox>>, ReadFault>
+    ensures shows { HasCleanDisk (state S.Store conn.new)
+        → LooksInto (IsExtentIfIn collection.now) (state S.Store conn.old) (state S.Store conn.new)
+        result }
+    ensures mode { conn.old.in_transaction ≡ false → conn.new.in_transaction ≡ false }
+    ensures survives { Survives (state S.Store conn.old) (state S.Store conn.new) (λ _. Unit {0}) }
+    ensures stays { Stays (state S.Store conn.old) (state S.Store conn.new) }
+{
+    let mut extent = None;
+    let all = fold_first(
+        conn,
+        "SELECT x0, y0, x1, y1 FROM streetmap_features WHERE collection = ?1 ORDER BY id",
+        params![collection],
+        &mut extent,
+        most,
+    )?;
+    if !all {
+        return Ok(None);
+    }
+    Ok(Some(extent))
+}
+
+/// The extent of the features of a collection, by going over all rows of the table.
+fn extent_by_rows<S: Alter>(
     conn: &mut Connection<S>,
     collection: &str,
 ) -> Result<Option<GridBox>, ReadFault>
@@ -71,9 +98,30 @@ pub fn extent_of<S: Alter>(
     let mut extent = None;
     fold_rows(
         conn,
-        "SELECT x0, y0, x1, y1 FROM streetmap_features WHERE collection = ?1 ORDER BY id",
+        "SELECT x0, y0, x1, y1 FROM streetmap_features WHERE +collection = ?1",
         params![collection],
         &mut extent,
     )?;
     Ok(extent)
+}
+
+/// The extent of the features of a collection, in millimetres; none where no feature has a
+/// geometry, or the collection is not there.
+pub fn extent_of<S: Alter>(
+    conn: &mut Connection<S>,
+    collection: &str,
+) -> Result<Option<GridBox>, ReadFault>
+    ensures shows { HasCleanDisk (state S.Store conn.new)
+        → LooksInto (IsExtentIn collection.now) (state S.Store conn.old) (state S.Store conn.new)
+        result }
+    ensures mode { conn.old.in_transaction ≡ false → conn.new.in_transaction ≡ false }
+    ensures survives { Survives (state S.Store conn.old) (state S.Store conn.new) (λ _. Unit {0}) }
+    ensures stays { Stays (state S.Store conn.old) (state S.Store conn.new) }
+{
+    let most = most_by_ids(conn)?;
+    let few = extent_by_ids(conn, collection, most)?;
+    match few {
+        Some(extent) => Ok(extent),
+        None => extent_by_rows(conn, collection),
+    }
 }

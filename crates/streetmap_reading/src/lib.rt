@@ -24,8 +24,9 @@
 //! text of any such row.
 //!
 //! In the order of reading: `candidates` (rows of a query, one after the other), `page`, `feature`,
-//! `run`; `cells` (a value of a row), `fold` (rows taken one by one), `extents`, `summaries`,
-//! `outlines`; `batch_cells` (a batch from its row), `scanning`, `batches` (looks by a serial).
+//! `run`; `cells` (a value of a row), `fold` (rows taken one by one), `ordering` (by ids or as the
+//! table has them), `extents`, `summaries`, `outlines`; `batch_cells` (a batch from its row),
+//! `scanning`, `batches` (looks by a serial).
 #![tactic(auto)]
 
 mod batch_cells;
@@ -35,6 +36,7 @@ mod cells;
 mod extents;
 mod feature;
 mod fold;
+mod ordering;
 mod outlines;
 mod page;
 mod run;

@@ -12,6 +12,7 @@ ghost use Rattle.streetmap_reading.specs.Views.{PlacedOutline, placed_row, IsOut
 
 use crate::cells::{box_at, integer_at, seconds_at, text_at};
 use crate::fold::{RowFold, fold_first, fold_rows};
+use crate::ordering::most_by_ids;
 use crate::page::collection_row;
 use sqlite::{Alter, Connection, Row, params};
 use std::alloc::Global;
@@ -53,16 +54,13 @@ impl RowFold for Vec<FeatureOutline> {
     }
 }
 
-/// How many outlines are read in order of their ids. Each of their rows is looked for in the table,
-/// which takes several times as long as going to the next row.
-const MOST_BY_IDS: u64 = 32_768;
-
 /// The outlines of the features of a collection, in byte order of ids, where there are fewer than
-/// `MOST_BY_IDS`; else none.
+/// `most`; else none.
 fn outlines_by_ids<S: Alter>(
     alloc: Global,
     conn: &mut Connection<S>,
     collection: &str,
+    most: u64,
 ) -> Result<Option<Vec<FeatureOutline>>, ReadFault>
     ensures shows { HasCleanDisk (state S.Store conn.new)
         → LooksInto (AreOutlinesIfIn collection.now) (state S.Store conn.old)
@@ -77,7 +75,7 @@ fn outlines_by_ids<S: Alter>(
         "SELECT id, x0, y0, x1, y1, s0, s1, rowid FROM streetmap_features WHERE collection = ?1 ORDER BY id",
         params![collection],
         &mut outlines,
-        MOST_BY_IDS,
+        most,
     )?;
     if !all {
         return Ok(None);
@@ -132,7 +130,8 @@ fn outlines_in<S: Alter>(
     ensures survives { Survives (state S.Store conn.old) (state S.Store conn.new) (λ _. Unit {0}) }
     ensures stays { Stays (state S.Store conn.old) (state S.Store conn.new) }
 {
-    let few = outlines_by_ids(alloc, conn, collection)?;
+    let most = most_by_ids(conn)?;
+    let few = outlines_by_ids(alloc, conn, collection, most)?;
     match few {
         Some(outlines) => Ok(outlines),
         None => outlines_by_rows(alloc, conn, collection),

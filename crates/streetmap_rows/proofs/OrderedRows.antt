@@ -111,7 +111,7 @@ find_has (e ∷ es) q v up (inr later) = elim (cases_Bool (same_text q e.0)) [
   | inr other ↦ rw (other, find_has es q v (second (below_all text_cmp e.0 es) (is_sorted text_cmp es) up) later)
 ]
 
-found_in : {V : Type 0} (es : List (Text × V)) (q : Text) (v : V) → find text_cmp q es ≡ Some v → Has es (q, v)
+pub found_in : {V : Type 0} (es : List (Text × V)) (q : Text) (v : V) → find text_cmp q es ≡ Some v → Has es (q, v)
 found_in [] q v h = absurd (cc)
 found_in (e ∷ es) q v h = elim (cases_Bool (same_text q e.0)) [
   | inl here ↦ inl (let is : Some e.1 ≡ Some v = sym (rw here refl) ∙ h in let same : e.1 ≡ v = cc in λ i. (text_is q e.0 here i, sym same i))
