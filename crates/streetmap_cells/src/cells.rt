@@ -54,6 +54,15 @@ impl Cells {
         Ok(Cells { buckets, room })
     }
 
+    /// Gives back the memory that no entry takes. What was put in stays.
+    pub fn shrink_to_fit(&mut self)
+        ensures { KeepsExtents self.old self.new }
+    {
+        for bucket in 0..self.buckets.len() {
+            self.buckets[bucket].shrink_to_fit();
+        }
+    }
+
     /// Whether as many extents were put in as there was room for. Then many may be out of date, and
     /// it is time to make the cells anew.
     pub fn is_full(&self) -> bool

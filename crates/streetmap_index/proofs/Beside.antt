@@ -1,31 +1,30 @@
 -- The extents of outlines beside one another, and the outlines that a page passes over for them.
-use Rattle.std.proofs.Common.{◌≡◌, ◌<◌, ℕ, ℤ, List, [], ◌∷◌, ◌++◌, Option, None, Some, false, option_map, slice_get, get_or, length, refl, ap, sym, subst, ◌∙◌, inl, inr, length-append, arith}
-use Rattle.std.specs.Prelude.{nat_le, int_le}
+use Rattle.std.proofs.Common.{◌≡◌, ◌<◌, ℕ, List, [], ◌∷◌, ◌++◌, Option, None, Some, false, option_map, slice_get, get_or, length, refl, ap, sym, subst, ◌∙◌, inl, inr, length-append, arith}
+use Rattle.std.specs.Prelude.{nat_le}
 use Rattle.std.proofs.lemmas.Int.{ints}
-use Rattle.std.proofs.lemmas.Bool.{cases_lt, false_from_ne_true, both_ways, and_parts, leb-true, le-leb, lt-leb}
-use Rattle.std.proofs.lemmas.Bool.Decides.{same_from_decides}
+use Rattle.std.proofs.lemmas.Bool.{cases_lt, false_from_ne_true, both_ways, and_parts, lt-leb}
 use Rattle.std.proofs.lemmas.List.{get_or_append_left}
 use Rattle.std.proofs.lemmas.Option.{get_or_from_slice_get, slice_get-get_or, slice_get_read, slice_get_within}
 use Rattle.std.proofs.Math.Seq.{get_or-append_seam}
 use Rattle.streetmap_grid.specs.declared.grid_box.GridBox.{GridBox}
-use Rattle.streetmap_grid.specs.Values.{BoxValue, GeometryValue}
+use Rattle.streetmap_grid.specs.Values.{GeometryValue}
 use Rattle.streetmap_grid.specs.Views.{box_value}
 use Rattle.streetmap_grid.specs.Extent.{extent_of, overlaps as boxes_overlap}
-use Rattle.streetmap_grid.proofs.Signs.{le_decides}
 use Rattle.streetmap_geojson.specs.FeatureValue.{FeatureValue}
 use Rattle.streetmap_query.specs.QueryValue.{QueryValue}
 use Rattle.streetmap_ledger.specs.Pages.{passes, extent_overlaps, is_candidate}
 use Rattle.streetmap_ledger.specs.Outlines.{FeatureOutlineValue}
-use Rattle.streetmap_ledger.specs.declared.outline.FeatureOutline.{FeatureOutline}
-use Rattle.streetmap_cells.specs.Envelopes.{IsFromCorner, IsEnvelopeOf, overlaps}
+use Rattle.streetmap_index.specs.declared.kept.KeptOutline.{KeptOutline}
+use Rattle.streetmap_cells.specs.Envelopes.{IsEnvelopeOf, overlaps}
+use Rattle.streetmap_cells.proofs.Envelopes.{same_overlap}
 use Rattle.streetmap_cells.specs.declared.envelope.Envelope.{Envelope}
 use Rattle.streetmap_index.specs.Index.{IsOutlineOf, IsExtentIf, AreExtentsOf}
 use Rattle.streetmap_index.specs.Taking.{IsWindowOf}
 
 -- ---- one more
-module _ (es : List Envelope) (os : List FeatureOutline) (i : ℕ) (e : Envelope) (o : FeatureOutline) (len : length es ≡ i) (within : i < length os) (is : o ≡ get_or os i o) where
+module _ (es : List Envelope) (os : List KeptOutline) (i : ℕ) (e : Envelope) (o : KeptOutline) (len : length es ≡ i) (within : i < length os) (is : o ≡ get_or os i o) where
   -- the outline in the last place
-  last_is : (y : FeatureOutline) (k : ℕ) → k ≡ i → slice_get os k ≡ Some y → o ≡ y
+  last_is : (y : KeptOutline) (k : ℕ) → k ≡ i → slice_get os k ≡ Some y → o ≡ y
   last_is y k at there =
       let same : Some o ≡ Some y = sym (slice_get_read os (length os) i o refl within is) ∙ (ap (slice_get os) (sym at) ∙ there) in
       cc
@@ -37,20 +36,10 @@ module _ (es : List Envelope) (os : List FeatureOutline) (i : ℕ) (e : Envelope
         let less : k < length (es ++ e ∷ []) = slice_get_within (es ++ e ∷ []) k x here in
         let at : k ≡ length es = omega (arith, less, behind, length-append es (e ∷ [])) in
         let new : e ≡ x = sym (get_or-append_seam es e [] x) ∙ (ap (λ n. get_or (es ++ e ∷ []) n x) (sym at) ∙ get_or_from_slice_get (es ++ e ∷ []) k x x here) in
-        subst (λ v. IsExtentIf v y.extent) new (subst (λ (v : FeatureOutline). IsExtentIf e v.extent) (last_is y k (at ∙ len) there) one)
+        subst (λ v. IsExtentIf v y.extent) new (subst (λ (v : KeptOutline). IsExtentIf e v.extent) (last_is y k (at ∙ len) there) one)
   ]
 
 -- ---- off the window
-
--- bounds stand in the order in which they do counted from the corner of the grid
-same_order : (m n : ℕ) (a b : ℤ) → IsFromCorner m a → IsFromCorner n b → nat_le m n ≡ int_le a b
-same_order m n a b is is' = same_from_decides (nat_le m n) (int_le a b)
-    (λ h. let le = leb-true m n h in omega (arith, ints, is, is', le), λ le. le-leb m n (omega (arith, ints, is, is', le)))
-    (le_decides a b)
-
-same_overlap : (e w : Envelope) (extent area : BoxValue) → IsEnvelopeOf e extent → IsEnvelopeOf w area → overlaps e w ≡ boxes_overlap extent area
-same_overlap e w extent area is is' =
-    rw (same_order e.x0 w.x1 extent.x0 area.x1 is.west is'.east, same_order w.x0 e.x1 area.x0 extent.x1 is'.west is.east, same_order e.y0 w.y1 extent.y0 area.y1 is.south is'.north, same_order w.y0 e.y1 area.y0 extent.y1 is'.south is.north) refl
 
 module _ (window e : Envelope) (area : GridBox) (asked : IsEnvelopeOf window (box_value area)) where
   -- what ends at the corner of the grid overlaps no box
@@ -71,11 +60,11 @@ module _ (window e : Envelope) (area : GridBox) (asked : IsEnvelopeOf window (bo
       let one : box_value box ≡ extent_of v = cc in
       same_overlap e window (box_value box) (box_value area) kept asked ∙ ap (λ b. boxes_overlap b (box_value area)) one
 
-pub overlaps_asked : (q : QueryValue) (window e : Envelope) (o : FeatureOutline) (f : FeatureValue) → IsWindowOf q (Some window) → IsExtentIf e o.extent → IsOutlineOf o f → overlaps e window ≡ passes extent_overlaps f.geometry q.bbox
+pub overlaps_asked : (q : QueryValue) (window e : Envelope) (o : KeptOutline) (f : FeatureValue) → IsWindowOf q (Some window) → IsExtentIf e o.extent → IsOutlineOf o f → overlaps e window ≡ passes extent_overlaps f.geometry q.bbox
 overlaps_asked q window e o f (area, asked, is) kept known =
     overlaps_as window e area is o.extent f.geometry kept (ap (λ (v : FeatureOutlineValue). v.extent) known) ∙ ap (passes extent_overlaps f.geometry) (sym asked)
 
-pub off_window : (q : QueryValue) (window e : Envelope) (o : FeatureOutline) (f : FeatureValue) → IsWindowOf q (Some window) → overlaps e window ≡ false → IsExtentIf e o.extent → IsOutlineOf o f → is_candidate q f ≡ false
+pub off_window : (q : QueryValue) (window e : Envelope) (o : KeptOutline) (f : FeatureValue) → IsWindowOf q (Some window) → overlaps e window ≡ false → IsExtentIf e o.extent → IsOutlineOf o f → is_candidate q f ≡ false
 off_window q window e o f asked off kept known =
     let none : passes extent_overlaps f.geometry q.bbox ≡ false = sym (overlaps_asked q window e o f asked kept known) ∙ off in
     rw none refl

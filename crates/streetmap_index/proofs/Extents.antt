@@ -16,7 +16,7 @@ use Rattle.streetmap_batch.specs.Text.{Text}
 use Rattle.streetmap_ledger.specs.State.{State, Collection, Features}
 use Rattle.streetmap_ledger.specs.Summaries.{SummaryValue, extent_if, feature_vertices, all_vertices, summary_of, summary_in}
 use Rattle.streetmap_ledger.specs.Outlines.{FeatureOutlineValue}
-use Rattle.streetmap_ledger.specs.declared.outline.FeatureOutline.{FeatureOutline}
+use Rattle.streetmap_index.specs.declared.kept.KeptOutline.{KeptOutline}
 use Rattle.streetmap_index.specs.Index.{IsOutlined, IsOutlinedIf}
 use Rattle.streetmap_index.specs.Taking.{Pairs}
 use Rattle.streetmap_index.specs.declared.outlined.OutlinedCollection.{OutlinedCollection}
@@ -42,7 +42,7 @@ same_summary x y i t p e =
     ∙ (ap (λ a. record { id = y.id; title = y.title; time = a; extent = x.extent }) p ∙ ap (λ a. record { id = y.id; title = y.title; time = y.time; extent = a }) e))
 
 -- of all these features some were met, whose bounds these are behind those of other positions, and the outlines of the others are left
-pub record Growing (ps : List PositionValue) (bounds : Option GridBox) (features : Features) (all : List FeatureValue) (rest : List FeatureOutline) : Type 0 where
+pub record Growing (ps : List PositionValue) (bounds : Option GridBox) (features : Features) (all : List FeatureValue) (rest : List KeptOutline) : Type 0 where
   pub met : List FeatureValue
   pub left : List FeatureValue
   pub whole : met ++ left ≡ all
@@ -52,7 +52,7 @@ pub record Growing (ps : List PositionValue) (bounds : Option GridBox) (features
 more_vertices : (ps : List PositionValue) (o : Option GridBox) (met : List FeatureValue) (f : FeatureValue) → AreBounds ((ps ++ all_vertices met) ++ feature_vertices f) o → AreBounds (ps ++ all_vertices (met ++ f ∷ [])) o
 more_vertices ps o met f h = subst (λ vs. AreBounds vs o) (append_assoc ps (all_vertices met) (feature_vertices f) ∙ ap (λ vs. ps ++ vs) (flat_map_more feature_vertices [] met f)) h
 
-pub grows_on : (ps : List PositionValue) (old new : Option GridBox) (features : Features) (all : List FeatureValue) (o : FeatureOutline) (rest : List FeatureOutline) → Growing ps old features all (o ∷ rest)
+pub grows_on : (ps : List PositionValue) (old new : Option GridBox) (features : Features) (all : List FeatureValue) (o : KeptOutline) (rest : List KeptOutline) → Growing ps old features all (o ∷ rest)
     → ((vs qs : List PositionValue) → AreBounds vs old → AreBounds qs o.extent → AreBounds (vs ++ qs) new) → Growing ps new features all rest
 grows_on ps old new features all o rest growing wider = by growing.left growing.whole growing.pairs where
   by : (left : List FeatureValue) → growing.met ++ left ≡ all → Pairs features (o ∷ rest) left → Growing ps new features all rest
@@ -73,7 +73,7 @@ all_grown ps o met fs h = subst (λ vs. AreBounds vs o) (append_assoc ps (all_ve
   flat_both [] fs = refl
   flat_both (f ∷ met) fs = append_assoc (feature_vertices f) (all_vertices met) (all_vertices fs) ∙ ap (λ vs. feature_vertices f ++ vs) (flat_both met fs)
 
-pub grows_behind : (ps : List PositionValue) (old new : Option GridBox) (features : Features) (all : List FeatureValue) (front rest : List FeatureOutline) → Growing ps old features all (front ++ rest)
+pub grows_behind : (ps : List PositionValue) (old new : Option GridBox) (features : Features) (all : List FeatureValue) (front rest : List KeptOutline) → Growing ps old features all (front ++ rest)
     → ((vs : List PositionValue) (fs : List FeatureValue) → Pairs features front fs → AreBounds vs old → AreBounds (vs ++ all_vertices fs) new) → Growing ps new features all rest
 grows_behind ps old new features all front rest growing wider =
     let parts = parted features front rest growing.left growing.pairs in

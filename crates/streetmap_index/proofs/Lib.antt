@@ -18,3 +18,4 @@ pub mod Ordered
 pub mod Runs
 pub mod Blocks
 pub mod CutUp
+pub mod SameBox

@@ -1,4 +1,5 @@
 pub mod Chunks
 pub mod Index
+pub mod Kept
 pub mod Taking
 pub mod Within

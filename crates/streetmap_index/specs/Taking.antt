@@ -11,7 +11,7 @@ use Rattle.streetmap_ledger.specs.Pages.{candidates}
 use Rattle.streetmap_ledger.specs.PageView.{page_value}
 use Rattle.streetmap_ledger.specs.Folds.{IsFoldOf, HoldsCandidates}
 use Rattle.streetmap_ledger.specs.declared.fold.PageFold.{PageFold}
-use Rattle.streetmap_ledger.specs.declared.outline.FeatureOutline.{FeatureOutline}
+use Rattle.streetmap_index.specs.declared.kept.KeptOutline.{KeptOutline}
 use Rattle.streetmap_ledger.specs.declared.page.Page.{Page}
 pub use Rattle.streetmap_index.specs.Index.{IsEntry, Pairs}
 use Rattle.streetmap_index.specs.Index.{IsOutlineOf, has_extent, IsListedIf, AreListedChunksOf}
@@ -26,16 +26,16 @@ use Rattle.streetmap_index.specs.declared.chunk.Chunk.{Chunk}
 use Rattle.streetmap_index.specs.declared.chunks.Chunks.{Chunks}
 
 -- a page examines the feature with this outline
-abbrev pub IsExamined : QueryValue → FeatureOutline → Type 0
+abbrev pub IsExamined : QueryValue → KeptOutline → Type 0
 IsExamined q o = (f : FeatureValue) → IsOutlineOf o f → is_candidate q f ≡ true
 
 -- the features have the ids of the outlines, one by one
-abbrev pub HaveIds : List FeatureOutline → List FeatureValue → Type 0
-HaveIds os fs = map (λ (o : FeatureOutline). string_bytes o.id) os
+abbrev pub HaveIds : List KeptOutline → List FeatureValue → Type 0
+HaveIds os fs = map (λ (o : KeptOutline). string_bytes o.id) os
     ≡ map (λ (f : FeatureValue). f.id) fs
 
 -- if all were taken, the features with these outlines were met behind those met before
-abbrev pub TakesRun : State → Text → List FeatureOutline → PageFold → PageFold → Bool → Type 0
+abbrev pub TakesRun : State → Text → List KeptOutline → PageFold → PageFold → Bool → Type 0
 TakesRun s name os old new taken =
     IsTrue taken → (c : Collection) (q : QueryValue) (met fs : List FeatureValue)
     → get s.collections name ≡ Some c → Pairs c.features os fs → IsFoldOf q old met
@@ -64,7 +64,7 @@ IsOutlinedPage s name q outlines (Some page) =
 -- each chunk with a candidate among its outlines is marked
 abbrev pub MarksCandidates : Chunks → QueryValue → Marks → Type 0
 MarksCandidates outlines q marks =
-    (number : ℕ) (o : FeatureOutline) (f : FeatureValue) → IsListedIf outlines.cells number o.extent
+    (number : ℕ) (o : KeptOutline) (f : FeatureValue) → IsListedIf outlines.cells number o.extent
     → IsOutlineOf o f → is_candidate q f ≡ true → is_marked marks number ≡ true
 
 -- a chunk is marked, where there are marks
@@ -74,10 +74,10 @@ is_marked_if (Some marks) number = is_marked marks number
 
 -- whether a chunk that is counted whole counts an outline: each where no box is asked, else those
 -- with an extent
-abbrev pub counts : QueryValue → FeatureOutline → Bool
+abbrev pub counts : QueryValue → KeptOutline → Bool
 counts q o = is_none q.bbox || has_extent o
 
-abbrev pub IsCountedFor : QueryValue → FeatureOutline → Type 0
+abbrev pub IsCountedFor : QueryValue → KeptOutline → Type 0
 IsCountedFor q o = counts q o ≡ true
 
 -- of these features the query selects as many as this, and they are all candidates among them
@@ -92,7 +92,7 @@ CountsWhole q chunk count =
     → SelectsCandidates q count fs
 
 -- each feature with one of these outlines comes after the id asked, or none does
-abbrev pub AllComeAfter : QueryValue → Bool → List FeatureOutline → Type 0
+abbrev pub AllComeAfter : QueryValue → Bool → List KeptOutline → Type 0
 AllComeAfter q behind os =
     All (λ o. (f : FeatureValue) → IsOutlineOf o f → comes_after q.after f ≡ behind) os
 

@@ -11,8 +11,8 @@ ghost use Rattle.streetmap_index.specs.Index.{LiesWithin, AllLieWithin, has_exte
 ghost use Rattle.streetmap_index.specs.Index.{AllTimedBy};
 ghost use Rattle.streetmap_index.specs.Taking.{Pairs};
 
+use crate::kept::KeptOutline;
 use streetmap_grid::GridBox;
-use streetmap_ledger::FeatureOutline;
 
 /// The bounds of the positions of both.
 pub fn bounds_of_both(one: Option<GridBox>, other: Option<GridBox>) -> Option<GridBox>
@@ -29,7 +29,7 @@ pub fn bounds_of_both(one: Option<GridBox>, other: Option<GridBox>) -> Option<Gr
 }
 
 /// The bounds so far, with those of the features with these outlines.
-pub fn grown(bounds: Option<GridBox>, outlines: &[FeatureOutline]) -> Option<GridBox>
+pub fn grown(bounds: Option<GridBox>, outlines: &[KeptOutline]) -> Option<GridBox>
     ensures exact { (features : Features) (ps : List PositionValue) (fs : List FeatureValue)
         → Pairs features outlines.now fs → AreBounds ps bounds
         → AreBounds (ps ++ all_vertices fs) result }
@@ -37,13 +37,13 @@ pub fn grown(bounds: Option<GridBox>, outlines: &[FeatureOutline]) -> Option<Gri
 {
     let mut bounds = bounds;
     for outline in outlines {
-        bounds = bounds_of_both(bounds, outline.extent);
+        bounds = bounds_of_both(bounds, outline.extent());
     }
     bounds
 }
 
 /// How many of the outlines have an extent.
-pub fn count_extents(outlines: &[FeatureOutline]) -> u64
+pub fn count_extents(outlines: &[KeptOutline]) -> u64
     ensures { result ≡ count_by has_extent outlines.now }
 {
     let mut count = 0;
@@ -71,7 +71,7 @@ fn bounds_of_seconds_too(
 
 /// The latest first second and the earliest last second of the outlines' times; none where one has
 /// no time.
-pub fn bounds_of_seconds(outlines: &[FeatureOutline]) -> Option<(i64, i64)>
+pub fn bounds_of_seconds(outlines: &[KeptOutline]) -> Option<(i64, i64)>
     ensures { AllTimedBy outlines.now result }
 {
     let mut bounds = Some((i64::MIN, i64::MAX));

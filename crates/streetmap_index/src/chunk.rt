@@ -14,16 +14,16 @@ ghost use Rattle.streetmap_index.specs.Chunks.{reaches as reaches_of};
 
 use crate::bounds::{bounds_of_seconds, count_extents, grown};
 use crate::extent_column::keep_extents;
+use crate::kept::KeptOutline;
 use std::alloc::{AllocError, Global};
 use streetmap_cells::Envelope;
 use streetmap_grid::GridBox;
-use streetmap_ledger::FeatureOutline;
 
 /// Outlines that follow one another, and what is known of all of them.
 #[derive(Drop)]
 pub struct Chunk {
     /// In byte order of ids.
-    pub outlines: Vec<FeatureOutline>,
+    pub outlines: Vec<KeptOutline>,
     /// Their extents, beside one another: those of the first ones alone where memory was refused.
     pub extents: Vec<Envelope>,
     /// The bounds of their extents, in millimetres; none where no outline has an extent.
@@ -58,7 +58,7 @@ fn is_same_extent(one: Option<GridBox>, other: Option<GridBox>) -> bool
 
 impl Chunk {
     /// A chunk of these outlines, with this number.
-    pub fn new(alloc: Global, number: u32, outlines: Vec<FeatureOutline>) -> Self
+    pub fn new(alloc: Global, number: u32, outlines: Vec<KeptOutline>) -> Self
         ensures number { result.number ≡ number }
         ensures same { result.outlines.items ≡ outlines.items }
         ensures bounded { IsBounded result }
@@ -95,7 +95,7 @@ impl Chunk {
             IsListedIf cells self.now.number extent }
     {
         match self.place_of(id) {
-            Ok(place) => is_same_extent(self.outlines[place].extent, extent),
+            Ok(place) => is_same_extent(self.outlines[place].extent(), extent),
             Err(_) => false,
         }
     }
@@ -113,7 +113,7 @@ impl Chunk {
     }
 
     /// Puts an outline in, in place of the one under its id, if there is one.
-    pub fn put(&mut self, outline: FeatureOutline) -> Result<(), AllocError>
+    pub fn put(&mut self, outline: KeptOutline) -> Result<(), AllocError>
         ensures some { OnOk result (0 < length self.new.outlines.items) }
         ensures outlines { (features : Features) (f : FeatureValue)
             → AreOutlines self.old.outlines.items features → IsOutlineOf outline f

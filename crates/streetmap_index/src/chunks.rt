@@ -6,6 +6,8 @@ ghost use Rattle.std.specs.FinMap.{insert, remove};
 ghost use Rattle.streetmap_geojson.specs.FeatureValue.{FeatureValue};
 ghost use Rattle.streetmap_query.specs.Views.{query_value};
 ghost use Rattle.streetmap_ledger.specs.State.{Features};
+ghost use Rattle.streetmap_ledger.specs.OutlineView.{feature_outline_values};
+ghost use Rattle.streetmap_index.specs.Kept.{outline_values};
 ghost use Rattle.streetmap_index.specs.Taking.{MarksCandidates};
 ghost use Rattle.streetmap_index.specs.Index.{joined, joined_runs, IsOutlineOf, AreFilled, AreBounded};
 ghost use Rattle.streetmap_index.specs.Index.{AreChunksOf, AreListed, IsListedIf};
@@ -15,6 +17,7 @@ ghost use Rattle.streetmap_index.specs.declared.chunk.Chunk.{Chunk};
 
 use crate::chunk::Chunk;
 use crate::in_cells::{cells_of, list_extent, list_outlines, renew};
+use crate::kept::{KeptOutline, kept_of};
 use crate::selection::{count_by_bounds, is_passed_over};
 use std::alloc::{AllocError, Global};
 use streetmap_cells::{Cells, Marks};
@@ -53,18 +56,18 @@ fn number_after(chunks: &[Chunk]) -> u32 {
 fn cut_up(
     alloc: Global,
     mut outlines: Vec<FeatureOutline>,
-) -> Result<Vec<Vec<FeatureOutline>>, AllocError>
-    ensures same { IfOk result (λ runs. joined_runs runs.items ≡ outlines.items) }
+) -> Result<Vec<Vec<KeptOutline>>, AllocError>
+    ensures same { IfOk result (λ runs. outline_values (joined_runs runs.items)
+        ≡ feature_outline_values outlines.items) }
     ensures filled { IfOk result (λ runs. All (λ run. 0 < length run.items) runs.items) }
 {
     let mut runs = Vec::new(alloc);
     while outlines.len() > LEARNT_IN_CHUNK {
         let last = outlines.split_off(outlines.len() - LEARNT_IN_CHUNK)?;
-        runs.push(last)?;
+        runs.push(kept_of(alloc, last)?)?;
     }
     if !outlines.is_empty() {
-        outlines.shrink_to_fit();
-        runs.push(outlines)?;
+        runs.push(kept_of(alloc, outlines)?)?;
     }
     runs.reverse();
     Ok(runs)
@@ -73,7 +76,7 @@ fn cut_up(
 /// Chunks of runs of outlines. All outlines are in their place before, so that the extents of one
 /// chunk come to stand behind those of the chunk before it: a page of a large box goes over the
 /// extents of all, and the processor reads on ahead of it.
-fn chunks_of(alloc: Global, runs: Vec<Vec<FeatureOutline>>) -> Result<Vec<Chunk>, AllocError>
+fn chunks_of(alloc: Global, runs: Vec<Vec<KeptOutline>>) -> Result<Vec<Chunk>, AllocError>
     ensures same { IfOk result (λ made. joined made.items ≡ joined_runs runs.items) }
     ensures filled { All (λ run. 0 < length run.items) runs.items
         → IfOk result (λ made. AreFilled made.items) }
@@ -90,7 +93,8 @@ fn chunks_of(alloc: Global, runs: Vec<Vec<FeatureOutline>>) -> Result<Vec<Chunk>
 impl Chunks {
     /// Moves outlines into chunks.
     pub fn new(alloc: Global, outlines: Vec<FeatureOutline>) -> Result<Self, AllocError>
-        ensures same { IfOk result (λ made. joined made.chunks.items ≡ outlines.items) }
+        ensures same { IfOk result (λ made. outline_values (joined made.chunks.items)
+            ≡ feature_outline_values outlines.items) }
         ensures filled { IfOk result (λ made. AreFilled made.chunks.items) }
         ensures bounded { IfOk result (λ made. AreBounded made.chunks.items) }
         ensures listed { IfOk result (λ made. AreListed made.cells made.chunks.items) }
@@ -148,14 +152,14 @@ impl Chunks {
     }
 
     /// Makes a first chunk of an outline, where there is none.
-    fn begin(&mut self, alloc: Global, outline: FeatureOutline) -> Result<(), AllocError>
+    fn begin(&mut self, alloc: Global, outline: KeptOutline) -> Result<(), AllocError>
         requires { self.old.chunks.items ≡ [] }
         ensures { (features : Features) (f : FeatureValue) →
             AreListedChunksOf self.old features →
             IsOutlineOf outline f →
             OnOk result (AreListedChunksOf self.new (insert features f.id f)) }
     {
-        list_extent(&mut self.cells, self.next, outline.extent)?;
+        list_extent(&mut self.cells, self.next, outline.extent())?;
         let mut first = Chunk::new(alloc, self.next, Vec::new(alloc));
         self.next = self.next.saturating_add(1);
         first.put(outline)?;
@@ -165,12 +169,7 @@ impl Chunks {
 
     /// Puts the extent of an outline into cells, under the number of the chunk in this place, where
     /// it does not stand there already.
-    fn list(
-        &mut self,
-        alloc: Global,
-        place: usize,
-        outline: &FeatureOutline,
-    ) -> Result<(), AllocError>
+    fn list(&mut self, alloc: Global, place: usize, outline: &KeptOutline) -> Result<(), AllocError>
         requires { place < length self.old.chunks.items }
         ensures same { self.new.chunks ≡ self.old.chunks }
         ensures kept { AreListed self.old.cells self.old.chunks.items →
@@ -179,17 +178,17 @@ impl Chunks {
             → OnOk result (IsListedIf self.new.cells
             (slice_index_or self.new.chunks.items place d).number outline.now.extent) }
     {
-        if self.chunks[place].has(outline.id.as_str(), outline.extent) {
+        if self.chunks[place].has(outline.id.as_str(), outline.extent()) {
             return Ok(());
         }
         renew(alloc, &mut self.cells, self.chunks.as_slice())?;
         let number = self.chunks[place].number;
-        list_extent(&mut self.cells, number, outline.extent)
+        list_extent(&mut self.cells, number, outline.extent())
     }
 
     /// Puts an outline in, in place of the one under its id, if there is one. After an error
     /// outlines may be missing.
-    pub fn put(&mut self, alloc: Global, outline: FeatureOutline) -> Result<(), AllocError>
+    pub fn put(&mut self, alloc: Global, outline: KeptOutline) -> Result<(), AllocError>
         ensures { (features : Features) (f : FeatureValue) →
             AreListedChunksOf self.old features →
             IsOutlineOf outline f →

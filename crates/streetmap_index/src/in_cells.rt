@@ -4,10 +4,10 @@ ghost use Rattle.streetmap_cells.specs.Cells.{KeepsExtents};
 ghost use Rattle.streetmap_index.specs.Index.{IsListedIf, AreListedUnder, AreListed};
 
 use crate::chunk::Chunk;
+use crate::kept::KeptOutline;
 use std::alloc::{AllocError, Global};
 use streetmap_cells::Cells;
 use streetmap_grid::GridBox;
-use streetmap_ledger::FeatureOutline;
 
 /// For how many extents more than twice as many as there are is room in cells.
 const SPARE_ROOM: usize = 1024;
@@ -31,13 +31,13 @@ pub fn list_extent(
 pub fn list_outlines(
     cells: &mut Cells,
     number: u32,
-    outlines: &[FeatureOutline],
+    outlines: &[KeptOutline],
 ) -> Result<(), AllocError>
     ensures kept { KeepsExtents cells.old cells.new }
     ensures listed { OnOk result (AreListedUnder cells.new number outlines.now) }
 {
     for outline in outlines {
-        list_extent(cells, number, outline.extent)?;
+        list_extent(cells, number, outline.extent())?;
     }
     Ok(())
 }
@@ -62,6 +62,7 @@ pub fn cells_of(alloc: Global, chunks: &[Chunk]) -> Result<Cells, AllocError>
     for chunk in chunks {
         list_outlines(&mut cells, chunk.number, chunk.outlines.as_slice())?;
     }
+    cells.shrink_to_fit();
     Ok(cells)
 }
 

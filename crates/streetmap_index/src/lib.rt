@@ -18,8 +18,9 @@
 //! looks. A fault that shuts the other keeper leaves nothing known. Where a collection is not known
 //! the other keeper answers.
 //!
-//! In the order of reading: `bounds`, `within`, `extent_column`, `chunk`, `in_cells` and `chunks`
-//! (outlines in chunks, of which an edit changes one, and their extents by cells), `outlined` (what
+//! In the order of reading: `compact_box` and `kept` (an outline as the index keeps it), `bounds`,
+//! `within`, `extent_column`, `chunk`, `in_cells` and `chunks` (outlines in chunks, of which an
+//! edit changes one, and their extents by cells), `outlined` (what
 //! is known of a collection, and how it follows edits), `learning` (how it is learnt from a
 //! keeper), `index` (what is known of some collections), `asking`, `selection`, `run` and `page`,
 //! `telling`, `keeper`.
@@ -29,10 +30,12 @@ mod asking;
 mod bounds;
 mod chunk;
 mod chunks;
+mod compact_box;
 mod extent_column;
 mod in_cells;
 mod index;
 mod keeper;
+mod kept;
 mod learning;
 mod outlined;
 mod page;

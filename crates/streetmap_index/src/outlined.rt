@@ -9,6 +9,7 @@ ghost use Rattle.streetmap_ledger.specs.State.{State, Collection, timed, step};
 ghost use Rattle.streetmap_index.specs.Index.{IsOutlineOf, IsOutlined, IsOutlinedIf, collection_of};
 
 use crate::chunks::Chunks;
+use crate::kept::KeptOutline;
 use std::alloc::{AllocError, Global};
 use streetmap_batch::Edit;
 use streetmap_geojson::Feature;
@@ -29,11 +30,12 @@ fn outline_of(
     alloc: Global,
     feature: &Feature,
     time: Option<Interval>,
-) -> Result<FeatureOutline, AllocError>
+) -> Result<KeptOutline, AllocError>
     ensures { IfOk result (λ outline.
         IsOutlineOf outline (retimed feature.now (option_map interval_value time))) }
 {
-    FeatureOutline::new(alloc, feature.id(), feature.extent(), time)
+    let outline = FeatureOutline::new(alloc, feature.id(), feature.extent(), time)?;
+    Ok(KeptOutline::of(outline))
 }
 
 impl OutlinedCollection {

@@ -17,6 +17,7 @@ use crate::asking::ask;
 use crate::chunk::Chunk;
 use crate::chunks::Chunks;
 use crate::extent_column::{lies_outside, window_of};
+use crate::kept::KeptOutline;
 use crate::outlined::OutlinedCollection;
 use crate::run::{run_length, take_run};
 use crate::selection::{
@@ -24,7 +25,7 @@ use crate::selection::{
     is_unmarked,
 };
 use std::alloc::Global;
-use streetmap_ledger::{Fault, FeatureOutline, Keeper, Page, PageFold};
+use streetmap_ledger::{Fault, Keeper, Page, PageFold};
 use streetmap_query::Query;
 
 /// How many features a page reads one by one at most. It shows up to 1,000, and the keeper's own
@@ -33,7 +34,7 @@ const MOST_READ: usize = 2000;
 
 /// Counts the candidate that comes next, where its outline tells that it is selected and the page
 /// does not show it, and answers whether it did.
-fn count_unread(query: &Query, fold: &mut PageFold<'_>, outline: &FeatureOutline) -> bool
+fn count_unread(query: &Query, fold: &mut PageFold<'_>, outline: &KeptOutline) -> bool
     ensures counted { IsTrue result → (fs : List FeatureValue) (f : FeatureValue)
         → IsOutlineOf outline.now f → IsFeature f → IsFoldOf (query_value query.now) fold.old fs
         → IsFoldOf (query_value query.now) fold.new (fs ++ f ∷ []) }
@@ -52,7 +53,7 @@ fn count_unread(query: &Query, fold: &mut PageFold<'_>, outline: &FeatureOutline
 
 /// Takes the feature that comes next, where its outline tells enough, and answers whether it did.
 /// Otherwise the feature is a candidate, and has to be taken itself.
-fn take_unread(query: &Query, fold: &mut PageFold<'_>, outline: &FeatureOutline) -> bool
+fn take_unread(query: &Query, fold: &mut PageFold<'_>, outline: &KeptOutline) -> bool
     ensures taken { IsTrue result → (fs : List FeatureValue) (f : FeatureValue)
         → IsOutlineOf outline.now f → IsFeature f
         → HoldsCandidates (query_value query.now) fold.old fs
@@ -107,6 +108,7 @@ fn room_behind(query: &Query, read: usize) -> usize {
 /// where one of them is not there, or one more than `MOST_READ` would have to be read. `read`
 /// counts those that were read.
 fn take_outlined<K: Keeper>(
+    alloc: Global,
     keeper: &mut K,
     collection: &str,
     chunk: &Chunk,
@@ -147,7 +149,7 @@ fn take_outlined<K: Keeper>(
         let more = run_length(query, &outlines[place + 1..], room_behind(query, *read));
         let end = place + 1 + more;
         *read = read.saturating_add(1 + more);
-        match take_run(keeper, collection, &outlines[place..end], fold) {
+        match take_run(alloc, keeper, collection, &outlines[place..end], fold) {
             Ok(true) => place = end,
             Ok(false) => return Ok(false),
             Err(fault) => return Err(fault),
@@ -193,7 +195,9 @@ fn page_by_outlines<K: Keeper>(
         if count_chunk(query, &mut fold, chunk) {
             continue;
         }
-        match take_outlined(keeper, collection, chunk, query, &mut fold, &mut read) {
+        match take_outlined(
+            alloc, keeper, collection, chunk, query, &mut fold, &mut read,
+        ) {
             Ok(true) => {}
             Ok(false) => return Ok(None),
             Err(fault) => return Err(fault),

@@ -7,13 +7,14 @@ ghost use Rattle.streetmap_query.specs.Views.{query_value};
 ghost use Rattle.streetmap_ledger.specs.State.{State};
 ghost use Rattle.streetmap_ledger.specs.Folds.{IsFoldOf};
 ghost use Rattle.streetmap_ledger.specs.Keep.{Looks, LeavesOnly, ShutsBy};
-ghost use Rattle.streetmap_ledger.specs.declared.outline.FeatureOutline.{FeatureOutline};
 ghost use Rattle.streetmap_index.specs.Taking.{IsExamined, HaveIds, TakesRun};
+ghost use Rattle.streetmap_index.specs.declared.kept.KeptOutline.{KeptOutline};
 
+use crate::kept::KeptOutline;
 use crate::selection::{comes_after, is_candidate, is_selected};
-use std::alloc::AllocError;
+use std::alloc::{AllocError, Global};
 use streetmap_geojson::Feature;
-use streetmap_ledger::{Fault, FeatureOutline, Keeper, PageFold};
+use streetmap_ledger::{Fault, Keeper, PageFold};
 use streetmap_query::Query;
 
 /// How many features are read together at least, where their outlines have rowids. One takes some
@@ -23,7 +24,7 @@ const SHORTEST_RUN: usize = 6;
 
 /// Whether a page that has room reads the feature with this outline: it examines it, and the
 /// outline does not tell that it is counted alone.
-fn is_due(query: &Query, outline: &FeatureOutline) -> bool
+fn is_due(query: &Query, outline: &KeptOutline) -> bool
     ensures { IsTrue result → IsExamined (query_value query.now) outline.now }
 {
     is_candidate(query, outline) && (comes_after(query, outline) || !is_selected(query, outline))
@@ -31,7 +32,7 @@ fn is_due(query: &Query, outline: &FeatureOutline) -> bool
 
 /// How many of these outlines, from the first on and so many at most, are of features that a page
 /// reads one behind the other.
-pub fn run_length(query: &Query, outlines: &[FeatureOutline], most: usize) -> usize
+pub fn run_length(query: &Query, outlines: &[KeptOutline], most: usize) -> usize
     ensures within { result ≤ length outlines.now }
     ensures examined { All (IsExamined (query_value query.now)) (take result outlines.now) }
 {
@@ -44,8 +45,8 @@ pub fn run_length(query: &Query, outlines: &[FeatureOutline], most: usize) -> us
 }
 
 /// Whether the feature has the id of the outline in this place.
-fn has_id(outlines: &[FeatureOutline], place: usize, feature: &Feature) -> bool
-    ensures { IsTrue result → (o : FeatureOutline) × (slice_get outlines.now place ≡ Some o)
+fn has_id(outlines: &[KeptOutline], place: usize, feature: &Feature) -> bool
+    ensures { IsTrue result → (o : KeptOutline) × (slice_get outlines.now place ≡ Some o)
         × (string_bytes o.id ≡ feature.now.id) }
 {
     match outlines.get(place) {
@@ -56,7 +57,7 @@ fn has_id(outlines: &[FeatureOutline], place: usize, feature: &Feature) -> bool
 
 /// Takes the features that come next, and answers whether they are those with these outlines.
 fn take_all(
-    outlines: &[FeatureOutline],
+    outlines: &[KeptOutline],
     features: Vec<Feature>,
     fold: &mut PageFold<'_>,
 ) -> Result<bool, AllocError>
@@ -80,7 +81,7 @@ fn take_all(
 fn take_between<K: Keeper>(
     keeper: &mut K,
     collection: &str,
-    outlines: &[FeatureOutline],
+    outlines: &[KeptOutline],
     first: &str,
     last: &str,
     fold: &mut PageFold<'_>,
@@ -110,14 +111,16 @@ fn take_between<K: Keeper>(
 /// Takes the feature with this outline, which comes next, as the keeper has it, and answers whether
 /// it is there.
 fn take_one<K: Keeper>(
+    alloc: Global,
     keeper: &mut K,
     collection: &str,
-    outline: &FeatureOutline,
+    outline: &KeptOutline,
     fold: &mut PageFold<'_>,
 ) -> Result<bool, Fault>
+    requires { K.cause keeper.old ≡ None }
     ensures spared { K.spares keeper.old keeper.new }
     ensures began_clean { K.is_clean keeper.new → K.is_clean keeper.old }
-    ensures faults { ShutsBy result (K.cause keeper.old) (K.cause keeper.new) }
+    ensures faults { ShutsBy result None (K.cause keeper.new) }
     ensures device { K.is_clean keeper.new → (s : State) → K.stands keeper.old s →
         IsErrOf result Fault.Device → K.fails keeper.old keeper.new }
     ensures takes { K.is_clean keeper.new → (s : State) → K.stands keeper.old s
@@ -127,7 +130,10 @@ fn take_one<K: Keeper>(
         → LeavesOnly (K.may_leave keeper.old) (Some s)
         → LeavesOnly (K.may_leave keeper.new) (Some s) }
 {
-    match keeper.feature_outlined(collection, outline) {
+    let Ok(outline) = outline.to_feature_outline(alloc) else {
+        return Err(Fault::Memory);
+    };
+    match keeper.feature_outlined(collection, &outline) {
         Ok(Some(feature)) => match fold.take(feature) {
             Ok(()) => Ok(true),
             Err(_) => Err(Fault::Memory),
@@ -140,9 +146,10 @@ fn take_one<K: Keeper>(
 /// Takes the features with these outlines, which come next, as the keeper has each, and answers
 /// whether they are there.
 fn take_each<K: Keeper>(
+    alloc: Global,
     keeper: &mut K,
     collection: &str,
-    outlines: &[FeatureOutline],
+    outlines: &[KeptOutline],
     fold: &mut PageFold<'_>,
 ) -> Result<bool, Fault>
     requires { K.cause keeper.old ≡ None }
@@ -159,7 +166,7 @@ fn take_each<K: Keeper>(
         → LeavesOnly (K.may_leave keeper.new) (Some s) }
 {
     for outline in outlines {
-        match take_one(keeper, collection, outline, fold) {
+        match take_one(alloc, keeper, collection, outline, fold) {
             Ok(true) => {}
             Ok(false) => return Ok(false),
             Err(fault) => return Err(fault),
@@ -172,9 +179,10 @@ fn take_each<K: Keeper>(
 /// whether they are there: each alone where they are few and their rows are known, else by the ids
 /// of the first and the last.
 pub fn take_run<K: Keeper>(
+    alloc: Global,
     keeper: &mut K,
     collection: &str,
-    outlines: &[FeatureOutline],
+    outlines: &[KeptOutline],
     fold: &mut PageFold<'_>,
 ) -> Result<bool, Fault>
     requires { K.cause keeper.old ≡ None }
@@ -195,6 +203,6 @@ pub fn take_run<K: Keeper>(
             let (first, last) = (first.id.as_str(), last.id.as_str());
             take_between(keeper, collection, outlines, first, last, fold)
         }
-        _ => take_each(keeper, collection, outlines, fold),
+        _ => take_each(alloc, keeper, collection, outlines, fold),
     }
 }

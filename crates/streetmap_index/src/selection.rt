@@ -9,21 +9,22 @@ ghost use Rattle.streetmap_query.specs.Views.{query_value};
 ghost use Rattle.streetmap_ledger.specs.Pages.{passes, interval_asked, selects};
 ghost use Rattle.streetmap_ledger.specs.Pages.{comes_after as comes_after_of};
 ghost use Rattle.streetmap_ledger.specs.Pages.{is_candidate as is_candidate_of};
-ghost use Rattle.streetmap_ledger.specs.declared.outline.FeatureOutline.{FeatureOutline};
 ghost use Rattle.streetmap_index.specs.Index.{IsOutlineOf, LiesWithin, IsTimedBy, IsBounded};
 ghost use Rattle.streetmap_index.specs.Taking.{is_marked_if, IsCountedFor, CountsWhole};
 ghost use Rattle.streetmap_index.specs.Taking.{AllComeAfter};
 ghost use Rattle.streetmap_index.specs.Chunks.{AreInOrder, BeginsAfter};
+ghost use Rattle.streetmap_index.specs.declared.kept.KeptOutline.{KeptOutline};
 
 use crate::chunk::Chunk;
 use crate::extent_column::count_in_window;
+use crate::kept::KeptOutline;
 use crate::within::tells_meeting;
 use streetmap_cells::{Envelope, Marks};
-use streetmap_ledger::{FeatureOutline, overlaps_box};
+use streetmap_ledger::overlaps_box;
 use streetmap_query::Query;
 
 /// Whether the seconds overlap those of the interval, where one is asked.
-fn overlaps_interval(query: &Query, outline: &FeatureOutline) -> bool
+fn overlaps_interval(query: &Query, outline: &KeptOutline) -> bool
     ensures { (f : FeatureValue) → IsOutlineOf outline.now f
         → result ≡ passes seconds_overlap f.time (interval_asked (query_value query.now)) }
 {
@@ -40,16 +41,16 @@ fn overlaps_interval(query: &Query, outline: &FeatureOutline) -> bool
 }
 
 /// Whether a page examines the feature with this outline.
-pub fn is_candidate(query: &Query, outline: &FeatureOutline) -> bool
+pub fn is_candidate(query: &Query, outline: &KeptOutline) -> bool
     ensures { (f : FeatureValue) → IsOutlineOf outline.now f
         → result ≡ is_candidate_of (query_value query.now) f }
 {
-    overlaps_box(query, outline.extent) && overlaps_interval(query, outline)
+    overlaps_box(query, outline.extent()) && overlaps_interval(query, outline)
 }
 
 /// Whether the chunk's bounds tell that a page examines none of the features with its outlines.
 pub fn is_passed_over(query: &Query, chunk: &Chunk) -> bool
-    ensures { IsTrue result → (outline : FeatureOutline) (f : FeatureValue)
+    ensures { IsTrue result → (outline : KeptOutline) (f : FeatureValue)
         → LiesWithin outline.extent chunk.now.bounds → IsOutlineOf outline f
         → is_candidate_of (query_value query.now) f ≡ false }
 {
@@ -69,7 +70,7 @@ pub fn is_unmarked(marks: Option<&Marks>, chunk: &Chunk) -> bool
 /// Whether the first second comes before the one that the interval ends in, and the last one behind
 /// that it begins in, where one is asked. Then each time with seconds within these bounds meets it.
 fn reaches_into_interval(query: &Query, seconds: Option<(i64, i64)>) -> bool
-    ensures { IsTrue result → (outline : FeatureOutline) (f : FeatureValue) →
+    ensures { IsTrue result → (outline : KeptOutline) (f : FeatureValue) →
         IsTimedBy outline.seconds seconds → IsOutlineOf outline f →
         passes meets f.time (interval_asked (query_value query.now)) ≡ true }
 {
@@ -86,17 +87,17 @@ fn reaches_into_interval(query: &Query, seconds: Option<(i64, i64)>) -> bool
 }
 
 /// Whether the outline tells that the query selects the feature.
-pub fn is_selected(query: &Query, outline: &FeatureOutline) -> bool
+pub fn is_selected(query: &Query, outline: &KeptOutline) -> bool
     ensures { IsTrue result → (f : FeatureValue) → IsOutlineOf outline.now f → IsFeature f
         → selects (query_value query.now) f ≡ true }
 {
-    tells_meeting(query, outline.extent) && reaches_into_interval(query, outline.seconds)
+    tells_meeting(query, outline.extent()) && reaches_into_interval(query, outline.seconds)
 }
 
 /// Whether the chunk's bounds lie within the box, where one is asked. Then each feature with an
 /// extent meets it.
 fn lies_whole_within_box(query: &Query, chunk: &Chunk) -> bool
-    ensures { IsTrue result → (outline : FeatureOutline) (f : FeatureValue) →
+    ensures { IsTrue result → (outline : KeptOutline) (f : FeatureValue) →
         LiesWithin outline.extent chunk.now.bounds → IsOutlineOf outline f → IsFeature f →
         IsCountedFor (query_value query.now) outline →
         passes geometry_meets f.geometry (query_value query.now).bbox ≡ true }
@@ -160,7 +161,7 @@ pub fn count_selected(query: &Query, chunk: &Chunk) -> Option<u64>
 }
 
 /// Whether the feature's id comes after the one asked.
-pub fn comes_after(query: &Query, outline: &FeatureOutline) -> bool
+pub fn comes_after(query: &Query, outline: &KeptOutline) -> bool
     ensures { (f : FeatureValue) → IsOutlineOf outline.now f
         → result ≡ comes_after_of (query_value query.now).after f }
 {

@@ -1,11 +1,13 @@
 use Rattle.std.proofs.Common.{◌≡◌, ◌<◌, ◌++◌, All, length, reverse}
+use Rattle.streetmap_ledger.specs.OutlineView.{feature_outline_values}
 use Rattle.streetmap_index.specs.Index.{joined_runs}
+use Rattle.streetmap_index.specs.Kept.{outline_values}
 use Rattle.streetmap_index.proofs.chunks.cut_up.Given as goal
 
 -- the runs cut off so far, the last one first, are behind what is left
 abbrev pub invariant-loop-outlines : goal.invariant-loop-outlines
 invariant-loop-outlines l = record {
-  same : l.outlines.items ++ joined_runs (reverse l.runs.items) ≡ l.fn.outlines.items;
+  same : feature_outline_values l.outlines.items ++ outline_values (joined_runs (reverse l.runs.items)) ≡ feature_outline_values l.fn.outlines.items;
   filled : All (λ run. 0 < length run.items) l.runs.items;
 }
 

@@ -1,5 +1,5 @@
 use Rattle.std.proofs.Common.{sym, subst, arith, rules}
-use Rattle.streetmap_index.specs.Index.{AreExtentsOf}
+use Rattle.streetmap_index.specs.Index.{IsExtentIf, AreExtentsOf}
 use Rattle.streetmap_index.proofs.Beside.{one_more}
 use Rattle.streetmap_index.proofs.extent_column.keep_extents.Goals as goal
 
@@ -16,5 +16,5 @@ loop-outline-preserved c =
     let items = c.in-Ok.ensures.items in
     record {
       count = search rules;
-      kept = subst (λ es. AreExtentsOf es os) (sym items) (one_more c.loop-outline.extents.items os c.loop-outline.outline-index c.envelope_of.result c.outline-item.result inv.count (omega arith) c.outline-item.is inv.kept c.envelope_of.ensures);
+      kept = subst (λ es. AreExtentsOf es os) (sym items) (one_more c.loop-outline.extents.items os c.loop-outline.outline-index c.envelope_of.result c.outline-item.result inv.count (omega arith) c.outline-item.is inv.kept (subst (IsExtentIf c.envelope_of.result) c.extent.ensures c.envelope_of.ensures));
     }

@@ -18,4 +18,7 @@ loop-chunk-preserved c =
     All-more (IsListedChunk new) cs i chunk (omega arith) (still_listed c.loop-chunk.cells new c.list_outlines.ensures.kept (take i cs) c.loop-chunk.invariant) (subst (IsListedChunk new) c.chunk-item.is here)
 
 pub returns : goal.returns
-returns c = subst (AreListed c.loop-chunk.cells) (take_all c.loop-chunk.chunk-index c.args.chunks.now (omega arith)) c.loop-chunk.invariant
+returns c =
+    let cs = c.args.chunks.now in
+    let all = subst (AreListed c.loop-chunk.cells) (take_all c.loop-chunk.chunk-index cs (omega arith)) c.loop-chunk.invariant in
+    still_listed c.loop-chunk.cells c.shrink_to_fit.new.self c.shrink_to_fit.ensures cs all

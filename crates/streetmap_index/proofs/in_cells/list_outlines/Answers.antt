@@ -1,7 +1,7 @@
 use Rattle.std.proofs.Common.{take, subst, arith}
 use Rattle.std.proofs.lemmas.List.{take_all}
 use Rattle.std.proofs.lemmas.List.Elements.{All-nil, All-more}
-use Rattle.streetmap_index.specs.Index.{AreListedUnder}
+use Rattle.streetmap_index.specs.Index.{IsListedIf, AreListedUnder}
 use Rattle.streetmap_index.proofs.Listed.{Listed, still_under}
 use Rattle.streetmap_index.proofs.in_cells.list_outlines.Goals as goal
 
@@ -19,7 +19,7 @@ loop-outline-preserved c =
     let keeps = c.list_extent.ensures.kept in
     record {
       kept = λ n box h. keeps n box (inv.kept n box h);
-      listed = All-more (Listed new number) os i c.outline-item.result (omega arith) (still_under old new keeps number (take i os) inv.listed) (subst (Listed new number) c.outline-item.is c.in_ok-list_extent.ensures.listed);
+      listed = All-more (Listed new number) os i c.outline-item.result (omega arith) (still_under old new keeps number (take i os) inv.listed) (subst (Listed new number) c.outline-item.is (subst (IsListedIf new number) c.extent.ensures c.in_ok-list_extent.ensures.listed));
     }
 
 pub returns-in_err-list_extent-clause-kept : goal.returns-in_err-list_extent-clause-kept

@@ -1,6 +1,6 @@
 use Rattle.std.proofs.Common.{◌≡◌, ◌+◌, ◌∷◌, ◌++◌, [], true, take, ap, sym, subst, ◌∙◌, arith}
 use Rattle.std.proofs.lemmas.List.{take_more, take_all}
-use Rattle.streetmap_ledger.specs.declared.outline.FeatureOutline.{FeatureOutline}
+use Rattle.streetmap_index.specs.declared.kept.KeptOutline.{KeptOutline}
 use Rattle.streetmap_index.specs.Taking.{TakesRun}
 use Rattle.streetmap_index.proofs.Runs.{taken_behind}
 use Rattle.streetmap_index.proofs.run.take_each.Goals as goal
@@ -15,7 +15,7 @@ loop-outline-preserved g c =
     let o = c.outline-item.result in
     let old = c.args.fold.now in
     let new = c.take_one.new.fold in
-    let next : take (i + 1) os ≡ take i os ++ o ∷ [] = take_more os i o c.loop-outline-test.true ∙ ap (λ (x : FeatureOutline). take i os ++ x ∷ []) (sym c.outline-item.is) in
+    let next : take (i + 1) os ≡ take i os ++ o ∷ [] = take_more os i o c.loop-outline-test.true ∙ ap (λ (x : KeptOutline). take i os ++ x ∷ []) (sym c.outline-item.is) in
     record {
       is_open = says.faults.1;
       spared = g.met.K.Keeper.spares_then _ _ _ inv.spared says.spared;
