@@ -9,8 +9,8 @@ ghost use Rattle.streetmap_ledger.specs.State.{Features};
 ghost use Rattle.streetmap_ledger.specs.OutlineView.{feature_outline_values};
 ghost use Rattle.streetmap_index.specs.Kept.{outline_values};
 ghost use Rattle.streetmap_index.specs.Taking.{MarksCandidates};
-ghost use Rattle.streetmap_index.specs.Index.{joined, joined_runs, IsOutlineOf, AreFilled, AreBounded};
-ghost use Rattle.streetmap_index.specs.Index.{AreChunksOf, AreListed, IsListedIf};
+ghost use Rattle.streetmap_index.specs.Index.{joined, joined_runs, IsOutlineOf, AreFilled};
+ghost use Rattle.streetmap_index.specs.Index.{AreBounded, AreChunksOf, AreListed, IsListedIf};
 ghost use Rattle.streetmap_index.specs.Index.{AreListedChunksOf};
 ghost use Rattle.streetmap_index.specs.Chunks.{reaches as reaches_of};
 ghost use Rattle.streetmap_index.specs.declared.chunk.Chunk.{Chunk};
@@ -26,10 +26,10 @@ use streetmap_ledger::FeatureOutline;
 use streetmap_query::Query;
 
 /// How many outlines a chunk has at most. A chunk that has come to so many is cut in two.
-const MOST_IN_CHUNK: usize = 256;
+const MOST_IN_CHUNK: usize = 512;
 
 /// How many outlines a chunk has that is learnt, which leaves room for others.
-const LEARNT_IN_CHUNK: usize = 128;
+const LEARNT_IN_CHUNK: usize = 256;
 
 /// How many chunks are passed over by their bounds in the time that a search of cells takes for one
 /// of the first level, and for its part of the others.
