@@ -9,7 +9,8 @@ page stand a scan of the same file by Python's sqlite3 and, where SQLite has it,
 memory.
 `--beside` times a second program, such as an older build, on files of its own in the same run.
 `--servers` times QGIS Server and MapServer too, where these are installed (`map_servers.py`).
-Times are medians in milliseconds.
+Times are medians in milliseconds. Where a C compiler is installed, the bytes of the heap that a
+program holds for each feature are counted too, in a run of its own (`held.c`).
 """
 
 from __future__ import annotations
@@ -18,6 +19,7 @@ import argparse
 import http.client
 import importlib
 import json
+import os
 import random
 import shutil
 import socket
@@ -92,12 +94,14 @@ class Town:
 class Server:
     """`streetmap serve` over a file, and one connection to it."""
 
-    def __init__(self, program: Path, file: Path) -> None:
+    def __init__(self, program: Path, file: Path, given: dict[str, str]) -> None:
         with socket.socket() as free:
             free.bind(("127.0.0.1", 0))
             port = free.getsockname()[1]
         words = [str(program), "serve", str(file), "--port", str(port)]
-        self.process = subprocess.Popen(words, stdout=subprocess.PIPE, text=True)
+        self.process = subprocess.Popen(
+            words, stdout=subprocess.PIPE, text=True, env=os.environ | given
+        )
         assert self.process.stdout is not None
         line = self.process.stdout.readline()
         if not line.startswith("listening"):
@@ -121,11 +125,6 @@ class Server:
             sys.exit(f"{method} {target}: {response.status} {text[:200]!r}")
         return text
 
-    def memory(self) -> int:
-        """The bytes of memory that the process holds now."""
-        status = Path(f"/proc/{self.process.pid}/status").read_text()
-        return int(status.partition("VmRSS:")[2].split()[0]) * 1024
-
     def close(self) -> None:
         """Ends the process."""
         self.connection.close()
@@ -134,9 +133,9 @@ class Server:
 
 
 @contextmanager
-def serving(program: Path, file: Path) -> Iterator[Server]:
-    """A server that ends with the block."""
-    server = Server(program, file)
+def serving(program: Path, file: Path, given: dict[str, str] | None = None) -> Iterator[Server]:
+    """A server that ends with the block, with these words in its environment."""
+    server = Server(program, file, given or {})
     try:
         yield server
     finally:
@@ -279,15 +278,34 @@ def time_edits(server: Server, town: Town, count: int) -> dict[str, float]:
     return {f"a batch of one {op}": statistics.median(times) for op, times in took.items()}
 
 
-def time_program(program: Path, file: Path, town: Town, asked: int) -> dict[str, float]:
+def first_look(town: Town) -> str:
+    """The page that a program is asked for first."""
+    return f"/collections/town/items?{written(boxes(town, 20_000, 1)[0])}"
+
+
+def held_a_feature(program: Path, file: Path, town: Town, folder: Path) -> float | None:
+    """How many bytes of the heap a program holds for each feature after the first look, beside
+    those that it held before; none where no C compiler is installed."""
+    if shutil.which("cc") is None:
+        return None
+    library, count = folder / "held.so", folder / "held"
+    source = Path(__file__).with_name("held.c")
+    subprocess.run(["cc", "-shared", "-fPIC", "-O2", "-o", library, source], check=True)
+    count.write_bytes(bytes(8))
+    with serving(program, file, {"LD_PRELOAD": str(library), "HELD": str(count)}) as server:
+        server.get("/conformance")
+        before = int.from_bytes(count.read_bytes(), sys.byteorder, signed=True)
+        server.get(first_look(town))
+        after = int.from_bytes(count.read_bytes(), sys.byteorder, signed=True)
+    return (after - before) / town.features
+
+
+def time_program(program: Path, file: Path, town: Town, asked: int) -> dict[str, float | None]:
     """What each kind of request takes, with an index that is learnt at the first look."""
-    took: dict[str, float] = {}
+    took: dict[str, float | None] = {}
     with serving(program, file) as server:
         server.get("/conformance")
-        before = server.memory()
-        first = f"/collections/town/items?{written(boxes(town, 20_000, 1)[0])}"
-        took["the first look"] = milliseconds(lambda: server.get(first))
-        took["memory a feature, bytes"] = (server.memory() - before) / town.features
+        took["the first look"] = milliseconds(lambda: server.get(first_look(town)))
         for question in QUESTIONS:
             targets = [
                 f"/collections/town/items?{query}" for query, _ in question.queries(town, asked)
@@ -348,8 +366,11 @@ def report(town: Town, programs: list[Path], folder: Path, asked: int, servers: 
     for number, program in enumerate(programs):
         file = folder / f"{town.order}{number}.streetmap"
         seconds = fill(program, file, town)
-        took = {f"{BATCH} inserts in a batch": seconds * 1000 * BATCH / town.features}
+        took: dict[str, float | None] = {
+            f"{BATCH} inserts in a batch": seconds * 1000 * BATCH / town.features
+        }
         plain = time_plain(file, town, asked) if number == 0 else {}
+        took["bytes held a feature"] = held_a_feature(program, file, town, folder)
         took.update(time_program(program, file, town, asked))
         took["export, MB a second"] = time_export(program, file)
         columns.append((took, plain))
