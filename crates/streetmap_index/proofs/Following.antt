@@ -38,18 +38,6 @@ module _ (s t : State) (e : EditValue) (name : Text) (is : name ≡ collection_o
   pub all_followed : (es fs : Known) (o : OutlinedCollection) → KeepsOthers (eq_by_cmp string_cmp) (at_text name) es fs → known_under name fs ≡ Some o → KnowsAll es s → KnowsAll fs t
   all_followed es fs o keeps there = all_known_after es fs s t name keeps other_than (subst IsSome (sym there) refl)
 
-pub on_ok_map : {A E P Q : Type 0} (r : Result A E) → (P → Q) → OnOk r P → OnOk r Q
-on_ok_map (Ok x) f h = f h
-on_ok_map (Err x) f h = h
-
-pub on_ok_from : {A E P : Type 0} (r : Result A E) → P → OnOk r P
-on_ok_from (Ok x) h = h
-on_ok_from (Err x) h = tt
-
-pub on_ok_both : {A E P Q R : Type 0} (r : Result A E) → (P → Q → R) → OnOk r P → OnOk r Q → OnOk r R
-on_ok_both (Ok x) f h k = f h k
-on_ok_both (Err x) f h k = h
-
 -- the collection that was changed
 left : (s t : State) (name : Text) (c : Collection) → t.collections ≡ insert s.collections name c → get t.collections name ≡ Some c
 left s t name c is = ap (λ m. get m name) is ∙ (get-insert nat_list_cmp_total s.collections name c name ∙ ap (λ r. cond (is_eq r) (Some c) (get s.collections name)) (tied_itself nat_list_cmp_total name))
@@ -93,7 +81,3 @@ module _ (o p : OutlinedCollection) (s t : State) (name : Text) (e : EditValue) 
 -- the feature with the time that its collection's property tells
 pub told_time : (property : Option Text) (f g : FeatureValue) (t : Option IntervalValue) → time_of property f.properties ≡ Ok t → timed property f ≡ Ok g → retimed f t ≡ g
 told_time property f g t told h = let e = rw told at h in cc
-
-pub on_ok_not_err : {A E P : Type 0} (r : Result A E) → is_err r ≡ false → OnOk r P → P
-on_ok_not_err (Ok x) is h = h
-on_ok_not_err (Err x) is h = absurd cc

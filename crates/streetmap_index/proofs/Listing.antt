@@ -21,8 +21,8 @@ use Rattle.streetmap_ledger.proofs.TextMaps.{one_text, first, second}
 use Rattle.streetmap_index.specs.Index.{IsOutlinedIf, AreKnown, KnowsAll, known_under}
 use Rattle.streetmap_index.specs.declared.outlined.OutlinedCollection.{OutlinedCollection}
 use Rattle.streetmap_index.proofs.Known.{Known}
-use Rattle.streetmap_index.proofs.InChunks.{both}
-use Rattle.streetmap_index.proofs.Pairing.{each_found}
+use Rattle.streetmap_outlines.proofs.InChunks.{both}
+use Rattle.streetmap_outlines.proofs.Pairing.{each_found}
 
 -- ---- keys in their order
 -- entries of which the keys alone count

@@ -14,10 +14,11 @@ use Rattle.streetmap_ledger.specs.WellFormed.{HoldsFeatures}
 use Rattle.streetmap_ledger.specs.Pages.{is_candidate, candidates, selected, selects, run_in, is_between}
 use Rattle.streetmap_ledger.specs.Outlines.{FeatureOutlineValue}
 use Rattle.streetmap_ledger.specs.Folds.{IsFoldOf, HoldsCandidates}
-use Rattle.streetmap_index.specs.declared.kept.KeptOutline.{KeptOutline}
+use Rattle.streetmap_outlines.specs.declared.kept.KeptOutline.{KeptOutline}
 use Rattle.streetmap_ledger.specs.declared.fold.PageFold.{PageFold}
-use Rattle.streetmap_index.specs.Taking.{Pairs, IsExamined, HaveIds, TakesRun}
-use Rattle.streetmap_index.proofs.Pairing.{IsThere, each_there, parted}
+use Rattle.streetmap_outlines.specs.Outlines.{Pairs}
+use Rattle.streetmap_index.specs.Taking.{IsExamined, HaveIds, TakesRun}
+use Rattle.streetmap_outlines.proofs.Pairing.{IsThere, each_there, parted}
 
 abbrev id_of : KeptOutline → Text
 id_of o = string_bytes o.id

@@ -1,151 +1,19 @@
 -- What an index knows of collections without reading their features.
-use Rattle.std.specs.Prelude.{◌≡◌, ◌<◌, ℕ, ℤ, ◌≤ℤ◌, Bool, List, [], ◌∷◌, All, length, map, is_some}
-use Rattle.std.specs.Prelude.{Option, None, Some, IsSome, IsTrue, String, string_bytes, slice_get}
-use Rattle.std.specs.Prelude.{Vec}
+use Rattle.std.specs.Prelude.{◌≡◌, List, []}
+use Rattle.std.specs.Prelude.{Option, None, Some, IsSome, IsTrue, String, string_bytes}
 use Rattle.std.specs.Option.{option_map}
 use Rattle.std.specs.Ordering.{is_eq}
 use Rattle.std.specs.Map.{lookup}
-use Rattle.std.specs.List.{flat_map, count_by}
-use Rattle.std.specs.FinMap.{get, entries}
+use Rattle.std.specs.FinMap.{get}
 use Rattle.std.specs.declared.alloc.Global.{Global}
-use Rattle.streetmap_grid.specs.declared.grid_box.GridBox.{GridBox}
-use Rattle.streetmap_grid.specs.Views.{box_value}
-use Rattle.streetmap_grid.specs.Extent.{IsWithin}
-use Rattle.streetmap_grid.specs.Bounds.{AreBounds}
-use Rattle.streetmap_geojson.specs.FeatureValue.{FeatureValue}
-use Rattle.streetmap_geojson.specs.FeatureInvariant.{IsFeature}
 use Rattle.streetmap_batch.specs.Text.{Text, text_cmp}
 use Rattle.streetmap_batch.specs.BatchValue as edit
 use Rattle.streetmap_batch.specs.BatchValue.{EditValue}
-use Rattle.streetmap_ledger.specs.State.{State, Collection, Features}
-use Rattle.streetmap_ledger.specs.Outlines.{feature_outline_of}
-use Rattle.streetmap_ledger.specs.Summaries.{all_vertices}
-use Rattle.streetmap_index.specs.Kept.{outline_value, outline_values}
-use Rattle.streetmap_index.specs.declared.kept.KeptOutline.{KeptOutline}
+use Rattle.streetmap_ledger.specs.State.{State, Collection}
 use Rattle.streetmap_ledger.specs.declared.reply.Fault.{Fault}
 use Rattle.streetmap_ledger.specs.declared.reply.Fault.TheVariants.{Memory, Device, Damaged, Reopen}
-use Rattle.streetmap_cells.specs.Cells.{HasExtent}
-use Rattle.streetmap_cells.specs.Envelopes.{IsEnvelopeOf}
-use Rattle.streetmap_cells.specs.declared.envelope.Envelope.{Envelope}
-use Rattle.streetmap_cells.specs.declared.cells.Cells.{Cells}
-use Rattle.streetmap_index.specs.declared.chunk.Chunk.{Chunk}
-use Rattle.streetmap_index.specs.declared.chunks.Chunks.{Chunks}
 use Rattle.streetmap_index.specs.declared.outlined.OutlinedCollection.{OutlinedCollection}
 use Rattle.streetmap_index.specs.declared.index.Index.{Index}
-
--- it is the outline of the feature under its id
-abbrev pub IsOutlineOf : KeptOutline → FeatureValue → Type 0
-IsOutlineOf o f = outline_value o ≡ feature_outline_of f.id f
-
--- the outlines of all chunks, those of each one behind those of the chunk before it
-abbrev pub joined : List Chunk → List KeptOutline
-joined chunks = flat_map (λ chunk. chunk.outlines.items) chunks
-
--- the outlines of runs, put together
-abbrev pub joined_runs : List (Vec KeptOutline Global) → List KeptOutline
-joined_runs runs = flat_map (λ run. run.items) runs
-
--- they are the outlines of these features, in byte order of ids
-abbrev pub AreOutlines : List KeptOutline → Features → Type 0
-AreOutlines os features = outline_values os
-    ≡ map (λ e. feature_outline_of e.0 e.1) (entries features)
-
--- no chunk is empty
-abbrev pub AreFilled : List Chunk → Type 0
-AreFilled chunks = All (λ chunk. 0 < length chunk.outlines.items) chunks
-
--- each point of the extent, if there is one, lies in the bounds
-abbrev pub LiesWithin : Option GridBox → Option GridBox → Type 0
-LiesWithin None bounds = Unit {0}
-LiesWithin (Some extent) None = ⊥
-LiesWithin (Some extent) (Some bounds) = IsWithin (box_value extent) (box_value bounds)
-
--- the extent of each outline lies within the bounds
-abbrev pub AllLieWithin : List KeptOutline → Option GridBox → Type 0
-AllLieWithin os bounds = All (λ o. LiesWithin o.extent bounds) os
-
--- an outline, and the feature that it is of
-pub record IsEntry (features : Features) (o : KeptOutline) (f : FeatureValue) : Type 0 where
-  pub known : IsOutlineOf o f
-  pub made : IsFeature f
-  pub there : get features f.id ≡ Some f
-
--- outlines and features, one by one
-abbrev pub Pairs : Features → List KeptOutline → List FeatureValue → Type 0
-Pairs features [] [] = Unit {0}
-Pairs features [] (f ∷ fs) = ⊥
-Pairs features (o ∷ os) [] = ⊥
-Pairs features (o ∷ os) (f ∷ fs) = IsEntry features o f × Pairs features os fs
-
--- whether a feature has an extent
-abbrev pub has_extent : KeptOutline → Bool
-has_extent o = is_some o.extent
-
--- the seconds of a time within bounds: its first one is not behind the latest first, nor its last
--- one before the earliest last
-abbrev pub IsTimedBy : Option (ℤ × ℤ) → Option (ℤ × ℤ) → Type 0
-IsTimedBy seconds None = Unit {0}
-IsTimedBy None (Some bounds) = ⊥
-IsTimedBy (Some seconds) (Some bounds) = (seconds.0 ≤ℤ bounds.0) × (bounds.1 ≤ℤ seconds.1)
-
--- those of each outline are
-abbrev pub AllTimedBy : List KeptOutline → Option (ℤ × ℤ) → Type 0
-AllTimedBy os bounds = All (λ o. IsTimedBy o.seconds bounds) os
-
--- this is the extent, if there is one, counted from the corner of the grid; where there is none it
--- ends at that corner, which no box of the grid reaches
-abbrev pub IsExtentIf : Envelope → Option GridBox → Type 0
-IsExtentIf e None = e.x1 ≡ 0
-IsExtentIf e (Some extent) = IsEnvelopeOf e (box_value extent)
-
--- what is kept of an outline, in the same place, is its extent
-abbrev pub AreExtentsOf : List Envelope → List KeptOutline → Type 0
-AreExtentsOf es os =
-    (i : ℕ) (e : Envelope) (o : KeptOutline) → slice_get es i ≡ Some e
-    → slice_get os i ≡ Some o → IsExtentIf e o.extent
-
--- a chunk's bounds are those of its features, and the extents of its outlines lie within them; as
--- many of these have an extent as it says; their seconds lie within its bounds of seconds; and the
--- extents beside one another are theirs
-pub record IsBounded (chunk : Chunk) : Type 0 where
-  pub within : AllLieWithin chunk.outlines.items chunk.bounds
-  pub exact : (features : Features) (fs : List FeatureValue)
-      → Pairs features chunk.outlines.items fs → AreBounds (all_vertices fs) chunk.bounds
-  pub counted : chunk.with_extent ≡ count_by has_extent chunk.outlines.items
-  pub timed : AllTimedBy chunk.outlines.items chunk.seconds
-  pub extents : AreExtentsOf chunk.extents.items chunk.outlines.items
-
--- in each chunk they do
-abbrev pub AreBounded : List Chunk → Type 0
-AreBounded chunks = All IsBounded chunks
-
--- chunks with the outlines of these features, in byte order of ids
-pub record AreChunksOf (chunks : List Chunk) (features : Features) : Type 0 where
-  pub outlines : AreOutlines (joined chunks) features
-  pub filled : AreFilled chunks
-  pub bounded : AreBounded chunks
-
--- the extent, if there is one, stands in the cells under the number of a chunk
-abbrev pub IsListedIf : Cells → ℕ → Option GridBox → Type 0
-IsListedIf cells number None = Unit {0}
-IsListedIf cells number (Some extent) = HasExtent cells number (box_value extent)
-
--- the extents of these outlines do
-abbrev pub AreListedUnder : Cells → ℕ → List KeptOutline → Type 0
-AreListedUnder cells number os = All (λ o. IsListedIf cells number o.extent) os
-
--- those of a chunk's outlines stand under its number
-abbrev pub IsListedChunk : Cells → Chunk → Type 0
-IsListedChunk cells chunk = AreListedUnder cells chunk.number chunk.outlines.items
-
--- in each chunk they do
-abbrev pub AreListed : Cells → List Chunk → Type 0
-AreListed cells chunks = All (IsListedChunk cells) chunks
-
--- the outlines of these features, in chunks and by cells
-pub record AreListedChunksOf (outlines : Chunks) (features : Features) : Type 0 where
-  pub chunks : AreChunksOf outlines.chunks.items features
-  pub listed : AreListed outlines.cells outlines.chunks.items
 
 -- what is known of a collection is so
 pub record IsOutlined (o : OutlinedCollection) (c : Collection) : Type 0 where

@@ -1,29 +1,22 @@
 -- Pages that are made from outlines.
-use Rattle.std.specs.Prelude.{◌≡◌, ℕ, true, ◌++◌, List, All, length, Bool, ◌||◌, IsTrue}
-use Rattle.std.specs.Prelude.{Option, None, Some, is_none, map, string_bytes}
+use Rattle.std.specs.Prelude.{◌≡◌, true, ◌++◌, List, Bool, IsTrue}
+use Rattle.std.specs.Prelude.{Option, None, Some, map, string_bytes}
 use Rattle.std.specs.FinMap.{get, values}
 use Rattle.streetmap_geojson.specs.FeatureValue.{FeatureValue}
 use Rattle.streetmap_query.specs.QueryValue.{QueryValue}
 use Rattle.streetmap_batch.specs.Text.{Text}
-use Rattle.streetmap_ledger.specs.State.{State, Collection, Features}
-use Rattle.streetmap_ledger.specs.Pages.{page_over, comes_after, selects, is_candidate}
-use Rattle.streetmap_ledger.specs.Pages.{candidates}
+use Rattle.streetmap_ledger.specs.State.{State, Collection}
+use Rattle.streetmap_ledger.specs.Pages.{page_over, is_candidate}
 use Rattle.streetmap_ledger.specs.PageView.{page_value}
 use Rattle.streetmap_ledger.specs.Folds.{IsFoldOf, HoldsCandidates}
 use Rattle.streetmap_ledger.specs.declared.fold.PageFold.{PageFold}
-use Rattle.streetmap_index.specs.declared.kept.KeptOutline.{KeptOutline}
+use Rattle.streetmap_outlines.specs.declared.kept.KeptOutline.{KeptOutline}
 use Rattle.streetmap_ledger.specs.declared.page.Page.{Page}
-pub use Rattle.streetmap_index.specs.Index.{IsEntry, Pairs}
-use Rattle.streetmap_index.specs.Index.{IsOutlineOf, has_extent, IsListedIf, AreListedChunksOf}
-use Rattle.streetmap_index.specs.Index.{IsBounded}
-use Rattle.streetmap_grid.specs.Views.{box_value}
-use Rattle.streetmap_grid.specs.declared.grid_box.GridBox.{GridBox}
-use Rattle.streetmap_cells.specs.Envelopes.{IsEnvelopeOf}
-use Rattle.streetmap_cells.specs.declared.envelope.Envelope.{Envelope}
-use Rattle.streetmap_cells.specs.Searches.{is_marked}
-use Rattle.streetmap_cells.specs.declared.marks.Marks.{Marks}
-use Rattle.streetmap_index.specs.declared.chunk.Chunk.{Chunk}
-use Rattle.streetmap_index.specs.declared.chunks.Chunks.{Chunks}
+use Rattle.streetmap_outlines.specs.Outlines.{Pairs}
+use Rattle.streetmap_outlines.specs.Outlines.{IsOutlineOf, AreListedChunksOf}
+use Rattle.streetmap_outlines.specs.Outlines.{IsBounded}
+use Rattle.streetmap_outlines.specs.declared.chunk.Chunk.{Chunk}
+use Rattle.streetmap_outlines.specs.declared.chunks.Chunks.{Chunks}
 
 -- a page examines the feature with this outline
 abbrev pub IsExamined : QueryValue → KeptOutline → Type 0
@@ -41,12 +34,6 @@ TakesRun s name os old new taken =
     → get s.collections name ≡ Some c → Pairs c.features os fs → IsFoldOf q old met
     → IsFoldOf q new (met ++ fs)
 
--- the box of the grid that a query asks for, if it asks for one, counted from the grid's corner
-abbrev pub IsWindowOf : QueryValue → Option Envelope → Type 0
-IsWindowOf q None = q.bbox ≡ None
-IsWindowOf q (Some window) =
-    (area : GridBox) × (q.bbox ≡ Some (box_value area)) × IsEnvelopeOf window (box_value area)
-
 -- if all were taken, the features with a chunk's outlines were met behind those met before
 abbrev pub TakesOutlined : State → Text → QueryValue → Chunk → PageFold → PageFold → Bool → Type 0
 TakesOutlined s name q chunk old new taken =
@@ -60,44 +47,3 @@ IsOutlinedPage s name q outlines None = Unit {0}
 IsOutlinedPage s name q outlines (Some page) =
     (c : Collection) → get s.collections name ≡ Some c → AreListedChunksOf outlines c.features
     → page_value page ≡ page_over q (values c.features)
-
--- each chunk with a candidate among its outlines is marked
-abbrev pub MarksCandidates : Chunks → QueryValue → Marks → Type 0
-MarksCandidates outlines q marks =
-    (number : ℕ) (o : KeptOutline) (f : FeatureValue) → IsListedIf outlines.cells number o.extent
-    → IsOutlineOf o f → is_candidate q f ≡ true → is_marked marks number ≡ true
-
--- a chunk is marked, where there are marks
-abbrev pub is_marked_if : Option Marks → ℕ → Bool
-is_marked_if None number = true
-is_marked_if (Some marks) number = is_marked marks number
-
--- whether a chunk that is counted whole counts an outline: each where no box is asked, else those
--- with an extent
-abbrev pub counts : QueryValue → KeptOutline → Bool
-counts q o = is_none q.bbox || has_extent o
-
-abbrev pub IsCountedFor : QueryValue → KeptOutline → Type 0
-IsCountedFor q o = counts q o ≡ true
-
--- of these features the query selects as many as this, and they are all candidates among them
-pub record SelectsCandidates (q : QueryValue) (n : ℕ) (fs : List FeatureValue) : Type 0 where
-  pub selected : All (λ f. selects q f ≡ true) (candidates q fs)
-  pub count : length (candidates q fs) ≡ n
-
--- a query selects of the chunk's features as many as this, and examines no others
-abbrev pub CountsWhole : QueryValue → Chunk → ℕ → Type 0
-CountsWhole q chunk count =
-    (features : Features) (fs : List FeatureValue) → Pairs features chunk.outlines.items fs
-    → SelectsCandidates q count fs
-
--- each feature with one of these outlines comes after the id asked, or none does
-abbrev pub AllComeAfter : QueryValue → Bool → List KeptOutline → Type 0
-AllComeAfter q behind os =
-    All (λ o. (f : FeatureValue) → IsOutlineOf o f → comes_after q.after f ≡ behind) os
-
--- the features of a chunk were met behind those met before
-abbrev pub TakesChunk : QueryValue → Chunk → PageFold → PageFold → Type 0
-TakesChunk q chunk old new =
-    (features : Features) (met fs : List FeatureValue) → Pairs features chunk.outlines.items fs
-    → HoldsCandidates q old met → HoldsCandidates q new (met ++ fs)

@@ -1,5 +1,5 @@
 //! What is known of some collections.
-ghost use Rattle.std.specs.Prelude.{◌≡◌, ◌-◌, ℕ, [], Ok, None, IsTrue, nat_eq, OnOk};
+ghost use Rattle.std.specs.Prelude.{◌≡◌, ◌-◌, ℕ, [], Ok, None, nat_eq, OnOk};
 ghost use Rattle.std.specs.FinMap.{get};
 ghost use Rattle.streetmap_batch.specs.BatchView.{edit_value, edit_values};
 ghost use Rattle.streetmap_ledger.specs.State.{State, step};

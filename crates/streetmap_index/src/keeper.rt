@@ -1,5 +1,5 @@
 //! A keeper with an index.
-ghost use Rattle.std.specs.Prelude.{◌≡◌, [], Some, None, IsErr, IsErrOf};
+ghost use Rattle.std.specs.Prelude.{◌≡◌, Some, None, IsErr, IsErrOf};
 ghost use Rattle.streetmap_ledger.specs.State.{State};
 ghost use Rattle.streetmap_ledger.specs.Keep.{Looks, Shows, Tells, Lists, LeavesOnly, ShutsBy};
 ghost use Rattle.streetmap_ledger.specs.Keep.{AsBefore};

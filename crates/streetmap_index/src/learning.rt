@@ -4,10 +4,10 @@ ghost use Rattle.streetmap_ledger.specs.State.{State};
 ghost use Rattle.streetmap_ledger.specs.Keep.{Looks, LeavesOnly, ShutsBy, AsBefore};
 ghost use Rattle.streetmap_index.specs.Index.{Learns, LearnsUnder};
 
-use crate::chunks::Chunks;
 use crate::outlined::OutlinedCollection;
 use std::alloc::Global;
 use streetmap_ledger::{Fault, Keeper};
+use streetmap_outlines::Chunks;
 
 /// The outlines of an open keeper's collection, beside its title and the property that the times
 /// are read from; none where the collection is not there.

@@ -6,15 +6,15 @@ ghost use Rattle.streetmap_moment.specs.Views.{interval_value};
 ghost use Rattle.streetmap_geojson.specs.FeatureValue.{FeatureValue, retimed};
 ghost use Rattle.streetmap_batch.specs.BatchView.{edit_value};
 ghost use Rattle.streetmap_ledger.specs.State.{State, Collection, timed, step};
-ghost use Rattle.streetmap_index.specs.Index.{IsOutlineOf, IsOutlined, IsOutlinedIf, collection_of};
+ghost use Rattle.streetmap_outlines.specs.Outlines.{IsOutlineOf};
+ghost use Rattle.streetmap_index.specs.Index.{IsOutlined, IsOutlinedIf, collection_of};
 
-use crate::chunks::Chunks;
-use crate::kept::KeptOutline;
 use std::alloc::{AllocError, Global};
 use streetmap_batch::Edit;
 use streetmap_geojson::Feature;
 use streetmap_ledger::FeatureOutline;
 use streetmap_moment::Interval;
+use streetmap_outlines::{Chunks, KeptOutline};
 
 /// A collection's title, the property that the times of its features are read from, and their
 /// outlines.

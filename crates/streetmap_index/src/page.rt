@@ -9,23 +9,21 @@ ghost use Rattle.streetmap_ledger.specs.State.{State};
 ghost use Rattle.streetmap_ledger.specs.Pages.{is_candidate as is_candidate_of};
 ghost use Rattle.streetmap_ledger.specs.Folds.{IsFoldOf, HoldsCandidates, IsFull};
 ghost use Rattle.streetmap_ledger.specs.Keep.{Looks, Shows, LeavesOnly, ShutsBy, AsBefore};
-ghost use Rattle.streetmap_index.specs.Chunks.{AreInOrder};
-ghost use Rattle.streetmap_index.specs.Index.{IsOutlineOf, IsBounded, IsOutlinedIf};
-ghost use Rattle.streetmap_index.specs.Taking.{TakesOutlined, TakesChunk, IsOutlinedPage};
+ghost use Rattle.streetmap_outlines.specs.Chunks.{AreInOrder};
+ghost use Rattle.streetmap_outlines.specs.Outlines.{IsOutlineOf, IsBounded};
+ghost use Rattle.streetmap_index.specs.Index.{IsOutlinedIf};
+ghost use Rattle.streetmap_outlines.specs.Selecting.{TakesChunk};
+ghost use Rattle.streetmap_index.specs.Taking.{TakesOutlined, IsOutlinedPage};
 
 use crate::asking::ask;
-use crate::chunk::Chunk;
-use crate::chunks::Chunks;
-use crate::extent_column::{lies_outside, window_of};
-use crate::kept::KeptOutline;
 use crate::outlined::OutlinedCollection;
 use crate::run::{run_length, take_run};
-use crate::selection::{
-    all_come_after, comes_after, count_selected, is_candidate, is_passed_over, is_selected,
-    is_unmarked,
-};
 use std::alloc::Global;
 use streetmap_ledger::{Fault, Keeper, Page, PageFold};
+use streetmap_outlines::{
+    Chunk, Chunks, KeptOutline, all_come_after, comes_after, count_selected, is_candidate,
+    is_passed_over, is_selected, is_unmarked, lies_outside, window_of,
+};
 use streetmap_query::Query;
 
 /// How many features a page reads one by one at most. It shows up to 1,000, and the keeper's own

@@ -8,13 +8,12 @@ ghost use Rattle.streetmap_ledger.specs.State.{State};
 ghost use Rattle.streetmap_ledger.specs.Folds.{IsFoldOf};
 ghost use Rattle.streetmap_ledger.specs.Keep.{Looks, LeavesOnly, ShutsBy};
 ghost use Rattle.streetmap_index.specs.Taking.{IsExamined, HaveIds, TakesRun};
-ghost use Rattle.streetmap_index.specs.declared.kept.KeptOutline.{KeptOutline};
+ghost use Rattle.streetmap_outlines.specs.declared.kept.KeptOutline.{KeptOutline};
 
-use crate::kept::KeptOutline;
-use crate::selection::{comes_after, is_candidate, is_selected};
 use std::alloc::{AllocError, Global};
 use streetmap_geojson::Feature;
 use streetmap_ledger::{Fault, Keeper, PageFold};
+use streetmap_outlines::{KeptOutline, comes_after, is_candidate, is_selected};
 use streetmap_query::Query;
 
 /// How many features are read together at least, where their outlines have rowids. One takes some

@@ -9,18 +9,18 @@ ghost use Rattle.streetmap_ledger.specs.WellFormed.{IsState, HoldsFeatures};
 ghost use Rattle.streetmap_ledger.specs.Summaries.{all_vertices, summary_of, summaries_in};
 ghost use Rattle.streetmap_ledger.specs.SummaryView.{summary_value, summary_values};
 ghost use Rattle.streetmap_ledger.specs.Keep.{Tells, Lists, LeavesOnly, ShutsBy, AsBefore};
-ghost use Rattle.streetmap_index.specs.Index.{joined, AreBounded, IsOutlined, IsOutlinedIf};
+ghost use Rattle.streetmap_outlines.specs.Outlines.{joined, AreBounded};
+ghost use Rattle.streetmap_index.specs.Index.{IsOutlined, IsOutlinedIf};
 ghost use Rattle.streetmap_index.specs.Index.{AreKnown, KnowsAll};
-ghost use Rattle.streetmap_index.specs.Taking.{Pairs};
+ghost use Rattle.streetmap_outlines.specs.Outlines.{Pairs};
 
 use crate::asking::ask;
-use crate::bounds::bounds_of_both;
-use crate::chunk::Chunk;
 use crate::outlined::OutlinedCollection;
 use std::alloc::{AllocError, Global};
 use std::collections::BTreeMap;
 use streetmap_grid::GridBox;
 use streetmap_ledger::{Fault, Keeper, Summary};
+use streetmap_outlines::{Chunk, bounds_of_both};
 
 /// The extent of the features with the outlines in these chunks, in millimetres; none where none
 /// has a geometry.

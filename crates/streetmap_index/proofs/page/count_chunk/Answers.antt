@@ -1,5 +1,5 @@
 use Rattle.streetmap_query.specs.Views.{query_value}
-use Rattle.streetmap_index.proofs.Counting.{takes_chunk}
+use Rattle.streetmap_outlines.proofs.Counting.{takes_chunk}
 use Rattle.streetmap_index.proofs.page.count_chunk.Goals as goal
 
 pub returns-in-Some-count_selected-clause-counted : goal.returns-in-Some-count_selected-clause-counted

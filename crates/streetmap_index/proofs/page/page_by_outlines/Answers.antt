@@ -6,17 +6,17 @@ use Rattle.streetmap_query.specs.Views.{query_value}
 use Rattle.streetmap_ledger.specs.Pages.{candidates, page_over}
 use Rattle.streetmap_ledger.specs.Folds.{HoldsCandidates}
 use Rattle.streetmap_ledger.proofs.Examining.{same_page}
-use Rattle.streetmap_index.specs.Index.{joined, LiesWithin, AreOutlines, IsBounded, AreBounded, IsListedChunk, AreListed}
+use Rattle.streetmap_outlines.specs.Outlines.{joined, LiesWithin, AreOutlines, IsBounded, AreBounded, IsListedChunk, AreListed}
 use Rattle.streetmap_ledger.specs.declared.page.Page.{Page}
 use Rattle.streetmap_ledger.specs.declared.reply.Fault.TheVariants.{Device}
 use Rattle.streetmap_index.proofs.Calls.{err_of}
-use Rattle.streetmap_index.proofs.Covering.{passed_over}
-use Rattle.streetmap_index.specs.Taking.{is_marked_if}
+use Rattle.streetmap_outlines.proofs.Covering.{passed_over}
+use Rattle.streetmap_outlines.specs.Selecting.{is_marked_if}
 use Rattle.streetmap_cells.specs.declared.marks.Marks.{Marks}
-use Rattle.streetmap_index.proofs.Listed.{unmarked_over}
-use Rattle.streetmap_index.proofs.InChunks.{next_chunk}
-use Rattle.streetmap_index.proofs.Ordered.{chunk_in_order}
-use Rattle.streetmap_index.proofs.Pairing.{Going, paired, goes_on_behind, all_met}
+use Rattle.streetmap_outlines.proofs.Listed.{unmarked_over}
+use Rattle.streetmap_outlines.proofs.InChunks.{next_chunk}
+use Rattle.streetmap_outlines.proofs.Ordered.{chunk_in_order}
+use Rattle.streetmap_outlines.proofs.Pairing.{Going, paired, goes_on_behind, all_met}
 use Rattle.streetmap_index.proofs.page.page_by_outlines.Goals as goal
 
 pub loop-chunk-init : goal.loop-chunk-init

@@ -3,8 +3,8 @@ use Rattle.std.specs.FinMap.{get, values}
 use Rattle.streetmap_query.specs.Views.{query_value}
 use Rattle.streetmap_ledger.specs.State.{State, Collection}
 use Rattle.streetmap_ledger.specs.Keep.{LeavesOnly}
-use Rattle.streetmap_index.specs.Index.{AreListedChunksOf, joined}
-use Rattle.streetmap_index.proofs.Pairing.{Going}
+use Rattle.streetmap_outlines.specs.Outlines.{AreListedChunksOf, joined}
+use Rattle.streetmap_outlines.proofs.Pairing.{Going}
 use Rattle.streetmap_index.proofs.page.page_by_outlines.Given as goal
 
 -- the keeper stands as it did, and the fold holds the page of the features met so far

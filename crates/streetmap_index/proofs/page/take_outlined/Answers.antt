@@ -6,9 +6,10 @@ use Rattle.streetmap_query.specs.Views.{query_value}
 use Rattle.streetmap_ledger.specs.Pages.{candidates}
 use Rattle.streetmap_ledger.specs.Folds.{IsFoldOf}
 use Rattle.streetmap_ledger.proofs.Examining.{left_out}
-use Rattle.streetmap_index.specs.Index.{AreExtentsOf}
-use Rattle.streetmap_index.specs.Taking.{Pairs, IsExamined}
-use Rattle.streetmap_index.proofs.Pairing.{Going, goes_on, goes_on_behind, all_held}
+use Rattle.streetmap_outlines.specs.Outlines.{AreExtentsOf}
+use Rattle.streetmap_outlines.specs.Outlines.{Pairs}
+use Rattle.streetmap_index.specs.Taking.{IsExamined}
+use Rattle.streetmap_outlines.proofs.Pairing.{Going, goes_on, goes_on_behind, all_held}
 use Rattle.streetmap_index.proofs.Runs.{turn, rest_is, run_whole, run_front, run_held}
 use Rattle.streetmap_index.proofs.page.take_outlined.Goals as goal
 

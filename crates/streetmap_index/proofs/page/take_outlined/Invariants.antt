@@ -5,9 +5,9 @@ use Rattle.streetmap_query.specs.Views.{query_value}
 use Rattle.streetmap_ledger.specs.State.{State, Collection}
 use Rattle.streetmap_ledger.specs.Keep.{LeavesOnly}
 use Rattle.streetmap_ledger.specs.Folds.{HoldsCandidates}
-use Rattle.streetmap_index.specs.Index.{IsBounded}
-use Rattle.streetmap_index.specs.Taking.{Pairs}
-use Rattle.streetmap_index.proofs.Pairing.{Going}
+use Rattle.streetmap_outlines.specs.Outlines.{IsBounded}
+use Rattle.streetmap_outlines.specs.Outlines.{Pairs}
+use Rattle.streetmap_outlines.proofs.Pairing.{Going}
 use Rattle.streetmap_index.proofs.page.take_outlined.Given as goal
 
 -- the keeper stands as it did, and the fold holds the features met so far behind those that it held

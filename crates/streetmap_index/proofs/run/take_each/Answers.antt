@@ -1,6 +1,6 @@
 use Rattle.std.proofs.Common.{◌≡◌, ◌+◌, ◌∷◌, ◌++◌, [], true, take, ap, sym, subst, ◌∙◌, arith}
 use Rattle.std.proofs.lemmas.List.{take_more, take_all}
-use Rattle.streetmap_index.specs.declared.kept.KeptOutline.{KeptOutline}
+use Rattle.streetmap_outlines.specs.declared.kept.KeptOutline.{KeptOutline}
 use Rattle.streetmap_index.specs.Taking.{TakesRun}
 use Rattle.streetmap_index.proofs.Runs.{taken_behind}
 use Rattle.streetmap_index.proofs.run.take_each.Goals as goal

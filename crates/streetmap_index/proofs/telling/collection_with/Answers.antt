@@ -1,5 +1,5 @@
 use Rattle.streetmap_ledger.specs.SummaryView.{summary_value}
-use Rattle.streetmap_index.proofs.Extents.{told_in}
+use Rattle.streetmap_index.proofs.Told.{told_in}
 use Rattle.streetmap_index.proofs.telling.collection_with.Goals as goal
 
 pub returns-in-Ok-summary-clause-tells : goal.returns-in-Ok-summary-clause-tells

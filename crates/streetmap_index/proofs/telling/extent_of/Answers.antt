@@ -1,9 +1,9 @@
 use Rattle.std.proofs.Common.{◌+◌, [], drop, refl, ap, sym, subst, arith}
 use Rattle.std.proofs.lemmas.List.{drop_all}
 use Rattle.streetmap_ledger.specs.Summaries.{all_vertices}
-use Rattle.streetmap_index.specs.Index.{joined, IsBounded}
-use Rattle.streetmap_index.proofs.InChunks.{next_chunk}
-use Rattle.streetmap_index.proofs.Extents.{Growing, grows_behind, all_bounds}
+use Rattle.streetmap_outlines.specs.Outlines.{joined, IsBounded}
+use Rattle.streetmap_outlines.proofs.InChunks.{next_chunk}
+use Rattle.streetmap_outlines.proofs.Extents.{Growing, grows_behind, all_bounds}
 use Rattle.streetmap_index.proofs.telling.extent_of.Goals as goal
 
 pub loop-chunk-init : goal.loop-chunk-init

@@ -1,9 +1,9 @@
 use Rattle.std.proofs.Common.{List, [], drop}
 use Rattle.streetmap_geojson.specs.FeatureValue.{FeatureValue}
 use Rattle.streetmap_ledger.specs.State.{Features}
-use Rattle.streetmap_index.specs.Index.{joined, AreBounded}
-use Rattle.streetmap_index.specs.Taking.{Pairs}
-use Rattle.streetmap_index.proofs.Extents.{Growing}
+use Rattle.streetmap_outlines.specs.Outlines.{joined, AreBounded}
+use Rattle.streetmap_outlines.specs.Outlines.{Pairs}
+use Rattle.streetmap_outlines.proofs.Extents.{Growing}
 use Rattle.streetmap_index.proofs.telling.extent_of.Given as goal
 
 abbrev pub invariant-loop-chunk : goal.invariant-loop-chunk

@@ -1,10 +1,10 @@
 use Rattle.std.proofs.Common.{sym, subst, ◌∙◌}
 use Rattle.std.specs.FinMap.{values}
 use Rattle.streetmap_ledger.specs.Summaries.{all_vertices}
-use Rattle.streetmap_index.specs.Index.{joined, AreBounded}
-use Rattle.streetmap_index.specs.Taking.{Pairs}
-use Rattle.streetmap_index.proofs.Pairing.{paired}
-use Rattle.streetmap_index.proofs.Extents.{bounds_extent, same_summary}
+use Rattle.streetmap_outlines.specs.Outlines.{joined, AreBounded}
+use Rattle.streetmap_outlines.specs.Outlines.{Pairs}
+use Rattle.streetmap_outlines.proofs.Pairing.{paired}
+use Rattle.streetmap_outlines.proofs.Extents.{bounds_extent, same_summary}
 use Rattle.streetmap_index.proofs.telling.summary.Goals as goal
 
 pub returns : goal.returns

@@ -4,7 +4,7 @@ use Rattle.streetmap_batch.specs.BatchView.{edit_value, edit_values}
 use Rattle.streetmap_batch.specs.declared.edit.Edit.{Edit}
 use Rattle.streetmap_ledger.specs.Batches.{edited}
 use Rattle.streetmap_index.specs.Index.{IsIndexOf}
-use Rattle.streetmap_index.proofs.Following.{on_ok_not_err}
+use Rattle.streetmap_outlines.proofs.Results.{on_ok_not_err}
 use Rattle.streetmap_index.proofs.Replies.{first_done, none_done}
 use Rattle.streetmap_index.proofs.index.Index.follow.Goals as goal
 

@@ -3,7 +3,8 @@ use Rattle.std.specs.FinMap.{get}
 use Rattle.streetmap_batch.specs.Text.{Text}
 use Rattle.streetmap_batch.specs.BatchView.{edit_value}
 use Rattle.streetmap_index.specs.Index.{IsOutlinedIf}
-use Rattle.streetmap_index.proofs.Following.{still_known, followed, all_followed, on_ok_map}
+use Rattle.streetmap_outlines.proofs.Results.{on_ok_map}
+use Rattle.streetmap_index.proofs.Following.{still_known, followed, all_followed}
 use Rattle.streetmap_index.proofs.index.Index.follow_edit.Goals as goal
 
 pub returns-in-Some : goal.returns-in-Some

@@ -1,7 +1,7 @@
 use Rattle.std.proofs.Common.{ap, subst}
 use Rattle.std.specs.FinMap.{remove}
 use Rattle.streetmap_batch.specs.BatchView.{edit_value}
-use Rattle.streetmap_index.specs.Index.{AreListedChunksOf}
+use Rattle.streetmap_outlines.specs.Outlines.{AreListedChunksOf}
 use Rattle.streetmap_index.proofs.Following.{follows_insert, follows_replace, follows_delete}
 use Rattle.streetmap_index.proofs.outlined.OutlinedCollection.follow.Goals as goal
 

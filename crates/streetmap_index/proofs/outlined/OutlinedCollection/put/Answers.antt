@@ -2,8 +2,9 @@ use Rattle.std.proofs.Common.{◌≡◌, Ok, option_map, sym, ap, subst, ◌∙�
 use Rattle.streetmap_moment.specs.Views.{interval_value}
 use Rattle.streetmap_geojson.specs.FeatureValue.{FeatureValue}
 use Rattle.streetmap_geojson.specs.Times.{time_of}
-use Rattle.streetmap_index.specs.Index.{IsOutlineOf}
-use Rattle.streetmap_index.proofs.Following.{on_ok_map, told_time}
+use Rattle.streetmap_outlines.specs.Outlines.{IsOutlineOf}
+use Rattle.streetmap_outlines.proofs.Results.{on_ok_map}
+use Rattle.streetmap_index.proofs.Following.{told_time}
 use Rattle.streetmap_index.proofs.outlined.OutlinedCollection.put.Goals as goal
 
 pub returns-in_ok-outline_of-in-Ok : goal.returns-in_ok-outline_of-in-Ok

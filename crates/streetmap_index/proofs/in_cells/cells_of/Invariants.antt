@@ -1,7 +1,0 @@
-use Rattle.std.proofs.Common.{take}
-use Rattle.streetmap_index.specs.Index.{AreListed}
-use Rattle.streetmap_index.proofs.in_cells.cells_of.Given as goal
-
--- the extents of the chunks so far stand in the cells
-abbrev pub invariant-loop-chunk : goal.invariant-loop-chunk
-invariant-loop-chunk l = AreListed l.cells (take l.chunk-index l.chunks)

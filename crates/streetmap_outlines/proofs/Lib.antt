@@ -1,0 +1,15 @@
+pub mod Pairing
+pub mod Places
+pub mod InChunks
+pub mod Each
+pub mod Covering
+pub mod Extents
+pub mod Beside
+pub mod Position
+pub mod Listed
+pub mod Counting
+pub mod Ordered
+pub mod Blocks
+pub mod CutUp
+pub mod SameBox
+pub mod Results

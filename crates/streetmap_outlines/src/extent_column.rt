@@ -1,0 +1,117 @@
+//! The extents of a chunk's outlines, beside one another: a column of them. A page of a box goes
+//! over these, and looks only at the outlines whose extents overlap the box: 16 bytes are read of
+//! each other one, in place of all that an outline has. Where it only counts, and each extent that
+//! overlaps the box tells that its feature meets it, no outline is looked at.
+ghost use Rattle.std.specs.Prelude.{◌≡◌, ◌<◌, ◌↔◌, List, All, Some, IsSome, IfSome, IsTrue, false};
+ghost use Rattle.std.specs.Prelude.{not, length, slice_get, ◌≤◌};
+ghost use Rattle.std.specs.List.{count_by};
+ghost use Rattle.streetmap_geojson.specs.FeatureValue.{FeatureValue};
+ghost use Rattle.streetmap_query.specs.QueryValue.{QueryValue};
+ghost use Rattle.streetmap_query.specs.Views.{query_value};
+ghost use Rattle.streetmap_ledger.specs.Pages.{passes, extent_overlaps, is_candidate};
+ghost use Rattle.streetmap_cells.specs.Envelopes.{overlaps};
+ghost use Rattle.streetmap_outlines.specs.Outlines.{IsOutlineOf, IsExtentIf, AreExtentsOf};
+ghost use Rattle.streetmap_outlines.specs.Selecting.{IsWindowOf};
+ghost use Rattle.streetmap_outlines.specs.Within.{TellsWhetherMet};
+ghost use Rattle.streetmap_outlines.specs.declared.kept.KeptOutline.{KeptOutline};
+
+use crate::kept::KeptOutline;
+use crate::within::has_three_bounds_in;
+use streetmap_cells::Envelope;
+use streetmap_grid::GridBox;
+use streetmap_query::Query;
+
+/// How many extents are counted at a time: few enough for a count of 32 bits.
+const BLOCK: usize = 4_096;
+
+/// What is kept of an extent. Where there is none it ends at the corner of the grid, so that no box
+/// overlaps it.
+fn envelope_of(extent: Option<GridBox>) -> Envelope
+    ensures { IsExtentIf result extent }
+{
+    match &extent {
+        Some(extent) => Envelope::of(extent),
+        None => Envelope {
+            x0: 0,
+            y0: 0,
+            x1: 0,
+            y1: 0,
+        },
+    }
+}
+
+/// Keeps the extents of outlines, in place of those that were kept: of as many, from the first on,
+/// as there is memory for.
+pub fn keep_extents(extents: &mut Vec<Envelope>, outlines: &[KeptOutline])
+    ensures { AreExtentsOf extents.new.items outlines.now }
+{
+    extents.clear();
+    for outline in outlines {
+        let Ok(()) = extents.push(envelope_of(outline.extent())) else {
+            return;
+        };
+    }
+}
+
+/// The box that a query asks for, as extents are kept; none where it asks for none.
+pub fn window_of(query: &Query) -> Option<Envelope>
+    ensures { IsWindowOf (query_value query.now) result }
+{
+    match &query.bbox {
+        Some(area) => Some(Envelope::of(area)),
+        None => None,
+    }
+}
+
+/// Whether what is kept of the extent of the outline in this place lies outside the window. Then a
+/// page does not examine its feature.
+pub fn lies_outside(window: Option<Envelope>, extents: &[Envelope], place: usize) -> bool
+    ensures passed_over { IsTrue result → (q : QueryValue) (os : List KeptOutline)
+        (o : KeptOutline) (f : FeatureValue) → IsWindowOf q window → AreExtentsOf extents.now os
+        → slice_get os place ≡ Some o → IsOutlineOf o f → is_candidate q f ≡ false }
+    ensures exact { place < length extents.now → (q : QueryValue) (os : List KeptOutline)
+        (o : KeptOutline) (f : FeatureValue) → IsWindowOf q window → AreExtentsOf extents.now os
+        → slice_get os place ≡ Some o → IsOutlineOf o f
+        → result ≡ not (passes extent_overlaps f.geometry q.bbox) }
+{
+    let Some(window) = window else {
+        return false;
+    };
+    match extents.get(place) {
+        Some(extent) => !extent.overlaps(&window),
+        None => false,
+    }
+}
+
+/// How many of the extents overlap the window, where each of these has three bounds in it; none
+/// where one has not. No extent decides where to go on: among extents in no order the processor
+/// guesses such a branch wrong, and without one it looks at four of them at once.
+fn count_in_block(window: &Envelope, extents: &[Envelope]) -> Option<u32>
+    requires { length extents.now ≤ BLOCK }
+    ensures count { IfSome result (λ count. count
+        ≡ count_by (λ e. overlaps e window.now) extents.now) }
+    ensures told { IsSome result ↔ All (λ e. TellsWhetherMet e window.now) extents.now }
+{
+    let mut count: u32 = 0;
+    let mut is_told = true;
+    for extent in extents {
+        let overlaps = extent.overlaps(window);
+        count += u32::from(overlaps);
+        is_told &= !overlaps | has_three_bounds_in(extent, window);
+    }
+    if is_told { Some(count) } else { None }
+}
+
+/// How many of the extents overlap the window, where each of these has three bounds in it; none
+/// where one has not.
+pub fn count_in_window(window: &Envelope, extents: &[Envelope]) -> Option<u64>
+    ensures count { IfSome result (λ count. count
+        ≡ count_by (λ e. overlaps e window.now) extents.now) }
+    ensures told { IsSome result ↔ All (λ e. TellsWhetherMet e window.now) extents.now }
+{
+    let mut count = 0;
+    for block in extents.chunks(BLOCK) {
+        count += u64::from(count_in_block(window, block)?);
+    }
+    Some(count)
+}

@@ -1,0 +1,36 @@
+//! What is known in memory of the features of a collection without reading them: the outline of
+//! each, in byte order of ids, with its id, its extent, and the first and the last second of its
+//! time.
+//!
+//! Outlines stand in chunks. A page passes over a chunk whose bounds are off its box, and over one
+//! with no extent that overlaps the box where the cells of the grid show that. Where it shows none
+//! of a chunk's features it counts them by what stands beside the outlines: by the chunk's bounds,
+//! if it lies within the box and the interval, or by the extents, if each that overlaps the box
+//! tells that its feature meets it. It goes over the outlines of the others, and looks only at
+//! those whose extents overlap the box.
+//!
+//! In the order of reading: `compact_box` and `kept` (an outline as it is kept), `bounds`,
+//! `within`, `extent_column`, `chunk`, `in_cells` and `chunks` (outlines in chunks, of which an
+//! edit changes one, and their extents by cells), `selection` (what these tell of a query).
+#![tactic(auto)]
+
+mod bounds;
+mod chunk;
+mod chunks;
+mod compact_box;
+mod extent_column;
+mod in_cells;
+mod kept;
+mod selection;
+mod within;
+
+pub use bounds::bounds_of_both;
+pub use chunk::Chunk;
+pub use chunks::Chunks;
+pub use compact_box::CompactBox;
+pub use extent_column::{lies_outside, window_of};
+pub use kept::KeptOutline;
+pub use selection::{
+    all_come_after, comes_after, count_selected, is_candidate, is_passed_over, is_selected,
+    is_unmarked,
+};
