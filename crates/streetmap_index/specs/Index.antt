@@ -12,6 +12,7 @@ use Rattle.streetmap_batch.specs.BatchValue.{EditValue}
 use Rattle.streetmap_ledger.specs.State.{State, Collection}
 use Rattle.streetmap_ledger.specs.declared.reply.Fault.{Fault}
 use Rattle.streetmap_ledger.specs.declared.reply.Fault.TheVariants.{Memory, Device, Damaged, Reopen}
+use Rattle.streetmap_outlines.specs.Outlines.{AreListedChunksOf}
 use Rattle.streetmap_index.specs.declared.outlined.OutlinedCollection.{OutlinedCollection}
 use Rattle.streetmap_index.specs.declared.index.Index.{Index}
 

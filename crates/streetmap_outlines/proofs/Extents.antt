@@ -2,7 +2,6 @@
 use Rattle.std.proofs.Common.{◌≡◌, List, [], ◌∷◌, ◌++◌, Option, None, Some, refl, sym, ap, subst, ◌∙◌, append_assoc, append-nil}
 use Rattle.std.specs.Prelude.{unwrap_or}
 use Rattle.std.specs.Option.{option_map, option_map_or}
-use Rattle.std.specs.FinMap.{get}
 use Rattle.std.proofs.lemmas.List.{flat_map_more}
 use Rattle.streetmap_grid.specs.declared.grid_box.GridBox.{GridBox}
 use Rattle.streetmap_grid.specs.Values.{PositionValue, GeometryValue}
@@ -12,9 +11,8 @@ use Rattle.streetmap_grid.specs.Bounds.{AreBounds}
 use Rattle.streetmap_grid.proofs.Growing.{same_extent, positions_extent_is, extent_is}
 use Rattle.streetmap_geojson.specs.FeatureValue.{FeatureValue}
 use Rattle.streetmap_geojson.specs.FeatureInvariant.{IsGeometryIf}
-use Rattle.streetmap_batch.specs.Text.{Text}
-use Rattle.streetmap_ledger.specs.State.{State, Collection, Features}
-use Rattle.streetmap_ledger.specs.Summaries.{SummaryValue, extent_if, feature_vertices, all_vertices, summary_of, summary_in}
+use Rattle.streetmap_ledger.specs.State.{Features}
+use Rattle.streetmap_ledger.specs.Summaries.{SummaryValue, extent_if, feature_vertices, all_vertices}
 use Rattle.streetmap_ledger.specs.Outlines.{FeatureOutlineValue}
 use Rattle.streetmap_outlines.specs.declared.kept.KeptOutline.{KeptOutline}
 use Rattle.streetmap_outlines.specs.Outlines.{Pairs}

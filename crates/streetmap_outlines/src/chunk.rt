@@ -59,7 +59,7 @@ fn is_same_extent(one: Option<GridBox>, other: Option<GridBox>) -> bool
 
 impl Chunk {
     /// A chunk of these outlines, with this number.
-    pub fn new(alloc: Global, number: u32, outlines: Vec<KeptOutline>) -> Self
+    pub(crate) fn new(alloc: Global, number: u32, outlines: Vec<KeptOutline>) -> Self
         ensures number { result.number ≡ number }
         ensures same { result.outlines.items ≡ outlines.items }
         ensures bounded { IsBounded result }
@@ -91,7 +91,7 @@ impl Chunk {
     }
 
     /// Whether there is an outline under this id, with this extent.
-    pub fn has(&self, id: &str, extent: Option<GridBox>) -> bool
+    pub(crate) fn has(&self, id: &str, extent: Option<GridBox>) -> bool
         ensures { IsTrue result → (cells : Cells) → IsListedChunk cells self.now →
             IsListedIf cells self.now.number extent }
     {
@@ -114,7 +114,7 @@ impl Chunk {
     }
 
     /// Puts an outline in, in place of the one under its id, if there is one.
-    pub fn put(&mut self, outline: KeptOutline) -> Result<(), AllocError>
+    pub(crate) fn put(&mut self, outline: KeptOutline) -> Result<(), AllocError>
         ensures some { OnOk result (0 < length self.new.outlines.items) }
         ensures outlines { (features : Features) (f : FeatureValue)
             → AreOutlines self.old.outlines.items features → IsOutlineOf outline f
@@ -138,7 +138,7 @@ impl Chunk {
     }
 
     /// Takes the outline under an id out, if there is one.
-    pub fn cut(&mut self, id: &str)
+    pub(crate) fn cut(&mut self, id: &str)
         ensures outlines { (features : Features) → AreOutlines self.old.outlines.items features
             → AreOutlines self.new.outlines.items (remove features id.now) }
         ensures bounded { IsBounded self.old → IsBounded self.new }
@@ -152,7 +152,7 @@ impl Chunk {
     }
 
     /// Takes the outlines from a place on out, as a chunk of their own with this number.
-    pub fn split_off(
+    pub(crate) fn split_off(
         &mut self,
         alloc: Global,
         place: usize,
@@ -174,7 +174,7 @@ impl Chunk {
     }
 
     /// Whether the last of the outlines is under this id or a later one.
-    pub fn reaches(&self, id: &str) -> bool
+    pub(crate) fn reaches(&self, id: &str) -> bool
         ensures { result ≡ reaches_of id.now self.now.outlines.items }
     {
         match self.outlines.last() {

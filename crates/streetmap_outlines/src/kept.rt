@@ -54,7 +54,7 @@ impl KeptOutline {
     }
 
     /// The extent of its geometry, in millimetres; none where it has none.
-    pub fn extent(&self) -> Option<GridBox>
+    pub(crate) fn extent(&self) -> Option<GridBox>
         ensures { result ≡ self.now.extent }
     {
         match &self.extent {
