@@ -34,6 +34,7 @@ from contextlib import contextmanager
 from dataclasses import dataclass
 from itertools import islice
 from pathlib import Path
+from typing import Any
 
 BATCH = 1_000
 # How many pages of a kind QGIS Server and MapServer are asked for at most.
@@ -61,7 +62,7 @@ class Town:
         """In millimetres."""
         return self.side * SPACING
 
-    def feature(self, at: int, chance: random.Random) -> dict:
+    def feature(self, at: int, chance: random.Random) -> dict[str, Any]:
         """A line that begins in its own place, under an id that follows places or does not."""
         x, y = at % self.side * SPACING, at // self.side * SPACING
         end = [x + chance.randrange(LONGEST), y + chance.randrange(LONGEST)]
@@ -73,13 +74,13 @@ class Town:
             "type": "Feature",
         }
 
-    def lines(self) -> Iterator[dict]:
+    def lines(self) -> Iterator[dict[str, Any]]:
         """All features, in order of their places."""
         chance = random.Random(7)
         for at in range(self.features):
             yield self.feature(at, chance)
 
-    def batches(self) -> Iterator[dict]:
+    def batches(self) -> Iterator[dict[str, Any]]:
         """An opened collection and then its features, in batches of 1,000."""
         lines = self.lines()
         yield {"key": "open", "edits": [{"op": "open", "collection": "town"}]}
@@ -112,7 +113,7 @@ class Server:
         """The body of an answer."""
         return self.answer("GET", target, None)
 
-    def post(self, batch: dict) -> bytes:
+    def post(self, batch: dict[str, Any]) -> bytes:
         """The reply to a batch."""
         return self.answer("POST", "/batches", json.dumps(batch, separators=(",", ":")))
 
@@ -217,7 +218,7 @@ class Plain:
         except sqlite3.OperationalError:
             self.has_tree = False
 
-    def page(self, area: Box | None, limit: int, by_tree: bool) -> list:
+    def page(self, area: Box | None, limit: int, by_tree: bool) -> list[Any]:
         """The rows that a page shows, behind a count of those that it would match."""
         if area is None:
             self.database.execute(self.COUNT).fetchone()
@@ -253,7 +254,7 @@ def fill(program: Path, file: Path, town: Town) -> float:
     return time.perf_counter() - start
 
 
-def edits(town: Town, turn: int) -> list[tuple[str, dict]]:
+def edits(town: Town, turn: int) -> list[tuple[str, dict[str, Any]]]:
     """One insert, one replacement and one deletion of a feature, each in a batch of its own."""
     feature = town.feature(town.features // 2 + turn, random.Random(turn))
     feature["id"] = f"{turn:010}-new"
