@@ -10,7 +10,7 @@
 //! `read_value` and `read_token` read one value at a time from the tokens of a text, for who must
 //! not have the whole value in memory.
 //!
-//! Modules, in the order of reading: `fault`, `number_text`, `json_text`, `number`, `value`,
+//! Modules, in the order of reading: `fault`, `number_text`, `number`, `value`, `json_text`,
 //! `laws`.
 #![tactic(auto)]
 
@@ -22,6 +22,6 @@ mod number_text;
 mod value;
 
 pub use fault::ParseFault;
-pub use json_text::read_json;
+pub use json_text::{read_json, read_json_with};
 pub use number_text::with_whole_numbers;
 pub use value::{read_token, read_value};

@@ -19,6 +19,7 @@ use crate::feature_fault::FeatureFault;
 use crate::rules::{FeatureRules, HeldTimes};
 use crate::source::{PlacedEdit, Unread};
 use crate::text_fault::TextFault;
+use json::Scratch;
 use serde_json::{Map, Value};
 use std::alloc::{AllocError, Global};
 use streetmap_batch::Edit;
@@ -209,13 +210,14 @@ fn unread(place: u64, fault: PlacingFault) -> TextFault
 /// The edit of the text of a feature at a place.
 pub(crate) fn read_edit(
     alloc: Global,
+    scratch: &mut Scratch,
     rules: &FeatureRules,
     place: u64,
     text: &[u8],
 ) -> Result<PlacedEdit, Unread>
     ensures { IsItem (item_of_text (rules_value rules.now) place text.now) result }
 {
-    match read_placed(alloc, text, &rules.numbers) {
+    match read_placed(alloc, scratch, text, &rules.numbers) {
         Ok(value) => read_edit_of(alloc, rules, place, value),
         Err(PlacingFault::Memory) => Err(Unread::Memory),
         Err(fault) => Err(Unread::AtFault(unread(place, fault))),

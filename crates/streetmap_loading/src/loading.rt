@@ -16,6 +16,7 @@ use crate::sink::Sink;
 use crate::source::Edits;
 use crate::text_edits::TextEdits;
 use crate::whole::send_all;
+use json::Scratch;
 use std::alloc::Global;
 use std::io::BufRead;
 use streetmap_ledger::Keeper;
@@ -60,6 +61,7 @@ pub fn send_text<S: Sink, R: BufRead + Drop, L: Listener + Drop>(
         alloc,
         reader,
         listener,
+        scratch: Scratch::new(alloc),
         rules,
         opening,
         features: 0,

@@ -10,6 +10,7 @@ use crate::listener::Listener;
 use crate::rules::FeatureRules;
 use crate::source::{Edits, PlacedEdit, Unread};
 use crate::text_fault::TextFault;
+use json::Scratch;
 use std::alloc::Global;
 use std::io::BufRead;
 use streetmap_text_lines::{Line, LineFault, next_line};
@@ -36,6 +37,8 @@ pub struct TextEdits<R: BufRead + Drop, L: Listener + Drop> {
     pub alloc: Global,
     pub reader: R,
     pub listener: L,
+    /// The memory that lines are read with, one after the other.
+    pub scratch: Scratch,
     pub rules: FeatureRules,
     pub opening: Option<PlacedEdit>,
     /// How many features were met.
@@ -131,7 +134,7 @@ impl<R: BufRead + Drop, L: Listener + Drop> TextEdits<R, L> {
         }
         self.features = place;
         self.listener.reached(place, self.bytes);
-        match read_edit(self.alloc, &self.rules, place, text) {
+        match read_edit(self.alloc, &mut self.scratch, &self.rules, place, text) {
             Ok(placed) => Ok(Step::Edit(placed)),
             Err(Unread::AtFault(fault)) => {
                 if self.rules.skips(fault) {

@@ -14,7 +14,7 @@ use crate::role::Role;
 use json::{Error, Reader, Scratch};
 use serde_json::Value;
 use std::alloc::Global;
-use streetmap_json::read_json;
+use streetmap_json::read_json_with;
 
 /// How deep a feature may nest.
 const MAX_DEPTH: usize = 127;
@@ -24,7 +24,7 @@ const MAX_DEPTH: usize = 127;
 /// grid, the first as an easting, the second as a northing, the third as a height; a number within
 /// the properties that is not whole may become a text. Every other value is as
 /// [`streetmap_json::read_json`] reads it, and so is the whole text where `numbers` asks for
-/// nothing.
+/// nothing. One `scratch` serves any number of reads, one after the other.
 ///
 /// # Errors
 ///
@@ -32,43 +32,62 @@ const MAX_DEPTH: usize = 127;
 /// the first fault in the order of the text: `NotJson` for a number too large for a float, where it
 /// stays a number, and `TooManyDigits`, `OutOfGrid` and `Fraction` for a coordinate, as
 /// [`streetmap_decimal::Placement::grid_of_text`] has them. `Memory` where memory was refused.
-pub fn read_placed(alloc: Global, text: &[u8], numbers: &Numbers) -> Result<Value, PlacingFault>
+pub fn read_placed(
+    alloc: Global,
+    scratch: &mut Scratch,
+    text: &[u8],
+    numbers: &Numbers,
+) -> Result<Value, PlacingFault>
     ensures read { Answers view result (IsReadAs numbers.now text.now) }
     // The same, by the function that it comes to.
     ensures value { Gives view result (value_of numbers.now text.now) }
 {
-    read_asked(alloc, text, numbers)
+    read_asked(alloc, scratch, text, numbers)
 }
 
 // The value of bytes, its numbers read where something is asked of them.
-fn read_asked(alloc: Global, text: &[u8], numbers: &Numbers) -> Result<Value, PlacingFault>
+fn read_asked(
+    alloc: Global,
+    scratch: &mut Scratch,
+    text: &[u8],
+    numbers: &Numbers,
+) -> Result<Value, PlacingFault>
     ensures { Answers view result (IsReadAs numbers.now text.now) }
 {
     match (&numbers.placement, numbers.fractions) {
-        (None, Fractions::Number) => match read_json(alloc, text) {
+        (None, Fractions::Number) => match read_json_with(alloc, scratch, text) {
             Ok(value) => Ok(value),
             Err(fault) => Err(PlacingFault::of_parse(fault)),
         },
-        _ => read_by(alloc, text, numbers),
+        _ => read_by(alloc, scratch, text, numbers),
     }
 }
 
 // The value of bytes.
-fn read_by(alloc: Global, bytes: &[u8], numbers: &Numbers) -> Result<Value, PlacingFault>
+fn read_by(
+    alloc: Global,
+    scratch: &mut Scratch,
+    bytes: &[u8],
+    numbers: &Numbers,
+) -> Result<Value, PlacingFault>
     ensures { Answers view result (TextBecomes numbers.now (utf8_tree bytes.now)) }
 {
     match std::str::from_utf8(bytes) {
-        Ok(text) => read_text(alloc, text, numbers),
+        Ok(text) => read_text(alloc, scratch, text, numbers),
         Err(_) => Err(PlacingFault::NotJson),
     }
 }
 
 // The value of a text.
-fn read_text(alloc: Global, text: &str, numbers: &Numbers) -> Result<Value, PlacingFault>
+fn read_text(
+    alloc: Global,
+    scratch: &mut Scratch,
+    text: &str,
+    numbers: &Numbers,
+) -> Result<Value, PlacingFault>
     ensures { Answers view result (TextBecomes numbers.now (text_tree text.now)) }
 {
-    let mut scratch = Scratch::new(alloc);
-    let mut reader = Reader::new(text, &mut scratch)?;
+    let mut reader = Reader::new(text, scratch)?;
     let value = parsed(alloc, &mut reader)?;
     placed_value(alloc, &value, Role::Feature, numbers)
 }

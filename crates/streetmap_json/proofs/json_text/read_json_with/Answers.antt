@@ -1,6 +1,6 @@
 use Rattle.std.proofs.Common.{sym, ◌∙◌}
 use Rattle.streetmap_json.proofs.WrittenTextAgain.{reads_again}
-use Rattle.streetmap_json.proofs.json_text.read_json.Goals as goal
+use Rattle.streetmap_json.proofs.json_text.read_json_with.Goals as goal
 
 pub returns-in-Some-clause-again : goal.returns-in-Some-clause-again
 returns-in-Some-clause-again c =
