@@ -43,7 +43,7 @@ inserts_collection = record {
   count = 3;
   table = collections;
   columns = codes "id" ∷ codes "title" ∷ codes "time" ∷ [];
-  values = given_from 1 3;
+  rows = given_from 1 3 ∷ [];
 }
 
 insert_collection_is : IsInsert inserts_collection
@@ -70,7 +70,7 @@ inserts_feature = record {
   columns =
       codes "collection" ∷ codes "id" ∷ codes "body" ∷ codes "x0" ∷ codes "y0" ∷ codes "x1"
       ∷ codes "y1" ∷ codes "s0" ∷ codes "s1" ∷ [];
-  values = given_from 1 9;
+  rows = given_from 1 9 ∷ [];
 }
 
 insert_feature_is : IsInsert inserts_feature
@@ -87,6 +87,34 @@ insert_feature_terms = terms_of inserts_feature
 pub insert_feature_means : InsertMeans inserts_feature
 insert_feature_means = insert_means inserts_feature insert_feature_is
 
+-- ---- insert_features
+
+abbrev inserts_features : Insertion
+inserts_features = record {
+  text = text.insert_features;
+  count = 72;
+  table = features;
+  columns =
+      codes "collection" ∷ codes "id" ∷ codes "body" ∷ codes "x0" ∷ codes "y0" ∷ codes "x1"
+      ∷ codes "y1" ∷ codes "s0" ∷ codes "s1" ∷ [];
+  rows =
+      given_from 1 9 ∷ given_from 10 9 ∷ given_from 19 9 ∷ given_from 28 9 ∷ given_from 37 9 ∷ given_from 46 9 ∷ given_from 55 9 ∷ given_from 64 9 ∷ [];
+}
+
+insert_features_is : IsInsert inserts_features
+unfolding everything
+insert_features_is = record {
+  says = (refl, refl, omega arith, refl);
+  unstamped = λ tree. refl;
+  filled = λ schema tree. refl;
+}
+
+abbrev pub insert_features_terms : List Term
+insert_features_terms = terms_of inserts_features
+
+pub insert_features_means : InsertMeans inserts_features
+insert_features_means = insert_means inserts_features insert_features_is
+
 -- ---- insert_batch
 
 abbrev inserts_batch : Insertion
@@ -97,7 +125,7 @@ inserts_batch = record {
   columns =
       codes "key" ∷ codes "body" ∷ codes "opened" ∷ codes "inserted" ∷ codes "replaced"
       ∷ codes "deleted" ∷ codes "serial" ∷ [];
-  values = given_from 1 7;
+  rows = given_from 1 7 ∷ [];
 }
 
 insert_batch_is : IsInsert inserts_batch

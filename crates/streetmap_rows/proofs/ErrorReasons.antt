@@ -22,8 +22,9 @@ use Rattle.sqlite_disk.specs.Disk.{MoreFaults}
 use Rattle.sqlite.specs.State.{State as Seen, HasCleanDisk, Survives, store_error, HasCause, Fails}
 use Rattle.sqlite.specs.State.{IsMisplaced, IsNoStatement, IsNotRun, RunsCommand, RunsAlone}
 use Rattle.sqlite.specs.State.{ExecutesIn, ExecutesInsideIn, FailsToShow, FailsToQuery, IsTooLate}
-use Rattle.sqlite.specs.State.{mode_of, shows_rows}
-use Rattle.streetmap_rows.specs.Failing.{tells_disk, SparesDisk, HasReason}
+use Rattle.sqlite.specs.State.{mode_of, shows_rows, ExecutesInside, IsUnchanged}
+use Rattle.streetmap_rows.specs.Failing.{tells_disk, IsOfStore, SparesDisk, HasReason}
+use Rattle.streetmap_rows.proofs.StoreErrors.{failure_is}
 use Rattle.streetmap_rows.specs.Settling.{IsCause, Settles, StopsFor}
 use Rattle.streetmap_rows.specs.declared.failing.Stop.{Stop}
 use Rattle.streetmap_rows.specs.declared.failing.Stop.TheVariants as stop
@@ -98,6 +99,27 @@ module _ (old new : Seen) where
       → ExecutesInsideIn in_batch held sql params old new (Err e) → HasReason old new e
   executed_inside in_batch held sql params e (inl it) = executed in_batch sql params e it.0
   executed_inside in_batch held sql params e (inr ended) = other old new e (ap tells_disk ended.1)
+
+  -- nothing has changed, but for an error of the store
+  alone_same : (in_batch : Bool) (sql : List ℕ) (c : Compiled) (params : Row) (e : Error)
+      → RunsAlone in_batch old new sql c params (Err e) → IsOfStore e ⊎ IsUnchanged old new
+  alone_same in_batch sql c params e h = elim (cases_Bool (shows_rows in_batch c)) [
+    | inl shows ↦ inr ((rw shows at h).1)
+    | inr runs ↦ elim (rw runs at h) [
+      | inl refused ↦ inr refused.1
+      | inr failing ↦ inl (failure_is e failing.0 failing.1)
+    ]
+  ]
+
+  pub of_store_or_same : (held : ℕ) (sql : List ℕ) (params : Row) (e : Error)
+      → ExecutesInside held sql params old new (Err e) → IsOfStore e ⊎ IsUnchanged old new
+  unfolding ExecutesIn IsNotRun
+  of_store_or_same held sql params e (inl ((inl (inl unrun)), ended)) = inr unrun.1
+  of_store_or_same held sql params e (inl ((inl (inr failing)), ended)) =
+      inl (failure_is e failing.0 failing.1)
+  of_store_or_same held sql params e (inl ((inr it), ended)) =
+      alone_same false sql it.0 _ e it.2
+  of_store_or_same held sql params e (inr ended) = inr ended.2
 
   refused : (limit : Option ℕ) (command : Command) (db : Database) (params : Row) (e : Error)
       → RefusesToRead limit command db params e → tells_disk e ≡ false

@@ -1,4 +1,4 @@
--- An INSERT of one row of values, into any table without AUTOINCREMENT.
+-- An INSERT of rows of values, into any table without AUTOINCREMENT.
 use Rattle.std.proofs.Common.{◌≡◌, inl, inr, ℕ, ◌/◌, List, [], ◌∷◌, ◌++◌, length, true, false, if◌then◌else◌, Option, Some, None, Ok, Err, Result, option_map, sym, ap, subst, subst₂, ◌∙◌, append-nil}
 use Rattle.sqlite.specs.declared.error.Error.{Error}
 use Rattle.sqlite.specs.declared.error.Error.TheVariants.{SqliteFailure}
@@ -35,12 +35,12 @@ use Rattle.streetmap_rows.proofs.FixedRefused.{refused_step}
 pub concluded : (task : Task) (mode : Mode) (w : Written) (tally : Tally) (after : Database) → Concludes task mode None w (Ok (tally, after)) → after ≡ record { schema = task.schema; trees = w.trees }
 concluded task mode w tally after h = ap (λ (p : Tally × Database). p.1) (same_value (went (went h).2).2)
 
-module _ (name : List ℕ) (tree : ℕ) (columns : List Column) (primary : List ℕ) (references : List Reference) (uniques : List (List ℕ)) (orders : List Order) (at : ℕ) (terms : List Term) (width : ℕ) (params : Row) (schema : Schema) (db : Trees) (row : Row) where
+module _ (name : List ℕ) (tree : ℕ) (columns : List Column) (primary : List ℕ) (references : List Reference) (uniques : List (List ℕ)) (orders : List Order) (at : ℕ) (terms : List Term) (width : ℕ) (params : Row) (schema : Schema) (db : Trees) (news : List Row) where
   abbrev pub table : Table
   table = record (plain_table name tree columns primary references) { uniques = uniques; orders = orders }
 
   abbrev pub edit : Edit
-  edit = record { table = table; gone = []; news = row ∷ [] }
+  edit = record { table = table; gone = []; news = news }
 
   abbrev pub task_of : Mode → Task
   task_of mode = record { limit = None; keys = mode.keys; schema = schema; table = table; params = params }
@@ -56,7 +56,7 @@ module _ (name : List ℕ) (tree : ℕ) (columns : List Column) (primary : List 
         let counted = went written.2 in
         let trees : w.trees ≡ written.0 = ap (λ (it : Written). it.trees) (same_value counted.2) ∙ same_value counted.1 in
         let step = subst₂ (λ k it. Writes schema k db it (Ok written.0)) keys (same_edit given.0 given.1.1) written.1 in
-        subst (Applies schema Enforced db edit) (sym trees) (one_step schema Enforced db written.0 edit (no_works schema Enforced 0 tree (row ∷ [])) step)
+        subst (Applies schema Enforced db edit) (sym trees) (one_step schema Enforced db written.0 edit (no_works schema Enforced 0 tree news) step)
 
     pub refused_for : mode.may_wait ≡ false → ((why : Refusal) → IsRefused schema Enforced db edit why → why ≡ NoRowid) → ((next : Trees) → Applies schema Enforced db edit next → Refers All schema next)
         → (e : Error) → OnRows (task_of mode) mode None (Insert at (Values terms width)) db (Err (Some e)) → e ≡ SqliteFailure code.NoRowid
@@ -68,7 +68,7 @@ module _ (name : List ℕ) (tree : ℕ) (columns : List Column) (primary : List 
             | inr given ↦ elim given.2 [
               | inl counter ↦ absurd (let no = counter.1 in cc)
               | inr counted ↦ elim counted.2 [
-                | inl edited ↦ elim (refused_step schema Enforced db edit edited.1.0 (no_works schema Enforced 0 tree (row ∷ [])) (subst₂ (λ k it. Writes schema k db it (Err edited.1.0)) keys (same_edit given.0 given.1.1) edited.1.1)) [
+                | inl edited ↦ elim (refused_step schema Enforced db edit edited.1.0 (no_works schema Enforced 0 tree news) (subst₂ (λ k it. Writes schema k db it (Err edited.1.0)) keys (same_edit given.0 given.1.1) edited.1.1)) [
                   | inl refused ↦ told e edited.0 edited.1.0 early.0 refused.0 (only refused.0 refused.1) refused.2 edited.1.2 edited.2 early.2
                   | inr big ↦ absurd (let none = rw big at edited.1.2 in let b = edited.2 in let a = early.2 in cc)
                 ]

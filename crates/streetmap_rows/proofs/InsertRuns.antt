@@ -1,4 +1,4 @@
--- An INSERT of one row of values as it runs.
+-- An INSERT of rows of values as it runs.
 use Rattle.std.proofs.Common.{◌≡◌, inl, inr, ℕ, ◌/◌, List, [], length, true, Option, Some, None, Ok, Err, Result, refl, sym, ap, subst, subst₂, ◌∙◌, slice_get}
 use Rattle.sqlite.specs.declared.error.Error.{Error}
 use Rattle.sqlite.specs.Order.{Row}
@@ -48,13 +48,13 @@ never_ends sql params old schema k has is c r l t h =
     ]
 
 module _ (name : List ℕ) (tree : ℕ) (columns : List Column) (primary : List ℕ) (references : List Reference) (uniques : List (List ℕ)) (orders : List Order) (at : ℕ) (terms : List Term) (width : ℕ)
-    (sql : List ℕ) (params : Row) (old new : Seen) (schema : Schema) (row : Row) (has : old.now.schema ≡ schema) (limit : old.step_limit ≡ None)
+    (sql : List ℕ) (params : Row) (old new : Seen) (schema : Schema) (news : List Row) (has : old.now.schema ≡ schema) (limit : old.step_limit ≡ None)
     (is : command_of (understood schema sql) ≡ Insert at (Values terms width)) (plain : IsPlain (understood schema sql)) (fit : IsFit sql (length params) (understood schema sql)) (fits : accepts_terms terms params ≡ true) where
   abbrev pub table : Table
-  table = put.table name tree columns primary references uniques orders at terms width params schema old.now.trees row
+  table = put.table name tree columns primary references uniques orders at terms width params schema old.now.trees news
 
   abbrev pub edit : Edit
-  edit = put.edit name tree columns primary references uniques orders at terms width params schema old.now.trees row
+  edit = put.edit name tree columns primary references uniques orders at terms width params schema old.now.trees news
 
   module _ (placed : slice_get schema.tables at ≡ Some table) (made : edit_of old.now.trees table [] Chosen 0 (value_rows params width (length terms / width) terms) ≡ edit) where
     from : old.now ≡ record { schema = schema; trees = old.now.trees }
@@ -80,7 +80,7 @@ module _ (name : List ℕ) (tree : ℕ) (columns : List Column) (primary : List 
         let end = concluded (record { limit = None; keys = (mode_of old).keys; schema = schema; table = table; params = params }) (mode_of old) done.0 w.tally new.now done.2 in
         record {
           same_schema = ap (λ (x : Database). x.schema) end;
-          step = subst (Applies schema Enforced old.now.trees edit) (sym (ap (λ (x : Database). x.trees) end)) (put.made name tree columns primary references uniques orders at terms width params schema old.now.trees row fits made (mode_of old) refl done.0 done.1);
+          step = subst (Applies schema Enforced old.now.trees edit) (sym (ap (λ (x : Database). x.trees) end)) (put.made name tree columns primary references uniques orders at terms width params schema old.now.trees news fits made (mode_of old) refl done.0 done.1);
           sound = w.sound;
         }
 
@@ -92,7 +92,7 @@ module _ (name : List ℕ) (tree : ℕ) (columns : List Column) (primary : List 
         elim (refused_as sql params old new schema has _ is plain fit e h.0) [
           | inl refused ↦ elim refused.0 [
             | inl misplaced ↦ absurd (never_misplaced old _ e (λ q. absurd (cc)) (λ q. absurd (cc)) (λ q. absurd (cc)) (λ n q. absurd (cc)) (λ n q. absurd (cc)) misplaced)
-            | inr done ↦ no_rowid_is e (put.refused_for name tree columns primary references uniques orders at terms width params schema old.now.trees row fits made (mode_of old) refl refl only refers e
+            | inr done ↦ no_rowid_is e (put.refused_for name tree columns primary references uniques orders at terms width params schema old.now.trees news fits made (mode_of old) refl refl only refers e
                 (at_table text (Err (Some e)) (subst₂ (λ l f. Does l (mode_of old) params f text None (Insert at (Values terms width)) (Err (Some e))) limit from done)))
           ]
           | inr failed ↦ failure_is e failed.1.0 failed.1.1

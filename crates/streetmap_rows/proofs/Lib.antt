@@ -25,6 +25,8 @@ pub mod TablesInSchema
 pub mod PutBatch
 pub mod PutCollection
 pub mod PutFeature
+pub mod PutFeatures
+pub mod FeaturesRun
 pub mod Readable
 pub mod TextAgain
 pub mod ErrorReasons

@@ -1,7 +1,7 @@
 -- What a text means, once for each kind of statement. A text gives its parts, as they are written
 -- and as they are meant, and what the parser, the resolver and the types compute of it.
 use Rattle.std.proofs.Common.{◌≡◌, ℕ, ℤ, zero, suc, ◌+◌, ◌-◌, ◌%◌, ◌≤◌, List, Option, [], ◌∷◌, map}
-use Rattle.std.proofs.Common.{length, Ok, Err, Some, None, true, false, inl, inr, refl, sym, ap}
+use Rattle.std.proofs.Common.{◌++◌, length, Ok, Err, Some, None, true, false, inl, inr, refl, sym, ap}
 use Rattle.std.proofs.Common.{subst, ◌∙◌, true≢false}
 use Rattle.sqlite.specs.declared.types.Value.TheVariants.{Null, Int, Text as Words}
 use Rattle.sqlite.specs.declared.error.Error.{Error}
@@ -155,7 +155,7 @@ reads text count statement it = go (first text) refl it
     }
     go (Err e) is h = absurd h
 
--- ---- INSERT of one row
+-- ---- INSERT of rows
 
 -- into a table, which stands in a tree
 pub record Insertion : Type 0 where
@@ -163,41 +163,48 @@ pub record Insertion : Type 0 where
   pub count : ℕ
   pub table : ℕ → Table
   pub columns : List (List ℕ)
-  pub values : List Part
+  pub rows : List (List Part)
 
--- a rowid that is not yet known comes first
+-- in each row a rowid that is not yet known comes first
+abbrev pub row_terms : List (List Part) → List Term
+row_terms [] = []
+row_terms (row ∷ more) = (lit Null ∷ meant row) ++ row_terms more
+
 abbrev pub terms_of : Insertion → List Term
-terms_of i = lit Null ∷ meant i.values
+terms_of i = row_terms i.rows
 
-abbrev row_of : Insertion → Rows
-row_of i = rows.Values (map (λ (p : Part). p.0) i.values ∷ [])
+abbrev pub width_of : Insertion → ℕ
+width_of i = suc (length i.columns)
+
+abbrev rows_of : Insertion → Rows
+rows_of i = rows.Values (map (map (λ (p : Part). p.0)) i.rows)
 
 abbrev insert_of : Insertion → Statement
-insert_of i = written.Insert conflict.Abort (i.table 0).name i.columns (row_of i) [] []
+insert_of i = written.Insert conflict.Abort (i.table 0).name i.columns (rows_of i) [] []
 
 -- what is computed of it
 pub record IsInsert (i : Insertion) : Type 0 where
   pub says : IsRead i.text i.count (insert_of i) (first i.text)
   pub unstamped : (tree : ℕ) → (i.table tree).stamps.formats ≡ []
   pub filled : (schema : Schema) (tree : ℕ)
-      → new_rows schema (i.table tree) (i.count % 65536 + 0) i.columns (row_of i)
-      ≡ Ok (Values (terms_of i) (length (terms_of i)))
+      → new_rows schema (i.table tree) (i.count % 65536 + 0) i.columns (rows_of i)
+      ≡ Ok (Values (terms_of i) (width_of i))
 
--- it puts in a row of its values, wherever its table stands
+-- it puts in rows of its values, wherever its table stands
 abbrev pub InsertMeans : Insertion → Type 0
 InsertMeans i = (schema : Schema) (tree : ℕ)
     (found : IsFound schema (i.table 0).name (i.table tree))
-    → Means schema i.text i.count (Insert found.at (Values (terms_of i) (length (terms_of i))))
+    → Means schema i.text i.count (Insert found.at (Values (terms_of i) (width_of i)))
 
 pub insert_means : (i : Insertion) → IsInsert i → InsertMeans i
 insert_means i it schema tree found =
     let read = reads i.text i.count (insert_of i) it.says in
     let filled = subst
-    (λ n. new_rows schema (i.table tree) (n % 65536 + 0) i.columns (row_of i)
-    ≡ Ok (Values (terms_of i) (length (terms_of i)))) read.counted (it.filled schema tree) in
+    (λ n. new_rows schema (i.table tree) (n % 65536 + 0) i.columns (rows_of i)
+    ≡ Ok (Values (terms_of i) (width_of i))) read.counted (it.filled schema tree) in
     means schema i.text read.parsed i.count _ read.is read.whole read.counted
     (insert_planned schema (i.table 0).name found.at (i.table tree) found.named found.listed
-    read.parsed i.columns (row_of i) (Values (terms_of i) (length (terms_of i))) read.statement_is
+    read.parsed i.columns (rows_of i) (Values (terms_of i) (width_of i)) read.statement_is
     read.plain (it.unstamped tree) filled)
 
 -- ---- SELECT from one table

@@ -96,7 +96,7 @@ module _ (old new : Seen) (s : State) (stands : StandsFor s old.now) (limit : ol
     pub open_stands : IsUtf8 name → IsUtf8 title → IfSome time IsUtf8 → (count : ℕ) → Executes insert_collection (open_params name title time) old new (Ok count) → StandsFor (opened s name title time) new.now × IsSameElsewhere old.now new.now
     unfolding row
     open_stands a b c count h =
-        let r = run.inserted _ roots.collections _ _ _ _ _ in_collections.at compile.insert_collection_terms 4 insert_collection (open_params name title time) old new schema row refl limit (command_is schema insert_collection 3 _ (compile.insert_collection_means schema roots.collections in_collections)) (is_plain schema insert_collection 3 _ (compile.insert_collection_means schema roots.collections in_collections)) (is_fit schema insert_collection 3 _ (compile.insert_collection_means schema roots.collections in_collections) refl) (rw ((word_null time).classed) refl)
+        let r = run.inserted _ roots.collections _ _ _ _ _ in_collections.at compile.insert_collection_terms 4 insert_collection (open_params name title time) old new schema (row ∷ []) refl limit (command_is schema insert_collection 3 _ (compile.insert_collection_means schema roots.collections in_collections)) (is_plain schema insert_collection 3 _ (compile.insert_collection_means schema roots.collections in_collections)) (is_fit schema insert_collection 3 _ (compile.insert_collection_means schema roots.collections in_collections) refl) (rw ((word_null time).classed) refl)
         in_collections.listed (rw (cast_null, (word_null time).cast_is) refl) count h in (
           record {
             roots = roots;
@@ -111,7 +111,7 @@ module _ (old new : Seen) (s : State) (stands : StandsFor s old.now) (limit : ol
     pub open_told : (e : Error) → ExecutesInside 0 insert_collection (open_params name title time) old new (Err e) → IsOfStore e
     unfolding row
     open_told =
-        run.told _ roots.collections _ _ _ _ _ in_collections.at compile.insert_collection_terms 4 insert_collection (open_params name title time) old new schema row refl limit (command_is schema insert_collection 3 _ (compile.insert_collection_means schema roots.collections in_collections)) (is_plain schema insert_collection 3 _ (compile.insert_collection_means schema roots.collections in_collections)) (is_fit schema insert_collection 3 _ (compile.insert_collection_means schema roots.collections in_collections) refl) (rw ((word_null time).classed) refl)
+        run.told _ roots.collections _ _ _ _ _ in_collections.at compile.insert_collection_terms 4 insert_collection (open_params name title time) old new schema (row ∷ []) refl limit (command_is schema insert_collection 3 _ (compile.insert_collection_means schema roots.collections in_collections)) (is_plain schema insert_collection 3 _ (compile.insert_collection_means schema roots.collections in_collections)) (is_fit schema insert_collection 3 _ (compile.insert_collection_means schema roots.collections in_collections) refl) (rw ((word_null time).classed) refl)
         in_collections.listed (rw (cast_null, (word_null time).cast_is) refl)
         (collection.only_rowid s schema roots ours db stands.of name title time absent keeps) (collection.refers s schema roots ours db stands.of name title time absent was)
 
@@ -142,7 +142,7 @@ module _ (old new : Seen) (s : State) (stands : StandsFor s old.now) (limit : ol
       pub insert_stands : IsFeature f → (count : ℕ) → Executes insert_feature (feature_cells p f) old new (Ok count) → StandsFor (with_features s p.0 c (insert c.features p.1 f)) new.now × IsSameElsewhere old.now new.now
       unfolding x0 y0 x1 y1 s0 s1
       insert_stands fine count h =
-          let r = run.inserted _ roots.features _ _ _ _ _ in_features.at compile.insert_feature_terms 10 insert_feature (feature_cells p f) old new schema feature_row refl limit (command_is schema insert_feature 9 _ (compile.insert_feature_means schema roots.features in_features)) (is_plain schema insert_feature 9 _ (compile.insert_feature_means schema roots.features in_features)) (is_fit schema insert_feature 9 _ (compile.insert_feature_means schema roots.features in_features) refl)
+          let r = run.inserted _ roots.features _ _ _ _ _ in_features.at compile.insert_feature_terms 10 insert_feature (feature_cells p f) old new schema (feature_row ∷ []) refl limit (command_is schema insert_feature 9 _ (compile.insert_feature_means schema roots.features in_features)) (is_plain schema insert_feature 9 _ (compile.insert_feature_means schema roots.features in_features)) (is_fit schema insert_feature 9 _ (compile.insert_feature_means schema roots.features in_features) refl)
           (rw ((whole_null x0).classed, (whole_null y0).classed, (whole_null x1).classed, (whole_null y1).classed, (whole_null s0).classed, (whole_null s1).classed) refl)
           in_features.listed (rw (cast_null, (whole_null x0).cast_is, (whole_null y0).cast_is, (whole_null x1).cast_is, (whole_null y1).cast_is, (whole_null s0).cast_is, (whole_null s1).cast_is) refl) count h in (
             record {
@@ -158,7 +158,7 @@ module _ (old new : Seen) (s : State) (stands : StandsFor s old.now) (limit : ol
       pub insert_told : (e : Error) → ExecutesInside 0 insert_feature (feature_cells p f) old new (Err e) → IsOfStore e
       unfolding x0 y0 x1 y1 s0 s1
       insert_told =
-          run.told _ roots.features _ _ _ _ _ in_features.at compile.insert_feature_terms 10 insert_feature (feature_cells p f) old new schema feature_row refl limit (command_is schema insert_feature 9 _ (compile.insert_feature_means schema roots.features in_features)) (is_plain schema insert_feature 9 _ (compile.insert_feature_means schema roots.features in_features)) (is_fit schema insert_feature 9 _ (compile.insert_feature_means schema roots.features in_features) refl)
+          run.told _ roots.features _ _ _ _ _ in_features.at compile.insert_feature_terms 10 insert_feature (feature_cells p f) old new schema (feature_row ∷ []) refl limit (command_is schema insert_feature 9 _ (compile.insert_feature_means schema roots.features in_features)) (is_plain schema insert_feature 9 _ (compile.insert_feature_means schema roots.features in_features)) (is_fit schema insert_feature 9 _ (compile.insert_feature_means schema roots.features in_features) refl)
           (rw ((whole_null x0).classed, (whole_null y0).classed, (whole_null x1).classed, (whole_null y1).classed, (whole_null s0).classed, (whole_null s1).classed) refl)
           in_features.listed (rw (cast_null, (whole_null x0).cast_is, (whole_null y0).cast_is, (whole_null x1).cast_is, (whole_null y1).cast_is, (whole_null s0).cast_is, (whole_null s1).cast_is) refl)
           (feature.only_rowid s schema roots ours db stands.of p c collected f new_id keeps) (feature.refers s schema roots ours db stands.of p c collected f new_id was)
@@ -206,7 +206,7 @@ module _ (old new : Seen) (s : State) (stands : StandsFor s old.now) (limit : ol
 
     pub keep_stands : (count : ℕ) → Executes insert_batch (batch_cells key kept) old new (Ok count) → StandsFor (record s { keys = insert s.keys key kept }) new.now × IsSameElsewhere old.now new.now
     keep_stands count h =
-        let r = run.inserted _ roots.batches _ _ _ _ _ in_batches.at compile.insert_batch_terms 8 insert_batch (batch_cells key kept) old new schema kept_row refl limit (command_is schema insert_batch 7 _ (compile.insert_batch_means schema roots.batches in_batches)) (is_plain schema insert_batch 7 _ (compile.insert_batch_means schema roots.batches in_batches)) (is_fit schema insert_batch 7 _ (compile.insert_batch_means schema roots.batches in_batches) refl)
+        let r = run.inserted _ roots.batches _ _ _ _ _ in_batches.at compile.insert_batch_terms 8 insert_batch (batch_cells key kept) old new schema (kept_row ∷ []) refl limit (command_is schema insert_batch 7 _ (compile.insert_batch_means schema roots.batches in_batches)) (is_plain schema insert_batch 7 _ (compile.insert_batch_means schema roots.batches in_batches)) (is_fit schema insert_batch 7 _ (compile.insert_batch_means schema roots.batches in_batches) refl)
         refl in_batches.listed (rw (cast_null, cast_int (pos kept.counts.opened), cast_int (pos kept.counts.inserted), cast_int (pos kept.counts.replaced), cast_int (pos kept.counts.deleted), cast_int (pos kept.serial)) refl) count h in (
           record {
             roots = roots;
@@ -220,6 +220,6 @@ module _ (old new : Seen) (s : State) (stands : StandsFor s old.now) (limit : ol
 
     pub keep_told : (e : Error) → ExecutesInside 0 insert_batch (batch_cells key kept) old new (Err e) → IsOfStore e
     keep_told =
-        run.told _ roots.batches _ _ _ _ _ in_batches.at compile.insert_batch_terms 8 insert_batch (batch_cells key kept) old new schema kept_row refl limit (command_is schema insert_batch 7 _ (compile.insert_batch_means schema roots.batches in_batches)) (is_plain schema insert_batch 7 _ (compile.insert_batch_means schema roots.batches in_batches)) (is_fit schema insert_batch 7 _ (compile.insert_batch_means schema roots.batches in_batches) refl)
+        run.told _ roots.batches _ _ _ _ _ in_batches.at compile.insert_batch_terms 8 insert_batch (batch_cells key kept) old new schema (kept_row ∷ []) refl limit (command_is schema insert_batch 7 _ (compile.insert_batch_means schema roots.batches in_batches)) (is_plain schema insert_batch 7 _ (compile.insert_batch_means schema roots.batches in_batches)) (is_fit schema insert_batch 7 _ (compile.insert_batch_means schema roots.batches in_batches) refl)
         refl in_batches.listed (rw (cast_null, cast_int (pos kept.counts.opened), cast_int (pos kept.counts.inserted), cast_int (pos kept.counts.replaced), cast_int (pos kept.counts.deleted), cast_int (pos kept.serial)) refl)
         (batch.only_rowid s schema roots ours db stands.of key kept absent next_serial counted keeps) (batch.refers s schema roots ours db stands.of key kept absent next_serial counted was)

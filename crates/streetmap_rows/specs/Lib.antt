@@ -1,6 +1,7 @@
 pub mod Calls
 pub mod Elsewhere
 pub mod Failing
+pub mod FeatureRows
 pub mod Holds
 pub mod Keeping
 pub mod Queries

@@ -17,6 +17,12 @@ insert_batch = codes
 abbrev pub delete_feature : List ℕ
 delete_feature = codes "DELETE FROM streetmap_features WHERE collection = ?1 AND id = ?2"
 
+-- ---- a write of eight rows
+
+abbrev pub insert_features : List ℕ
+insert_features = codes
+    "INSERT INTO streetmap_features (collection, id, body, x0, y0, x1, y1, s0, s1) VALUES (?1, ?2, ?3, ?4, ?5, ?6, ?7, ?8, ?9), (?10, ?11, ?12, ?13, ?14, ?15, ?16, ?17, ?18), (?19, ?20, ?21, ?22, ?23, ?24, ?25, ?26, ?27), (?28, ?29, ?30, ?31, ?32, ?33, ?34, ?35, ?36), (?37, ?38, ?39, ?40, ?41, ?42, ?43, ?44, ?45), (?46, ?47, ?48, ?49, ?50, ?51, ?52, ?53, ?54), (?55, ?56, ?57, ?58, ?59, ?60, ?61, ?62, ?63), (?64, ?65, ?66, ?67, ?68, ?69, ?70, ?71, ?72)"
+
 -- ---- look-ups by a key
 
 abbrev pub select_batch : List ℕ

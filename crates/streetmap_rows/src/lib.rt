@@ -12,12 +12,13 @@
 //!
 //! In the order of reading: `openness` (whether a connection is open), `failing` (how a call ends
 //! that met an error), `fault` (why a look gives up), `bodies` (a feature's text, read again),
-//! `looks` (by a key), `writes` (of one row).
+//! `looks` (by a key), `writes` (of one row), `feature_rows` (of several).
 #![tactic(auto)]
 
 mod bodies;
 mod failing;
 mod fault;
+mod feature_rows;
 mod looks;
 mod openness;
 mod writes;
@@ -25,6 +26,7 @@ mod writes;
 pub use bodies::read_body;
 pub use failing::{Shut, Stop, cause_of, is_memory, is_of_store, settle};
 pub use fault::{ReadFault, unread};
+pub use feature_rows::{FeatureRow, ROWS, insert_features};
 pub use looks::{collection_rows, has_feature, kept_rows, time_in};
 pub use openness::probe;
 pub use writes::{delete_feature, insert_batch, insert_collection, insert_feature};

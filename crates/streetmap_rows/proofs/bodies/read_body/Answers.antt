@@ -13,12 +13,12 @@ use Rattle.streetmap_rows.proofs.bodies.read_body.Goals as goal
 pub returns-in-Ok-clause-again : goal.returns-in-Ok-clause-again
 returns-in-Ok-clause-again c = λ f is h.
     let property = option_copied c.args.property in
-    let read = sym (body_is_json f c.args.body.now property h is) ∙ ap (λ o. ok_or o NotJson) c.in-Ok.ensures in
+    let read = sym (body_is_json f c.args.body.now property h is) ∙ ap (λ o. ok_or o NotJson) c.in-Ok.ensures.exact in
     let same : feature_data f ≡ view c.in-Ok.value = cc in
     c.read_feature.ensures.only f (subst (λ (d : Data). ReadsAs property d f) same (body_reads property f h))
 
 pub returns-in-Err-NotJson-clause-again : goal.returns-in-Err-NotJson-clause-again
 returns-in-Err-NotJson-clause-again c = λ f is h.
     let read = body_is_json f c.args.body.now (option_copied c.args.property) h is in
-    let none : json_value c.args.body.now ≡ None = rw c.in-Err-NotJson.field-0-is at c.in-Err-NotJson.ensures in
+    let none : json_value c.args.body.now ≡ None = rw c.in-Err-NotJson.field-0-is at c.in-Err-NotJson.ensures.exact in
     no_fault (errors.Fault NotJson) (feature_data f) f _ read (ap (λ o. ok_or o NotJson) none)

@@ -1,0 +1,156 @@
+-- The INSERT of eight features as it runs.
+use Rattle.std.proofs.Common.{◌≡◌, ◌≢◌, ◌⊎◌, inl, inr, ℕ, ℤ, List, [], ◌∷◌, ◌++◌, ◌&&◌, Bool, true, false, is_some, map, drop, length, Option, Some, None, Ok, Err, option_map, refl, sym, ap, subst, ◌∙◌}
+use Rattle.std.specs.List.{AllByRecursion}
+use Rattle.std.specs.FinMap.{get}
+use Rattle.sqlite.specs.declared.types.Value.TheVariants.{Null, Int}
+use Rattle.sqlite.specs.declared.error.Error.{Error}
+use Rattle.sqlite.specs.Order.{Row}
+use Rattle.sqlite.specs.Values.{or_null}
+use Rattle.sqlite.specs.Schema.{Schema}
+use Rattle.sqlite.specs.Table.{Table}
+use Rattle.sqlite.specs.Effect.{value_rows}
+use Rattle.sqlite.specs.Command.TheVariants.{Insert}
+use Rattle.sqlite.specs.Source.TheVariants.{Values}
+use Rattle.sqlite.specs.Rowids.TheVariants.{Chosen}
+use Rattle.sqlite.specs.Listing.{understood}
+use Rattle.sqlite.specs.State.{State as Seen, IsUnchanged, Executes, ExecutesInside}
+use Rattle.sqlite_trees.specs.Tree.{Trees}
+use Rattle.sqlite_typing.specs.Types.{accepts_terms, class_of}
+use Rattle.sqlite_rules.specs.Cast.{cast_row}
+use Rattle.sqlite_rules.specs.Edit.{Edit, edit_of, numbered}
+use Rattle.sqlite_rules.specs.Lists.{Has}
+use Rattle.sqlite_rules.proofs.ListLemmas.{all_has}
+use Rattle.streetmap_grid.specs.Values.{BoxValue}
+use Rattle.streetmap_geojson.specs.FeatureValue.{FeatureValue}
+use Rattle.streetmap_geojson.specs.FeatureInvariant.{IsFeature}
+use Rattle.streetmap_batch.specs.Text.{Text}
+use Rattle.streetmap_ledger.specs.State.{State, Collection}
+use Rattle.streetmap_rows.specs.Tables.{Roots, IsOurs, features, collections, meta, batches, features_name}
+use Rattle.streetmap_rows.specs.Statements.{insert_features}
+use Rattle.streetmap_rows.specs.Rows.{feature_cells, extent_in, seconds_in}
+use Rattle.streetmap_rows.specs.Stands.{StandsFor}
+use Rattle.streetmap_rows.specs.Elsewhere.{IsSameElsewhere}
+use Rattle.streetmap_rows.specs.Failing.{IsOfStore}
+use Rattle.streetmap_rows.specs.FeatureRows.{Entry, PutsEach}
+use Rattle.streetmap_rows.proofs.ColumnCasts.{cast_null, whole_null}
+use Rattle.streetmap_rows.proofs.NamedTables.{IsFound}
+use Rattle.streetmap_rows.proofs.Resolving.{Means, command_is, is_plain, is_fit, IsFit}
+use Rattle.streetmap_rows.proofs.Compiles as compile
+use Rattle.streetmap_rows.proofs.TablesInSchema as placing
+use Rattle.streetmap_rows.proofs.InsertRuns as run
+use Rattle.streetmap_rows.proofs.OtherTables.{same_elsewhere, features_ours}
+use Rattle.streetmap_rows.proofs.PutFeatures.{bare, news_of, are_apart, ArePut, Leads, leads}
+
+-- the bounds and the seconds of a feature, each or NULL
+x0 : FeatureValue → Option ℤ
+x0 f = option_map (λ (b : BoxValue). b.x0) (extent_in f)
+
+y0 : FeatureValue → Option ℤ
+y0 f = option_map (λ (b : BoxValue). b.y0) (extent_in f)
+
+x1 : FeatureValue → Option ℤ
+x1 f = option_map (λ (b : BoxValue). b.x1) (extent_in f)
+
+y1 : FeatureValue → Option ℤ
+y1 f = option_map (λ (b : BoxValue). b.y1) (extent_in f)
+
+s0 : FeatureValue → Option ℤ
+s0 f = option_map (λ (s : ℤ × ℤ). s.0) (seconds_in f)
+
+s1 : FeatureValue → Option ℤ
+s1 f = option_map (λ (s : ℤ × ℤ). s.1) (seconds_in f)
+
+-- the columns take the row as it is
+cast_is : (tree : ℕ) (name : Text) (e : Entry) → cast_row (features tree) (bare name e) ≡ bare name e
+unfolding x0 y0 x1 y1 s0 s1
+cast_is tree name e = rw (cast_null, (whole_null (x0 e.1)).cast_is, (whole_null (y0 e.1)).cast_is, (whole_null (x1 e.1)).cast_is, (whole_null (y1 e.1)).cast_is, (whole_null (s0 e.1)).cast_is, (whole_null (s1 e.1)).cast_is) refl
+
+cast_are : (tree : ℕ) (name : Text) (es : List Entry) → map (λ (s : Row). cast_row (features tree) (drop 0 s)) (map (bare name) es) ≡ map (bare name) es
+cast_are tree name [] = refl
+cast_are tree name (e ∷ es) = λ i. cast_is tree name e i ∷ cast_are tree name es i
+
+-- what the statement is given: the values of the features' rows, one behind the other
+abbrev pub cells_of : Text → List Entry → Row
+cells_of name [] = []
+cells_of name (e ∷ es) = feature_cells (name, e.0) e.1 ++ cells_of name es
+
+-- the types take one row more
+abbrev numbers_taken : FeatureValue → Bool → Bool
+numbers_taken f more =
+    is_some (class_of (or_null Int (x0 f))) && (is_some (class_of (or_null Int (y0 f))) && (is_some (class_of (or_null Int (x1 f)))
+    && (is_some (class_of (or_null Int (y1 f))) && (is_some (class_of (or_null Int (s0 f))) && (is_some (class_of (or_null Int (s1 f))) && more)))))
+
+taken : (f : FeatureValue) (more : Bool) → more ≡ true → numbers_taken f more ≡ true
+taken f more h = rw ((whole_null (x0 f)).classed, (whole_null (y0 f)).classed, (whole_null (x1 f)).classed, (whole_null (y1 f)).classed, (whole_null (s0 f)).classed, (whole_null (s1 f)).classed, h) refl
+
+pub record AreGiven (name : Text) (es : List Entry) : Type 0 where
+  pub count : length (cells_of name es) ≡ 72
+  pub accepted : accepts_terms compile.insert_features_terms (cells_of name es) ≡ true
+  pub rows : value_rows (cells_of name es) 10 8 compile.insert_features_terms ≡ map (bare name) es
+
+eight : (name : Text) (a b c d e f g h : Entry) → AreGiven name (a ∷ b ∷ c ∷ d ∷ e ∷ f ∷ g ∷ h ∷ [])
+unfolding x0 y0 x1 y1 s0 s1
+eight name a b c d e f g h = record {
+  count = refl;
+  accepted = taken a.1 _ (taken b.1 _ (taken c.1 _ (taken d.1 _ (taken e.1 _ (taken f.1 _ (taken g.1 _ (taken h.1 true refl)))))));
+  rows = refl;
+}
+
+pub are_given : (name : Text) (es : List Entry) → length es ≡ 8 → AreGiven name es
+are_given name [] n = absurd (cc)
+are_given name (a ∷ []) n = absurd (cc)
+are_given name (a ∷ b ∷ []) n = absurd (cc)
+are_given name (a ∷ b ∷ c ∷ []) n = absurd (cc)
+are_given name (a ∷ b ∷ c ∷ d ∷ []) n = absurd (cc)
+are_given name (a ∷ b ∷ c ∷ d ∷ e ∷ []) n = absurd (cc)
+are_given name (a ∷ b ∷ c ∷ d ∷ e ∷ f ∷ []) n = absurd (cc)
+are_given name (a ∷ b ∷ c ∷ d ∷ e ∷ f ∷ g ∷ []) n = absurd (cc)
+are_given name (a ∷ b ∷ c ∷ d ∷ e ∷ f ∷ g ∷ h ∷ []) n = eight name a b c d e f g h
+are_given name (a ∷ b ∷ c ∷ d ∷ e ∷ f ∷ g ∷ h ∷ i ∷ es) n = absurd (cc)
+
+module _ (old new : Seen) (s : State) (stands : StandsFor s old.now) (limit : old.step_limit ≡ None) (name : Text) (es : List Entry) (given : AreGiven name es) where
+  abbrev roots : Roots
+  roots = stands.roots
+
+  abbrev schema : Schema
+  schema = old.now.schema
+
+  abbrev db : Trees
+  db = old.now.trees
+
+  in_features : IsFound schema features_name (features roots.features)
+  in_features = placing.features_found roots old.now stands.ours stands.sound
+
+  means : Means schema insert_features 72 (Insert in_features.at (Values compile.insert_features_terms 10))
+  means = compile.insert_features_means schema roots.features in_features
+
+  fit : IsFit insert_features (length (cells_of name es)) (understood schema insert_features)
+  fit = subst (λ n. IsFit insert_features n (understood schema insert_features)) (sym given.count) (is_fit schema insert_features 72 _ means refl)
+
+  abbrev news : List Row
+  news = news_of name es (db roots.features)
+
+  made : (sources : List Row) → sources ≡ map (bare name) es → edit_of db (features roots.features) [] Chosen 0 sources ≡ record { table = features roots.features; gone = []; news = news }
+  made sources is =
+      ap (λ (rows : List Row). edit_of db (features roots.features) [] Chosen 0 rows) is
+      ∙ ap (λ (rows : List Row). record { table = features roots.features; gone = []; news = numbered Chosen (db roots.features) rows }) (cast_are roots.features name es)
+
+  pub put_stands : (c : Collection) → get s.collections name ≡ Some c → AllByRecursion (λ (e : Entry). IsFeature e.1) es → (count : ℕ) → Executes insert_features (cells_of name es) old new (Ok count) → (t : State) × PutsEach name es s t × StandsFor t new.now × IsSameElsewhere old.now new.now
+  put_stands c collected fine count h =
+      let r = run.inserted _ roots.features _ _ _ _ _ in_features.at compile.insert_features_terms 10 insert_features (cells_of name es) old new schema news refl limit (command_is schema insert_features 72 _ means) (is_plain schema insert_features 72 _ means) fit given.accepted in_features.listed (made _ given.rows) count h in
+      let ours = subst (IsOurs roots) (sym r.same_schema) stands.ours in
+      let kept = λ (t : Table) (there : Has schema.tables t) (other : t.tree ≢ roots.features). all_has _ schema.tables t r.step.tables there other in
+      let sound = subst (λ d. Rattle.sqlite.specs.Effect.IsDatabase (record { schema = d; trees = new.now.trees })) r.same_schema r.sound in
+      let put : ArePut roots schema stands.ours name db new.now.trees es = record {
+        fresh = r.step.fresh;
+        rows = r.step.rows;
+        collections = kept (collections roots.collections) (placing.collections_there roots schema stands.ours) (placing.collections_features roots schema stands.ours);
+        meta = kept (meta roots.meta) (placing.meta_there roots schema stands.ours) (placing.meta_features roots schema stands.ours);
+        batches = kept (batches roots.batches) (placing.batches_there roots schema stands.ours) (placing.batches_features roots schema stands.ours);
+      } in
+      let it = leads roots schema stands.ours name es s db new.now.trees stands.of stands.readable c collected fine put (are_apart roots schema stands.ours name new.now.trees sound) in (
+        it.state,
+        it.puts,
+        record { roots = roots; ours = ours; of = it.of; readable = it.readable; sound = r.sound },
+        same_elsewhere old.now new.now _ _ stands.ours.apart (placing.features_there roots schema stands.ours) features_ours r.same_schema r.step,
+      )

@@ -1,0 +1,111 @@
+//! Rows of several features, put in by one statement, inside a transaction.
+ghost use Rattle.std.specs.Prelude.{◌≡◌, ◌++◌, IfErr, IfOk, OnOk, List, IsTrue, length};
+ghost use Rattle.sqlite.specs.Held.{state};
+ghost use Rattle.sqlite.specs.State.{HasCleanDisk, KeepsCommit, Survives};
+ghost use Rattle.sqlite.specs.Values.{bound};
+ghost use Rattle.streetmap_rows.specs.Failing.{HasReason};
+ghost use Rattle.streetmap_rows.specs.FeatureRows.{Entry, AreRowsOf, PutsAllOrNone};
+ghost use Rattle.streetmap_rows.specs.FeatureRows.{values_of, values_in};
+
+use crate::failing::is_of_store;
+use sqlite::{Alter, Error, ErrorCode, Transaction, params};
+use sqlite_value::value::ValueRef;
+use std::alloc::{AllocError, Global};
+use streetmap_grid::GridBox;
+
+/// How many features one statement puts in.
+pub const ROWS: usize = 8;
+
+/// What is written of a feature.
+#[derive(Drop)]
+pub struct FeatureRow {
+    pub id: String,
+    /// Its compact text, without its time.
+    pub text: String,
+    /// The extent of its geometry, in millimetres of the grid.
+    pub extent: Option<GridBox>,
+    /// The first and the last second of its time, counted from 1970-01-01T00:00:00Z.
+    pub seconds: Option<(i64, i64)>,
+}
+
+/// Adds the values of a row.
+fn push_row<'a>(
+    values: &mut Vec<ValueRef<'a>>,
+    collection: &'a str,
+    row: &'a FeatureRow,
+) -> Result<(), AllocError>
+    ensures { OnOk result (bound values.new.items
+        ≡ bound values.old.items ++ values_of collection.now row.now) }
+{
+    values.extend_from_slice(params![
+        collection,
+        &row.id,
+        &row.text,
+        row.extent.map(|extent| extent.x0),
+        row.extent.map(|extent| extent.y0),
+        row.extent.map(|extent| extent.x1),
+        row.extent.map(|extent| extent.y1),
+        row.seconds.map(|seconds| seconds.0),
+        row.seconds.map(|seconds| seconds.1)
+    ])
+}
+
+/// The values of rows, one behind the other.
+fn values_of<'a>(
+    alloc: Global,
+    collection: &'a str,
+    rows: &'a [FeatureRow],
+) -> Result<Vec<ValueRef<'a>>, AllocError>
+    ensures { IfOk result (λ values. bound values.items ≡ values_in collection.now rows.now) }
+{
+    let mut values = Vec::new(alloc);
+    'rows: for row in rows {
+        push_row(&mut values, collection, row)?;
+    }
+    Ok(values)
+}
+
+/// Puts features into a collection that is there, [`ROWS`] of them by one statement; returns
+/// whether it did. It does not where a feature is there already, or two have one id: then nothing
+/// has changed.
+///
+/// # Errors
+///
+/// The error of the store.
+pub fn insert_features<S: Alter>(
+    tx: &mut Transaction<'_, S>,
+    alloc: Global,
+    collection: &str,
+    rows: &[FeatureRow],
+) -> Result<bool, Error>
+    requires { length rows.now ≡ 8 }
+    ensures same_reference { tx.new.conn.ghost_name ≡ tx.old.conn.ghost_name }
+    ensures puts { HasCleanDisk (state S.Store tx.new.conn.now)
+        → IsTrue (state S.Store tx.old.conn.now).in_transaction
+        → (entries : List Entry) → AreRowsOf entries rows.now
+        → PutsAllOrNone collection.now entries
+        (state S.Store tx.old.conn.now) (state S.Store tx.new.conn.now) result }
+    ensures inside { HasCleanDisk (state S.Store tx.new.conn.now)
+        → IsTrue (state S.Store tx.old.conn.now).in_transaction
+        → OnOk result (IsTrue (state S.Store tx.new.conn.now).in_transaction) }
+    ensures kept { HasCleanDisk (state S.Store tx.new.conn.now)
+        → IsTrue (state S.Store tx.old.conn.now).in_transaction
+        → KeepsCommit (state S.Store tx.old.conn.now) (state S.Store tx.new.conn.now) }
+    ensures reason { HasCleanDisk (state S.Store tx.new.conn.now) →
+        IfErr result (HasReason (state S.Store tx.old.conn.now) (state S.Store tx.new.conn.now)) }
+    ensures survives { Survives (state S.Store tx.old.conn.now) (state S.Store tx.new.conn.now)
+        (λ _. ⊥) }
+{
+    let Ok(values) = values_of(alloc, collection, rows) else {
+        return Err(Error::SqliteFailure(ErrorCode::OutOfMemory));
+    };
+    let ran = tx.execute(
+        "INSERT INTO streetmap_features (collection, id, body, x0, y0, x1, y1, s0, s1) VALUES (?1, ?2, ?3, ?4, ?5, ?6, ?7, ?8, ?9), (?10, ?11, ?12, ?13, ?14, ?15, ?16, ?17, ?18), (?19, ?20, ?21, ?22, ?23, ?24, ?25, ?26, ?27), (?28, ?29, ?30, ?31, ?32, ?33, ?34, ?35, ?36), (?37, ?38, ?39, ?40, ?41, ?42, ?43, ?44, ?45), (?46, ?47, ?48, ?49, ?50, ?51, ?52, ?53, ?54), (?55, ?56, ?57, ?58, ?59, ?60, ?61, ?62, ?63), (?64, ?65, ?66, ?67, ?68, ?69, ?70, ?71, ?72)",
+        values.as_slice(),
+    );
+    match ran {
+        Ok(_) => Ok(true),
+        Err(error) if is_of_store(error) => Err(error),
+        Err(_) => Ok(false),
+    }
+}
