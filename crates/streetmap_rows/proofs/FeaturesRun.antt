@@ -1,9 +1,8 @@
 -- The INSERT of eight features as it runs.
-use Rattle.std.proofs.Common.{◌≡◌, ◌≢◌, ◌⊎◌, inl, inr, ℕ, ℤ, List, [], ◌∷◌, ◌++◌, ◌&&◌, Bool, true, false, is_some, map, drop, length, Option, Some, None, Ok, Err, option_map, refl, sym, ap, subst, ◌∙◌}
+use Rattle.std.proofs.Common.{◌≡◌, ◌≢◌, ℕ, ℤ, List, [], ◌∷◌, ◌++◌, ◌&&◌, Bool, true, is_some, map, drop, length, Option, Some, None, Ok, option_map, refl, sym, ap, subst, ◌∙◌}
 use Rattle.std.specs.List.{AllByRecursion}
 use Rattle.std.specs.FinMap.{get}
-use Rattle.sqlite.specs.declared.types.Value.TheVariants.{Null, Int}
-use Rattle.sqlite.specs.declared.error.Error.{Error}
+use Rattle.sqlite.specs.declared.types.Value.TheVariants.{Int}
 use Rattle.sqlite.specs.Order.{Row}
 use Rattle.sqlite.specs.Values.{or_null}
 use Rattle.sqlite.specs.Schema.{Schema}
@@ -13,11 +12,11 @@ use Rattle.sqlite.specs.Command.TheVariants.{Insert}
 use Rattle.sqlite.specs.Source.TheVariants.{Values}
 use Rattle.sqlite.specs.Rowids.TheVariants.{Chosen}
 use Rattle.sqlite.specs.Listing.{understood}
-use Rattle.sqlite.specs.State.{State as Seen, IsUnchanged, Executes, ExecutesInside}
+use Rattle.sqlite.specs.State.{State as Seen, Executes}
 use Rattle.sqlite_trees.specs.Tree.{Trees}
 use Rattle.sqlite_typing.specs.Types.{accepts_terms, class_of}
 use Rattle.sqlite_rules.specs.Cast.{cast_row}
-use Rattle.sqlite_rules.specs.Edit.{Edit, edit_of, numbered}
+use Rattle.sqlite_rules.specs.Edit.{edit_of, numbered}
 use Rattle.sqlite_rules.specs.Lists.{Has}
 use Rattle.sqlite_rules.proofs.ListLemmas.{all_has}
 use Rattle.streetmap_grid.specs.Values.{BoxValue}
@@ -30,7 +29,6 @@ use Rattle.streetmap_rows.specs.Statements.{insert_features}
 use Rattle.streetmap_rows.specs.Rows.{feature_cells, extent_in, seconds_in}
 use Rattle.streetmap_rows.specs.Stands.{StandsFor}
 use Rattle.streetmap_rows.specs.Elsewhere.{IsSameElsewhere}
-use Rattle.streetmap_rows.specs.Failing.{IsOfStore}
 use Rattle.streetmap_rows.specs.FeatureRows.{Entry, PutsEach}
 use Rattle.streetmap_rows.proofs.ColumnCasts.{cast_null, whole_null}
 use Rattle.streetmap_rows.proofs.NamedTables.{IsFound}
@@ -39,7 +37,7 @@ use Rattle.streetmap_rows.proofs.Compiles as compile
 use Rattle.streetmap_rows.proofs.TablesInSchema as placing
 use Rattle.streetmap_rows.proofs.InsertRuns as run
 use Rattle.streetmap_rows.proofs.OtherTables.{same_elsewhere, features_ours}
-use Rattle.streetmap_rows.proofs.PutFeatures.{bare, news_of, are_apart, ArePut, Leads, leads}
+use Rattle.streetmap_rows.proofs.PutFeatures.{bare, news_of, are_apart, ArePut, leads}
 
 -- the bounds and the seconds of a feature, each or NULL
 x0 : FeatureValue → Option ℤ

@@ -1,5 +1,5 @@
 -- An INSERT of rows of values, into any table without AUTOINCREMENT.
-use Rattle.std.proofs.Common.{◌≡◌, inl, inr, ℕ, ◌/◌, List, [], ◌∷◌, ◌++◌, length, true, false, if◌then◌else◌, Option, Some, None, Ok, Err, Result, option_map, sym, ap, subst, subst₂, ◌∙◌, append-nil}
+use Rattle.std.proofs.Common.{◌≡◌, inl, inr, ℕ, ◌/◌, List, [], ◌++◌, length, true, false, if◌then◌else◌, Option, Some, None, Ok, Err, Result, option_map, sym, ap, subst, subst₂, ◌∙◌, append-nil}
 use Rattle.sqlite.specs.declared.error.Error.{Error}
 use Rattle.sqlite.specs.declared.error.Error.TheVariants.{SqliteFailure}
 use Rattle.sqlite.specs.declared.error.ErrorCode.TheVariants as code

@@ -1,23 +1,22 @@
 -- Features that one statement puts in: where it did, each was new, and they stand one after the
 -- other.
-use Rattle.std.proofs.Common.{◌≡◌, ◌≢◌, inl, inr, ℕ, List, [], ◌∷◌, Bool, true, false, ◌&&◌, cond, not, drop, map, Option, Some, None, option_map, IsTrue, refl, sym, ap, subst, ◌∙◌, eq-eqb, Ordering, Less, Equal, Greater, true≢false}
-use Rattle.std.specs.List.{AllByRecursion, list_any, list_all}
+use Rattle.std.proofs.Common.{◌≡◌, List, [], ◌∷◌, true, false, ◌&&◌, cond, not, map, Option, Some, None, option_map, refl, sym, ap, subst, ◌∙◌, eq-eqb, Ordering, Less, Equal, Greater, true≢false}
+use Rattle.std.specs.List.{AllByRecursion}
 use Rattle.std.specs.Ordering.{is_eq, is_ne}
 use Rattle.std.specs.FinMap.{get, insert, get-insert}
 use Rattle.std.specs.Cmp.Lexicographic.{nat_list_cmp_total}
 use Rattle.std.proofs.lemmas.Bool.{and_parts, and_from, both_ways, false_from_ne_true, ne_eqb, not_from_false, not-true}
 use Rattle.sqlite.specs.declared.types.Value.TheVariants.{Null, Int, Text as Words}
 use Rattle.sqlite.specs.Order.{Row, column}
-use Rattle.sqlite.specs.Effect.{Database, IsDatabase}
+use Rattle.sqlite.specs.Effect.{IsDatabase}
 use Rattle.sqlite_value.specs.Order.{value_cmp}
 use Rattle.sqlite_value.specs.Keys.{plain}
 use Rattle.sqlite_trees.specs.Tree.{Trees, put_row, with_tree, rowid}
 use Rattle.sqlite_sql.specs.Ops.{binary}
 use Rattle.sqlite_catalog.specs.Listing.{automatic}
 use Rattle.sqlite_schema.specs.declared.schema.Constraint.TheVariants.{Unique}
-use Rattle.sqlite_schema.specs.declared.schema.Index.{Index}
 use Rattle.sqlite_schema.specs.declared.schema.Schema.{Schema}
-use Rattle.sqlite_schema.specs.Rules.{agree, clashes, differ, guards, Keeps, passes}
+use Rattle.sqlite_schema.specs.Rules.{agree, clashes, differ, guards}
 use Rattle.sqlite_rules.specs.Lists.{Has}
 use Rattle.sqlite_rules.specs.declared.error.Rowids.TheVariants.{Chosen}
 use Rattle.sqlite_rules.specs.Edit.{next_rowid, numbered, is_taken, are_fresh, put_all}
@@ -27,7 +26,7 @@ use Rattle.streetmap_geojson.specs.FeatureValue.{FeatureValue}
 use Rattle.streetmap_geojson.specs.FeatureInvariant.{IsFeature}
 use Rattle.streetmap_batch.specs.Text.{Text}
 use Rattle.streetmap_ledger.specs.State.{State, Collection, with_features}
-use Rattle.streetmap_rows.specs.Holds.{KeyPair, pair_key, has_pair}
+use Rattle.streetmap_rows.specs.Holds.{pair_key, has_pair}
 use Rattle.streetmap_rows.specs.Tables.{Roots, features, IsOurs}
 use Rattle.streetmap_rows.specs.Rows.{AreOf, feature_at, feature_cells}
 use Rattle.streetmap_rows.specs.Stands.{CanBeRead}

@@ -1,7 +1,7 @@
 -- Rows of features that one statement puts in.
 use Rattle.std.specs.Prelude.{◌≡◌, ℤ, Bool, List, [], ◌∷◌, ◌++◌, None, Some, option_map, Result}
 use Rattle.std.specs.Prelude.{MatchResult, MatchBool, string_bytes}
-use Rattle.std.specs.List.{AllByRecursion, AllZip}
+use Rattle.std.specs.List.{AllZip}
 use Rattle.std.specs.FinMap.{get}
 use Rattle.sqlite.specs.declared.error.Error.{Error}
 use Rattle.sqlite.specs.declared.types.Value.TheVariants.{Int, Text as Words}

@@ -37,4 +37,5 @@ pub mod Accepting
 pub mod CallsInTransaction
 pub mod Deciding
 pub mod Editing
+pub mod InsertedEdits
 pub mod StoreErrors

@@ -2,6 +2,7 @@ pub mod Adopting
 pub mod Carrying
 pub mod Dropping
 pub mod Faults
+pub mod Inserting
 pub mod Made
 pub mod Making
 pub mod Old

@@ -1,5 +1,5 @@
 //! Edits inside a transaction.
-ghost use Rattle.std.specs.Prelude.{◌≡◌, IfErr, is_some, map};
+ghost use Rattle.std.specs.Prelude.{◌≡◌, ◌≤◌, IfErr, IfOk, IfSome, is_some, map, length};
 ghost use Rattle.std.specs.Option.{option_copied};
 ghost use Rattle.std.specs.FinMap.{get};
 ghost use Rattle.sqlite.specs.Held.{state};
@@ -10,13 +10,14 @@ ghost use Rattle.streetmap_rows.specs.Stands.{LooksIntoRows};
 ghost use Rattle.streetmap_tables.specs.Editing.{Edits, EditsAll};
 ghost use Rattle.streetmap_rows.specs.Failing.{HasReason};
 
+use crate::inserting::insert_all;
 use crate::storing::put_feature;
 use crate::timing::time_property;
 use sqlite::{Alter, Error, Transaction};
 use std::alloc::Global;
 use streetmap_geojson::Feature;
 use streetmap_ledger::{Edit, Refusal, TimeProperty};
-use streetmap_rows::{collection_rows, delete_feature, has_feature, insert_collection};
+use streetmap_rows::{ROWS, collection_rows, delete_feature, has_feature, insert_collection};
 
 /// Whether there is a collection with this id.
 fn has_collection<S: Alter>(tx: &mut Transaction<'_, S>, collection: &str) -> Result<bool, Error>
@@ -177,6 +178,57 @@ fn edit_in<S: Alter>(
     }
 }
 
+/// Makes edits one after the other, up to the first that is refused, whose place from 1 it tells.
+fn edit_in_turn<S: Alter>(
+    tx: &mut Transaction<'_, S>,
+    alloc: Global,
+    edits: &[Edit],
+) -> Result<Option<(u64, Refusal)>, Error>
+    ensures same_reference { tx.new.conn.ghost_name ≡ tx.old.conn.ghost_name }
+    ensures edits { HasCleanDisk (state S.Store tx.new.conn.now)
+        → EditsAll (map edit_value edits.now) (state S.Store tx.old.conn.now)
+        (state S.Store tx.new.conn.now) result }
+    ensures placed { IfOk result
+        (λ stopped. IfSome stopped (λ at. at.0 ≤ length edits.now)) }
+    ensures reason { HasCleanDisk (state S.Store tx.new.conn.now) →
+        IfErr result (HasReason (state S.Store tx.old.conn.now) (state S.Store tx.new.conn.now)) }
+    ensures survives { Survives (state S.Store tx.old.conn.now) (state S.Store tx.new.conn.now)
+        (λ _. ⊥) }
+{
+    let mut place: u64 = 1;
+    'edits: for edit in edits {
+        if let Some(why) = edit_in(tx, alloc, edit)? {
+            return Ok(Some((place, why)));
+        }
+        place += 1;
+    }
+    Ok(None)
+}
+
+/// Makes edits in order, all by one statement where they can be, up to the first that is refused,
+/// whose place from 1 it tells.
+fn edit_run<S: Alter>(
+    tx: &mut Transaction<'_, S>,
+    alloc: Global,
+    edits: &[Edit],
+) -> Result<Option<(u64, Refusal)>, Error>
+    ensures same_reference { tx.new.conn.ghost_name ≡ tx.old.conn.ghost_name }
+    ensures edits { HasCleanDisk (state S.Store tx.new.conn.now)
+        → EditsAll (map edit_value edits.now) (state S.Store tx.old.conn.now)
+        (state S.Store tx.new.conn.now) result }
+    ensures placed { IfOk result
+        (λ stopped. IfSome stopped (λ at. at.0 ≤ length edits.now)) }
+    ensures reason { HasCleanDisk (state S.Store tx.new.conn.now) →
+        IfErr result (HasReason (state S.Store tx.old.conn.now) (state S.Store tx.new.conn.now)) }
+    ensures survives { Survives (state S.Store tx.old.conn.now) (state S.Store tx.new.conn.now)
+        (λ _. ⊥) }
+{
+    if insert_all(tx, alloc, edits)? {
+        return Ok(None);
+    }
+    edit_in_turn(tx, alloc, edits)
+}
+
 /// Makes edits in order, up to the first that is refused, whose place from 1 it tells.
 pub fn edit_each<S: Alter>(
     tx: &mut Transaction<'_, S>,
@@ -192,12 +244,15 @@ pub fn edit_each<S: Alter>(
     ensures survives { Survives (state S.Store tx.old.conn.now) (state S.Store tx.new.conn.now)
         (λ _. ⊥) }
 {
-    let mut place: u64 = 1;
-    'edits: for edit in edits {
-        if let Some(why) = edit_in(tx, alloc, edit)? {
-            return Ok(Some((place, why)));
+    let mut done: u64 = 0;
+    let mut rest = edits;
+    'runs: while !rest.is_empty() {
+        let (run, more) = rest.split_at(rest.len().min(ROWS));
+        if let Some((place, why)) = edit_run(tx, alloc, run)? {
+            return Ok(Some((done + place, why)));
         }
-        place += 1;
+        done += run.len() as u64;
+        rest = more;
     }
     Ok(None)
 }

@@ -15,9 +15,10 @@
 //! failed, and it tells the error that named the cause.
 //!
 //! In the order of reading: `kept` (what is kept for a key), `timing` and `storing` (what is
-//! written of a feature), `edits`, `acting` (a batch inside its transaction), `batch`; `making`,
-//! `adopting`, `remaking` (the tables of format 2 in the place of those of format 1), `features`
-//! (the rows of format 1, read and put back), `carrying`, `opening`.
+//! written of a feature), `inserting` (several features by one statement), `edits`, `acting` (a
+//! batch inside its transaction), `batch`; `making`, `adopting`, `remaking` (the tables of format 2
+//! in the place of those of format 1), `features` (the rows of format 1, read and put back),
+//! `carrying`, `opening`.
 #![tactic(auto)]
 
 mod acting;
@@ -26,6 +27,7 @@ mod batch;
 mod carrying;
 mod edits;
 mod features;
+mod inserting;
 mod kept;
 mod making;
 mod opening;

@@ -18,7 +18,7 @@ use streetmap_rows::insert_feature;
 
 /// The text that is kept of a feature.
 #[tactic(auto, unfolding(streetmap_rows::specs::Rows::feature_text))]
-fn text_of(alloc: Global, feature: &Feature) -> Result<String, AllocError>
+pub fn text_of(alloc: Global, feature: &Feature) -> Result<String, AllocError>
     ensures { IfOk result (λ text. string_bytes text ≡ feature_text feature.now) }
 {
     let mut text = String::new(alloc);

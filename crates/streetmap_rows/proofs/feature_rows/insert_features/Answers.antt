@@ -1,4 +1,4 @@
-use Rattle.std.proofs.Common.{◌≡◌, ◌⊎◌, inl, inr, Ok, Err, IsTrue, sym, ap, subst, ◌∙◌}
+use Rattle.std.proofs.Common.{◌≡◌, inl, inr, Ok, IsTrue, sym, ap, subst, ◌∙◌}
 use Rattle.sqlite.specs.Values.{bound}
 use Rattle.sqlite.specs.Held.{state}
 use Rattle.sqlite.specs.State.{ExecutesInside}
@@ -27,9 +27,9 @@ pub returns-clause-puts : goal.returns-clause-puts
 returns-clause-puts g c clean inside es are limit s d stands there =
     elim (of_store_or_same (state g.S.Store c.args.tx.now.conn.now) (state g.S.Store c.execute-ran.new.self.conn.now) 0 _ _ _ (c.in-Err-2.ensures.runs clean inside)) [
       | inl of_store ↦ absurd (
-        let same : c.in-Err.error ≡ c.in-Err-2.field-0 = let is = sym c.in-Err.is ∙ c.in-Err-2.is in cc in
-        let told : IsTrue c.is_of_store.result = c.is_of_store.ensures.1 (subst IsOfStore (sym same) of_store) in
-        let clash = rw c.if-is_of_store.false at told in cc)
+          let same : c.in-Err.error ≡ c.in-Err-2.field-0 = let is = sym c.in-Err.is ∙ c.in-Err-2.is in cc in
+          let told : IsTrue c.is_of_store.result = c.is_of_store.ensures.1 (subst IsOfStore (sym same) of_store) in
+          let clash = rw c.if-is_of_store.false at told in cc)
       | inr same ↦ same
     ]
 
@@ -37,8 +37,8 @@ pub returns-clause-inside : goal.returns-clause-inside
 returns-clause-inside g c clean inside =
     elim (of_store_or_same (state g.S.Store c.args.tx.now.conn.now) (state g.S.Store c.execute-ran.new.self.conn.now) 0 _ _ _ (c.in-Err-2.ensures.runs clean inside)) [
       | inl of_store ↦ absurd (
-        let same : c.in-Err.error ≡ c.in-Err-2.field-0 = let is = sym c.in-Err.is ∙ c.in-Err-2.is in cc in
-        let told : IsTrue c.is_of_store.result = c.is_of_store.ensures.1 (subst IsOfStore (sym same) of_store) in
-        let clash = rw c.if-is_of_store.false at told in cc)
+          let same : c.in-Err.error ≡ c.in-Err-2.field-0 = let is = sym c.in-Err.is ∙ c.in-Err-2.is in cc in
+          let told : IsTrue c.is_of_store.result = c.is_of_store.ensures.1 (subst IsOfStore (sym same) of_store) in
+          let clash = rw c.if-is_of_store.false at told in cc)
       | inr same ↦ same.0.mode ∙ inside
     ]

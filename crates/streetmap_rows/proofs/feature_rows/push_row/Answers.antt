@@ -3,7 +3,6 @@ use Rattle.sqlite.specs.Values.{or_null}
 use Rattle.sqlite.specs.declared.types.Value.TheVariants.{Int}
 use Rattle.streetmap_grid.specs.Values.{BoxValue}
 use Rattle.streetmap_grid.specs.Views.{box_value}
-use Rattle.streetmap_rows.proofs.ColumnCasts.{whole_null}
 use Rattle.streetmap_rows.proofs.BoundParameters.{nine, added, nine_whole}
 use Rattle.streetmap_rows.proofs.feature_rows.push_row.Goals as goal
 

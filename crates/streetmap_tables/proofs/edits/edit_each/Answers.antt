@@ -1,74 +1,81 @@
-use Rattle.std.proofs.Common.{drop_of_length-le, ◌∙◌, ◌+◌, ◌∷◌, refl, sym, ap, subst, arith, map, drop, inl}
-use Rattle.std.proofs.lemmas.List.{drop_more}
+use Rattle.std.proofs.Common.{◌≡◌, ◌∙◌, ◌+◌, ◌≤◌, refl, ap, subst, arith, map, inl, length}
+use Rattle.std.proofs.lemmas.List.{map-append, length-map}
 use Rattle.sqlite.specs.Held.{state}
 use Rattle.sqlite.specs.State.{HasCleanDisk}
 use Rattle.sqlite.proofs.StateLemmas.{survives_then}
 use Rattle.streetmap_batch.specs.BatchView.{edit_value}
 use Rattle.streetmap_ledger.specs.Batches.{edited}
-use Rattle.streetmap_tables.specs.Editing.{Answered}
+use Rattle.streetmap_tables.specs.Editing.{AnsweredAll}
 use Rattle.streetmap_rows.proofs.ResultCases.{handed_on}
-use Rattle.streetmap_tables.proofs.Editing.{edited_more, edited_stops}
+use Rattle.streetmap_tables.proofs.Editing.{edited_parts, edited_refused, none_left}
 use Rattle.streetmap_tables.proofs.CallsInTransaction.{same_all, keeps_then, rest_then}
 use Rattle.streetmap_tables.proofs.edits.edit_each.Goals as goal
 
-pub edits-init : goal.edits-init
-edits-init g c = (
+pub runs-init : goal.runs-init
+runs-init g c = (
   refl,
   record { clean = omega arith; shield = λ x. x; counts = omega arith; limit = refl; closes = λ _ o. inl o; crash = λ _ db m. inl m },
-  refl,
+  omega arith,
   λ clean limit inside s stands. (s, refl, stands, inside, (record { was_open = λ o. o; committed = λ _. refl }, same_all (state g.S.Store c.args.tx.now.conn.now).now _ refl)),
 )
 
-pub returns-in_err-why-clause-edits : goal.returns-in_err-why-clause-edits
-returns-in_err-why-clause-edits g c clean limit inside s stands =
-    let inv = c.edits.invariant in
-    let early : HasCleanDisk (state g.S.Store c.edits.tx.conn.now) = omega (arith, clean, c.edit_in.ensures.survives.clean) in
+pub returns-in_err-place-clause-edits : goal.returns-in_err-place-clause-edits
+returns-in_err-place-clause-edits g c clean limit inside s stands =
+    let inv = c.runs.invariant in
+    let early : HasCleanDisk (state g.S.Store c.runs.tx.conn.now) = omega (arith, clean, c.edit_run.ensures.survives.clean) in
     let r = inv.3 early limit inside s stands in
-    let e = c.in_err-why.ensures.edits clean (inv.1.limit ∙ limit) r.3 r.0 r.2 in
-    handed_on _ _ _ _ c.from_residual.ensures.1 (e.0, keeps_then (state g.S.Store c.args.tx.now.conn.now) (state g.S.Store c.edits.tx.conn.now) (state g.S.Store c.edit_in.new.tx.conn.now) r.4.0 e.1)
+    let e = c.in_err-place.ensures.edits clean (inv.1.limit ∙ limit) r.3 r.0 r.2 in
+    handed_on _ _ _ _ c.from_residual.ensures.1 (e.0, keeps_then (state g.S.Store c.args.tx.now.conn.now) (state g.S.Store c.runs.tx.conn.now) (state g.S.Store c.edit_run.new.tx.conn.now) r.4.0 e.1)
+
+pub overflow_add-result : goal.overflow_add-result
+overflow_add-result g c =
+    let placed : c.in-Some.place ≤ length c.split_at.result.0.now = rw c.in-Some.is at c.in_ok-place.ensures.placed in
+    omega (arith, placed, c.runs.invariant.2, c.split_at.ensures.back_len, c.split_at.ensures.front_len, c.runs.auto.done-fits)
 
 pub returns-in-Some-clause-edits : goal.returns-in-Some-clause-edits
 returns-in-Some-clause-edits g c clean limit inside s stands =
-    let inv = c.edits.invariant in
-    let i = c.edits.edit-index in
-    let edit = c.edit-item.result in
-    let mid = state g.S.Store c.edits.tx.conn.now in
-    let new = state g.S.Store c.edit_in.new.tx.conn.now in
-    let early : HasCleanDisk mid = omega (arith, clean, c.edit_in.ensures.survives.clean) in
+    let inv = c.runs.invariant in
+    let run = c.split_at.result.0.now in
+    let more = c.split_at.result.1.now in
+    let mid = state g.S.Store c.runs.tx.conn.now in
+    let new = state g.S.Store c.edit_run.new.tx.conn.now in
+    let early : HasCleanDisk mid = omega (arith, clean, c.edit_run.ensures.survives.clean) in
     let r = inv.3 early limit inside s stands in
-    let e = c.in_ok-why.ensures.edits clean (inv.1.limit ∙ limit) r.3 r.0 r.2 in
-    let why = subst (Answered r.0 (edit_value edit) new) c.in-Some.is e.0 in (
-      r.1 ∙ ap (λ es. edited c.edits.place r.0 (map edit_value es)) (drop_more c.args.edits.now i edit (omega arith) ∙ ap (λ x. x ∷ drop (i + 1) c.args.edits.now) (sym c.edit-item.is))
-          ∙ edited_stops r.0 c.edits.place (edit_value edit) (map edit_value (drop (i + 1) c.args.edits.now)) _ why,
-      rest_then (state g.S.Store c.args.tx.now.conn.now) mid new r.4 e.2,
+    let e = c.in_ok-place.ensures.edits clean (inv.1.limit ∙ limit) r.3 r.0 r.2 in
+    let stopped = subst (AnsweredAll r.0 (map edit_value run) new) c.in-Some.is e.0 in (
+      r.1 ∙ ap (λ es. edited (c.runs.done + 1) r.0 es) (ap (map edit_value) c.split_at.ensures.by_index.0 ∙ map-append edit_value run more)
+          ∙ edited_refused (map edit_value run) (map edit_value more) c.runs.done 1 c.in-Some.place r.0 c.in-Some.why stopped,
+      rest_then (state g.S.Store c.args.tx.now.conn.now) mid new r.4 e.1,
     )
 
-pub edits-preserved : goal.edits-preserved
-edits-preserved g c =
-    let inv = c.edits.invariant in
-    let i = c.edits.edit-index in
-    let edit = c.edit-item.result in
+pub runs-preserved : goal.runs-preserved
+runs-preserved g c =
+    let inv = c.runs.invariant in
+    let run = c.split_at.result.0.now in
+    let more = c.split_at.result.1.now in
     let old = state g.S.Store c.args.tx.now.conn.now in
-    let mid = state g.S.Store c.edits.tx.conn.now in
-    let new = state g.S.Store c.edit_in.new.tx.conn.now in (
-      c.edit_in.ensures.same_reference ∙ inv.0,
-      survives_then old mid new (λ _. ⊥) (λ _. ⊥) (λ _. ⊥) (λ _ _ h. h) (λ _ _ h. h) inv.1 c.edit_in.ensures.survives,
-      omega (arith, inv.2),
+    let mid = state g.S.Store c.runs.tx.conn.now in
+    let new = state g.S.Store c.edit_run.new.tx.conn.now in (
+      c.edit_run.ensures.same_reference ∙ inv.0,
+      survives_then old mid new (λ _. ⊥) (λ _. ⊥) (λ _. ⊥) (λ _ _ h. h) (λ _ _ h. h) inv.1 c.edit_run.ensures.survives,
+      omega (arith, inv.2, c.split_at.ensures.front_len, c.split_at.ensures.back_len),
       λ clean limit inside s stands.
-          let early : HasCleanDisk mid = omega (arith, clean, c.edit_in.ensures.survives.clean) in
+          let early : HasCleanDisk mid = omega (arith, clean, c.edit_run.ensures.survives.clean) in
           let r = inv.3 early limit inside s stands in
-          let e = c.in_ok-why.ensures.edits clean (inv.1.limit ∙ limit) r.3 r.0 r.2 in
-          let did = subst (Answered r.0 (edit_value edit) new) c.in_default.is e.0 in (
+          let e = c.in_ok-place.ensures.edits clean (inv.1.limit ∙ limit) r.3 r.0 r.2 in
+          let did = subst (AnsweredAll r.0 (map edit_value run) new) c.in_default.is e.0 in
+          let count : length (map edit_value run) ≡ length run = length-map run edit_value in (
             did.0,
-            r.1 ∙ ap (λ es. edited c.edits.place r.0 (map edit_value es)) (drop_more c.args.edits.now i edit (omega arith) ∙ ap (λ x. x ∷ drop (i + 1) c.args.edits.now) (sym c.edit-item.is))
-                ∙ edited_more r.0 did.0 c.edits.place (edit_value edit) (map edit_value (drop (i + 1) c.args.edits.now)) did.1,
+            r.1 ∙ ap (λ es. edited (c.runs.done + 1) r.0 es) (ap (map edit_value) c.split_at.ensures.by_index.0 ∙ map-append edit_value run more)
+                ∙ edited_parts (map edit_value run) (map edit_value more) (c.runs.done + 1) 1 r.0 did.0 did.1 ∙ ap (λ n. edited n did.0 (map edit_value more)) (omega (arith, count)),
             did.2,
-            e.1,
-            rest_then old mid new r.4 e.2,
+            did.3,
+            rest_then old mid new r.4 e.1,
           ),
     )
 
 pub returns-clause-edits : goal.returns-clause-edits
 returns-clause-edits g c clean limit inside s stands =
-    let r = c.edits.invariant.3 clean limit inside s stands in
-    ((r.0, r.1 ∙ ap (λ es. edited c.edits.place r.0 (map edit_value es)) (drop_of_length-le c.args.edits.now (omega arith)), r.2, r.3), r.4)
+    let r = c.runs.invariant.3 clean limit inside s stands in
+    let none = none_left c.runs.rest.now c.is_empty.result c.is_empty.ensures c.runs-test.false in
+    ((r.0, r.1 ∙ ap (λ es. edited (c.runs.done + 1) r.0 (map edit_value es)) none, r.2, r.3), r.4)

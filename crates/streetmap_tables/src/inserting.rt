@@ -1,0 +1,161 @@
+//! Insertions into one collection, several by one statement, inside a transaction.
+ghost use Rattle.std.specs.Prelude.{◌≡◌, ◌∷◌, IfErr, IfOk, IfSome, List, Some, length};
+ghost use Rattle.std.specs.Option.{option_copied};
+ghost use Rattle.std.specs.Prelude.{map};
+ghost use Rattle.std.specs.FinMap.{get};
+ghost use Rattle.sqlite.specs.Held.{state};
+ghost use Rattle.sqlite.specs.State.{HasCleanDisk, Survives};
+ghost use Rattle.streetmap_geojson.specs.FeatureValue.{FeatureValue};
+ghost use Rattle.streetmap_batch.specs.BatchValue as edit;
+ghost use Rattle.streetmap_batch.specs.BatchValue.{EditValue};
+ghost use Rattle.streetmap_batch.specs.BatchView.{edit_value};
+ghost use Rattle.streetmap_ledger.specs.State.{State, Collection};
+ghost use Rattle.streetmap_rows.specs.Failing.{HasReason};
+ghost use Rattle.streetmap_rows.specs.Stands.{StandsFor};
+ghost use Rattle.streetmap_tables.specs.Inserting.{IsRowUnder, IsInsertion, AreInsertions};
+ghost use Rattle.streetmap_tables.specs.Inserting.{EditsAllOrNone};
+
+use crate::storing::text_of;
+use crate::timing::{seconds_under, time_property};
+use sqlite::{Alter, Error, ErrorCode, Transaction};
+use std::alloc::{AllocError, Global};
+use streetmap_geojson::Feature;
+use streetmap_ledger::Edit;
+use streetmap_rows::{FeatureRow, ROWS, insert_features};
+
+/// The row of a feature, with the time that the property tells; none where it tells one that cannot
+/// be read.
+fn row_under(
+    alloc: Global,
+    property: Option<&str>,
+    feature: &Feature,
+) -> Result<Option<FeatureRow>, AllocError>
+    ensures { IfOk result (λ row.
+        IfSome row (IsRowUnder (option_copied property.entry) feature.now)) }
+{
+    let Ok(seconds) = seconds_under(feature, property) else {
+        return Ok(None);
+    };
+    let id = String::from_str(alloc, feature.id())?;
+    let text = text_of(alloc, feature)?;
+    Ok(Some(FeatureRow {
+        id,
+        text,
+        extent: feature.extent(),
+        seconds,
+    }))
+}
+
+/// The row of an edit that inserts a feature into the collection; none of any other edit.
+fn row_of(
+    alloc: Global,
+    collection: &str,
+    property: Option<&str>,
+    edit: &Edit,
+) -> Result<Option<FeatureRow>, AllocError>
+    ensures { IfOk result (λ row. IfSome row
+        (IsInsertion collection.now (option_copied property.entry) (edit_value edit.now))) }
+{
+    match edit {
+        Edit::Insert {
+            collection: into,
+            feature,
+        } if into.as_str() == collection => row_under(alloc, property, feature),
+        _ => Ok(None),
+    }
+}
+
+/// The rows of edits that each insert a feature into the collection; none where one does not.
+fn rows_of(
+    alloc: Global,
+    collection: &str,
+    property: Option<&str>,
+    edits: &[Edit],
+) -> Result<Option<Vec<FeatureRow>>, AllocError>
+    ensures { IfOk result (λ found. IfSome found (λ rows.
+        AreInsertions collection.now (option_copied property.entry)
+        (map edit_value edits.now) rows.items)) }
+{
+    let mut rows = Vec::new(alloc);
+    'edits: for edit in edits {
+        match row_of(alloc, collection, property, edit)? {
+            Some(row) => rows.push(row)?,
+            None => return Ok(None),
+        }
+    }
+    Ok(Some(rows))
+}
+
+/// Makes edits that each insert a feature into a collection that is there and has this time
+/// property; returns whether it did.
+fn insert_under<S: Alter>(
+    tx: &mut Transaction<'_, S>,
+    alloc: Global,
+    collection: &str,
+    property: Option<&str>,
+    edits: &[Edit],
+) -> Result<bool, Error>
+    requires { length edits.now ≡ 8 }
+    ensures same_reference { tx.new.conn.ghost_name ≡ tx.old.conn.ghost_name }
+    ensures edits { HasCleanDisk (state S.Store tx.new.conn.now)
+        → ((s : State) → StandsFor s (state S.Store tx.old.conn.now).now → (c : Collection)
+        × (get s.collections collection.now ≡ Some c) × (c.time ≡ option_copied property.entry))
+        → EditsAllOrNone (map edit_value edits.now) (state S.Store tx.old.conn.now)
+        (state S.Store tx.new.conn.now) result }
+    ensures reason { HasCleanDisk (state S.Store tx.new.conn.now) →
+        IfErr result (HasReason (state S.Store tx.old.conn.now) (state S.Store tx.new.conn.now)) }
+    ensures survives { Survives (state S.Store tx.old.conn.now) (state S.Store tx.new.conn.now)
+        (λ _. ⊥) }
+{
+    let Ok(found) = rows_of(alloc, collection, property, edits) else {
+        return Err(Error::SqliteFailure(ErrorCode::OutOfMemory));
+    };
+    match found {
+        Some(rows) => insert_features(tx, alloc, collection, &rows),
+        None => Ok(false),
+    }
+}
+
+/// The collection that the first edit inserts a feature into.
+fn first_collection(edits: &[Edit]) -> Option<&str>
+    ensures { IfSome result (λ name. (f : FeatureValue) × (more : List EditValue)
+        × (map edit_value edits.now ≡ edit.insert name.now f ∷ more)) }
+{
+    match edits.first() {
+        Some(Edit::Insert { collection, .. }) => Some(collection.as_str()),
+        _ => None,
+    }
+}
+
+/// Makes eight edits by one statement, where each inserts a feature into one collection; returns
+/// whether it did. It does not where another number of edits or another edit is given, or where one
+/// of them is refused: then nothing has changed, and they are to be made in turn.
+///
+/// # Errors
+///
+/// The error of the store.
+pub fn insert_all<S: Alter>(
+    tx: &mut Transaction<'_, S>,
+    alloc: Global,
+    edits: &[Edit],
+) -> Result<bool, Error>
+    ensures same_reference { tx.new.conn.ghost_name ≡ tx.old.conn.ghost_name }
+    ensures edits { HasCleanDisk (state S.Store tx.new.conn.now)
+        → EditsAllOrNone (map edit_value edits.now) (state S.Store tx.old.conn.now)
+        (state S.Store tx.new.conn.now) result }
+    ensures reason { HasCleanDisk (state S.Store tx.new.conn.now) →
+        IfErr result (HasReason (state S.Store tx.old.conn.now) (state S.Store tx.new.conn.now)) }
+    ensures survives { Survives (state S.Store tx.old.conn.now) (state S.Store tx.new.conn.now)
+        (λ _. ⊥) }
+{
+    if edits.len() != ROWS {
+        return Ok(false);
+    }
+    let Some(collection) = first_collection(edits) else {
+        return Ok(false);
+    };
+    let Some(property) = time_property(tx, collection)? else {
+        return Ok(false);
+    };
+    insert_under(tx, alloc, collection, property.as_deref(), edits)
+}
