@@ -12,6 +12,7 @@ from sqlite_file import forget
 NAMES = ("c0", "c1", "c2")
 IDS = ("f0", "f1", "f2", "f3", "f4", "f5")
 KEYS = [key + identity for key in "klmn" for identity in IDS]
+RUN_IDS = [f"r{it}" for it in range(900)]
 SQUARE = [[5, 5], [5, 25], [25, 25], [25, 5], [5, 5]]
 HOLE = [[10, 10], [20, 10], [20, 20], [10, 20], [10, 10]]
 # Within a square of 40 mm.
@@ -71,6 +72,38 @@ def a_batch(chance: random.Random) -> Request:
     """One or two edits under one of a few keys, so that keys come again."""
     edits = [an_edit(chance) for _ in range(chance.randint(1, 2))]
     return Request("POST", "/batches", {"key": chance.choice(KEYS), "edits": edits})
+
+
+def an_insertion(chance: random.Random, name: str, identity: str) -> dict[str, Any]:
+    geometry, properties = chance.choice(GEOMETRIES), chance.choice(PROPERTIES[:-1])
+    return put("insert", name, feature(identity, geometry, properties))
+
+
+def a_run(chance: random.Random, key: str) -> Request:
+    """A batch that inserts features into one collection, which a file takes eight by one statement:
+    mostly one edit is another, or is refused where the time or the id of a feature is not taken."""
+    name, ids = chance.choice(NAMES[:2]), chance.sample(RUN_IDS, chance.choice((7, 8, 9, 16, 31)))
+    edits = [an_insertion(chance, name, it) for it in ids]
+    others = [
+        an_insertion(chance, NAMES[2], ids[0]),
+        an_insertion(chance, name, ids[-1]),
+        an_insertion(chance, name, chance.choice(RUN_IDS)),
+        put("insert", name, feature("late", None, PROPERTIES[-1])),
+        put("replace", name, feature(ids[0], chance.choice(GEOMETRIES), None)),
+        delete(name, ids[0]),
+    ]
+    if chance.randrange(3):
+        edits.insert(chance.randint(0, len(edits)), chance.choice(others))
+    return Request("POST", "/batches", {"key": key, "edits": edits})
+
+
+def runs(chance: random.Random) -> list[Request]:
+    """Two collections, one of them with times, batches of many insertions, and looks."""
+    opened = [open_collection(NAMES[0], time="when"), open_collection(NAMES[1])]
+    session = [Request("POST", "/batches", {"key": "opened", "edits": opened})]
+    for turn in range(12):
+        session += [a_run(chance, f"run-{turn}"), *LOOKS[:3]]
+    return session
 
 
 def a_request(chance: random.Random) -> Request:
@@ -133,3 +166,7 @@ def run(context: Context) -> None:
         chance = random.Random(-1 - seed)
         session = [asked for _ in range(10) for asked in (a_batch(chance), *LOOKS)]
         compare(context, f"looks-{seed}", session, chance.randrange(60))
+    for seed in range(60 * times):
+        chance = random.Random(-1_000 - seed)
+        session = runs(chance)
+        compare(context, f"runs-{seed}", session, chance.randrange(len(session)))
