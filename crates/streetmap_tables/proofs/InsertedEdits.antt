@@ -11,7 +11,6 @@ use Rattle.streetmap_tables.specs.Editing.{AnsweredAll, KeepsRest}
 use Rattle.streetmap_tables.proofs.CallsInTransaction.{keeps_then, keeps_rest, rest_then, stands_still}
 use Rattle.std.specs.FinMap.{get, insert, get-insert}
 use Rattle.std.specs.Cmp.Lexicographic.{nat_list_cmp_total}
-use Rattle.streetmap_geojson.specs.FeatureValue.{FeatureValue}
 use Rattle.streetmap_batch.specs.Text.{Text}
 use Rattle.streetmap_batch.specs.BatchValue as edit
 use Rattle.streetmap_batch.specs.BatchValue.{EditValue}

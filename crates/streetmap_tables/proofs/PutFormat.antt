@@ -52,7 +52,7 @@ format_row = record {
   count = 0;
   table = meta;
   columns = codes "name" ∷ codes "value" ∷ [];
-  values = quoted (codes "format") ∷ (expr.Integer (codes "2"), lit (Int (pos 2))) ∷ [];
+  rows = (quoted (codes "format") ∷ (expr.Integer (codes "2"), lit (Int (pos 2))) ∷ []) ∷ [];
 }
 
 format_is : IsInsert format_row
@@ -147,7 +147,7 @@ module _ (s : State) (old new : Seen) (limit : old.step_limit ≡ None) (lacks :
   pub format_put : (count : ℕ) → Executes format_text [] old new (Ok count) → StandsFor s new.now × IsSameElsewhere old.now new.now
   format_put count h =
       let it = format_means schema roots.meta found in
-      let r = run.inserted _ roots.meta _ _ _ _ _ found.at format_terms 3 format_text [] old new schema row refl limit (command_is schema format_text 0 _ it) (is_plain schema format_text 0 _ it) (is_fit schema format_text 0 _ it refl)
+      let r = run.inserted _ roots.meta _ _ _ _ _ found.at format_terms 3 format_text [] old new schema (row ∷ []) refl limit (command_is schema format_text 0 _ it) (is_plain schema format_text 0 _ it) (is_fit schema format_text 0 _ it refl)
       refl found.listed (rw (cast_null, cast_int (pos 2)) refl) count h in (
         record {
           roots = roots;
@@ -167,5 +167,5 @@ module _ (s : State) (old new : Seen) (limit : old.step_limit ≡ None) (lacks :
   pub format_told : (e : Error) → ExecutesInside 0 format_text [] old new (Err e) → IsOfStore e
   format_told =
       let it = format_means schema roots.meta found in
-      run.told _ roots.meta _ _ _ _ _ found.at format_terms 3 format_text [] old new schema row refl limit (command_is schema format_text 0 _ it) (is_plain schema format_text 0 _ it) (is_fit schema format_text 0 _ it refl)
+      run.told _ roots.meta _ _ _ _ _ found.at format_terms 3 format_text [] old new schema (row ∷ []) refl limit (command_is schema format_text 0 _ it) (is_plain schema format_text 0 _ it) (is_fit schema format_text 0 _ it refl)
       refl found.listed (rw (cast_null, cast_int (pos 2)) refl) only_rowid refers

@@ -16,12 +16,15 @@ use streetmap_geojson::Feature;
 use streetmap_ledger::Refusal;
 use streetmap_rows::insert_feature;
 
+/// The room that the text of a feature begins with, in bytes.
+const TEXT_ROOM: usize = 256;
+
 /// The text that is kept of a feature.
 #[tactic(auto, unfolding(streetmap_rows::specs::Rows::feature_text))]
 pub fn text_of(alloc: Global, feature: &Feature) -> Result<String, AllocError>
     ensures { IfOk result (λ text. string_bytes text ≡ feature_text feature.now) }
 {
-    let mut text = String::new(alloc);
+    let mut text = String::with_capacity(alloc, TEXT_ROOM)?;
     push_feature(alloc, &mut text, feature)?;
     Ok(text)
 }
