@@ -80,9 +80,9 @@ def an_insertion(chance: random.Random, name: str, identity: str) -> dict[str, A
 
 
 def a_run(chance: random.Random, key: str) -> Request:
-    """A batch that inserts features into one collection, which a file takes eight by one statement:
+    """A batch that inserts features into one collection, which a file takes 25 by one statement:
     mostly one edit is another, or is refused where the time or the id of a feature is not taken."""
-    name, ids = chance.choice(NAMES[:2]), chance.sample(RUN_IDS, chance.choice((7, 8, 9, 16, 31)))
+    name, ids = chance.choice(NAMES[:2]), chance.sample(RUN_IDS, chance.choice((7, 24, 25, 26, 51)))
     edits = [an_insertion(chance, name, it) for it in ids]
     others = [
         an_insertion(chance, NAMES[2], ids[0]),

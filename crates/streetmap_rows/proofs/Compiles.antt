@@ -92,13 +92,19 @@ insert_feature_means = insert_means inserts_feature insert_feature_is
 abbrev inserts_features : Insertion
 inserts_features = record {
   text = text.insert_features;
-  count = 72;
+  count = 225;
   table = features;
   columns =
       codes "collection" ∷ codes "id" ∷ codes "body" ∷ codes "x0" ∷ codes "y0" ∷ codes "x1"
       ∷ codes "y1" ∷ codes "s0" ∷ codes "s1" ∷ [];
   rows =
-      given_from 1 9 ∷ given_from 10 9 ∷ given_from 19 9 ∷ given_from 28 9 ∷ given_from 37 9 ∷ given_from 46 9 ∷ given_from 55 9 ∷ given_from 64 9 ∷ [];
+      given_from 1 9 ∷ given_from 10 9 ∷ given_from 19 9 ∷ given_from 28 9
+      ∷ given_from 37 9 ∷ given_from 46 9 ∷ given_from 55 9 ∷ given_from 64 9
+      ∷ given_from 73 9 ∷ given_from 82 9 ∷ given_from 91 9 ∷ given_from 100 9
+      ∷ given_from 109 9 ∷ given_from 118 9 ∷ given_from 127 9 ∷ given_from 136 9
+      ∷ given_from 145 9 ∷ given_from 154 9 ∷ given_from 163 9 ∷ given_from 172 9
+      ∷ given_from 181 9 ∷ given_from 190 9 ∷ given_from 199 9 ∷ given_from 208 9
+      ∷ given_from 217 9 ∷ [];
 }
 
 insert_features_is : IsInsert inserts_features

@@ -1,5 +1,5 @@
--- The INSERT of eight features as it runs.
-use Rattle.std.proofs.Common.{◌≡◌, ◌≢◌, ℕ, ℤ, List, [], ◌∷◌, ◌++◌, ◌&&◌, Bool, true, is_some, map, drop, length, Option, Some, None, Ok, option_map, refl, sym, ap, subst, ◌∙◌}
+-- The INSERT of twenty-five features as it runs.
+use Rattle.std.proofs.Common.{◌≡◌, zero, suc, ◌≢◌, ℕ, ℤ, List, [], ◌∷◌, ◌++◌, ◌&&◌, Bool, true, is_some, map, drop, length, Option, Some, None, Ok, option_map, refl, sym, ap, subst, ◌∙◌}
 use Rattle.std.specs.List.{AllByRecursion}
 use Rattle.std.specs.FinMap.{get}
 use Rattle.sqlite.specs.declared.types.Value.TheVariants.{Int}
@@ -82,29 +82,31 @@ taken : (f : FeatureValue) (more : Bool) → more ≡ true → numbers_taken f m
 taken f more h = rw ((whole_null (x0 f)).classed, (whole_null (y0 f)).classed, (whole_null (x1 f)).classed, (whole_null (y1 f)).classed, (whole_null (s0 f)).classed, (whole_null (s1 f)).classed, h) refl
 
 pub record AreGiven (name : Text) (es : List Entry) : Type 0 where
-  pub count : length (cells_of name es) ≡ 72
+  pub count : length (cells_of name es) ≡ 225
   pub accepted : accepts_terms compile.insert_features_terms (cells_of name es) ≡ true
-  pub rows : value_rows (cells_of name es) 10 8 compile.insert_features_terms ≡ map (bare name) es
+  pub rows : value_rows (cells_of name es) 10 25 compile.insert_features_terms ≡ map (bare name) es
 
-eight : (name : Text) (a b c d e f g h : Entry) → AreGiven name (a ∷ b ∷ c ∷ d ∷ e ∷ f ∷ g ∷ h ∷ [])
+all_given : (name : Text) (e1 e2 e3 e4 e5 e6 e7 e8 e9 e10 e11 e12 e13 e14 e15 e16 e17 e18 e19 e20 e21 e22 e23 e24 e25 : Entry) → AreGiven name (e1 ∷ e2 ∷ e3 ∷ e4 ∷ e5 ∷ e6 ∷ e7 ∷ e8 ∷ e9 ∷ e10 ∷ e11 ∷ e12 ∷ e13 ∷ e14 ∷ e15 ∷ e16 ∷ e17 ∷ e18 ∷ e19 ∷ e20 ∷ e21 ∷ e22 ∷ e23 ∷ e24 ∷ e25 ∷ [])
 unfolding x0 y0 x1 y1 s0 s1
-eight name a b c d e f g h = record {
+all_given name e1 e2 e3 e4 e5 e6 e7 e8 e9 e10 e11 e12 e13 e14 e15 e16 e17 e18 e19 e20 e21 e22 e23 e24 e25 = record {
   count = refl;
-  accepted = taken a.1 _ (taken b.1 _ (taken c.1 _ (taken d.1 _ (taken e.1 _ (taken f.1 _ (taken g.1 _ (taken h.1 true refl)))))));
+  accepted = taken e1.1 _ (taken e2.1 _ (taken e3.1 _ (taken e4.1 _ (taken e5.1 _ (taken e6.1 _ (taken e7.1 _ (taken e8.1 _ (taken e9.1 _ (taken e10.1 _ (taken e11.1 _ (taken e12.1 _ (taken e13.1 _ (taken e14.1 _ (taken e15.1 _ (taken e16.1 _ (taken e17.1 _ (taken e18.1 _ (taken e19.1 _ (taken e20.1 _ (taken e21.1 _ (taken e22.1 _ (taken e23.1 _ (taken e24.1 _ (taken e25.1 true refl))))))))))))))))))))))));
   rows = refl;
 }
 
-pub are_given : (name : Text) (es : List Entry) → length es ≡ 8 → AreGiven name es
-are_given name [] n = absurd (cc)
-are_given name (a ∷ []) n = absurd (cc)
-are_given name (a ∷ b ∷ []) n = absurd (cc)
-are_given name (a ∷ b ∷ c ∷ []) n = absurd (cc)
-are_given name (a ∷ b ∷ c ∷ d ∷ []) n = absurd (cc)
-are_given name (a ∷ b ∷ c ∷ d ∷ e ∷ []) n = absurd (cc)
-are_given name (a ∷ b ∷ c ∷ d ∷ e ∷ f ∷ []) n = absurd (cc)
-are_given name (a ∷ b ∷ c ∷ d ∷ e ∷ f ∷ g ∷ []) n = absurd (cc)
-are_given name (a ∷ b ∷ c ∷ d ∷ e ∷ f ∷ g ∷ h ∷ []) n = eight name a b c d e f g h
-are_given name (a ∷ b ∷ c ∷ d ∷ e ∷ f ∷ g ∷ h ∷ i ∷ es) n = absurd (cc)
+-- what holds of so many entries, one by one, holds of each list of so many
+abbrev ForMany : ℕ → (List Entry → Type 0) → Type 0
+ForMany zero P = P []
+ForMany (suc n) P = (e : Entry) → ForMany n (λ es. P (e ∷ es))
+
+for_many : (n : ℕ) (P : List Entry → Type 0) → ForMany n P → (es : List Entry) → length es ≡ n → P es
+for_many zero P each [] h = each
+for_many zero P each (e ∷ es) h = absurd (cc)
+for_many (suc n) P each [] h = absurd (cc)
+for_many (suc n) P each (e ∷ es) h = for_many n (λ more. P (e ∷ more)) (each e) es (let less : length es ≡ n = cc in less)
+
+pub are_given : (name : Text) (es : List Entry) → length es ≡ 25 → AreGiven name es
+are_given name es n = for_many 25 (AreGiven name) (all_given name) es n
 
 module _ (old new : Seen) (s : State) (stands : StandsFor s old.now) (limit : old.step_limit ≡ None) (name : Text) (es : List Entry) (given : AreGiven name es) where
   abbrev roots : Roots
@@ -119,11 +121,11 @@ module _ (old new : Seen) (s : State) (stands : StandsFor s old.now) (limit : ol
   in_features : IsFound schema features_name (features roots.features)
   in_features = placing.features_found roots old.now stands.ours stands.sound
 
-  means : Means schema insert_features 72 (Insert in_features.at (Values compile.insert_features_terms 10))
+  means : Means schema insert_features 225 (Insert in_features.at (Values compile.insert_features_terms 10))
   means = compile.insert_features_means schema roots.features in_features
 
   fit : IsFit insert_features (length (cells_of name es)) (understood schema insert_features)
-  fit = subst (λ n. IsFit insert_features n (understood schema insert_features)) (sym given.count) (is_fit schema insert_features 72 _ means refl)
+  fit = subst (λ n. IsFit insert_features n (understood schema insert_features)) (sym given.count) (is_fit schema insert_features 225 _ means refl)
 
   abbrev news : List Row
   news = news_of name es (db roots.features)
@@ -135,7 +137,7 @@ module _ (old new : Seen) (s : State) (stands : StandsFor s old.now) (limit : ol
 
   pub put_stands : (c : Collection) → get s.collections name ≡ Some c → AllByRecursion (λ (e : Entry). IsFeature e.1) es → (count : ℕ) → Executes insert_features (cells_of name es) old new (Ok count) → (t : State) × PutsEach name es s t × StandsFor t new.now × IsSameElsewhere old.now new.now
   put_stands c collected fine count h =
-      let r = run.inserted _ roots.features _ _ _ _ _ in_features.at compile.insert_features_terms 10 insert_features (cells_of name es) old new schema news refl limit (command_is schema insert_features 72 _ means) (is_plain schema insert_features 72 _ means) fit given.accepted in_features.listed (made _ given.rows) count h in
+      let r = run.inserted _ roots.features _ _ _ _ _ in_features.at compile.insert_features_terms 10 insert_features (cells_of name es) old new schema news refl limit (command_is schema insert_features 225 _ means) (is_plain schema insert_features 225 _ means) fit given.accepted in_features.listed (made _ given.rows) count h in
       let ours = subst (IsOurs roots) (sym r.same_schema) stands.ours in
       let kept = λ (t : Table) (there : Has schema.tables t) (other : t.tree ≢ roots.features). all_has _ schema.tables t r.step.tables there other in
       let sound = subst (λ d. Rattle.sqlite.specs.Effect.IsDatabase (record { schema = d; trees = new.now.trees })) r.same_schema r.sound in

@@ -95,7 +95,7 @@ fn insert_under<S: Alter>(
     property: Option<&str>,
     edits: &[Edit],
 ) -> Result<bool, Error>
-    requires { length edits.now ≡ 8 }
+    requires { length edits.now ≡ 25 }
     ensures same_reference { tx.new.conn.ghost_name ≡ tx.old.conn.ghost_name }
     ensures edits { HasCleanDisk (state S.Store tx.new.conn.now)
         → ((s : State) → StandsFor s (state S.Store tx.old.conn.now).now → (c : Collection)
@@ -127,7 +127,7 @@ fn first_collection(edits: &[Edit]) -> Option<&str>
     }
 }
 
-/// Makes eight edits by one statement, where each inserts a feature into one collection; returns
+/// Makes [`ROWS`] edits by one statement, where each inserts a feature into one collection; returns
 /// whether it did. It does not where another number of edits or another edit is given, or where one
 /// of them is refused: then nothing has changed, and they are to be made in turn.
 ///
