@@ -22,6 +22,7 @@ from tables import PLAIN_TABLES, lamp
 
 Word = str | Path
 FEATURES, MANY, EACH = 100_000, 1_000_000, 1_000
+LOAD_TURNS = 5
 # Opening a file takes longer than its texts, so each is timed so often.
 TURNS = 9
 OPENING = open_collection("lamps")
@@ -106,16 +107,35 @@ def load_words(program: Path, file: Path, text: Path) -> list[Word]:
     return [program, "load", file, text, "--key", "k", "--collection", "lamps", "--open"]
 
 
-def load(program: Path, folder: Path, count: int) -> Path:
-    """A load beside Python's sqlite3, and the same load again. Returns its file."""
-    file = create(program, folder / f"load-{count}.streetmap")
-    text = write_sequence(folder / "load.text", count)
+@dataclass
+class LoadTurn:
+    """A load, and the same rows by Python's sqlite3 behind it."""
+
+    file: Path
+    took: float
+    peak: int
+    plain: float
+
+
+def load_turn(program: Path, folder: Path, text: Path, count: int, turn: int) -> LoadTurn:
+    file = create(program, folder / f"load-{count}-{turn}.streetmap")
     took, peak, _ = command(load_words(program, file, text))
-    plain = plain_load(folder / "plain", count)
-    (folder / "plain").unlink()
+    beside = folder / f"plain-{count}-{turn}"
+    plain = plain_load(beside, count)
+    beside.unlink()
+    return LoadTurn(file, took, peak, plain)
+
+
+def load(program: Path, folder: Path, count: int, times: int) -> Path:
+    """Loads beside Python's sqlite3, in turn, and the same load again. Returns the last file."""
+    text = write_sequence(folder / "load.text", count)
+    turns = [load_turn(program, folder, text, count, turn) for turn in range(times)]
+    took, plain = min(it.took for it in turns), min(it.plain for it in turns)
+    peak, file = max(it.peak for it in turns), turns[-1].file
     speed = f"{count / took:,.0f} features a second, peak {peak / 2**20:,.0f} MiB"
-    beside = f"plain SQLite {count / plain:,.0f}: {plain / took:.2f} of its speed (at least 0.4)"
-    report(f"a load of {count:,} features", f"{took:,.1f} s, {speed}; {beside}")
+    each = ", ".join(f"{it.plain / it.took:.2f}" for it in turns)
+    beside = f"plain SQLite {plain:,.2f} s: {plain / took:.2f} of its speed (at least 0.4; {each})"
+    report(f"a load of {count:,} features", f"{took:,.2f} s, {speed}; {beside}")
     again, peak, _ = command(load_words(program, file, text))
     report("the same load again", f"{again:,.1f} s, peak {peak / 2**20:,.0f} MiB")
     checked, peak, _ = command([*load_words(program, file, text), "--check"])
@@ -196,11 +216,11 @@ def applied(program: Path, folder: Path, large: Path, small: Path) -> None:
 
 
 def run(program: Path, folder: Path) -> None:
-    large = load(program, folder, FEATURES)
+    large = load(program, folder, FEATURES, LOAD_TURNS)
     small = texts(program, folder, large)
     applied(program, folder, large, small)
 
 
 def run_slow(program: Path, folder: Path) -> None:
     run(program, folder)
-    load(program, folder, MANY)
+    load(program, folder, MANY, 1)
