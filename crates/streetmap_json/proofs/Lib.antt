@@ -2,6 +2,7 @@ pub mod NumberTextTokens
 pub mod NumberTextWhole
 pub mod NumberTextCopies
 pub mod NumberTextKept
+pub mod NumberTextPlain
 pub mod NumberTextForm
 pub mod NumberTextGrammar
 pub mod WrittenTextReads

@@ -47,16 +47,20 @@ whole_text-fraction whole zeros digits zero =
 
 -- ---- and nothing else is
 
+-- a text of that form is what stands before its point, the point and zeros
+pub split_at_dot : (s : List ℕ) → has_zero_fraction s ≡ true → s ≡ before_first is_dot s ++ 46 ∷ after_first is_dot s
+split_at_dot s h =
+    let short = fraction_is_after s h in
+    let inside : position_or_len is_dot s < length s = omega (arith, length-take (position_or_len is_dot s) s) in
+    let dot : get_or s (position_or_len is_dot s) 0 ≡ 46 = eqb-true _ 46 (passes_at_first is_dot s 0 inside) in
+    split_at_first is_dot s 0 inside ∙ ap (λ (b : ℕ). before_first is_dot s ++ b ∷ after_first is_dot s) dot
+
 find_at : (s : List ℕ) (t : Bool) → has_zero_fraction s ≡ t
     → ((whole zeros : List ℕ) → s ≡ whole ++ 46 ∷ zeros → are_signed_digits whole ≡ true → are_zeros zeros ≡ true → ⊥) → without_fraction s ≡ s
 find_at s false e other = rw e refl
 find_at s true e other =
     let parts = and_parts (are_signed_digits (before_first is_dot s)) (are_zeros (after_first is_dot s)) e in
-    let short = fraction_is_after s e in
-    let inside : position_or_len is_dot s < length s = omega (arith, length-take (position_or_len is_dot s) s) in
-    let dot : get_or s (position_or_len is_dot s) 0 ≡ 46 = eqb-true _ 46 (passes_at_first is_dot s 0 inside) in
-    let split : s ≡ before_first is_dot s ++ 46 ∷ after_first is_dot s = split_at_first is_dot s 0 inside ∙ ap (λ (b : ℕ). before_first is_dot s ++ b ∷ after_first is_dot s) dot in
-    absurd (other (before_first is_dot s) (after_first is_dot s) split parts.0 parts.1)
+    absurd (other (before_first is_dot s) (after_first is_dot s) (split_at_dot s e) parts.0 parts.1)
 
 pub whole_text-other : (s : List ℕ) → ((whole zeros : List ℕ) → s ≡ whole ++ 46 ∷ zeros → are_signed_digits whole ≡ true → are_zeros zeros ≡ true → ⊥) → whole_text s ≡ unsigned_zero s
 unfolding whole_text

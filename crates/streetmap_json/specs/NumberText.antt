@@ -1,7 +1,7 @@
 -- JSON texts in which a number with a fraction of zeros alone stands for the whole number before
 -- it.
 use Rattle.std.specs.Prelude.{◌≢◌, ℕ, List, [], ◌∷◌, length, codes, Bool, true, false, ◌&&◌, ◌||◌}
-use Rattle.std.specs.Prelude.{◌==◌, nat_lt, if◌then◌else◌, bytes_eq}
+use Rattle.std.specs.Prelude.{not, ◌==◌, nat_lt, if◌then◌else◌, bytes_eq}
 use Rattle.std.specs.Char.{is_ascii_digit}
 use Rattle.std.specs.List.{list_all, before_first, after_first, flat_map, onto_first}
 use Rattle.json.specs.Ascii as ascii
@@ -87,6 +87,23 @@ tokens_from side (b ∷ bs) = put_before (is_joined (side_after side b) b bs) b
 -- the text with its number texts as they are read
 abbrev pub with_whole_numbers : List ℕ → List ℕ
 with_whole_numbers text = flat_map whole_text (tokens_from outside text)
+
+-- ---- what each text that changes has
+
+abbrev pub starts_digit : List ℕ → Bool
+starts_digit [] = false
+starts_digit (b ∷ bs) = is_ascii_digit b
+
+-- a zero behind a point, or one behind a minus with no digit behind it
+abbrev pub is_changing_zero : ℕ → ℕ → Bool → Bool
+is_changing_zero before b digit_behind =
+    (b == ascii.zero) && (is_dot before || ((before == ascii.minus) && not digit_behind))
+
+-- such a zero anywhere, in a string or not
+unfoldable pub may_change : List ℕ → Bool
+may_change [] = false
+may_change (b ∷ []) = false
+may_change (a ∷ b ∷ bs) = is_changing_zero a b (starts_digit bs) || may_change (b ∷ bs)
 
 -- ---- by grammar
 

@@ -1,10 +1,11 @@
 // Number texts whose fraction is zeros alone, in the bytes of a JSON text.
-ghost use Rattle.std.specs.Prelude.{◌≡◌, ◌∷◌, ℕ, IfOk, MatchOption, ◌<◌, ◌≤◌, length, take, drop};
+ghost use Rattle.std.specs.Prelude.{◌≡◌, ◌∷◌, ℕ, IfOk, MatchOption, ◌<◌, ◌≤◌, ◌-◌, length};
+ghost use Rattle.std.specs.Prelude.{take, drop};
 ghost use Rattle.std.specs.List.{prefix_len, position_or_len, onto_first};
 ghost use Rattle.streetmap_json.specs.NumberText.{is_in_number, is_dot, are_digits};
 ghost use Rattle.streetmap_json.specs.NumberText.{are_signed_digits, are_zeros, without_fraction};
 ghost use Rattle.streetmap_json.specs.NumberText.{whole_text, outside, within, tokens_from};
-ghost use Rattle.streetmap_json.specs.NumberText.{with_whole_numbers};
+ghost use Rattle.streetmap_json.specs.NumberText.{is_changing_zero, may_change, with_whole_numbers};
 
 use std::alloc::{AllocError, Global};
 
@@ -133,6 +134,36 @@ fn token_len(text: &[u8]) -> usize
     }
 }
 
+// Whether a byte is a zero behind a point, or one behind a minus with no digit behind it. There is
+// no `&&`, and so no branch, so that a loop over it takes many bytes at a time.
+fn is_changing_zero(before: u8, byte: u8, digit_behind: bool) -> bool
+    ensures { result ≡ is_changing_zero before byte digit_behind }
+{
+    (byte == b'0') & ((before == b'.') | ((before == b'-') & !digit_behind))
+}
+
+// Whether the text ends with such a zero.
+fn may_change_at_end(text: &[u8]) -> bool
+    ensures { result ≡ may_change (drop (length text.now - 2) text.now) }
+{
+    match text {
+        [.., before, byte] => is_changing_zero(*before, *byte, false),
+        _ => false,
+    }
+}
+
+// Whether the text has such a zero anywhere: a quick look, since without one no number text
+// changes. The loop does not stop where it finds one, so that it takes many bytes at a time.
+fn may_change(text: &[u8]) -> bool
+    ensures { result ≡ may_change text.now }
+{
+    let mut found = false;
+    for i in 2..text.len() {
+        found |= is_changing_zero(text[i - 2], text[i - 1], text[i].is_ascii_digit());
+    }
+    found || may_change_at_end(text)
+}
+
 /// The text with its number texts as [`crate::read_json`] reads them, or `None` where that is the
 /// text itself. Digits, with or without a minus before them, a point and zeros alone, as `1200.0`,
 /// become the digits, and `-0` becomes `0`. Strings and all other bytes stay as they are. Any bytes
@@ -145,6 +176,9 @@ pub fn with_whole_numbers(alloc: Global, text: &[u8]) -> Result<Option<Vec<u8>>,
     ensures { IfOk result (λ o. MatchOption o (with_whole_numbers text.now ≡ text.now)
         (λ v. v.items ≡ with_whole_numbers text.now)) }
 {
+    if !may_change(text) {
+        return Ok(None);
+    }
     let mut plain = Vec::new(alloc);
     let mut copied = 0;
     let mut at = 0;

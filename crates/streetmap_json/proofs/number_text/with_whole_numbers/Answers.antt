@@ -1,9 +1,13 @@
-use Rattle.std.proofs.Common.{ℕ, ◌≤◌, List, ◌++◌, length, take, drop, arith, ap, ◌∙◌, length-drop}
+use Rattle.std.proofs.Common.{ℕ, ◌≤◌, List, ◌++◌, length, take, drop, arith, sym, ap, ◌∙◌, length-drop}
 use Rattle.std.proofs.lemmas.List.{length-take}
 use Rattle.streetmap_json.specs.NumberText.{whole_text, with_whole_numbers}
 use Rattle.streetmap_json.proofs.NumberTextWhole.{whole_text_same}
 use Rattle.streetmap_json.proofs.NumberTextCopies.{rest_is, between_is, IsToken, token_stays, at_the_end, nothing_changes}
+use Rattle.streetmap_json.proofs.NumberTextPlain.{text_stays}
 use Rattle.streetmap_json.proofs.number_text.with_whole_numbers.Goals as goal
+
+pub returns-then-not-may_change : goal.returns-then-not-may_change
+returns-then-not-may_change c = text_stays c.args.text.now (sym c.may_change.ensures ∙ c.if-not-may_change.true)
 
 pub loop-at-preserved : goal.loop-at-preserved
 loop-at-preserved c =
