@@ -5,9 +5,11 @@ pub mod Takes
 pub mod Directions
 pub mod Bounds
 pub mod Geometries
+pub mod SimpleObjects
 pub mod Facts
 pub mod Ids
 pub mod Timing
+pub mod UsualFeatures
 pub mod Wholes
 pub mod Collections
 pub mod ExactMembers

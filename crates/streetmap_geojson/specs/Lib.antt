@@ -8,6 +8,7 @@ pub mod Times
 pub mod Reading
 pub mod Meaning
 pub mod FeatureReading
+pub mod FeatureMembers
 pub mod FeatureMeaning
 pub mod FeatureInvariant
 pub mod FeatureView

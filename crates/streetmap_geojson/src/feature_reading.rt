@@ -47,7 +47,7 @@ fn read_id_at(alloc: Global, value: &Value, place: Option<u64>) -> Result<Id, Js
     read_member_id(alloc, value.get("id"), place)
 }
 
-fn read_counted(alloc: Global, member: &Value) -> Result<Option<Geometry>, JsonFault>
+pub(crate) fn read_counted(alloc: Global, member: &Value) -> Result<Option<Geometry>, JsonFault>
     ensures reads { Gives (λ o. option_map geometry_value o) result
         (value_of (geometry (view member.now) 0)) }
     ensures few { IfOk result (λ o. count_if position_count (option_map geometry_value o)
@@ -72,6 +72,22 @@ fn read_geometry_member(alloc: Global, value: &Value) -> Result<Option<Geometry>
     }
 }
 
+/// Whether a value can be properties, or why not.
+pub(crate) fn check_properties(value: &Value) -> Result<(), JsonFault>
+    ensures reads { Gives (λ _. view value.now) result (properties_of (view value.now)) }
+    ensures kept { IfOk result (λ _. IsTrue (is_properties (view value.now))) }
+    ensures whole { IfOk result (λ _. has_float (view value.now) ≡ false) }
+    ensures exact { IfOk result (λ _. IsTrue (is_exact (view value.now))) }
+{
+    if !value.is_null() && !value.is_object() {
+        return Err(JsonFault::Fault(Fault::BadProperties));
+    }
+    if !is_exact(value) {
+        return Err(JsonFault::Fault(Fault::Fraction));
+    }
+    Ok(())
+}
+
 fn read_properties(value: &Value) -> Result<Value, JsonFault>
     ensures reads { Gives view result
         (properties_of (member_of (codes "properties") (view value.now))) }
@@ -81,12 +97,7 @@ fn read_properties(value: &Value) -> Result<Value, JsonFault>
 {
     match value.get("properties") {
         Some(member) => {
-            if !member.is_null() && !member.is_object() {
-                return Err(JsonFault::Fault(Fault::BadProperties));
-            }
-            if !is_exact(member) {
-                return Err(JsonFault::Fault(Fault::Fraction));
-            }
+            check_properties(member)?;
             Ok(member.clone()?)
         }
         None => Ok(Value::Null),
@@ -105,7 +116,7 @@ fn read_flat_properties(value: &Value) -> Result<Value, JsonFault>
     read_properties(value)
 }
 
-fn read_feature_time(
+pub(crate) fn read_feature_time(
     properties: &Value,
     time_property: Option<&str>,
 ) -> Result<Option<Interval>, JsonFault>

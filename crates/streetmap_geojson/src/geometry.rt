@@ -6,10 +6,13 @@ ghost use Rattle.streetmap_grid.specs.Views.{simple_value, simples_value, geomet
 ghost use Rattle.streetmap_geojson.specs.Fault.{Gives};
 ghost use Rattle.streetmap_geojson.specs.Reading.{coordinates_as, simple_as, array_at, kind_at};
 ghost use Rattle.streetmap_geojson.specs.Reading.{member_of_collection, members, collection};
-ghost use Rattle.streetmap_geojson.specs.Reading.{geometry, max_positions};
+ghost use Rattle.streetmap_geojson.specs.Reading.{geometry, inside, max_positions, single_of};
+ghost use Rattle.streetmap_geojson.specs.Reading.{unless_empty};
+ghost use Rattle.streetmap_geojson.specs.FeatureMembers.{simple_object};
+ghost use Rattle.streetmap_geojson.specs.declared.fault.Fault.TheVariants.{BadGeometry};
 
 use crate::coordinates::{
-    read_line, read_polygon, read_position, read_some_lines, read_some_polygons,
+    elements, read_line, read_polygon, read_position, read_some_lines, read_some_polygons,
     read_some_positions,
 };
 use crate::fault::{Fault, JsonFault};
@@ -72,6 +75,24 @@ fn kind_at(value: &Value) -> Option<Kind>
     value.get("type").and_then(Value::as_str).and_then(Kind::of)
 }
 
+// The geometry of a kind, or none where it has no elements.
+fn read_elements(
+    alloc: Global,
+    kind: SimpleKind,
+    values: &[Value],
+    seen: &mut usize,
+) -> Result<Option<SimpleGeometry>, JsonFault>
+    requires { seen.old ≤ max_positions }
+    ensures reads { Gives (λ o. (option_map simple_value o, seen.new)) result
+        (unless_empty (coordinates_as kind) (map view values.now) seen.old) }
+    ensures counted { seen.new ≤ max_positions }
+{
+    if values.is_empty() {
+        return Ok(None);
+    }
+    Ok(Some(read_coordinates(alloc, kind, values, seen)?))
+}
+
 // The geometry of a kind, or none where its array is empty.
 #[tactic(auto, unfolding(crate::specs::Reading::simple_as))]
 fn read_simple(
@@ -86,10 +107,7 @@ fn read_simple(
     ensures counted { seen.new ≤ max_positions }
 {
     let values = array_at(value, "coordinates")?;
-    if values.is_empty() {
-        return Ok(None);
-    }
-    Ok(Some(read_coordinates(alloc, kind, values, seen)?))
+    read_elements(alloc, kind, values, seen)
 }
 
 // A member of `geometries`.
@@ -156,6 +174,16 @@ fn read_geometry_collection(
     Ok(Some(Geometry::Collection(NonEmpty::new(members))))
 }
 
+// A geometry that is no collection, or none.
+fn single(simple: Option<SimpleGeometry>) -> Option<Geometry>
+    ensures { option_map geometry_value result ≡ single_of (option_map simple_value simple) }
+{
+    match simple {
+        Some(simple) => Some(Geometry::Simple(simple)),
+        None => None,
+    }
+}
+
 /// The geometry of a value, or none. `seen` counts the positions of the feature.
 #[tactic(auto, unfolding(crate::specs::Reading::geometry))]
 pub(crate) fn read_geometry(
@@ -174,9 +202,40 @@ pub(crate) fn read_geometry(
     match kind_at(value) {
         None => Err(JsonFault::Fault(Fault::BadGeometry)),
         Some(Kind::Collection) => read_geometry_collection(alloc, value, seen),
-        Some(Kind::Simple(kind)) => match read_simple(alloc, kind, value, seen)? {
-            Some(simple) => Ok(Some(Geometry::Simple(simple))),
-            None => Ok(None),
-        },
+        Some(Kind::Simple(kind)) => Ok(single(read_simple(alloc, kind, value, seen)?)),
     }
+}
+
+// The geometry of a kind whose `coordinates` have that value, or none where its array is empty.
+#[tactic(auto, unfolding(crate::specs::Reading::inside))]
+fn read_coordinates_value(
+    alloc: Global,
+    kind: SimpleKind,
+    coordinates: &Value,
+    seen: &mut usize,
+) -> Result<Option<SimpleGeometry>, JsonFault>
+    requires { seen.old ≤ max_positions }
+    ensures reads { Gives (λ o. (option_map simple_value o, seen.new)) result
+        (inside BadGeometry (unless_empty (coordinates_as kind)) (view coordinates.now) seen.old) }
+    ensures counted { seen.new ≤ max_positions }
+{
+    let values = elements(coordinates, Fault::BadGeometry)?;
+    read_elements(alloc, kind, values, seen)
+}
+
+/// The geometry of the object of a kind and its `coordinates`, or none. `seen` counts the positions
+/// of the feature.
+#[tactic(auto, using(crate::proofs::SimpleObjects::simple_is))]
+pub(crate) fn read_simple_object(
+    alloc: Global,
+    kind: SimpleKind,
+    coordinates: &Value,
+    seen: &mut usize,
+) -> Result<Option<Geometry>, JsonFault>
+    requires { seen.old ≤ max_positions }
+    ensures reads { Gives (λ o. (option_map geometry_value o, seen.new)) result
+        (geometry (simple_object kind (view coordinates.now)) seen.old) }
+    ensures counted { seen.new ≤ max_positions }
+{
+    Ok(single(read_coordinates_value(alloc, kind, coordinates, seen)?))
 }

@@ -1,5 +1,5 @@
 //! The kinds of geometry, by their names.
-ghost use Rattle.std.specs.Prelude.{◌≡◌};
+ghost use Rattle.std.specs.Prelude.{◌≡◌, IfSome, Some};
 
 /// The geometry types that have coordinates (RFC 7946, sections 3.1.2 to 3.1.7).
 #[derive(Clone, Copy, PartialEq, Eq, Drop)]
@@ -19,6 +19,21 @@ pub enum Kind {
     Simple(SimpleKind),
     /// GeometryCollection.
     Collection,
+}
+
+impl SimpleKind {
+    ghost use Rattle.streetmap_geojson.specs.Kind.{kind_name};
+
+    /// The kind of that name.
+    pub fn of(name: &str) -> Option<SimpleKind>
+        ensures found { IfSome result (λ k. name.now ≡ kind_name k) }
+        ensures only { (k : SimpleKind) → name.now ≡ kind_name k → result ≡ Some k }
+    {
+        match Kind::of(name) {
+            Some(Kind::Simple(kind)) => Some(kind),
+            Some(Kind::Collection) | None => None,
+        }
+    }
 }
 
 impl Kind {

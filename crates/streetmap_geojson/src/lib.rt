@@ -11,7 +11,8 @@
 //! faults of this crate.
 //!
 //! Modules, in the order of reading: `fault`, `json_text`, `id`, `kind`, `feature`, `times`,
-//! `coordinates`, `geometry`, `nesting`, `exact_numbers`, `feature_reading`, `collection`, `copy`.
+//! `coordinates`, `geometry`, `nesting`, `exact_numbers`, `feature_reading`, `geometry_member`,
+//! `feature_members`, `collection`, `copy`.
 #![tactic(auto)]
 
 mod collection;
@@ -20,8 +21,10 @@ mod copy;
 mod exact_numbers;
 mod fault;
 mod feature;
+mod feature_members;
 mod feature_reading;
 mod geometry;
+mod geometry_member;
 mod id;
 mod json_text;
 mod kind;
@@ -31,6 +34,9 @@ mod times;
 pub use collection::read_collection;
 pub use fault::{CollectionFault, Fault, JsonFault};
 pub use feature::Feature;
+pub use feature_members::{FeatureMembers, read_members};
 pub use feature_reading::read_feature;
+pub use geometry_member::GeometryMember;
 pub use id::{Id, has_no_controls, is_id, read_id};
 pub use json_text::read_json;
+pub use kind::SimpleKind;

@@ -1,0 +1,15 @@
+use Rattle.std.proofs.Common.{◌≡◌, ℕ, ◌≤◌, length}
+use Rattle.json.specs.Json.{members, value}
+use Rattle.serde_json.specs.Data.{no_members}
+use Rattle.serde_json.specs.Read.{of_members, converted}
+use Rattle.streetmap_feature_reader.specs.UsualGeometry.{geometry_members}
+use Rattle.streetmap_feature_reader.proofs.usual_geometry.UsualGeometry.read.Given as goal
+
+-- behind the members found, the rest is read as the rest of the object
+abbrev pub invariant-members : goal.invariant-members
+invariant-members l =
+    (n : ℕ) × (length l.reader ≤ n) × (length l.reader ≤ length l.initial.reader)
+    × (converted (λ ms. of_members ms no_members) (members (value 125) (length l.initial.reader) l.initial.reader) ≡ converted (λ ms. of_members ms (geometry_members l.members)) (members (value 125) n l.reader))
+
+abbrev pub decreases-members : goal.decreases-members
+decreases-members l = length l.reader

@@ -1,0 +1,4 @@
+pub mod Places
+pub mod UsualGeometry
+pub mod UsualMembers
+pub mod UsualTexts

@@ -1,0 +1,29 @@
+//! Places for the values of an object's members.
+ghost use Rattle.std.specs.Prelude.{◌≡◌, ◌<◌, IfOk, IsTrue, None, Some, length};
+ghost use Rattle.std.specs.Prelude.{MatchOption, option_map};
+ghost use Rattle.serde_json.specs.View.{view};
+ghost use Rattle.streetmap_json.specs.Values.{value_at};
+
+use json::Reader;
+use serde_json::Value;
+use std::alloc::Global;
+use streetmap_json::{ParseFault, read_value};
+
+/// Reads the value that comes next, nested no deeper than this, where none was found before;
+/// returns whether it did.
+pub(crate) fn fill(
+    alloc: Global,
+    place: &mut Option<Value>,
+    reader: &mut Reader<'_>,
+    depth: usize,
+) -> Result<bool, ParseFault>
+    ensures { IfOk result (λ filled. IsTrue filled → (option_map view place.old ≡ None)
+        × MatchOption place.new ⊥ (λ v. value_at depth reader.old ≡ Some (view v, reader.new))
+        × (length reader.new < length reader.old)) }
+{
+    if place.is_some() {
+        return Ok(false);
+    }
+    *place = Some(read_value(alloc, reader, depth)?);
+    Ok(true)
+}
