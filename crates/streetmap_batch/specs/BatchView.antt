@@ -3,7 +3,7 @@ use Rattle.std.specs.Prelude.{List, map, string_bytes}
 use Rattle.streetmap_batch.specs.BatchValue as value
 use Rattle.streetmap_batch.specs.BatchValue.{EditValue, BatchValue}
 use Rattle.streetmap_geojson.specs.FeatureValue.{FeatureValue}
-use Rattle.streetmap_geojson.specs.declared.feature.Feature.{Feature}
+use Rattle.streetmap_feature_text.specs.declared.written_feature.WrittenFeature.{WrittenFeature}
 use Rattle.streetmap_batch.specs.Text.{Text}
 use Rattle.streetmap_batch.specs.declared.edit.CollectionId.{CollectionId}
 use Rattle.streetmap_batch.specs.declared.edit.Edit.{Edit}
@@ -17,7 +17,7 @@ edit_value (Replace collection feature) = value.replace collection feature
 edit_value (Delete collection id) = value.delete collection id
 
 -- the collection and the feature of an edit
-abbrev pub feature_edit_value : CollectionId × Feature → Text × FeatureValue
+abbrev pub feature_edit_value : CollectionId × WrittenFeature → Text × FeatureValue
 feature_edit_value p = (p.0, p.1)
 
 abbrev pub edit_values : List Edit → List EditValue

@@ -10,8 +10,8 @@ ghost use Rattle.streetmap_batch.specs.BatchView.{edit_value, edit_values};
 use crate::edit::{CollectionId, Edit, TimeProperty, Title};
 use serde_json::{Value, json};
 use std::alloc::{AllocError, Global};
-use streetmap_feature_text::{push_comma, push_feature, push_quoted};
-use streetmap_geojson::{Feature, Id};
+use streetmap_feature_text::{WrittenFeature, push_comma, push_quoted};
+use streetmap_geojson::Id;
 
 /// The value of an open edit with a time property.
 #[tactic(auto, unfolding(crate::specs::BatchText::edit_data))]
@@ -75,7 +75,7 @@ fn push_feature_edit(
     out: &mut String,
     op: &str,
     collection: &CollectionId,
-    feature: &Feature,
+    feature: &WrittenFeature,
 ) -> Result<(), AllocError>
     ensures { OnOk result (string_bytes out.new
         ≡ string_bytes out.old ++ compact_text
@@ -84,7 +84,7 @@ fn push_feature_edit(
     out.push_str("{\"collection\":")?;
     push_quoted(alloc, out, collection.as_str())?;
     out.push_str(",\"feature\":")?;
-    push_feature(alloc, out, feature)?;
+    out.push_str(feature.text())?;
     out.push_str(",\"op\":")?;
     push_quoted(alloc, out, op)?;
     out.push_str("}")
@@ -120,13 +120,26 @@ fn push_edit(alloc: Global, out: &mut String, edit: &Edit) -> Result<(), AllocEr
     }
 }
 
+/// The room that the names in an edit mostly take in its text, in bytes.
+const NAMES_ROOM: usize = 128;
+
+/// The room that the text of an edit begins with, in bytes.
+fn room_of(edit: &Edit) -> usize {
+    match edit {
+        Edit::Insert { feature, .. } | Edit::Replace { feature, .. } => {
+            feature.text().len().saturating_add(NAMES_ROOM)
+        }
+        Edit::Open { .. } | Edit::Delete { .. } => NAMES_ROOM,
+    }
+}
+
 impl Edit {
     /// The text of the edit within the text of a batch.
     pub fn text(&self, alloc: Global) -> Result<String, AllocError>
         ensures { IfOk result (λ text. string_bytes text
             ≡ compact_text (edit_data (edit_value self.now))) }
     {
-        let mut text = String::new(alloc);
+        let mut text = String::with_capacity(alloc, room_of(self))?;
         push_edit(alloc, &mut text, self)?;
         Ok(text)
     }

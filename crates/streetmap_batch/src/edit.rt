@@ -11,6 +11,7 @@ use crate::batch_fault::BatchFault;
 use crate::names::{is_collection_id, is_time_property, is_title};
 use std::alloc::{AllocError, Global};
 use std::marker::Model;
+use streetmap_feature_text::WrittenFeature;
 use streetmap_geojson::{Feature, Id};
 
 /// The id of a collection: 1 to 64 bytes, each an ASCII letter, a digit, or one of `.` `_` `-`, the
@@ -147,12 +148,12 @@ pub enum Edit {
     /// A feature is put into the collection, which has none with its id.
     Insert {
         collection: CollectionId,
-        feature: Feature,
+        feature: WrittenFeature,
     },
     /// A feature takes the place of the one with its id.
     Replace {
         collection: CollectionId,
-        feature: Feature,
+        feature: WrittenFeature,
     },
     /// The feature with that id is taken out of the collection.
     Delete {
@@ -208,6 +209,7 @@ impl Edit {
         ensures { Gives edit_value result (edit_in value.insert collection.now feature) }
     {
         let collection = read_collection_id(alloc, collection)?;
+        let feature = WrittenFeature::new(alloc, feature)?;
         Ok(Edit::Insert {
             collection,
             feature,
@@ -219,6 +221,7 @@ impl Edit {
         ensures { Gives edit_value result (edit_in value.replace collection.now feature) }
     {
         let collection = read_collection_id(alloc, collection)?;
+        let feature = WrittenFeature::new(alloc, feature)?;
         Ok(Edit::Replace {
             collection,
             feature,

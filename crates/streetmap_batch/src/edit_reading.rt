@@ -21,7 +21,8 @@ use crate::format::{Format, Operation};
 use crate::member::{has_only, operation_at, text_at};
 use serde_json::Value;
 use std::alloc::Global;
-use streetmap_geojson::{Feature, Id, JsonFault, read_feature, read_id};
+use streetmap_feature_text::WrittenFeature;
+use streetmap_geojson::{Id, JsonFault, read_feature, read_id};
 
 /// The edit of that place is not as an edit is written.
 fn misshapen(place: u64) -> BatchFault
@@ -126,18 +127,22 @@ fn read_open(alloc: Global, value: &Value, place: u64) -> Result<Edit, BatchFaul
 }
 
 /// A feature, whose time is set when its edit acts.
-fn check_feature(alloc: Global, told: &Value, place: u64) -> Result<Feature, BatchFault>
-    ensures { Gives feature_value result (as_cause place (feature None (view told.now))) }
+fn check_feature(alloc: Global, told: &Value, place: u64) -> Result<WrittenFeature, BatchFault>
+    ensures { Gives (λ f. f) result (as_cause place (feature None (view told.now))) }
 {
     match read_feature(alloc, told, None) {
-        Ok(feature) => Ok(feature),
+        Ok(feature) => Ok(WrittenFeature::new(alloc, feature)?),
         Err(JsonFault::Memory) => Err(BatchFault::Memory),
         Err(JsonFault::Fault(cause)) => Err(BatchFault::BadFeature { place, cause }),
     }
 }
 
-fn read_told_feature(alloc: Global, told: Option<&Value>, place: u64) -> Result<Feature, BatchFault>
-    ensures { Gives feature_value result
+fn read_told_feature(
+    alloc: Global,
+    told: Option<&Value>,
+    place: u64,
+) -> Result<WrittenFeature, BatchFault>
+    ensures { Gives (λ f. f) result
         (told_feature place (option_map (λ v. view v.now) told.entry)) }
 {
     match told {
@@ -152,7 +157,7 @@ fn read_members(
     alloc: Global,
     value: &Value,
     place: u64,
-) -> Result<(CollectionId, Feature), BatchFault>
+) -> Result<(CollectionId, WrittenFeature), BatchFault>
     ensures { Gives feature_edit_value result (feature_at place (view value.now)) }
 {
     if !has_only(value, Format::Feature) {

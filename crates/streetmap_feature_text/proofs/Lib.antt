@@ -1,4 +1,5 @@
 pub mod Again
+pub mod PlainTexts
 pub mod JsonTexts
 pub mod ExactFeatures
 pub mod WrittenFeatures

@@ -1,4 +1,5 @@
 pub mod Written
+pub mod Plain
 pub mod Ends
 pub mod PackedIntervalView
 pub mod Packed

@@ -15,10 +15,12 @@ ghost use Rattle.streetmap_feature_text.specs.Packed.{feature_in_text, IsPartOf}
 use crate::outline::Outline;
 use crate::packed_interval::PackedInterval;
 use bytes::Bytes;
+use json::Scratch;
 use memchr::memmem;
 use std::alloc::{AllocError, Global};
 use std::marker::Model;
-use streetmap_geojson::{Feature, JsonFault, read_feature, read_json};
+use streetmap_feature_reader::read_feature_text;
+use streetmap_geojson::{Feature, JsonFault};
 use streetmap_grid::GridBox;
 use streetmap_moment::Interval;
 
@@ -87,8 +89,7 @@ fn id_in(text: &[u8], id: &[u8]) -> Option<Part>
 fn read_text(alloc: Global, text: &[u8]) -> Result<Feature, JsonFault>
     ensures { Gives feature_value result (feature_in_text text.now) }
 {
-    let value = read_json(alloc, text)?;
-    read_feature(alloc, &value, None)
+    read_feature_text(alloc, &mut Scratch::new(alloc), text, None)
 }
 
 impl PackedFeature {

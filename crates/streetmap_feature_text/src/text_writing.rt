@@ -15,6 +15,7 @@ ghost use Rattle.streetmap_feature_text.specs.Written.{polygon_data, array_of, s
 ghost use Rattle.streetmap_feature_text.specs.Written.{geometry_data, geometry_member};
 ghost use Rattle.streetmap_feature_text.specs.Written.{feature_data, collection_data};
 
+use crate::quoting::push_quoted;
 use crate::value_writing::kind_name;
 use serde_json::Value;
 use std::alloc::{AllocError, Global};
@@ -28,18 +29,6 @@ pub fn push_comma(out: &mut String, later: bool) -> Result<(), AllocError>
     ensures kept { OnErr result (string_bytes out.new ≡ string_bytes out.old) }
 {
     if later { out.push_str(",") } else { Ok(()) }
-}
-
-/// Appends a text as a JSON string, in quotes and with its escapes (RFC 8259, section 7). Where
-/// memory is refused, nothing is appended.
-pub fn push_quoted(alloc: Global, out: &mut String, text: &str) -> Result<(), AllocError>
-    ensures bytes { OnOk result (string_bytes out.new
-        ≡ string_bytes out.old ++ compact_text (string text.now)) }
-    ensures kept { OnErr result (string_bytes out.new ≡ string_bytes out.old) }
-{
-    let value = Value::String(String::from_str(alloc, text)?);
-    let quoted = value.to_string(alloc)?;
-    out.push_str(quoted.as_str())
 }
 
 /// Appends a whole number in decimal digits.

@@ -61,8 +61,8 @@ impl OutlinedCollection {
     {
         match edit {
             Edit::Open { .. } => Ok(()),
-            Edit::Insert { feature, .. } => self.put(alloc, feature),
-            Edit::Replace { feature, .. } => self.put(alloc, feature),
+            Edit::Insert { feature, .. } => self.put(alloc, feature.feature()),
+            Edit::Replace { feature, .. } => self.put(alloc, feature.feature()),
             Edit::Delete { id, .. } => {
                 self.outlines.cut(id.as_str());
                 Ok(())

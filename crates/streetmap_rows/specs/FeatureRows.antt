@@ -1,6 +1,6 @@
 -- Rows of features that one statement puts in.
 use Rattle.std.specs.Prelude.{◌≡◌, ℤ, Bool, List, [], ◌∷◌, ◌++◌, None, Some, option_map, Result}
-use Rattle.std.specs.Prelude.{MatchResult, MatchBool, string_bytes}
+use Rattle.std.specs.Prelude.{MatchResult, MatchBool}
 use Rattle.std.specs.List.{AllZip}
 use Rattle.std.specs.FinMap.{get}
 use Rattle.sqlite.specs.declared.error.Error.{Error}
@@ -23,7 +23,7 @@ use Rattle.streetmap_rows.specs.declared.feature_rows.FeatureRow.{FeatureRow}
 -- the values of a row in the collection of this name, and of rows, one behind the other
 abbrev pub values_of : Text → FeatureRow → Row
 values_of name row =
-    Words name ∷ Words (string_bytes row.id) ∷ Words (string_bytes row.text)
+    Words name ∷ Words row.id.now ∷ Words row.text.now
     ∷ or_null Int (option_map (λ (b : BoxValue). b.x0) (option_map box_value row.extent))
     ∷ or_null Int (option_map (λ (b : BoxValue). b.y0) (option_map box_value row.extent))
     ∷ or_null Int (option_map (λ (b : BoxValue). b.x1) (option_map box_value row.extent))
@@ -41,8 +41,8 @@ Entry = Text × FeatureValue
 
 -- the row is what is written of the feature
 pub record IsRowOf (e : Entry) (row : FeatureRow) : Type 0 where
-  pub named : string_bytes row.id ≡ e.0
-  pub written : IsWritten e.1 (string_bytes row.text) (option_map box_value row.extent) row.seconds
+  pub named : row.id.now ≡ e.0
+  pub written : IsWritten e.1 row.text.now (option_map box_value row.extent) row.seconds
   pub fine : IsFeature e.1
 
 abbrev pub AreRowsOf : List Entry → List FeatureRow → Type 0

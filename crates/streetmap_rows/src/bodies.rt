@@ -9,8 +9,8 @@ ghost use Rattle.streetmap_rows.specs.Stored.{IsStored, TextReadsAs};
 
 use json::Scratch;
 use std::alloc::Global;
-use streetmap_geojson::{Fault, Feature, JsonFault, read_feature};
-use streetmap_json::{ParseFault, read_json_with};
+use streetmap_feature_reader::read_feature_text;
+use streetmap_geojson::{Feature, JsonFault};
 
 /// The feature of a text that is kept of it, under a collection's time property. One `scratch`
 /// serves any number of reads, one after the other.
@@ -31,9 +31,5 @@ pub fn read_body(
     ensures again { (f : FeatureValue) → body.now ≡ feature_text f →
         IsStored (option_copied property.entry) f → Gives feature_value result (Ok f) }
 {
-    match read_json_with(alloc, scratch, body) {
-        Ok(value) => read_feature(alloc, &value, property),
-        Err(ParseFault::Memory) => Err(JsonFault::Memory),
-        Err(ParseFault::NotJson) => Err(JsonFault::Fault(Fault::NotJson)),
-    }
+    read_feature_text(alloc, scratch, body, property)
 }

@@ -20,11 +20,11 @@ pub const ROWS: usize = 25;
 const COLUMNS: usize = 9;
 
 /// What is written of a feature.
-#[derive(Drop)]
-pub struct FeatureRow {
-    pub id: String,
+#[derive(Clone, Copy)]
+pub struct FeatureRow<'a> {
+    pub id: &'a str,
     /// Its compact text, without its time.
-    pub text: String,
+    pub text: &'a str,
     /// The extent of its geometry, in millimetres of the grid.
     pub extent: Option<GridBox>,
     /// The first and the last second of its time, counted from 1970-01-01T00:00:00Z.
@@ -35,15 +35,15 @@ pub struct FeatureRow {
 fn push_row<'a>(
     values: &mut Vec<ValueRef<'a>>,
     collection: &'a str,
-    row: &'a FeatureRow,
+    row: &FeatureRow<'a>,
 ) -> Result<(), AllocError>
     ensures { OnOk result (bound values.new.items
         ≡ bound values.old.items ++ values_of collection.now row.now) }
 {
     values.extend_from_slice(params![
         collection,
-        &row.id,
-        &row.text,
+        row.id,
+        row.text,
         row.extent.map(|extent| extent.x0),
         row.extent.map(|extent| extent.y0),
         row.extent.map(|extent| extent.x1),
@@ -57,7 +57,7 @@ fn push_row<'a>(
 fn values_of<'a>(
     alloc: Global,
     collection: &'a str,
-    rows: &'a [FeatureRow],
+    rows: &[FeatureRow<'a>],
 ) -> Result<Vec<ValueRef<'a>>, AllocError>
     ensures { IfOk result (λ values. bound values.items ≡ values_in collection.now rows.now) }
 {
@@ -79,7 +79,7 @@ pub fn insert_features<S: Alter>(
     tx: &mut Transaction<'_, S>,
     alloc: Global,
     collection: &str,
-    rows: &[FeatureRow],
+    rows: &[FeatureRow<'_>],
 ) -> Result<bool, Error>
     requires { length rows.now ≡ 25 }
     ensures same_reference { tx.new.conn.ghost_name ≡ tx.old.conn.ghost_name }

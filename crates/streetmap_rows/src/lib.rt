@@ -6,9 +6,9 @@
 //! for want of memory or room, or because the store fails, and for no other cause.
 //!
 //! What is true of any plain table of a `sqlite` connection, wherever it stands in its schema, is
-//! in proofs: what a statement over one table means (`proofs/Resolving`), what an INSERT of one row
-//! and a DELETE do and why they may fail (`proofs/Running`, `proofs/Cutting`), and what a query
-//! shows (`proofs/Choosing`).
+//! in proofs: what a statement over one table means (`proofs/Resolving`), what an INSERT of rows
+//! (`proofs/InsertRuns`) and a DELETE (`proofs/DeleteRuns`) do and why they may fail, and what a
+//! query shows (`proofs/OneRowChosen`, `proofs/OrderedRows`, `proofs/AnyOrder`).
 //!
 //! In the order of reading: `openness` (whether a connection is open), `failing` (how a call ends
 //! that met an error), `fault` (why a look gives up), `bodies` (a feature's text, read again),

@@ -15,7 +15,7 @@ use crate::storing::put_feature;
 use crate::timing::time_property;
 use sqlite::{Alter, Error, Transaction};
 use std::alloc::Global;
-use streetmap_geojson::Feature;
+use streetmap_feature_text::WrittenFeature;
 use streetmap_ledger::{Edit, Refusal, TimeProperty};
 use streetmap_rows::{ROWS, collection_rows, delete_feature, has_feature, insert_collection};
 
@@ -61,9 +61,8 @@ fn open_in<S: Alter>(
 /// Inserts a feature, or tells why not.
 fn insert_in<S: Alter>(
     tx: &mut Transaction<'_, S>,
-    alloc: Global,
     collection: &str,
-    feature: &Feature,
+    feature: &WrittenFeature,
 ) -> Result<Option<Refusal>, Error>
     ensures same_reference { tx.new.conn.ghost_name ≡ tx.old.conn.ghost_name }
     ensures edits { HasCleanDisk (state S.Store tx.new.conn.now)
@@ -80,15 +79,14 @@ fn insert_in<S: Alter>(
     if has_feature(tx, collection, feature.id())? {
         return Ok(Some(Refusal::FeatureExists));
     }
-    put_feature(tx, alloc, collection, property.as_deref(), feature)
+    put_feature(tx, collection, property.as_deref(), feature)
 }
 
 /// Replaces a feature by another with its id, or tells why not.
 fn replace_in<S: Alter>(
     tx: &mut Transaction<'_, S>,
-    alloc: Global,
     collection: &str,
-    feature: &Feature,
+    feature: &WrittenFeature,
 ) -> Result<Option<Refusal>, Error>
     ensures same_reference { tx.new.conn.ghost_name ≡ tx.old.conn.ghost_name }
     ensures edits { HasCleanDisk (state S.Store tx.new.conn.now)
@@ -106,7 +104,7 @@ fn replace_in<S: Alter>(
         return Ok(Some(Refusal::NoFeature));
     }
     delete_feature(tx, collection, feature.id())?;
-    put_feature(tx, alloc, collection, property.as_deref(), feature)
+    put_feature(tx, collection, property.as_deref(), feature)
 }
 
 /// Deletes a feature, or tells why not.
@@ -146,11 +144,7 @@ fn name_of(time: &Option<TimeProperty>) -> Option<&str>
 }
 
 /// Makes an edit, or tells why not.
-fn edit_in<S: Alter>(
-    tx: &mut Transaction<'_, S>,
-    alloc: Global,
-    edit: &Edit,
-) -> Result<Option<Refusal>, Error>
+fn edit_in<S: Alter>(tx: &mut Transaction<'_, S>, edit: &Edit) -> Result<Option<Refusal>, Error>
     ensures same_reference { tx.new.conn.ghost_name ≡ tx.old.conn.ghost_name }
     ensures edits { HasCleanDisk (state S.Store tx.new.conn.now)
         → Edits (edit_value edit.now) (state S.Store tx.old.conn.now)
@@ -169,11 +163,11 @@ fn edit_in<S: Alter>(
         Edit::Insert {
             collection,
             feature,
-        } => insert_in(tx, alloc, collection.as_str(), feature),
+        } => insert_in(tx, collection.as_str(), feature),
         Edit::Replace {
             collection,
             feature,
-        } => replace_in(tx, alloc, collection.as_str(), feature),
+        } => replace_in(tx, collection.as_str(), feature),
         Edit::Delete { collection, id } => delete_in(tx, collection.as_str(), id.as_str()),
     }
 }
@@ -181,7 +175,6 @@ fn edit_in<S: Alter>(
 /// Makes edits one after the other, up to the first that is refused, whose place from 1 it tells.
 fn edit_in_turn<S: Alter>(
     tx: &mut Transaction<'_, S>,
-    alloc: Global,
     edits: &[Edit],
 ) -> Result<Option<(u64, Refusal)>, Error>
     ensures same_reference { tx.new.conn.ghost_name ≡ tx.old.conn.ghost_name }
@@ -197,7 +190,7 @@ fn edit_in_turn<S: Alter>(
 {
     let mut place: u64 = 1;
     'edits: for edit in edits {
-        if let Some(why) = edit_in(tx, alloc, edit)? {
+        if let Some(why) = edit_in(tx, edit)? {
             return Ok(Some((place, why)));
         }
         place += 1;
@@ -226,7 +219,7 @@ fn edit_run<S: Alter>(
     if insert_all(tx, alloc, edits)? {
         return Ok(None);
     }
-    edit_in_turn(tx, alloc, edits)
+    edit_in_turn(tx, edits)
 }
 
 /// Makes edits in order, up to the first that is refused, whose place from 1 it tells.

@@ -22,7 +22,8 @@ use json::Scratch;
 use sqlite::types::ValueRef;
 use sqlite::{Alter, Error, Row, Transaction, params};
 use std::alloc::Global;
-use streetmap_geojson::{Feature, JsonFault};
+use streetmap_feature_text::WrittenFeature;
+use streetmap_geojson::JsonFault;
 use streetmap_rows::{ReadFault, is_of_store, read_body, time_in, unread};
 
 /// Why a look or a write of a feature gave up: the store failed, or the statement was refused, as
@@ -141,7 +142,7 @@ fn collection_in(row: &Row) -> Result<String, ReadFault>
 }
 
 /// The feature in its row, under its collection's time property.
-fn feature_in(alloc: Global, row: &Row, property: Option<&str>) -> Result<Feature, ReadFault>
+fn feature_in(alloc: Global, row: &Row, property: Option<&str>) -> Result<WrittenFeature, ReadFault>
     ensures own { IfErr result IsOwn }
     ensures named { IfOk result (λ f. f.id ≡ (pair_in row.now).1) }
     ensures worded { IfOk result (TextReadsAs (option_copied property.entry) (body_in row.now)) }
@@ -158,10 +159,12 @@ fn feature_in(alloc: Global, row: &Row, property: Option<&str>) -> Result<Featur
         Err(JsonFault::Memory) => return Err(ReadFault::Memory),
         Err(JsonFault::Fault(_)) => return Err(ReadFault::Unread),
     };
-    if feature.id().as_bytes() == id {
-        Ok(feature)
-    } else {
-        Err(ReadFault::Unread)
+    if feature.id().as_bytes() != id {
+        return Err(ReadFault::Unread);
+    }
+    match WrittenFeature::new(alloc, feature) {
+        Ok(feature) => Ok(feature),
+        Err(_) => Err(ReadFault::Memory),
     }
 }
 
@@ -187,7 +190,7 @@ fn put_row<S: Alter>(tx: &mut Transaction<'_, S>, alloc: Global, row: &Row) -> R
     let collection = collection_in(row)?;
     let time = find_time(tx, collection.as_str())?;
     let feature = feature_in(alloc, row, time.as_deref())?;
-    match put_feature(tx, alloc, collection.as_str(), time.as_deref(), &feature) {
+    match put_feature(tx, collection.as_str(), time.as_deref(), &feature) {
         Ok(None) => Ok(()),
         Ok(Some(_)) => Err(ReadFault::Unread),
         Err(error) => Err(fault_of(error)),

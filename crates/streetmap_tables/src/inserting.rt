@@ -19,66 +19,55 @@ use crate::storing::text_of;
 use crate::timing::{seconds_under, time_property};
 use sqlite::{Alter, Error, ErrorCode, Transaction};
 use std::alloc::{AllocError, Global};
-use streetmap_geojson::Feature;
+use streetmap_feature_text::WrittenFeature;
 use streetmap_ledger::Edit;
 use streetmap_rows::{FeatureRow, ROWS, insert_features};
 
 /// The row of a feature, with the time that the property tells; none where it tells one that cannot
 /// be read.
-fn row_under(
-    alloc: Global,
-    property: Option<&str>,
-    feature: &Feature,
-) -> Result<Option<FeatureRow>, AllocError>
-    ensures { IfOk result (λ row.
-        IfSome row (IsRowUnder (option_copied property.entry) feature.now)) }
+fn row_under<'a>(property: Option<&str>, feature: &'a WrittenFeature) -> Option<FeatureRow<'a>>
+    ensures { IfSome result (IsRowUnder (option_copied property.entry) feature.now) }
 {
-    let Ok(seconds) = seconds_under(feature, property) else {
-        return Ok(None);
-    };
-    let id = String::from_str(alloc, feature.id())?;
-    let text = text_of(alloc, feature)?;
-    Ok(Some(FeatureRow {
-        id,
-        text,
-        extent: feature.extent(),
-        seconds,
-    }))
+    let told = feature.feature();
+    match seconds_under(told, property) {
+        Ok(seconds) => Some(FeatureRow {
+            id: told.id(),
+            text: text_of(feature),
+            extent: told.extent(),
+            seconds,
+        }),
+        Err(_) => None,
+    }
 }
 
 /// The row of an edit that inserts a feature into the collection; none of any other edit.
-fn row_of(
-    alloc: Global,
-    collection: &str,
-    property: Option<&str>,
-    edit: &Edit,
-) -> Result<Option<FeatureRow>, AllocError>
-    ensures { IfOk result (λ row. IfSome row
-        (IsInsertion collection.now (option_copied property.entry) (edit_value edit.now))) }
+fn row_of<'a>(collection: &str, property: Option<&str>, edit: &'a Edit) -> Option<FeatureRow<'a>>
+    ensures { IfSome result
+        (IsInsertion collection.now (option_copied property.entry) (edit_value edit.now)) }
 {
     match edit {
         Edit::Insert {
             collection: into,
             feature,
-        } if into.as_str() == collection => row_under(alloc, property, feature),
-        _ => Ok(None),
+        } if into.as_str() == collection => row_under(property, feature),
+        _ => None,
     }
 }
 
 /// The rows of edits that each insert a feature into the collection; none where one does not.
-fn rows_of(
+fn rows_of<'a>(
     alloc: Global,
     collection: &str,
     property: Option<&str>,
-    edits: &[Edit],
-) -> Result<Option<Vec<FeatureRow>>, AllocError>
+    edits: &'a [Edit],
+) -> Result<Option<Vec<FeatureRow<'a>>>, AllocError>
     ensures { IfOk result (λ found. IfSome found (λ rows.
         AreInsertions collection.now (option_copied property.entry)
         (map edit_value edits.now) rows.items)) }
 {
     let mut rows = Vec::new(alloc);
     'edits: for edit in edits {
-        match row_of(alloc, collection, property, edit)? {
+        match row_of(collection, property, edit) {
             Some(row) => rows.push(row)?,
             None => return Ok(None),
         }

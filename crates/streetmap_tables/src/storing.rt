@@ -1,5 +1,5 @@
 //! A feature that is put into its collection, inside a transaction.
-ghost use Rattle.std.specs.Prelude.{◌≡◌, IfErr, IfOk, IsTrue, OnOk, string_bytes, None};
+ghost use Rattle.std.specs.Prelude.{◌≡◌, IfErr, IfOk, IsTrue, OnOk, None};
 ghost use Rattle.std.specs.Option.{option_copied};
 ghost use Rattle.sqlite.specs.Held.{state};
 ghost use Rattle.sqlite.specs.State.{HasCleanDisk, KeepsCommit, Survives};
@@ -9,24 +9,17 @@ ghost use Rattle.streetmap_tables.specs.Storing.{Puts};
 ghost use Rattle.streetmap_rows.specs.Failing.{HasReason};
 
 use crate::timing::seconds_under;
-use sqlite::{Alter, Error, ErrorCode, Transaction};
-use std::alloc::{AllocError, Global};
-use streetmap_feature_text::push_feature;
-use streetmap_geojson::Feature;
+use sqlite::{Alter, Error, Transaction};
+use streetmap_feature_text::WrittenFeature;
 use streetmap_ledger::Refusal;
 use streetmap_rows::insert_feature;
 
-/// The room that the text of a feature begins with, in bytes.
-const TEXT_ROOM: usize = 256;
-
 /// The text that is kept of a feature.
 #[tactic(auto, unfolding(streetmap_rows::specs::Rows::feature_text))]
-pub fn text_of(alloc: Global, feature: &Feature) -> Result<String, AllocError>
-    ensures { IfOk result (λ text. string_bytes text ≡ feature_text feature.now) }
+pub fn text_of(feature: &WrittenFeature) -> &str
+    ensures { result.now ≡ feature_text feature.now }
 {
-    let mut text = String::with_capacity(alloc, TEXT_ROOM)?;
-    push_feature(alloc, &mut text, feature)?;
-    Ok(text)
+    feature.text()
 }
 
 /// Puts a feature that is not there into a collection that is, with the time that the collection's
@@ -38,10 +31,9 @@ pub fn text_of(alloc: Global, feature: &Feature) -> Result<String, AllocError>
 /// refused.
 pub fn put_feature<S: Alter>(
     tx: &mut Transaction<'_, S>,
-    alloc: Global,
     collection: &str,
     property: Option<&str>,
-    feature: &Feature,
+    feature: &WrittenFeature,
 ) -> Result<Option<Refusal>, Error>
     ensures same_reference { tx.new.conn.ghost_name ≡ tx.old.conn.ghost_name }
     ensures puts { HasCleanDisk (state S.Store tx.new.conn.now)
@@ -63,19 +55,11 @@ pub fn put_feature<S: Alter>(
     ensures survives { Survives (state S.Store tx.old.conn.now) (state S.Store tx.new.conn.now)
         (λ _. ⊥) }
 {
-    let Ok(seconds) = seconds_under(feature, property) else {
+    let told = feature.feature();
+    let Ok(seconds) = seconds_under(told, property) else {
         return Ok(Some(Refusal::BadTime));
     };
-    let Ok(text) = text_of(alloc, feature) else {
-        return Err(Error::SqliteFailure(ErrorCode::OutOfMemory));
-    };
-    insert_feature(
-        tx,
-        collection,
-        feature.id(),
-        text.as_str(),
-        feature.extent(),
-        seconds,
-    )?;
+    let text = text_of(feature);
+    insert_feature(tx, collection, told.id(), text, told.extent(), seconds)?;
     Ok(None)
 }

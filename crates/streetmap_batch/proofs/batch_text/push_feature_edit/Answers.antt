@@ -10,4 +10,4 @@ returns c =
     let f = c.args.feature.now in
     let before = string_bytes c.push_quoted-2.new.out in
     let parts : before ++ codes "}" ≡ string_bytes c.args.out.now ++ feature_edit_parts op collection f = search (rules, append_assoc) in
-    ended c.push_str-4.result _ before (codes "}") _ c.push_str-4.ensures.bytes (parts ∙ ap (λ t. string_bytes c.args.out.now ++ t) (feature_edit_text_is op collection f))
+    ended c.push_str-5.result _ before (codes "}") _ c.push_str-5.ensures.bytes (parts ∙ ap (λ t. string_bytes c.args.out.now ++ t) (feature_edit_text_is op collection f))

@@ -4,7 +4,7 @@ use Rattle.streetmap_grid.specs.Views.{box_value}
 use Rattle.streetmap_grid.specs.Extent.{extent_of}
 use Rattle.streetmap_moment.specs.IntervalValue.{IntervalValue}
 use Rattle.streetmap_geojson.specs.FeatureValue.{FeatureValue}
-use Rattle.streetmap_feature_text.specs.Outlines.{OutlineValue, outline_of}
+use Rattle.streetmap_feature_text.specs.Outlines.{OutlineValue}
 use Rattle.streetmap_feature_text.specs.PackedIntervalView.{packed_interval_value}
 use Rattle.streetmap_feature_text.specs.declared.packed.Packing.{Packing}
 use Rattle.streetmap_feature_text.proofs.PackedFacts.{packed_view}
