@@ -1,5 +1,6 @@
 pub mod Sent
 pub mod SendLemmas
+pub mod UsualLines
 pub mod Taking
 pub mod TextLemmas
 pub mod Again

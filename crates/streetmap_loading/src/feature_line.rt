@@ -1,6 +1,6 @@
 //! The edit of a feature's text.
-ghost use Rattle.std.specs.Prelude.{◌≡◌, IfOk, IsTrue, option_map, if◌then◌else◌};
-ghost use Rattle.std.specs.Prelude.{codes, decimal, is_some};
+ghost use Rattle.std.specs.Prelude.{◌≡◌, ℕ, IfOk, IfSome, IsTrue, Result, option_map, codes};
+ghost use Rattle.std.specs.Prelude.{decimal, is_some, if◌then◌else◌};
 ghost use Rattle.serde_json.specs.Data.{string, put};
 ghost use Rattle.serde_json.specs.Find.{get};
 ghost use Rattle.serde_json.specs.View.{view, members_view};
@@ -8,11 +8,13 @@ ghost use Rattle.streetmap_batch.specs.BatchValue as edit;
 ghost use Rattle.streetmap_batch.specs.BatchView.{edit_value};
 ghost use Rattle.streetmap_batch.specs.Names.{is_collection_id};
 ghost use Rattle.streetmap_geojson.specs.Collection.{is_collection};
+ghost use Rattle.streetmap_geojson.specs.FeatureValue.{FeatureValue};
 ghost use Rattle.streetmap_geojson.specs.FeatureView.{feature_value};
 ghost use Rattle.streetmap_geojson.specs.Fault.{Gives};
+ghost use Rattle.streetmap_geojson.specs.declared.fault.Fault.{Fault};
 ghost use Rattle.streetmap_loading.specs.Texts.{put_id, with_place, held, feature_of, edit_of};
-ghost use Rattle.streetmap_loading.specs.Texts.{item_of_edit, item_of_value, item_of_text};
-ghost use Rattle.streetmap_loading.specs.Texts.{unread};
+ghost use Rattle.streetmap_loading.specs.Texts.{item_of_edit, item_of_feature, item_of_value};
+ghost use Rattle.streetmap_loading.specs.Texts.{item_of_text, unread};
 ghost use Rattle.streetmap_loading.specs.TextView.{property_of, rules_value, IsItem, Measures};
 
 use crate::feature_fault::FeatureFault;
@@ -23,9 +25,10 @@ use json::Scratch;
 use serde_json::{Map, Value};
 use std::alloc::{AllocError, Global};
 use streetmap_batch::Edit;
+use streetmap_feature_reader::read_usual;
 use streetmap_geojson::{Fault, Feature, JsonFault, read_feature};
 use streetmap_packing::MAX_EDIT;
-use streetmap_placing::{PlacingFault, read_placed};
+use streetmap_placing::{Fractions, PlacingFault, read_placed};
 
 /// The members with the text of a place as `id`.
 fn put_id(
@@ -175,6 +178,26 @@ fn place_edit(
     }
 }
 
+/// The edit of a feature that was read at a place in the text, or its fault.
+fn edit_of_read(
+    alloc: Global,
+    rules: &FeatureRules,
+    place: u64,
+    read: Result<Feature, JsonFault>,
+) -> Result<PlacedEdit, Unread>
+    ensures { (found : Result FeatureValue Fault) → Gives feature_value read found
+        → IsItem (item_of_feature (rules_value rules.now) place found) result }
+{
+    match read {
+        Ok(feature) => place_edit(alloc, rules, place, feature),
+        Err(JsonFault::Memory) => Err(Unread::Memory),
+        Err(JsonFault::Fault(fault)) => {
+            let fault = FeatureFault::Read(fault);
+            Err(Unread::AtFault(TextFault::BadFeature(place, fault)))
+        }
+    }
+}
+
 /// The edit of a value at a place in the text.
 fn read_edit_of(
     alloc: Global,
@@ -187,14 +210,8 @@ fn read_edit_of(
     if place == 1 && is_collection(&value) {
         return Err(Unread::AtFault(TextFault::NotASequence));
     }
-    match read_feature_of(alloc, rules, value, place) {
-        Ok(feature) => place_edit(alloc, rules, place, feature),
-        Err(JsonFault::Memory) => Err(Unread::Memory),
-        Err(JsonFault::Fault(fault)) => {
-            let fault = FeatureFault::Read(fault);
-            Err(Unread::AtFault(TextFault::BadFeature(place, fault)))
-        }
-    }
+    let read = read_feature_of(alloc, rules, value, place);
+    edit_of_read(alloc, rules, place, read)
 }
 
 /// What is wrong with the text of a feature at a place that was not read to a value.
@@ -204,6 +221,40 @@ fn unread(place: u64, fault: PlacingFault) -> TextFault
     match fault {
         PlacingFault::NotJson if place == 1 => TextFault::NotASequence,
         _ => TextFault::BadFeature(place, FeatureFault::of_placing(fault)),
+    }
+}
+
+/// The edit of the text of a feature at a place, by its value.
+fn read_edit_by_value(
+    alloc: Global,
+    scratch: &mut Scratch,
+    rules: &FeatureRules,
+    place: u64,
+    text: &[u8],
+) -> Result<PlacedEdit, Unread>
+    ensures { IsItem (item_of_text (rules_value rules.now) place text.now) result }
+{
+    match read_placed(alloc, scratch, text, &rules.numbers) {
+        Ok(value) => read_edit_of(alloc, rules, place, value),
+        Err(PlacingFault::Memory) => Err(Unread::Memory),
+        Err(fault) => Err(Unread::AtFault(unread(place, fault))),
+    }
+}
+
+/// The feature of a text whose numbers stay as they are, where it is usual.
+fn usual_feature(
+    alloc: Global,
+    scratch: &mut Scratch,
+    rules: &FeatureRules,
+    text: &[u8],
+) -> Result<Option<Feature>, AllocError>
+    ensures { IfOk result (λ found. IfSome found (λ f. (place : ℕ)
+        → item_of_text (rules_value rules.now) place text.now ≡ item_of_feature
+        (rules_value rules.now) place (held (rules_value rules.now).skip (feature_value f)))) }
+{
+    match (&rules.numbers.placement, rules.numbers.fractions) {
+        (None, Fractions::Number) => read_usual(alloc, scratch, text, None),
+        _ => Ok(None),
     }
 }
 
@@ -217,9 +268,11 @@ pub(crate) fn read_edit(
 ) -> Result<PlacedEdit, Unread>
     ensures { IsItem (item_of_text (rules_value rules.now) place text.now) result }
 {
-    match read_placed(alloc, scratch, text, &rules.numbers) {
-        Ok(value) => read_edit_of(alloc, rules, place, value),
-        Err(PlacingFault::Memory) => Err(Unread::Memory),
-        Err(fault) => Err(Unread::AtFault(unread(place, fault))),
+    match usual_feature(alloc, scratch, rules, text)? {
+        Some(feature) => {
+            let read = hold(feature, rules.skip.as_ref());
+            edit_of_read(alloc, rules, place, read)
+        }
+        None => read_edit_by_value(alloc, scratch, rules, place, text),
     }
 }
