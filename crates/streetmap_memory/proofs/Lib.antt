@@ -3,6 +3,7 @@ pub mod Finite
 pub mod Ordered
 pub mod SlotLemmas
 pub mod Live
+pub mod Under
 pub mod ExtentLemmas
 pub mod Sweeping
 pub mod CollectionsInOrder

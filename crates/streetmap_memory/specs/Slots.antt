@@ -1,8 +1,9 @@
 -- How the plain keeper keeps a collection: a feature that a batch deletes leaves its slot empty,
 -- until the batch is done.
 use Rattle.std.specs.Prelude.{Bool, true, false, List, [], ◌∷◌, Option, None, Some, String}
-use Rattle.std.specs.Prelude.{string_bytes, map, is_some, if◌then◌else◌, refl}
+use Rattle.std.specs.Prelude.{string_bytes, map, filter, is_some, if◌then◌else◌, ◌&&◌, refl}
 use Rattle.std.specs.Option.{option_and_then}
+use Rattle.std.specs.Ordering.{is_ge, is_le}
 use Rattle.std.specs.Coded.{Coded, code_by, coded×, coded_ℕ, coded_list, coded_option}
 use Rattle.std.specs.FinMap as finmap
 use Rattle.std.specs.FinMap.{FinMap, empty, get, insert, remove, entries, from_entries}
@@ -69,6 +70,14 @@ with_live id (Some f) es = (id, f) ∷ es
 abbrev pub live_entries : List (Text × Option FeatureValue) → List (Text × FeatureValue)
 live_entries [] = []
 live_entries (e ∷ es) = with_live e.0 e.1 (live_entries es)
+
+-- whether an entry's id stands between two in byte order, or is one of them
+abbrev pub is_under : Text → Text → Text × FeatureValue → Bool
+is_under first last e = is_ge (text_cmp e.0 first) && is_le (text_cmp e.0 last)
+
+-- the features of entries whose ids stand between two, in their order
+abbrev pub run_under : Text → Text → List (Text × FeatureValue) → List FeatureValue
+run_under first last es = map (λ e. e.1) (filter (is_under first last) es)
 
 -- the features in the slots
 abbrev pub live : Slots → Features

@@ -1,18 +1,18 @@
 //! A collection as the plain keeper keeps it, by its slots.
 ghost use Rattle.std.specs.Prelude.{◌≡◌, ◌+◌, ◌++◌, ◌∷◌, [], List, IsTrue, false, IfOk, OnOk};
-ghost use Rattle.std.specs.Prelude.{OnErr, Option, Some, None, map, filter, string_bytes, length};
-ghost use Rattle.std.specs.Prelude.{if◌then◌else◌};
+ghost use Rattle.std.specs.Prelude.{OnErr, Option, Some, None, map, string_bytes};
 ghost use Rattle.std.specs.Option.{option_copied, option_flatten, option_map};
 ghost use Rattle.std.specs.Result.{result_ok};
 ghost use Rattle.std.specs.FinMap.{get, insert, empty};
 ghost use Rattle.std.specs.Map.{values_of};
 ghost use Rattle.std.specs.BTreeMap.{IsOrdered};
+ghost use Rattle.std.specs.BTreeMap.Range.{IsLeBy};
 ghost use Rattle.std.specs.String.{string_cmp};
 ghost use Rattle.streetmap_query.specs.QueryValue.{QueryValue};
 ghost use Rattle.streetmap_query.specs.Views.{query_value};
 ghost use Rattle.streetmap_ledger.specs.State.{timed as timed_by};
 ghost use Rattle.streetmap_memory.specs.Slots.{by_text, live_entries, live_values, outline_at};
-ghost use Rattle.streetmap_memory.specs.Slots.{is_emptied as is_emptied_of};
+ghost use Rattle.streetmap_memory.specs.Slots.{is_emptied as is_emptied_of, run_under};
 ghost use Rattle.streetmap_grid.specs.Bounds.{AreBounds};
 ghost use Rattle.streetmap_ledger.specs.Summaries.{all_vertices, summary_of};
 ghost use Rattle.streetmap_ledger.specs.SummaryView.{summary_value};
@@ -23,7 +23,6 @@ ghost use Rattle.streetmap_geojson.specs.FeatureValue.{FeatureValue};
 ghost use Rattle.streetmap_feature_text.specs.Written.{feature_data};
 ghost use Rattle.streetmap_ledger.specs.Folds.{IsFoldOf, HoldsCandidates};
 ghost use Rattle.streetmap_ledger.specs.Pages.{page_over as page_over_of};
-ghost use Rattle.streetmap_ledger.specs.Pages.{is_between as is_between_of};
 ghost use Rattle.streetmap_ledger.specs.PageView.{page_value};
 
 use crate::extents::grown;
@@ -60,7 +59,7 @@ impl Model for PlainCollection {
 impl PlainCollection {
     ghost use Rattle.streetmap_memory.specs.Slots.{put_slot, cut_slot, reset_slot, swept_slot};
     ghost use Rattle.streetmap_memory.specs.Slots.{live, collected};
-    ghost use Rattle.std.specs.FinMap.{values};
+    ghost use Rattle.std.specs.FinMap.{entries, values};
 
     pub fn new(alloc: Global, title: String, time: Option<String>) -> Self
         ensures { result ≡ record {
@@ -198,8 +197,8 @@ impl PlainCollection {
         page_over(alloc, &self.slots, query)
     }
 
-    /// The features whose ids stand between two in byte order, with those two, in the order of
-    /// their ids.
+    /// The features under the ids between two in byte order, with those two, in the order of their
+    /// ids.
     pub fn features(
         &self,
         alloc: Global,
@@ -207,8 +206,13 @@ impl PlainCollection {
         last: &str,
     ) -> Result<Vec<Feature>, AllocError>
         ensures { IfOk result (λ run. run.items
-            ≡ filter (is_between_of first.now last.now) (values (live self.now.slots))) }
+            ≡ run_under first.now last.now (entries (live self.now.slots))) }
     {
+        if first > last {
+            return Ok(Vec::new(alloc));
+        }
+        let first = String::from_str(alloc, first)?;
+        let last = String::from_str(alloc, last)?;
         run_of(alloc, &self.slots, first, last)
     }
 }
@@ -314,54 +318,24 @@ fn page_over(
     fold.end(alloc)
 }
 
-/// Whether an id stands between two in byte order, or is one of them.
-fn is_between(id: &[u8], first: &str, last: &str) -> bool
-    ensures { (f : FeatureValue) → id.now ≡ f.id → result ≡ is_between_of first.now last.now f }
-{
-    id.cmp(first.as_bytes()).is_ge() && id.cmp(last.as_bytes()).is_le()
-}
-
-/// The feature, read from its text, where its id stands between two, or is one of them.
-fn unpack_between(
-    alloc: Global,
-    feature: &PackedFeature,
-    first: &str,
-    last: &str,
-) -> Result<Option<Feature>, AllocError>
-    ensures { IfOk result (λ found. found
-        ≡ (if is_between_of first.now last.now feature.now then Some feature.now else None)) }
-{
-    if let Some(id) = feature.unescaped_id() {
-        if !is_between(id, first, last) {
-            return Ok(None);
-        }
-    }
-    let feature = feature.unpack(alloc)?;
-    if is_between(feature.id().as_bytes(), first, last) {
-        Ok(Some(feature))
-    } else {
-        Ok(None)
-    }
-}
-
-/// The features in the slots whose ids stand between two, with those two, in the order of their
-/// ids.
+/// The features in the slots under the ids between two in byte order, with those two, in the order
+/// of their ids.
 fn run_of(
     alloc: Global,
     slots: &BTreeMap<String, Option<PackedFeature>>,
-    first: &str,
-    last: &str,
+    first: String,
+    last: String,
 ) -> Result<Vec<Feature>, AllocError>
-    ensures run { IfOk result (λ run. run.items ≡ filter (is_between_of first.now last.now)
-        (live_values (values_of slots.now.entries))) }
+    requires { IsLeBy string_cmp first last }
+    ensures run { IfOk result (λ run. run.items
+        ≡ run_under (string_bytes first) (string_bytes last)
+        (live_entries (by_text slots.now.entries))) }
     ensures ordered { IsOrdered string_cmp slots.now }
 {
     let mut run = Vec::new(alloc);
-    for slot in slots.values() {
+    for (_, slot) in slots.range(first..=last) {
         if let Some(feature) = slot {
-            if let Some(feature) = unpack_between(alloc, feature, first, last)? {
-                run.push(feature)?;
-            }
+            run.push(feature.unpack(alloc)?)?;
         }
     }
     Ok(run)

@@ -173,11 +173,23 @@ fn act<'a>(
         Edit::Insert {
             collection,
             feature,
-        } => act_insert(alloc, collections, collection.as_str(), feature, cutter),
+        } => act_insert(
+            alloc,
+            collections,
+            collection.as_str(),
+            feature.feature(),
+            cutter,
+        ),
         Edit::Replace {
             collection,
             feature,
-        } => act_replace(alloc, collections, collection.as_str(), feature, cutter),
+        } => act_replace(
+            alloc,
+            collections,
+            collection.as_str(),
+            feature.feature(),
+            cutter,
+        ),
         Edit::Delete { collection, id } => Ok(act_delete(
             collections,
             collection.as_str(),

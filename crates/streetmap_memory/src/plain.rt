@@ -154,7 +154,7 @@ impl PlainKeeper {
         first: &str,
         last: &str,
     ) -> Result<Option<Vec<Feature>>, AllocError>
-        ensures { IfOk result (λ found.
+        ensures { IsState (plain_state self.now) → IfOk result (λ found.
             option_map (λ (fs : Vec FeatureValue Global). fs.items) found
             ≡ run_in (plain_state self.now) collection.now first.now last.now) }
     {

@@ -1,9 +1,10 @@
-use Rattle.std.proofs.Common.{◌≡◌, ◌++◌, filter}
+use Rattle.std.proofs.Common.{◌≡◌, ◌++◌}
 use Rattle.std.specs.Map.{values_of}
-use Rattle.streetmap_ledger.specs.Pages.{is_between}
 use Rattle.streetmap_memory.specs.Slots.{live_values}
 use Rattle.streetmap_memory.proofs.collection.run_of.Given as goal
 
--- the run so far and what the features that are left add to it are all
+-- the run so far and the features that are left are all that were to come
 abbrev pub invariant-loop-slot : goal.invariant-loop-slot
-invariant-loop-slot l = l.run.items ++ filter (is_between l.first l.last) (live_values l.slot-iterator) ≡ filter (is_between l.first l.last) (live_values (values_of l.slots.entries))
+invariant-loop-slot l =
+    l.run.items ++ live_values (values_of l.slot-iterator)
+    ≡ live_values (values_of l.initial.slot-iterator)
