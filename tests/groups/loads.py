@@ -142,8 +142,20 @@ class Source:
         return [self.bad.get(at, text) for at, text in enumerate(self.texts)]
 
 
+# In front of others: foreign members, and members that are told once more behind them.
+IN_FRONT = (
+    '"bbox":[0,0,1,1]',
+    '"note":{"a":[1,"b"]}',
+    '"id":"other"',
+    '"type":"Other"',
+    '"geometry":{"type":"Point","coordinates":[1]}',
+    '"properties":0',
+)
+
+
 def a_feature(chance: random.Random, name: str, soon: float) -> str:
-    """The text of a feature that can be read, in some order of members."""
+    """The text of a feature that can be read, in some order of members, now and then an unusual
+    one."""
     properties = SOON if chance.random() < soon else chance.choice(PROPERTIES)
     made = feature(name, chance.choice(GEOMETRIES), properties)
     if chance.random() < 0.15:
@@ -151,7 +163,9 @@ def a_feature(chance: random.Random, name: str, soon: float) -> str:
     members = list(made.items())
     chance.shuffle(members)
     is_plain = chance.random() < 0.5
-    return json.dumps(dict(members), ensure_ascii=is_plain)
+    text = json.dumps(dict(members), ensure_ascii=is_plain)
+    is_usual = chance.random() < 0.8
+    return text if is_usual else f"{{{chance.choice(IN_FRONT)},{text[1:]}"
 
 
 def a_source(chance: random.Random, faults: list[str], count: int) -> Source:
