@@ -7,3 +7,4 @@ pub mod Again
 pub mod KeeperLemmas
 pub mod OpeningLemmas
 pub mod PrintLemmas
+pub mod MeasureLemmas

@@ -1,5 +1,5 @@
 //! The edit of a feature's text.
-ghost use Rattle.std.specs.Prelude.{◌≡◌, ℕ, IfOk, IfSome, IsTrue, Result, option_map, codes};
+ghost use Rattle.std.specs.Prelude.{◌≡◌, ℕ, IfOk, IfSome, IsTrue, option_map, codes};
 ghost use Rattle.std.specs.Prelude.{decimal, is_some, if◌then◌else◌};
 ghost use Rattle.serde_json.specs.Data.{string, put};
 ghost use Rattle.serde_json.specs.Find.{get};
@@ -8,16 +8,17 @@ ghost use Rattle.streetmap_batch.specs.BatchValue as edit;
 ghost use Rattle.streetmap_batch.specs.BatchView.{edit_value};
 ghost use Rattle.streetmap_batch.specs.Names.{is_collection_id};
 ghost use Rattle.streetmap_geojson.specs.Collection.{is_collection};
-ghost use Rattle.streetmap_geojson.specs.FeatureValue.{FeatureValue};
 ghost use Rattle.streetmap_geojson.specs.FeatureView.{feature_value};
-ghost use Rattle.streetmap_geojson.specs.Fault.{Gives};
-ghost use Rattle.streetmap_geojson.specs.declared.fault.Fault.{Fault};
-ghost use Rattle.streetmap_loading.specs.Texts.{put_id, with_place, held, feature_of, edit_of};
+ghost use Rattle.streetmap_loading.specs.Texts.{put_id, with_place, timely, held, edit_of};
 ghost use Rattle.streetmap_loading.specs.Texts.{item_of_edit, item_of_feature, item_of_value};
 ghost use Rattle.streetmap_loading.specs.Texts.{item_of_text, unread};
 ghost use Rattle.streetmap_loading.specs.TextView.{property_of, rules_value, IsItem, Measures};
+ghost use Rattle.streetmap_loading.specs.declared.feature_fault.FeatureFault.TheVariants as causes;
+ghost use Rattle.streetmap_loading.specs.declared.source.Unread.TheVariants.{AtFault};
+ghost use Rattle.streetmap_loading.specs.declared.text_fault.TextFault.TheVariants.{BadFeature};
 
 use crate::feature_fault::FeatureFault;
+use crate::measuring::text_len;
 use crate::rules::{FeatureRules, HeldTimes};
 use crate::source::{PlacedEdit, Unread};
 use crate::text_fault::TextFault;
@@ -88,36 +89,22 @@ fn is_collection(value: &Value) -> bool
     }
 }
 
-/// The feature, where its time can be read.
-fn hold(feature: Feature, skip: Option<&HeldTimes>) -> Result<Feature, JsonFault>
-    ensures { Gives feature_value result
-        (held (option_map (λ t. property_of t.now) skip.entry) (feature_value feature)) }
+/// Tests whether the time of a feature can be read, where times are held to a property.
+fn test_time(feature: &Feature, skip: Option<&HeldTimes>) -> Result<(), Fault>
+    ensures { timely (feature_value feature.now) result
+        ≡ held (option_map (λ t. property_of t.now) skip.entry) (feature_value feature.now) }
 {
     let Some(times) = skip else {
-        return Ok(feature);
+        return Ok(());
     };
     let property = match &times.property {
         Some(name) => Some(name.as_str()),
         None => None,
     };
     match feature.time_under(property) {
-        Ok(_) => Ok(feature),
-        Err(fault) => Err(JsonFault::Fault(Fault::of_time(fault))),
+        Ok(_) => Ok(()),
+        Err(fault) => Err(Fault::of_time(fault)),
     }
-}
-
-/// The feature of a value at a place in the text.
-fn read_feature_of(
-    alloc: Global,
-    rules: &FeatureRules,
-    value: Value,
-    place: u64,
-) -> Result<Feature, JsonFault>
-    ensures { Gives feature_value result (feature_of (rules_value rules.now) place (view value)) }
-{
-    let value = with_place(alloc, value, place)?;
-    let feature = read_feature(alloc, &value, None)?;
-    hold(feature, rules.skip.as_ref())
 }
 
 /// The edit that puts a feature into the collection.
@@ -152,7 +139,7 @@ impl PlacedEdit {
     ) -> Result<Option<PlacedEdit>, AllocError>
         ensures { IfOk result (Measures place (edit_value edit)) }
     {
-        let size = edit.text(alloc)?.len();
+        let size = text_len(alloc, &edit)?;
         Ok(if size <= MAX_EDIT {
             Some(PlacedEdit { place, edit, size })
         } else {
@@ -178,23 +165,26 @@ fn place_edit(
     }
 }
 
-/// The edit of a feature that was read at a place in the text, or its fault.
-fn edit_of_read(
+/// What stands for a feature at fault.
+fn at_fault(place: u64, fault: Fault) -> Unread
+    ensures { result ≡ AtFault (BadFeature place (causes.Read fault)) }
+{
+    Unread::AtFault(TextFault::BadFeature(place, FeatureFault::Read(fault)))
+}
+
+/// The edit of a feature at a place in the text, where its time can be read.
+fn hold_edit(
     alloc: Global,
     rules: &FeatureRules,
     place: u64,
-    read: Result<Feature, JsonFault>,
+    feature: Feature,
 ) -> Result<PlacedEdit, Unread>
-    ensures { (found : Result FeatureValue Fault) → Gives feature_value read found
-        → IsItem (item_of_feature (rules_value rules.now) place found) result }
+    ensures { IsItem (item_of_feature (rules_value rules.now) place
+        (held (rules_value rules.now).skip (feature_value feature))) result }
 {
-    match read {
-        Ok(feature) => place_edit(alloc, rules, place, feature),
-        Err(JsonFault::Memory) => Err(Unread::Memory),
-        Err(JsonFault::Fault(fault)) => {
-            let fault = FeatureFault::Read(fault);
-            Err(Unread::AtFault(TextFault::BadFeature(place, fault)))
-        }
+    match test_time(&feature, rules.skip.as_ref()) {
+        Ok(()) => place_edit(alloc, rules, place, feature),
+        Err(fault) => Err(at_fault(place, fault)),
     }
 }
 
@@ -210,8 +200,12 @@ fn read_edit_of(
     if place == 1 && is_collection(&value) {
         return Err(Unread::AtFault(TextFault::NotASequence));
     }
-    let read = read_feature_of(alloc, rules, value, place);
-    edit_of_read(alloc, rules, place, read)
+    let value = with_place(alloc, value, place)?;
+    match read_feature(alloc, &value, None) {
+        Ok(feature) => hold_edit(alloc, rules, place, feature),
+        Err(JsonFault::Memory) => Err(Unread::Memory),
+        Err(JsonFault::Fault(fault)) => Err(at_fault(place, fault)),
+    }
 }
 
 /// What is wrong with the text of a feature at a place that was not read to a value.
@@ -269,10 +263,7 @@ pub(crate) fn read_edit(
     ensures { IsItem (item_of_text (rules_value rules.now) place text.now) result }
 {
     match usual_feature(alloc, scratch, rules, text)? {
-        Some(feature) => {
-            let read = hold(feature, rules.skip.as_ref());
-            edit_of_read(alloc, rules, place, read)
-        }
+        Some(feature) => hold_edit(alloc, rules, place, feature),
         None => read_edit_by_value(alloc, scratch, rules, place, text),
     }
 }

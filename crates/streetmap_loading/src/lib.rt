@@ -9,7 +9,7 @@
 //! writes the batches in place of applying them.
 //!
 //! Modules, in the order of reading: `feature_fault`, `text_fault`, `source`, `sink`, `end`,
-//! `sending`, `whole`; `rules`, `listener`, `feature_line`, `text_edits`; `load_fault`, `load`,
+//! `sending`, `whole`; `rules`, `listener`, `measuring`, `feature_line`, `text_edits`; `load_fault`, `load`,
 //! `opening`; `keeper_sink`, `loading`, `asking`, `checking`, `line_sink`, `printing`, `laws`.
 #![tactic(auto)]
 
@@ -25,6 +25,7 @@ mod listener;
 mod load;
 mod load_fault;
 mod loading;
+mod measuring;
 mod opening;
 mod printing;
 mod rules;
