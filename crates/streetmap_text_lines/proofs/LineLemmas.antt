@@ -7,13 +7,14 @@ use Rattle.std.proofs.lemmas.Bool.Decides.{nat_tests}
 use Rattle.std.proofs.lemmas.List.Elements.{All-append, All-nil, All-cons}
 use Rattle.std.proofs.lemmas.List.Splits.{slice_split_at, slice_split_none, length-slice_split}
 use Rattle.std.proofs.lemmas.List.{length-take-le}
-use Rattle.std.proofs.lemmas.List.Sums.{prefix_len-le-length}
-use Rattle.std.proofs.lemmas.Iterator.Adapters.{position_from-zero}
+use Rattle.std.proofs.lemmas.Bool.{false_from_ne_true}
+use Rattle.std.proofs.lemmas.List.Sums.{prefix_len-le-length, position_or_len_is}
 use Rattle.std.specs.Io.{StartsWith}
-use Rattle.std.specs.List.{position, position_from, position_or_len}
+use Rattle.std.specs.List.{position, position_or_len}
 use Rattle.std.proofs.KnownBytes.{Keeps-trans, prepend_known-nil, Keeps-refl}
 use Rattle.std.specs.Io.KnownBytes.{Keeps, Consumes, IsAtEnd, prepend_known}
 use Rattle.std.specs.Str.Lines.{lines_of_parts, strip_carriage_return}
+use Rattle.memchr.specs.Find.{IsFirstByte, is_byte}
 use Rattle.streetmap_text_lines.specs.Lines.{raw_lines, is_too_long, first_too_long}
 use Rattle.streetmap_text_lines.specs.Reading.{HasNoLineFeed, IsFirstLine, WhereKnown}
 
@@ -68,18 +69,14 @@ cut_line_feed bs l =
     append_assoc (take n bs) (10 ∷ []) (drop (n + 1) bs)
 
 -- a search for the first line feed finds how long the line is
-cut-none : (m n : ℕ) → m ≤ n → cond (nat_lt m n) (Some m) None ≡ None → n ≡ m
-cut-none m n h e = grind (arith, nat_tests)
-
-cut-some : (m n k : ℕ) → cond (nat_lt m n) (Some m) None ≡ Some k → k ≡ m
-cut-some m n k e = grind (arith, nat_tests)
-
-pub found_length : (bs : List ℕ) (o : Option ℕ) → o ≡ position_from is_feed 0 bs →
+pub found_length : (bs : List ℕ) (o : Option ℕ) → IsFirstByte (is_byte 10) bs o →
     MatchOption o (length bs ≡ line_length bs) (λ n. n ≡ line_length bs)
-found_length bs None e = cut-none (line_length bs) (length bs)
-    (prefix_len-le-length (λ x. not (is_feed x)) bs) (position_from-zero is_feed bs ∙ sym e)
-found_length bs (Some n) e = cut-some (line_length bs) (length bs) n
-    (position_from-zero is_feed bs ∙ sym e)
+found_length bs None h = sym (position_or_len_is is_feed bs (length bs) 0 (omega arith)
+    (λ k l. false_from_ne_true _ (h k (omega arith) l)) (λ l. absurd (omega arith)))
+found_length bs (Some n) h =
+    let within : n < length bs = h.0.high in
+    sym (position_or_len_is is_feed bs n 0 (omega arith)
+    (λ k l. false_from_ne_true _ (h.0.before k (omega arith) l)) (λ l. h.1))
 
 -- the line goes on within itself
 pub longer_line : (line shown longer : List ℕ) (n : ℕ) → HasNoLineFeed line →
@@ -249,19 +246,22 @@ module _ (most : ℕ) where
   part_more a b c line longer p more h short = record
       { whole = Keeps-trans _ _ _ p.whole more; one_line = h; short = short }
 
-  pub part_ended : (a b c : Option (List ℕ)) (line longer : List ℕ) → IsPartRead most a b line →
+  pub part_ended : (a b c : Option (List ℕ)) (line longer text : List ℕ) →
+      IsPartRead most a b line →
       Keeps (prepend_known line b) (prepend_known (longer ++ 10 ∷ []) c)
-      → HasNoLineFeed longer → length longer ≤ most → WhereKnown a c
-      (λ input rest. IsFirstLine most input (strip_carriage_return longer) rest)
-  part_ended a b c line longer p more h short = at a c (Keeps-trans _ _ _ p.whole more)
+      → HasNoLineFeed longer → length longer ≤ most → text ≡ strip_carriage_return longer
+      → WhereKnown a c (λ input rest. IsFirstLine most input text rest)
+  part_ended a b c line longer text p more h short is = at a c (Keeps-trans _ _ _ p.whole more)
     where
       at : (a c : Option (List ℕ)) → Keeps a (prepend_known (longer ++ 10 ∷ []) c) →
-          WhereKnown a c (λ input rest. IsFirstLine most input (strip_carriage_return longer) rest)
+          WhereKnown a c (λ input rest. IsFirstLine most input text rest)
       at None c k = tt
       at (Some input) None k = absurd k
       at (Some input) (Some rest) k =
-          subst (λ i. IsFirstLine most i (strip_carriage_return longer) rest)
-          (sym (append_assoc longer (10 ∷ []) rest) ∙ k) (ended_line longer rest h short)
+          subst (λ i. IsFirstLine most i text rest)
+          (sym (append_assoc longer (10 ∷ []) rest) ∙ k)
+          (subst (λ l. IsFirstLine most (longer ++ 10 ∷ rest) l rest) (sym is)
+          (ended_line longer rest h short))
 
   pub part_last : (a b c : Option (List ℕ)) (line longer : List ℕ) → IsPartRead most a b line →
       (longer ≡ line) × Keeps b c × IsAtEnd b → 0 < length longer

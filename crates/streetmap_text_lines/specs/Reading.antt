@@ -6,6 +6,8 @@ use Rattle.std.specs.Io.KnownBytes.{Keeps, IsAtEnd, prepend_known}
 use Rattle.streetmap_text_lines.specs.Lines.{first_too_long}
 use Rattle.streetmap_text_lines.specs.declared.line.Line.{Line}
 use Rattle.streetmap_text_lines.specs.declared.line.Line.TheVariants.{Text, End}
+use Rattle.streetmap_text_lines.specs.declared.line.Found.{Found}
+use Rattle.streetmap_text_lines.specs.declared.line.Found.TheVariants as found
 use Rattle.streetmap_text_lines.specs.declared.line.Shown.{Shown}
 use Rattle.streetmap_text_lines.specs.declared.line.Shown.TheVariants as shown
 
@@ -38,6 +40,12 @@ abbrev pub TakesLine : (most : ℕ) → Option (List ℕ) → Option (List ℕ) 
 TakesLine most old new (Text line) = WhereKnown old new
     (λ input rest. IsFirstLine most input line.items rest)
 TakesLine most old new End = Keeps old new × IsAtEnd old
+
+-- the first line was taken off the input and is the line that was read, or there is none
+abbrev pub ReadsLine : (most : ℕ) → Option (List ℕ) → Option (List ℕ) → List ℕ → Found → Type 0
+ReadsLine most old new line found.Line = WhereKnown old new
+    (λ input rest. IsFirstLine most input line rest)
+ReadsLine most old new line found.End = (line ≡ []) × Keeps old new × IsAtEnd old
 
 -- a beginning of a line was taken off, and is lost
 abbrev pub LosesPart : (most : ℕ) → Option (List ℕ) → Option (List ℕ) → Type 0

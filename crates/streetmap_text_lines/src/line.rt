@@ -1,14 +1,15 @@
 //! One line of bounded length, read off a reader.
 ghost use Rattle.std.specs.Prelude.{◌≡◌, ◌≤◌, ◌++◌, Some, Err, IfOk, OnOk, OnErr, IfSome};
 ghost use Rattle.std.specs.Prelude.{vec_len, ◌==◌};
-ghost use Rattle.std.specs.List.{position_from, position_or_len};
+ghost use Rattle.std.specs.List.{position_or_len};
 ghost use Rattle.std.specs.Str.Lines.{strip_carriage_return};
 ghost use Rattle.std.specs.Io.KnownBytes.{Keeps};
 ghost use Rattle.streetmap_text_lines.specs.Lines.{first_too_long};
 ghost use Rattle.streetmap_text_lines.specs.Reading.{HasNoLineFeed, TakesShown, TakesLine};
-ghost use Rattle.streetmap_text_lines.specs.Reading.{LosesPart};
+ghost use Rattle.streetmap_text_lines.specs.Reading.{LosesPart, ReadsLine};
 
 use crate::fault::LineFault;
+use memchr::memchr;
 use std::alloc::Global;
 use std::io::{BufRead, ErrorKind};
 
@@ -17,6 +18,15 @@ use std::io::{BufRead, ErrorKind};
 pub enum Line {
     /// A line, without its line feed and a carriage return before it.
     Text(Vec<u8>),
+    /// The end of the input.
+    End,
+}
+
+/// What stood at the front of an input whose line is read into lent memory.
+#[derive(Clone, Copy, PartialEq, Eq)]
+pub enum Found {
+    /// A line, which the memory has.
+    Line,
     /// The end of the input.
     End,
 }
@@ -32,18 +42,11 @@ pub(crate) enum Shown {
     End,
 }
 
-/// Where the first line feed stands.
-fn find_line_feed(shown: &[u8]) -> Option<usize>
-    ensures { result ≡ position_from (λ b. b == 10) 0 shown.now }
-{
-    shown.iter().position(|byte| *byte == b'\n')
-}
-
 /// How many bytes stand before the first line feed.
 fn line_length(shown: &[u8]) -> usize
     ensures { result ≡ position_or_len (λ b. b == 10) shown.now }
 {
-    match find_line_feed(shown) {
+    match memchr(b'\n', shown) {
         Some(at) => at,
         None => shown.len(),
     }
@@ -97,6 +100,45 @@ fn drop_carriage_return(line: &mut Vec<u8>)
     }
 }
 
+/// Reads the next line of the input, of at most `most` bytes, its line feed not counted, over what
+/// `line` had: without its line feed and a carriage return before it. The last one may lack its
+/// line feed. `line` keeps its memory for the lines to come.
+///
+/// # Errors
+///
+/// `LineTooLong` where the first line has more bytes, `ReadFailed` and `Memory`: of what is lost no
+/// byte is a line feed, and what `line` has then is of no use.
+pub fn read_line<R: BufRead>(
+    reader: &mut R,
+    line: &mut Vec<u8>,
+    most: usize,
+) -> Result<Found, LineFault>
+    ensures read { IfOk result (ReadsLine most (R.remaining reader.old) (R.remaining reader.new)
+        line.new.items) }
+    ensures lost { OnErr result (LosesPart most (R.remaining reader.old) (R.remaining reader.new)) }
+    ensures too_long { result ≡ Err LineFault.LineTooLong → IfSome (R.remaining reader.old)
+        (λ input. first_too_long most input ≡ Some 0) }
+{
+    line.clear();
+    for _turn in 0..u64::MAX {
+        match take_shown(reader, line, most)? {
+            Shown::More => {}
+            Shown::LineFeed => {
+                drop_carriage_return(line);
+                return Ok(Found::Line);
+            }
+            Shown::End => {
+                return Ok(if line.is_empty() {
+                    Found::End
+                } else {
+                    Found::Line
+                });
+            }
+        }
+    }
+    Err(LineFault::ReadFailed)
+}
+
 /// The next line of the input, of at most `most` bytes, its line feed not counted. The last one may
 /// lack its line feed.
 ///
@@ -111,22 +153,11 @@ pub fn next_line<R: BufRead>(alloc: Global, reader: &mut R, most: usize) -> Resu
         (λ input. first_too_long most input ≡ Some 0) }
 {
     let mut line = Vec::new(alloc);
-    for _turn in 0..u64::MAX {
-        match take_shown(reader, &mut line, most)? {
-            Shown::More => {}
-            Shown::LineFeed => {
-                drop_carriage_return(&mut line);
-                line.shrink_to_fit();
-                return Ok(Line::Text(line));
-            }
-            Shown::End => {
-                return Ok(if line.is_empty() {
-                    Line::End
-                } else {
-                    Line::Text(line)
-                });
-            }
+    match read_line(reader, &mut line, most)? {
+        Found::Line => {
+            line.shrink_to_fit();
+            Ok(Line::Text(line))
         }
+        Found::End => Ok(Line::End),
     }
-    Err(LineFault::ReadFailed)
 }

@@ -6,10 +6,10 @@ pub returns-in-Some : goal.returns-in-Some
 returns-in-Some c =
     let bs = c.args.shown.now in
     subst (λ o. MatchOption o (length bs ≡ line_length bs) (λ n. n ≡ line_length bs)) c.in-Some.is
-    (found_length bs c.find_line_feed.result c.find_line_feed.ensures)
+    (found_length bs c.memchr.result c.memchr.ensures)
 
 pub returns-in-None : goal.returns-in-None
 returns-in-None c =
     let bs = c.args.shown.now in
     subst (λ o. MatchOption o (length bs ≡ line_length bs) (λ n. n ≡ line_length bs)) c.in-None.is
-    (found_length bs c.find_line_feed.result c.find_line_feed.ensures)
+    (found_length bs c.memchr.result c.memchr.ensures)

@@ -1,4 +1,4 @@
-use Rattle.std.proofs.Common.{◌≡◌, ◌≤◌, ◌<◌, length, arith, subst, sym, ap, ◌∙◌, rules, [], ◌∷◌, ◌++◌}
+use Rattle.std.proofs.Common.{◌≡◌, ◌≤◌, ◌<◌, length, arith, subst, sym, rules, [], ◌∷◌, ◌++◌}
 use Rattle.std.proofs.Common.{List, ℕ}
 use Rattle.std.specs.Io.KnownBytes.{Consumes}
 use Rattle.std.proofs.lemmas.Bool.Decides.{nat_tests}
@@ -36,7 +36,7 @@ returns-in-LineFeed-clause-taken g c =
     c.loop-turn.line.items longer) c.in-LineFeed.is c.in_ok-take_shown.ensures.taken in
     let short : length longer ≤ c.args.most =
     omega (arith, c.in_ok-take_shown.ensures.short, c.take_shown.new.line.ok.0) in
-    let same = sym c.shrink_to_fit.ensures.items in
+    let same = sym {A = List ℕ} c.shrink_to_fit.ensures.items in
     subst (λ (l : List ℕ). Consumes before after (l ++ 10 ∷ []) × HasNoLineFeed l
     × (length l ≤ c.args.most)) same (
       whole_ended c.args.most before _ after _ longer c.loop-turn.invariant taken,
