@@ -61,6 +61,7 @@ pub fn send_text<S: Sink, R: BufRead + Drop, L: Listener + Drop>(
         alloc,
         reader,
         listener,
+        line: Vec::new(alloc),
         scratch: Scratch::new(alloc),
         rules,
         opening,

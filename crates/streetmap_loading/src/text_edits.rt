@@ -13,7 +13,7 @@ use crate::text_fault::TextFault;
 use json::Scratch;
 use std::alloc::Global;
 use std::io::BufRead;
-use streetmap_text_lines::{Line, LineFault, next_line};
+use streetmap_text_lines::{Found, LineFault, read_line};
 
 /// The most bytes of a line, its line feed not counted.
 pub const MAX_LINE: usize = 8_388_608;
@@ -37,7 +37,9 @@ pub struct TextEdits<R: BufRead + Drop, L: Listener + Drop> {
     pub alloc: Global,
     pub reader: R,
     pub listener: L,
-    /// The memory that lines are read with, one after the other.
+    /// The line that was read last: its memory serves one line after the other, and so does that of
+    /// `scratch`.
+    pub line: Vec<u8>,
     pub scratch: Scratch,
     pub rules: FeatureRules,
     pub opening: Option<PlacedEdit>,
@@ -115,20 +117,20 @@ impl<R: BufRead + Drop, L: Listener + Drop> TextEdits<R, L> {
         let Some(place) = self.features.checked_add(1) else {
             return Err(Unread::ReadFailed);
         };
-        let line = match next_line(self.alloc, &mut self.reader, MAX_LINE) {
-            Ok(Line::Text(line)) => line,
-            Ok(Line::End) => return Ok(Step::End),
+        match read_line(&mut self.reader, &mut self.line, MAX_LINE) {
+            Ok(Found::Line) => {}
+            Ok(Found::End) => return Ok(Step::End),
             Err(LineFault::LineTooLong) => {
                 return Err(Unread::AtFault(TextFault::LineTooLong(place)));
             }
             Err(LineFault::ReadFailed) => return Err(Unread::ReadFailed),
             Err(LineFault::Memory) => return Err(Unread::Memory),
-        };
+        }
         self.bytes = self
             .bytes
-            .saturating_add(line.len() as u64)
+            .saturating_add(self.line.len() as u64)
             .saturating_add(1);
-        let text = text_on(place, &line);
+        let text = text_on(place, &self.line);
         if text.is_empty() {
             return Ok(Step::Past);
         }

@@ -1,4 +1,4 @@
-use Rattle.std.proofs.Common.{◌≡◌, ◌≤◌, IsTrue, arith, length, subst, sym}
+use Rattle.std.proofs.Common.{◌≤◌, IsTrue, arith, length, subst, sym}
 use Rattle.streetmap_batch.specs.Names.{is_collection_id}
 use Rattle.streetmap_loading.proofs.MeasureLemmas.{id_length}
 use Rattle.streetmap_loading.proofs.measuring.parts_len.Goals as goal

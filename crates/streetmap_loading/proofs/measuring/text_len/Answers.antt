@@ -1,4 +1,4 @@
-use Rattle.std.proofs.Common.{◌≡◌, ◌∙◌, ◌+◌, ap, sym, arith, length}
+use Rattle.std.proofs.Common.{◌∙◌, ◌+◌, ap, sym, arith, length}
 use Rattle.serde_json.specs.Written.{compact_text}
 use Rattle.streetmap_batch.specs.BatchText.{edit_data}
 use Rattle.streetmap_batch.specs.BatchView.{edit_value}

@@ -1,4 +1,4 @@
-use Rattle.std.proofs.Common.{◌≡◌, ◌≢◌, ℕ, ◌+◌, [], ◌∷◌, Ok, Err, true, false, sym, ap, subst, ◌∙◌}
+use Rattle.std.proofs.Common.{◌≡◌, ℕ, ◌+◌, [], ◌∷◌, Ok, Err, true, false, sym, ap, subst, ◌∙◌}
 use Rattle.streetmap_loading.specs.Sources.{TakesOff, FirstIs, placed_value}
 use Rattle.streetmap_loading.specs.Texts.{text_on, item_of_text, is_skipped, items_left}
 use Rattle.streetmap_loading.specs.TextView.{rules_value}
@@ -21,15 +21,15 @@ returns-in-Ok-clause-steps g c =
     let s = c.args.self.now in
     let r = rules_value s.rules in
     let was = g.R.Read.remaining s.reader in
-    let now = g.R.Read.remaining c.next_line.new.reader in
-    let line = c.in-Ok-Text.line.items in
+    let now = g.R.Read.remaining c.read_line.new.reader in
+    let line = c.read_line.new.line.items in
     let e = c.in-Some.ensures.1 in
     let text = c.text_on-text.result.now in
     let is : text ≡ text_on (s.features + 1) line = c.text_on-text.ensures ∙
     (ap (λ n. text_on n c.deref.result.now) e ∙ ap (λ t. text_on (s.features + 1) t)
     c.deref.ensures.value) in
     let some = some_text text c.is_empty.result c.is_empty.ensures c.if-is_empty.false in
-    let first = rw c.in-Ok-Text.field-0-is at c.in-Ok-Text.ensures.taken in
+    let first = rw c.in-Ok-Line.field-0-is at c.in-Ok-Line.ensures.read in
     let item : item_of_text r (s.features + 1) (text_on (s.features + 1) line) ≡ Ok
     (placed_value c.in-Ok.placed) =
     ap (λ t. item_of_text r (s.features + 1) t) (sym is) ∙
@@ -44,8 +44,8 @@ returns-then-skips-clause-steps g c =
     let s = c.args.self.now in
     let r = rules_value s.rules in
     let was = g.R.Read.remaining s.reader in
-    let now = g.R.Read.remaining c.next_line.new.reader in
-    let line = c.in-Ok-Text.line.items in
+    let now = g.R.Read.remaining c.read_line.new.reader in
+    let line = c.read_line.new.line.items in
     let e = c.in-Some.ensures.1 in
     let text = c.text_on-text.result.now in
     let fault = c.in-Err-AtFault.fault in
@@ -53,7 +53,7 @@ returns-then-skips-clause-steps g c =
     (ap (λ n. text_on n c.deref.result.now) e ∙ ap (λ t. text_on (s.features + 1) t)
     c.deref.ensures.value) in
     let some = some_text text c.is_empty.result c.is_empty.ensures c.if-is_empty.false in
-    let first = rw c.in-Ok-Text.field-0-is at c.in-Ok-Text.ensures.taken in
+    let first = rw c.in-Ok-Line.field-0-is at c.in-Ok-Line.ensures.read in
     let read = rw c.in-Err-AtFault.field-0-is at c.in-Err-AtFault.ensures in
     let item : item_of_text r (s.features + 1) (text_on (s.features + 1) line) ≡ Err fault =
     ap (λ t. item_of_text r (s.features + 1) t) (sym is) ∙
@@ -62,13 +62,13 @@ returns-then-skips-clause-steps g c =
     subst (λ (n : ℕ). TakesOff (items_left r s.features was) (items_left r n now) []) (sym e)
     (one_skipped r s.features was now line fault first (λ none. some (is ∙ none)) item skipped)
 
-pub returns-in-Err-AtFault-clause-steps : goal.returns-in-Err-AtFault-clause-steps
-returns-in-Err-AtFault-clause-steps g c =
+pub returns-else-skips-clause-steps : goal.returns-else-skips-clause-steps
+returns-else-skips-clause-steps g c =
     let s = c.args.self.now in
     let r = rules_value s.rules in
     let was = g.R.Read.remaining s.reader in
-    let now = g.R.Read.remaining c.next_line.new.reader in
-    let line = c.in-Ok-Text.line.items in
+    let now = g.R.Read.remaining c.read_line.new.reader in
+    let line = c.read_line.new.line.items in
     let e = c.in-Some.ensures.1 in
     let text = c.text_on-text.result.now in
     let fault = c.in-Err-AtFault.fault in
@@ -76,7 +76,7 @@ returns-in-Err-AtFault-clause-steps g c =
     (ap (λ n. text_on n c.deref.result.now) e ∙ ap (λ t. text_on (s.features + 1) t)
     c.deref.ensures.value) in
     let some = some_text text c.is_empty.result c.is_empty.ensures c.if-is_empty.false in
-    let first = rw c.in-Ok-Text.field-0-is at c.in-Ok-Text.ensures.taken in
+    let first = rw c.in-Ok-Line.field-0-is at c.in-Ok-Line.ensures.read in
     let read = rw c.in-Err-AtFault.field-0-is at c.in-Err-AtFault.ensures in
     let item : item_of_text r (s.features + 1) (text_on (s.features + 1) line) ≡ Err fault =
     ap (λ t. item_of_text r (s.features + 1) t) (sym is) ∙
