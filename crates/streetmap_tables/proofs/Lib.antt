@@ -38,4 +38,5 @@ pub mod CallsInTransaction
 pub mod Deciding
 pub mod Editing
 pub mod InsertedEdits
+pub mod KnownCollections
 pub mod StoreErrors

@@ -8,9 +8,10 @@ ghost use Rattle.streetmap_batch.specs.BatchValue as edit;
 ghost use Rattle.streetmap_batch.specs.BatchView.{edit_value};
 ghost use Rattle.streetmap_rows.specs.Stands.{LooksIntoRows};
 ghost use Rattle.streetmap_tables.specs.Editing.{Edits, EditsAll};
+ghost use Rattle.streetmap_tables.specs.Inserting.{EditsWhere, IsKnown, KeepsKnown};
 ghost use Rattle.streetmap_rows.specs.Failing.{HasReason};
 
-use crate::inserting::insert_all;
+use crate::inserting::{KnownCollection, insert_all};
 use crate::storing::put_feature;
 use crate::timing::time_property;
 use sqlite::{Alter, Error, Transaction};
@@ -199,16 +200,19 @@ fn edit_in_turn<S: Alter>(
 }
 
 /// Makes edits in order, all by one statement where they can be, up to the first that is refused,
-/// whose place from 1 it tells.
+/// whose place from 1 it tells. What is known of a collection is used, and more may be known after.
 fn edit_run<S: Alter>(
     tx: &mut Transaction<'_, S>,
     alloc: Global,
     edits: &[Edit],
+    known: &mut Option<KnownCollection>,
 ) -> Result<Option<(u64, Refusal)>, Error>
     ensures same_reference { tx.new.conn.ghost_name ≡ tx.old.conn.ghost_name }
     ensures edits { HasCleanDisk (state S.Store tx.new.conn.now)
-        → EditsAll (map edit_value edits.now) (state S.Store tx.old.conn.now)
-        (state S.Store tx.new.conn.now) result }
+        → EditsWhere (IsKnown known.old) (map edit_value edits.now)
+        (state S.Store tx.old.conn.now) (state S.Store tx.new.conn.now) result }
+    ensures knows { HasCleanDisk (state S.Store tx.new.conn.now)
+        → KeepsKnown known.old known.new (state S.Store tx.old.conn.now) result }
     ensures placed { IfOk result
         (λ stopped. IfSome stopped (λ at. at.0 ≤ length edits.now)) }
     ensures reason { HasCleanDisk (state S.Store tx.new.conn.now) →
@@ -216,7 +220,7 @@ fn edit_run<S: Alter>(
     ensures survives { Survives (state S.Store tx.old.conn.now) (state S.Store tx.new.conn.now)
         (λ _. ⊥) }
 {
-    if insert_all(tx, alloc, edits)? {
+    if insert_all(tx, alloc, edits, known)? {
         return Ok(None);
     }
     edit_in_turn(tx, edits)
@@ -239,9 +243,10 @@ pub fn edit_each<S: Alter>(
 {
     let mut done: u64 = 0;
     let mut rest = edits;
+    let mut known = None;
     'runs: while !rest.is_empty() {
         let (run, more) = rest.split_at(rest.len().min(ROWS));
-        if let Some((place, why)) = edit_run(tx, alloc, run)? {
+        if let Some((place, why)) = edit_run(tx, alloc, run, &mut known)? {
             return Ok(Some((done + place, why)));
         }
         done += run.len() as u64;

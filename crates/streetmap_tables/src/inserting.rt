@@ -1,19 +1,17 @@
 //! Insertions into one collection, several by one statement, inside a transaction.
-ghost use Rattle.std.specs.Prelude.{◌≡◌, ◌∷◌, IfErr, IfOk, IfSome, List, Some, length};
+ghost use Rattle.std.specs.Prelude.{◌≡◌, ◌∷◌, IfErr, IfOk, IfSome, IsSomeAnd, List, length, map};
+ghost use Rattle.std.specs.Prelude.{◌↔◌, IsTrue, string_bytes};
 ghost use Rattle.std.specs.Option.{option_copied};
-ghost use Rattle.std.specs.Prelude.{map};
-ghost use Rattle.std.specs.FinMap.{get};
 ghost use Rattle.sqlite.specs.Held.{state};
 ghost use Rattle.sqlite.specs.State.{HasCleanDisk, Survives};
 ghost use Rattle.streetmap_geojson.specs.FeatureValue.{FeatureValue};
 ghost use Rattle.streetmap_batch.specs.BatchValue as edit;
 ghost use Rattle.streetmap_batch.specs.BatchValue.{EditValue};
 ghost use Rattle.streetmap_batch.specs.BatchView.{edit_value};
-ghost use Rattle.streetmap_ledger.specs.State.{State, Collection};
 ghost use Rattle.streetmap_rows.specs.Failing.{HasReason};
-ghost use Rattle.streetmap_rows.specs.Stands.{StandsFor};
 ghost use Rattle.streetmap_tables.specs.Inserting.{IsRowUnder, IsInsertion, AreInsertions};
-ghost use Rattle.streetmap_tables.specs.Inserting.{EditsAllOrNone};
+ghost use Rattle.streetmap_tables.specs.Inserting.{EditsAllOrNone, HasCollection, IsKnown};
+ghost use Rattle.streetmap_tables.specs.Inserting.{KeepsKnown, FindsCollection, ComesToKnow};
 
 use crate::storing::text_of;
 use crate::timing::{seconds_under, time_property};
@@ -22,6 +20,15 @@ use std::alloc::{AllocError, Global};
 use streetmap_feature_text::WrittenFeature;
 use streetmap_ledger::Edit;
 use streetmap_rows::{FeatureRow, ROWS, insert_features};
+
+/// A collection that is there, and its time property.
+#[derive(Drop)]
+pub struct KnownCollection {
+    /// The id of the collection.
+    pub id: String,
+    /// The property that the times of its features are read from, where it has one.
+    pub property: Option<String>,
+}
 
 /// The row of a feature, with the time that the property tells; none where it tells one that cannot
 /// be read.
@@ -87,10 +94,9 @@ fn insert_under<S: Alter>(
     requires { length edits.now ≡ 25 }
     ensures same_reference { tx.new.conn.ghost_name ≡ tx.old.conn.ghost_name }
     ensures edits { HasCleanDisk (state S.Store tx.new.conn.now)
-        → ((s : State) → StandsFor s (state S.Store tx.old.conn.now).now → (c : Collection)
-        × (get s.collections collection.now ≡ Some c) × (c.time ≡ option_copied property.entry))
-        → EditsAllOrNone (map edit_value edits.now) (state S.Store tx.old.conn.now)
-        (state S.Store tx.new.conn.now) result }
+        → EditsAllOrNone (HasCollection collection.now (option_copied property.entry))
+        (map edit_value edits.now) (state S.Store tx.old.conn.now) (state S.Store tx.new.conn.now)
+        result }
     ensures reason { HasCleanDisk (state S.Store tx.new.conn.now) →
         IfErr result (HasReason (state S.Store tx.old.conn.now) (state S.Store tx.new.conn.now)) }
     ensures survives { Survives (state S.Store tx.old.conn.now) (state S.Store tx.new.conn.now)
@@ -116,22 +122,86 @@ fn first_collection(edits: &[Edit]) -> Option<&str>
     }
 }
 
+/// Whether this collection is the one that is known.
+fn is_known(known: &Option<KnownCollection>, collection: &str) -> bool
+    ensures { IsTrue result ↔ IsSomeAnd known.now (λ it. string_bytes it.id ≡ collection.now) }
+{
+    match known {
+        Some(it) => it.id.as_str() == collection,
+        None => false,
+    }
+}
+
+/// The collection with its time property, as the database has it; none where it is not there.
+fn find_collection<S: Alter>(
+    tx: &mut Transaction<'_, S>,
+    alloc: Global,
+    collection: &str,
+) -> Result<Option<KnownCollection>, Error>
+    ensures same_reference { tx.new.conn.ghost_name ≡ tx.old.conn.ghost_name }
+    ensures finds { HasCleanDisk (state S.Store tx.new.conn.now)
+        → FindsCollection collection.now (state S.Store tx.old.conn.now)
+        (state S.Store tx.new.conn.now) result }
+    ensures reason { HasCleanDisk (state S.Store tx.new.conn.now) →
+        IfErr result (HasReason (state S.Store tx.old.conn.now) (state S.Store tx.new.conn.now)) }
+    ensures survives { Survives (state S.Store tx.old.conn.now) (state S.Store tx.new.conn.now)
+        (λ _. ⊥) }
+{
+    let Some(property) = time_property(tx, collection)? else {
+        return Ok(None);
+    };
+    let Ok(id) = String::from_str(alloc, collection) else {
+        return Err(Error::SqliteFailure(ErrorCode::OutOfMemory));
+    };
+    Ok(Some(KnownCollection { id, property }))
+}
+
+/// Comes to know the collection, where it is there. The database is asked only where another one
+/// is known, or none.
+fn come_to_know<S: Alter>(
+    tx: &mut Transaction<'_, S>,
+    alloc: Global,
+    collection: &str,
+    known: &mut Option<KnownCollection>,
+) -> Result<(), Error>
+    ensures same_reference { tx.new.conn.ghost_name ≡ tx.old.conn.ghost_name }
+    ensures knows { HasCleanDisk (state S.Store tx.new.conn.now)
+        → ComesToKnow collection.now known.old known.new (state S.Store tx.old.conn.now)
+        (state S.Store tx.new.conn.now) result }
+    ensures reason { HasCleanDisk (state S.Store tx.new.conn.now) →
+        IfErr result (HasReason (state S.Store tx.old.conn.now) (state S.Store tx.new.conn.now)) }
+    ensures survives { Survives (state S.Store tx.old.conn.now) (state S.Store tx.new.conn.now)
+        (λ _. ⊥) }
+{
+    if is_known(known, collection) {
+        return Ok(());
+    }
+    *known = find_collection(tx, alloc, collection)?;
+    Ok(())
+}
+
 /// Makes [`ROWS`] edits by one statement, where each inserts a feature into one collection; returns
 /// whether it did. It does not where another number of edits or another edit is given, or where one
 /// of them is refused: then nothing has changed, and they are to be made in turn.
 ///
+/// The time property of the collection is asked for only where it is not known from edits before;
+/// it is known to those after, since no edit changes it.
+///
 /// # Errors
 ///
-/// The error of the store.
+/// The error of the store, or that memory was refused.
 pub fn insert_all<S: Alter>(
     tx: &mut Transaction<'_, S>,
     alloc: Global,
     edits: &[Edit],
+    known: &mut Option<KnownCollection>,
 ) -> Result<bool, Error>
     ensures same_reference { tx.new.conn.ghost_name ≡ tx.old.conn.ghost_name }
     ensures edits { HasCleanDisk (state S.Store tx.new.conn.now)
-        → EditsAllOrNone (map edit_value edits.now) (state S.Store tx.old.conn.now)
-        (state S.Store tx.new.conn.now) result }
+        → EditsAllOrNone (IsKnown known.old) (map edit_value edits.now)
+        (state S.Store tx.old.conn.now) (state S.Store tx.new.conn.now) result }
+    ensures knows { HasCleanDisk (state S.Store tx.new.conn.now)
+        → KeepsKnown known.old known.new (state S.Store tx.old.conn.now) result }
     ensures reason { HasCleanDisk (state S.Store tx.new.conn.now) →
         IfErr result (HasReason (state S.Store tx.old.conn.now) (state S.Store tx.new.conn.now)) }
     ensures survives { Survives (state S.Store tx.old.conn.now) (state S.Store tx.new.conn.now)
@@ -143,8 +213,9 @@ pub fn insert_all<S: Alter>(
     let Some(collection) = first_collection(edits) else {
         return Ok(false);
     };
-    let Some(property) = time_property(tx, collection)? else {
-        return Ok(false);
-    };
-    insert_under(tx, alloc, collection, property.as_deref(), edits)
+    come_to_know(tx, alloc, collection, known)?;
+    match known {
+        Some(it) => insert_under(tx, alloc, collection, it.property.as_deref(), edits),
+        None => Ok(false),
+    }
 }

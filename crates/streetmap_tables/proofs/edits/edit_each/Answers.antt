@@ -9,6 +9,7 @@ use Rattle.streetmap_tables.specs.Editing.{AnsweredAll}
 use Rattle.streetmap_rows.proofs.ResultCases.{handed_on}
 use Rattle.streetmap_tables.proofs.Editing.{edited_parts, edited_refused, none_left}
 use Rattle.streetmap_tables.proofs.CallsInTransaction.{same_all, keeps_then, rest_then}
+use Rattle.streetmap_tables.proofs.KnownCollections.{still_known}
 use Rattle.streetmap_tables.proofs.edits.edit_each.Goals as goal
 
 pub runs-init : goal.runs-init
@@ -16,7 +17,7 @@ runs-init g c = (
   refl,
   record { clean = omega arith; shield = λ x. x; counts = omega arith; limit = refl; closes = λ _ o. inl o; crash = λ _ db m. inl m },
   omega arith,
-  λ clean limit inside s stands. (s, refl, stands, inside, (record { was_open = λ o. o; committed = λ _. refl }, same_all (state g.S.Store c.args.tx.now.conn.now).now _ refl)),
+  λ clean limit inside s stands. (s, refl, stands, inside, (record { was_open = λ o. o; committed = λ _. refl }, same_all (state g.S.Store c.args.tx.now.conn.now).now _ refl), tt),
 )
 
 pub returns-in_err-place-clause-edits : goal.returns-in_err-place-clause-edits
@@ -24,7 +25,7 @@ returns-in_err-place-clause-edits g c clean limit inside s stands =
     let inv = c.runs.invariant in
     let early : HasCleanDisk (state g.S.Store c.runs.tx.conn.now) = omega (arith, clean, c.edit_run.ensures.survives.clean) in
     let r = inv.3 early limit inside s stands in
-    let e = c.in_err-place.ensures.edits clean (inv.1.limit ∙ limit) r.3 r.0 r.2 in
+    let e = c.in_err-place.ensures.edits clean (inv.1.limit ∙ limit) r.3 r.0 r.2 r.5 in
     handed_on _ _ _ _ c.from_residual.ensures.1 (e.0, keeps_then (state g.S.Store c.args.tx.now.conn.now) (state g.S.Store c.runs.tx.conn.now) (state g.S.Store c.edit_run.new.tx.conn.now) r.4.0 e.1)
 
 pub overflow_add-result : goal.overflow_add-result
@@ -41,7 +42,7 @@ returns-in-Some-clause-edits g c clean limit inside s stands =
     let new = state g.S.Store c.edit_run.new.tx.conn.now in
     let early : HasCleanDisk mid = omega (arith, clean, c.edit_run.ensures.survives.clean) in
     let r = inv.3 early limit inside s stands in
-    let e = c.in_ok-place.ensures.edits clean (inv.1.limit ∙ limit) r.3 r.0 r.2 in
+    let e = c.in_ok-place.ensures.edits clean (inv.1.limit ∙ limit) r.3 r.0 r.2 r.5 in
     let stopped = subst (AnsweredAll r.0 (map edit_value run) new) c.in-Some.is e.0 in (
       r.1 ∙ ap (λ es. edited (c.runs.done + 1) r.0 es) (ap (map edit_value) c.split_at.ensures.by_index.0 ∙ map-append edit_value run more)
           ∙ edited_refused (map edit_value run) (map edit_value more) c.runs.done 1 c.in-Some.place r.0 c.in-Some.why stopped,
@@ -62,7 +63,7 @@ runs-preserved g c =
       λ clean limit inside s stands.
           let early : HasCleanDisk mid = omega (arith, clean, c.edit_run.ensures.survives.clean) in
           let r = inv.3 early limit inside s stands in
-          let e = c.in_ok-place.ensures.edits clean (inv.1.limit ∙ limit) r.3 r.0 r.2 in
+          let e = c.in_ok-place.ensures.edits clean (inv.1.limit ∙ limit) r.3 r.0 r.2 r.5 in
           let did = subst (AnsweredAll r.0 (map edit_value run) new) c.in_default.is e.0 in
           let count : length (map edit_value run) ≡ length run = length-map run edit_value in (
             did.0,
@@ -71,6 +72,7 @@ runs-preserved g c =
             did.2,
             did.3,
             rest_then old mid new r.4 e.1,
+            still_known c.edit_run.new.known (map edit_value run) 1 r.0 did.0 did.1 (c.in_ok-place.ensures.knows clean (inv.1.limit ∙ limit) r.3 r.0 r.2 r.5),
           ),
     )
 
