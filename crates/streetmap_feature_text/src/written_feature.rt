@@ -12,12 +12,18 @@ use streetmap_geojson::Feature;
 /// The room that the text of a feature begins with, in bytes.
 const TEXT_ROOM: usize = 256;
 
-/// A feature and its compact text, which is made once and may be written often. Clauses see it as a
-/// `FeatureValue`.
+/// A feature and its compact text.
 #[derive(Drop)]
-pub struct WrittenFeature {
+struct Written {
     feature: Feature,
     text: String,
+}
+
+/// A feature and its compact text, which is made once and may be written often. Both have memory of
+/// their own, so that it is handed on at no cost. Clauses see it as a `FeatureValue`.
+#[derive(Drop)]
+pub struct WrittenFeature {
+    kept: Box<Written>,
 }
 
 impl Model for WrittenFeature {
@@ -31,46 +37,52 @@ impl Model for WrittenFeature {
 
     ghost coded = { coded_feature };
 
-    ghost view = { λ w. w.feature };
+    ghost view = { λ w. w.kept.value.feature };
 
-    ghost invariant = { λ w. string_bytes w.text ≡ compact_text (feature_data w.feature) };
+    ghost invariant = { λ w.
+        string_bytes w.kept.value.text ≡ compact_text (feature_data w.kept.value.feature) };
 }
 
 impl WrittenFeature {
     /// A feature, with its text.
+    ///
+    /// # Errors
+    ///
+    /// `AllocError` where memory was refused.
     pub fn new(alloc: Global, feature: Feature) -> Result<WrittenFeature, AllocError>
         ensures { IfOk result (λ w. w ≡ feature) }
     {
         let mut text = String::with_capacity(alloc, TEXT_ROOM)?;
         push_feature(alloc, &mut text, &feature)?;
-        Ok(WrittenFeature { feature, text })
+        let kept = Box::new(alloc, Written { feature, text })?;
+        Ok(WrittenFeature { kept })
     }
 
     /// The feature.
     pub fn feature(&self) -> &Feature
         ensures { result.now ≡ self.now }
     {
-        &self.feature
+        &self.kept.feature
     }
 
     /// The id, 1 to 128 bytes.
     pub fn id(&self) -> &str
         ensures { result.now ≡ self.now.id }
     {
-        self.feature.id()
+        self.kept.feature.id()
     }
 
     /// What is true of every feature.
     pub fn facts(&self)
         ensures { IsFeature self.now }
     {
-        self.feature.facts();
+        self.kept.feature.facts();
     }
 
     /// The compact text of the feature, without its time.
     pub fn text(&self) -> &str
         ensures { result.now ≡ compact_text (feature_data self.now) }
     {
-        self.text.as_str()
+        self.kept.text.as_str()
     }
 }
