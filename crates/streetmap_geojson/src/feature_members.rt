@@ -97,6 +97,10 @@ fn read_flat(
 
 /// The feature that the object with these members is, as [`crate::read_feature`] reads it. Nothing
 /// is copied.
+///
+/// # Errors
+///
+/// The fault of [`crate::read_feature`]. `Memory` where memory was refused.
 pub fn read_members(
     alloc: Global,
     members: FeatureMembers,
