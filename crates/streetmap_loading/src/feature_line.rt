@@ -166,14 +166,14 @@ fn place_edit(
 }
 
 /// What stands for a feature at fault.
-fn at_fault(place: u64, fault: Fault) -> Unread
+fn feature_at_fault(place: u64, fault: Fault) -> Unread
     ensures { result ≡ AtFault (BadFeature place (causes.Read fault)) }
 {
     Unread::AtFault(TextFault::BadFeature(place, FeatureFault::Read(fault)))
 }
 
 /// The edit of a feature at a place in the text, where its time can be read.
-fn hold_edit(
+fn edit_where_timely(
     alloc: Global,
     rules: &FeatureRules,
     place: u64,
@@ -184,7 +184,7 @@ fn hold_edit(
 {
     match test_time(&feature, rules.skip.as_ref()) {
         Ok(()) => place_edit(alloc, rules, place, feature),
-        Err(fault) => Err(at_fault(place, fault)),
+        Err(fault) => Err(feature_at_fault(place, fault)),
     }
 }
 
@@ -202,9 +202,9 @@ fn read_edit_of(
     }
     let value = with_place(alloc, value, place)?;
     match read_feature(alloc, &value, None) {
-        Ok(feature) => hold_edit(alloc, rules, place, feature),
+        Ok(feature) => edit_where_timely(alloc, rules, place, feature),
         Err(JsonFault::Memory) => Err(Unread::Memory),
-        Err(JsonFault::Fault(fault)) => Err(at_fault(place, fault)),
+        Err(JsonFault::Fault(fault)) => Err(feature_at_fault(place, fault)),
     }
 }
 
@@ -263,7 +263,7 @@ pub(crate) fn read_edit(
     ensures { IsItem (item_of_text (rules_value rules.now) place text.now) result }
 {
     match usual_feature(alloc, scratch, rules, text)? {
-        Some(feature) => hold_edit(alloc, rules, place, feature),
+        Some(feature) => edit_where_timely(alloc, rules, place, feature),
         None => read_edit_by_value(alloc, scratch, rules, place, text),
     }
 }

@@ -9,8 +9,9 @@
 //! writes the batches in place of applying them.
 //!
 //! Modules, in the order of reading: `feature_fault`, `text_fault`, `source`, `sink`, `end`,
-//! `sending`, `whole`; `rules`, `listener`, `measuring`, `feature_line`, `text_edits`; `load_fault`, `load`,
-//! `opening`; `keeper_sink`, `loading`, `asking`, `checking`, `line_sink`, `printing`, `laws`.
+//! `sending`, `whole`; `rules`, `listener`, `measuring`, `feature_line`, `text_edits`;
+//! `load_fault`, `load`, `opening`; `keeper_sink`, `loading`, `asking`, `checking`, `line_sink`,
+//! `printing`, `laws`.
 #![tactic(auto)]
 
 mod asking;

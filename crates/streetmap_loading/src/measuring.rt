@@ -19,7 +19,8 @@ const REPLACEMENT: &str = "{\"collection\":\"\",\"feature\":,\"op\":\"replace\"}
 /// How many bytes the collection and the feature take in the text of an edit. The id of a
 /// collection has no byte that is escaped.
 fn parts_len(collection: &CollectionId, feature: &WrittenFeature) -> usize
-    ensures sum { result ≡ length collection.now + length (compact_text (feature_data feature.now)) }
+    ensures sum { result ≡ length collection.now
+        + length (compact_text (feature_data feature.now)) }
     ensures named { IsTrue (is_collection_id collection.now) }
     ensures room { result + 64 < 2 ^ 64 }
 {

@@ -37,9 +37,9 @@ pub struct TextEdits<R: BufRead + Drop, L: Listener + Drop> {
     pub alloc: Global,
     pub reader: R,
     pub listener: L,
-    /// The line that was read last: its memory serves one line after the other, and so does that of
-    /// `scratch`.
+    /// The line that was read last. Its memory serves one line after the other.
     pub line: Vec<u8>,
+    /// What a line's tokens are found in. Its memory serves one line after the other.
     pub scratch: Scratch,
     pub rules: FeatureRules,
     pub opening: Option<PlacedEdit>,
