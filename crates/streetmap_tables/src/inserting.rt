@@ -72,7 +72,7 @@ fn rows_of<'a>(
         AreInsertions collection.now (option_copied property.entry)
         (map edit_value edits.now) rows.items)) }
 {
-    let mut rows = Vec::new(alloc);
+    let mut rows = Vec::with_capacity(alloc, edits.len())?;
     'edits: for edit in edits {
         match row_of(collection, property, edit) {
             Some(row) => rows.push(row)?,
