@@ -22,7 +22,7 @@ from tables import PLAIN_TABLES, lamp
 
 Word = str | Path
 FEATURES, MANY, EACH = 100_000, 1_000_000, 1_000
-LOAD_TURNS = 5
+LOAD_TURNS, LONG_TURNS = 5, 3
 # Opening a file takes longer than its texts, so each is timed so often.
 TURNS = 9
 OPENING = open_collection("lamps")
@@ -223,4 +223,4 @@ def run(program: Path, folder: Path) -> None:
 
 def run_slow(program: Path, folder: Path) -> None:
     run(program, folder)
-    load(program, folder, MANY, 1)
+    load(program, folder, MANY, LONG_TURNS)
