@@ -7,14 +7,15 @@
 //! `PackedFeature` is a feature kept as its text, and an `Outline` what is known of a feature
 //! without reading it: its extent and its time.
 //!
-//! Modules, in the order of reading: `value_writing`, `quoting`, `text_writing`,
-//! `written_feature`, `packed_interval`, `outline`, `packed`, `laws`.
+//! Modules, in the order of reading: `value_writing`, `quoting`, `properties_writing`,
+//! `text_writing`, `written_feature`, `packed_interval`, `outline`, `packed`, `laws`.
 #![tactic(auto)]
 
 pub mod laws;
 mod outline;
 mod packed;
 mod packed_interval;
+mod properties_writing;
 mod quoting;
 mod text_writing;
 mod value_writing;

@@ -15,6 +15,7 @@ ghost use Rattle.streetmap_feature_text.specs.Written.{polygon_data, array_of, s
 ghost use Rattle.streetmap_feature_text.specs.Written.{geometry_data, geometry_member};
 ghost use Rattle.streetmap_feature_text.specs.Written.{feature_data, collection_data};
 
+use crate::properties_writing::push_properties;
 use crate::quoting::push_quoted;
 use crate::value_writing::kind_name;
 use serde_json::Value;
@@ -32,7 +33,7 @@ pub fn push_comma(out: &mut String, later: bool) -> Result<(), AllocError>
 }
 
 /// Appends a whole number in decimal digits.
-fn push_number(out: &mut String, number: i64) -> Result<(), AllocError>
+pub(crate) fn push_number(out: &mut String, number: i64) -> Result<(), AllocError>
     ensures { OnOk result (string_bytes out.new
         ≡ string_bytes out.old ++ compact_text (number_data number)) }
 {
@@ -195,16 +196,6 @@ fn push_geometry(out: &mut String, geometry: Option<&Geometry>) -> Result<(), Al
         Some(Geometry::Simple(simple)) => push_simple(out, simple),
         Some(Geometry::Collection(members)) => push_collection(out, members.items()),
     }
-}
-
-/// Appends the properties.
-fn push_properties(alloc: Global, out: &mut String, feature: &Feature) -> Result<(), AllocError>
-    ensures { OnOk result (string_bytes out.new
-        ≡ string_bytes out.old ++ compact_text (feature_value feature.now).properties) }
-{
-    feature.facts();
-    let text = feature.properties().to_string(alloc)?;
-    out.push_str(text.as_str())
 }
 
 /// Appends the compact JSON text of a feature, as `write_feature` writes its value: without its
