@@ -38,6 +38,10 @@ def lamp(name: str, x: int, y: int) -> Edit:
     return feature(name, point(x, y), {"when": "2024-05-01"})
 
 
+# None of its properties may be a time, so it is read again where its time is asked for.
+POLE = feature("P1", point(6, 6), {"kind": "pole"})
+
+
 FIRST = batch(
     "first",
     [
@@ -51,6 +55,7 @@ SECOND = batch(
         delete("lamps", "L0"),
         put("replace", "lamps", lamp("L1", 7, 7)),
         put("insert", "lamps", lamp("L9", 8, 8)),
+        put("insert", "lamps", POLE),
     ],
 )
 PAGE = get("/collections/lamps/items?bbox=0,0,9,9&datetime=2024-05-01T12:00:00Z")

@@ -6,3 +6,4 @@ pub mod WrittenFeatures
 pub mod WrittenCollections
 pub mod WrittenParts
 pub mod PackedFacts
+pub mod KeptFacts

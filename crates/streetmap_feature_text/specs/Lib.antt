@@ -3,4 +3,5 @@ pub mod Plain
 pub mod Ends
 pub mod PackedIntervalView
 pub mod Packed
+pub mod WrittenFeatures
 pub mod Outlines

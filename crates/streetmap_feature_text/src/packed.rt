@@ -14,6 +14,7 @@ ghost use Rattle.streetmap_feature_text.specs.Packed.{feature_in_text, IsPartOf}
 
 use crate::outline::Outline;
 use crate::packed_interval::PackedInterval;
+use crate::written_feature::WrittenFeature;
 use bytes::Bytes;
 use json::Scratch;
 use memchr::memmem;
@@ -86,7 +87,7 @@ fn id_in(text: &[u8], id: &[u8]) -> Option<Part>
 }
 
 /// The feature of a JSON text, without a time.
-fn read_text(alloc: Global, text: &[u8]) -> Result<Feature, JsonFault>
+pub(crate) fn read_text(alloc: Global, text: &[u8]) -> Result<Feature, JsonFault>
     ensures { Gives feature_value result (feature_in_text text.now) }
 {
     read_feature_text(alloc, &mut Scratch::new(alloc), text, None)
@@ -98,7 +99,7 @@ impl PackedFeature {
     pub fn new(
         alloc: Global,
         text: Bytes,
-        feature: &Feature,
+        feature: &WrittenFeature,
         time: Option<Interval>,
     ) -> Result<PackedFeature, AllocError>
         requires { text ≡ compact_text (feature_data feature.now) }

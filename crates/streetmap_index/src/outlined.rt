@@ -11,7 +11,7 @@ ghost use Rattle.streetmap_index.specs.Index.{IsOutlined, IsOutlinedIf, collecti
 
 use std::alloc::{AllocError, Global};
 use streetmap_batch::Edit;
-use streetmap_geojson::Feature;
+use streetmap_feature_text::WrittenFeature;
 use streetmap_ledger::FeatureOutline;
 use streetmap_moment::Interval;
 use streetmap_outlines::{Chunks, KeptOutline};
@@ -28,7 +28,7 @@ pub struct OutlinedCollection {
 /// The outline of a feature that has this time.
 fn outline_of(
     alloc: Global,
-    feature: &Feature,
+    feature: &WrittenFeature,
     time: Option<Interval>,
 ) -> Result<KeptOutline, AllocError>
     ensures { IfOk result (λ outline.
@@ -40,12 +40,12 @@ fn outline_of(
 
 impl OutlinedCollection {
     /// Puts the outline of a feature in, with the time that the collection's property tells.
-    fn put(&mut self, alloc: Global, feature: &Feature) -> Result<(), AllocError>
+    fn put(&mut self, alloc: Global, feature: &WrittenFeature) -> Result<(), AllocError>
         ensures { (c : Collection) (g : FeatureValue) → IsOutlined self.old c
             → timed c.time feature.now ≡ Ok g
             → OnOk result (IsOutlined self.new (record c { features = insert c.features g.id g })) }
     {
-        match feature.time_under(self.time.as_deref()) {
+        match feature.time_under(alloc, self.time.as_deref())? {
             Ok(time) => self.outlines.put(alloc, outline_of(alloc, feature, time)?),
             Err(_) => Ok(()),
         }
@@ -61,8 +61,8 @@ impl OutlinedCollection {
     {
         match edit {
             Edit::Open { .. } => Ok(()),
-            Edit::Insert { feature, .. } => self.put(alloc, feature.feature()),
-            Edit::Replace { feature, .. } => self.put(alloc, feature.feature()),
+            Edit::Insert { feature, .. } => self.put(alloc, feature),
+            Edit::Replace { feature, .. } => self.put(alloc, feature),
             Edit::Delete { id, .. } => {
                 self.outlines.cut(id.as_str());
                 Ok(())

@@ -30,7 +30,7 @@ use bytes::Bytes;
 use std::alloc::{AllocError, Global};
 use std::collections::BTreeMap;
 use std::marker::Model;
-use streetmap_feature_text::PackedFeature;
+use streetmap_feature_text::{PackedFeature, WrittenFeature};
 use streetmap_geojson::Feature;
 use streetmap_grid::GridBox;
 use streetmap_ledger::{FeatureOutline, Page, PageFold, Summary};
@@ -99,13 +99,13 @@ impl PlainCollection {
         &self,
         alloc: Global,
         text: Bytes,
-        feature: &Feature,
+        feature: &WrittenFeature,
     ) -> Result<Option<PackedFeature>, AllocError>
         requires { text ≡ compact_text (feature_data feature.now) }
         ensures { IfOk result (λ packed. packed
             ≡ result_ok (timed_by self.now.time feature.now)) }
     {
-        match feature.time_under(self.time()) {
+        match feature.time_under(alloc, self.time())? {
             Ok(time) => Ok(Some(PackedFeature::new(alloc, text, feature, time)?)),
             Err(_) => Ok(None),
         }

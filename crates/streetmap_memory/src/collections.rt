@@ -18,8 +18,7 @@ use crate::undo::Undo;
 use bytes::Bytes;
 use std::alloc::{AllocError, Global};
 use std::collections::BTreeMap;
-use streetmap_feature_text::PackedFeature;
-use streetmap_geojson::Feature;
+use streetmap_feature_text::{PackedFeature, WrittenFeature};
 use streetmap_ledger::Summary;
 
 /// Takes a slot out of a collection.
@@ -56,7 +55,7 @@ pub fn packed(
     collections: &BTreeMap<String, PlainCollection>,
     name: &str,
     text: Bytes,
-    feature: &Feature,
+    feature: &WrittenFeature,
 ) -> Result<Option<PackedFeature>, AllocError>
     requires { text ≡ compact_text (feature_data feature.now) }
     ensures { IfOk result (λ packed. packed

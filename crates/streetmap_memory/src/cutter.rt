@@ -6,8 +6,7 @@ ghost use Rattle.streetmap_feature_text.specs.Written.{feature_data};
 use bytes::Bytes;
 use memchr::memmem;
 use std::alloc::{AllocError, Global};
-use streetmap_feature_text::push_feature;
-use streetmap_geojson::Feature;
+use streetmap_feature_text::WrittenFeature;
 
 /// The text of a batch, from which the texts of its features are cut in their order. What is cut
 /// shares the memory of the whole.
@@ -44,14 +43,13 @@ impl<'a> Cutter<'a> {
 
     /// The compact text of a feature: a part of the whole where it stands there, else one of its
     /// own.
-    pub fn cut(&mut self, alloc: Global, feature: &Feature) -> Result<Bytes, AllocError>
+    pub fn cut(&mut self, alloc: Global, feature: &WrittenFeature) -> Result<Bytes, AllocError>
         ensures { IfOk result (λ text. text ≡ compact_text (feature_data feature.now)) }
     {
-        let mut text = String::new(alloc);
-        push_feature(alloc, &mut text, feature)?;
+        let text = feature.text();
         match self.find(text.as_bytes()) {
             Some((at, end)) => self.whole.slice(at..end),
-            None => Bytes::from_string(text),
+            None => Bytes::copy_from_slice(alloc, text.as_bytes()),
         }
     }
 }

@@ -16,7 +16,7 @@ use bytes::Bytes;
 use std::alloc::{AllocError, Global};
 use std::collections::BTreeMap;
 use streetmap_batch::{Edit, TimeProperty};
-use streetmap_geojson::Feature;
+use streetmap_feature_text::WrittenFeature;
 use streetmap_ledger::Refusal;
 
 /// Whether a feature and its collection are there.
@@ -65,7 +65,7 @@ fn act_insert<'a>(
     alloc: Global,
     collections: &mut BTreeMap<String, PlainCollection>,
     name: &'a str,
-    feature: &'a Feature,
+    feature: &'a WrittenFeature,
     cutter: &mut Cutter<'_>,
 ) -> Result<Acted<'a>, AllocError>
     ensures done { IfOk result (λ acted.
@@ -94,7 +94,7 @@ fn act_replace<'a>(
     alloc: Global,
     collections: &mut BTreeMap<String, PlainCollection>,
     name: &'a str,
-    feature: &'a Feature,
+    feature: &'a WrittenFeature,
     cutter: &mut Cutter<'_>,
 ) -> Result<Acted<'a>, AllocError>
     ensures done { IfOk result (λ acted.
@@ -173,23 +173,11 @@ fn act<'a>(
         Edit::Insert {
             collection,
             feature,
-        } => act_insert(
-            alloc,
-            collections,
-            collection.as_str(),
-            feature.feature(),
-            cutter,
-        ),
+        } => act_insert(alloc, collections, collection.as_str(), feature, cutter),
         Edit::Replace {
             collection,
             feature,
-        } => act_replace(
-            alloc,
-            collections,
-            collection.as_str(),
-            feature.feature(),
-            cutter,
-        ),
+        } => act_replace(alloc, collections, collection.as_str(), feature, cutter),
         Edit::Delete { collection, id } => Ok(act_delete(
             collections,
             collection.as_str(),

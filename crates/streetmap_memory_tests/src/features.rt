@@ -2,7 +2,7 @@
 use bytes::Bytes;
 use std::alloc::Global;
 use std::test::Fail;
-use streetmap_feature_text::{PackedFeature, push_feature};
+use streetmap_feature_text::{PackedFeature, WrittenFeature};
 use streetmap_geojson::{Feature, JsonFault, read_feature, read_json};
 
 /// The feature that a JSON text reads as, with the time of its property `when`.
@@ -29,10 +29,9 @@ const IDS: &[(&str, Option<&str>)] = &[
 
 /// The feature packed as its text.
 fn packed(alloc: Global, feature: &Feature) -> Result<PackedFeature, Fail> {
-    let mut text = String::new(alloc);
-    push_feature(alloc, &mut text, feature)?;
-    let time = feature.time();
-    Ok(PackedFeature::new(alloc, Bytes::from_string(text)?, feature, time)?)
+    let written = WrittenFeature::new(alloc, feature.copy(alloc)?)?;
+    let text = Bytes::copy_from_slice(alloc, written.text().as_bytes())?;
+    Ok(PackedFeature::new(alloc, text, &written, feature.time())?)
 }
 
 /// Whether this is known of a feature's id, unread.

@@ -62,6 +62,7 @@ fn open_in<S: Alter>(
 /// Inserts a feature, or tells why not.
 fn insert_in<S: Alter>(
     tx: &mut Transaction<'_, S>,
+    alloc: Global,
     collection: &str,
     feature: &WrittenFeature,
 ) -> Result<Option<Refusal>, Error>
@@ -80,12 +81,13 @@ fn insert_in<S: Alter>(
     if has_feature(tx, collection, feature.id())? {
         return Ok(Some(Refusal::FeatureExists));
     }
-    put_feature(tx, collection, property.as_deref(), feature)
+    put_feature(tx, alloc, collection, property.as_deref(), feature)
 }
 
 /// Replaces a feature by another with its id, or tells why not.
 fn replace_in<S: Alter>(
     tx: &mut Transaction<'_, S>,
+    alloc: Global,
     collection: &str,
     feature: &WrittenFeature,
 ) -> Result<Option<Refusal>, Error>
@@ -105,7 +107,7 @@ fn replace_in<S: Alter>(
         return Ok(Some(Refusal::NoFeature));
     }
     delete_feature(tx, collection, feature.id())?;
-    put_feature(tx, collection, property.as_deref(), feature)
+    put_feature(tx, alloc, collection, property.as_deref(), feature)
 }
 
 /// Deletes a feature, or tells why not.
@@ -145,7 +147,11 @@ fn name_of(time: &Option<TimeProperty>) -> Option<&str>
 }
 
 /// Makes an edit, or tells why not.
-fn edit_in<S: Alter>(tx: &mut Transaction<'_, S>, edit: &Edit) -> Result<Option<Refusal>, Error>
+fn edit_in<S: Alter>(
+    tx: &mut Transaction<'_, S>,
+    alloc: Global,
+    edit: &Edit,
+) -> Result<Option<Refusal>, Error>
     ensures same_reference { tx.new.conn.ghost_name ≡ tx.old.conn.ghost_name }
     ensures edits { HasCleanDisk (state S.Store tx.new.conn.now)
         → Edits (edit_value edit.now) (state S.Store tx.old.conn.now)
@@ -164,11 +170,11 @@ fn edit_in<S: Alter>(tx: &mut Transaction<'_, S>, edit: &Edit) -> Result<Option<
         Edit::Insert {
             collection,
             feature,
-        } => insert_in(tx, collection.as_str(), feature),
+        } => insert_in(tx, alloc, collection.as_str(), feature),
         Edit::Replace {
             collection,
             feature,
-        } => replace_in(tx, collection.as_str(), feature),
+        } => replace_in(tx, alloc, collection.as_str(), feature),
         Edit::Delete { collection, id } => delete_in(tx, collection.as_str(), id.as_str()),
     }
 }
@@ -176,6 +182,7 @@ fn edit_in<S: Alter>(tx: &mut Transaction<'_, S>, edit: &Edit) -> Result<Option<
 /// Makes edits one after the other, up to the first that is refused, whose place from 1 it tells.
 fn edit_in_turn<S: Alter>(
     tx: &mut Transaction<'_, S>,
+    alloc: Global,
     edits: &[Edit],
 ) -> Result<Option<(u64, Refusal)>, Error>
     ensures same_reference { tx.new.conn.ghost_name ≡ tx.old.conn.ghost_name }
@@ -191,7 +198,7 @@ fn edit_in_turn<S: Alter>(
 {
     let mut place: u64 = 1;
     'edits: for edit in edits {
-        if let Some(why) = edit_in(tx, edit)? {
+        if let Some(why) = edit_in(tx, alloc, edit)? {
             return Ok(Some((place, why)));
         }
         place += 1;
@@ -223,7 +230,7 @@ fn edit_run<S: Alter>(
     if insert_all(tx, alloc, edits, known)? {
         return Ok(None);
     }
-    edit_in_turn(tx, edits)
+    edit_in_turn(tx, alloc, edits)
 }
 
 /// Makes edits in order, up to the first that is refused, whose place from 1 it tells.

@@ -190,7 +190,7 @@ fn put_row<S: Alter>(tx: &mut Transaction<'_, S>, alloc: Global, row: &Row) -> R
     let collection = collection_in(row)?;
     let time = find_time(tx, collection.as_str())?;
     let feature = feature_in(alloc, row, time.as_deref())?;
-    match put_feature(tx, collection.as_str(), time.as_deref(), &feature) {
+    match put_feature(tx, alloc, collection.as_str(), time.as_deref(), &feature) {
         Ok(None) => Ok(()),
         Ok(Some(_)) => Err(ReadFault::Unread),
         Err(error) => Err(fault_of(error)),

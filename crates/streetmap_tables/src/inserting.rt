@@ -32,32 +32,41 @@ pub struct KnownCollection {
 
 /// The row of a feature, with the time that the property tells; none where it tells one that cannot
 /// be read.
-fn row_under<'a>(property: Option<&str>, feature: &'a WrittenFeature) -> Option<FeatureRow<'a>>
-    ensures { IfSome result (IsRowUnder (option_copied property.entry) feature.now) }
+fn row_under<'a>(
+    alloc: Global,
+    property: Option<&str>,
+    feature: &'a WrittenFeature,
+) -> Result<Option<FeatureRow<'a>>, AllocError>
+    ensures { IfOk result (λ found. IfSome found
+        (IsRowUnder (option_copied property.entry) feature.now)) }
 {
-    let told = feature.feature();
-    match seconds_under(told, property) {
-        Ok(seconds) => Some(FeatureRow {
-            id: told.id(),
+    match seconds_under(alloc, feature, property)? {
+        Ok(seconds) => Ok(Some(FeatureRow {
+            id: feature.id(),
             text: text_of(feature),
-            extent: told.extent(),
+            extent: feature.extent(),
             seconds,
-        }),
-        Err(_) => None,
+        })),
+        Err(_) => Ok(None),
     }
 }
 
 /// The row of an edit that inserts a feature into the collection; none of any other edit.
-fn row_of<'a>(collection: &str, property: Option<&str>, edit: &'a Edit) -> Option<FeatureRow<'a>>
-    ensures { IfSome result
-        (IsInsertion collection.now (option_copied property.entry) (edit_value edit.now)) }
+fn row_of<'a>(
+    alloc: Global,
+    collection: &str,
+    property: Option<&str>,
+    edit: &'a Edit,
+) -> Result<Option<FeatureRow<'a>>, AllocError>
+    ensures { IfOk result (λ found. IfSome found
+        (IsInsertion collection.now (option_copied property.entry) (edit_value edit.now))) }
 {
     match edit {
         Edit::Insert {
             collection: into,
             feature,
-        } if into.as_str() == collection => row_under(property, feature),
-        _ => None,
+        } if into.as_str() == collection => row_under(alloc, property, feature),
+        _ => Ok(None),
     }
 }
 
@@ -74,7 +83,7 @@ fn rows_of<'a>(
 {
     let mut rows = Vec::with_capacity(alloc, edits.len())?;
     'edits: for edit in edits {
-        match row_of(collection, property, edit) {
+        match row_of(alloc, collection, property, edit)? {
             Some(row) => rows.push(row)?,
             None => return Ok(None),
         }

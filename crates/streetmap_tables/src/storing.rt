@@ -9,7 +9,8 @@ ghost use Rattle.streetmap_tables.specs.Storing.{Puts};
 ghost use Rattle.streetmap_rows.specs.Failing.{HasReason};
 
 use crate::timing::seconds_under;
-use sqlite::{Alter, Error, Transaction};
+use sqlite::{Alter, Error, ErrorCode, Transaction};
+use std::alloc::Global;
 use streetmap_feature_text::WrittenFeature;
 use streetmap_ledger::Refusal;
 use streetmap_rows::insert_feature;
@@ -27,10 +28,11 @@ pub fn text_of(feature: &WrittenFeature) -> &str
 ///
 /// # Errors
 ///
-/// The error of the store; or, where the tables are not those of a state, that the statement was
-/// refused.
+/// The error of the store, or that memory was refused; or, where the tables are not those of a
+/// state, that the statement was refused.
 pub fn put_feature<S: Alter>(
     tx: &mut Transaction<'_, S>,
+    alloc: Global,
     collection: &str,
     property: Option<&str>,
     feature: &WrittenFeature,
@@ -55,11 +57,14 @@ pub fn put_feature<S: Alter>(
     ensures survives { Survives (state S.Store tx.old.conn.now) (state S.Store tx.new.conn.now)
         (λ _. ⊥) }
 {
-    let told = feature.feature();
-    let Ok(seconds) = seconds_under(told, property) else {
+    let Ok(told) = seconds_under(alloc, feature, property) else {
+        return Err(Error::SqliteFailure(ErrorCode::OutOfMemory));
+    };
+    let Ok(seconds) = told else {
         return Ok(Some(Refusal::BadTime));
     };
+    let (id, extent) = (feature.id(), feature.extent());
     let text = text_of(feature);
-    insert_feature(tx, collection, told.id(), text, told.extent(), seconds)?;
+    insert_feature(tx, collection, id, text, extent, seconds)?;
     Ok(None)
 }

@@ -9,7 +9,8 @@ ghost use Rattle.streetmap_tables.specs.Storing.{FindsTime, IsTimed};
 ghost use Rattle.streetmap_rows.specs.Failing.{HasReason};
 
 use sqlite::{Alter, Error, Transaction};
-use streetmap_geojson::Feature;
+use std::alloc::{AllocError, Global};
+use streetmap_feature_text::WrittenFeature;
 use streetmap_moment::TimeFault;
 use streetmap_rows::{collection_rows, time_in};
 
@@ -35,18 +36,26 @@ pub fn time_property<S: Alter>(
     Ok(Some(time))
 }
 
-/// The seconds of the time that the property tells of a feature, where it tells one.
+/// The seconds of the time that the property tells of a feature, where it tells one; or why what it
+/// tells cannot be read.
+///
+/// # Errors
+///
+/// `AllocError` where memory was refused.
 pub fn seconds_under(
-    feature: &Feature,
+    alloc: Global,
+    feature: &WrittenFeature,
     property: Option<&str>,
-) -> Result<Option<(i64, i64)>, TimeFault>
-    ensures told { IfOk result (IsTimed (option_copied property.entry) feature.now) }
-    ensures refused { OnErr result (timed (option_copied property.entry) feature.now
-        ≡ Err BadTime) }
+) -> Result<Result<Option<(i64, i64)>, TimeFault>, AllocError>
+    ensures told { IfOk result (λ told.
+        IfOk told (IsTimed (option_copied property.entry) feature.now)) }
+    ensures refused { IfOk result (λ told.
+        OnErr told (timed (option_copied property.entry) feature.now ≡ Err BadTime)) }
 {
     feature.facts();
-    match feature.time_under(property)? {
-        Some(time) => Ok(Some(time.seconds())),
-        None => Ok(None),
+    match feature.time_under(alloc, property)? {
+        Ok(Some(time)) => Ok(Ok(Some(time.seconds()))),
+        Ok(None) => Ok(Ok(None)),
+        Err(fault) => Ok(Err(fault)),
     }
 }

@@ -8,5 +8,5 @@ abbrev pub invariant-loop-name : goal.invariant-loop-name
 invariant-loop-name l = record {
   whole : members_have_float (members_view l.name-iterator) ≡ false;
   text : string_bytes l.out ++ members_text l.later (members_view l.name-iterator)
-    ≡ string_bytes l.fn.out ++ members_text false (members_view l.members.entries);
+      ≡ string_bytes l.fn.out ++ members_text false (members_view l.members.entries);
 }

@@ -1,16 +1,15 @@
-use Rattle.std.proofs.Common.{ap, sym, subst, ◌∙◌}
+use Rattle.std.proofs.Common.{ap, subst}
 use Rattle.std.specs.FinMap.{remove}
-use Rattle.streetmap_batch.specs.BatchValue as edit
 use Rattle.streetmap_batch.specs.BatchView.{edit_value}
 use Rattle.streetmap_outlines.specs.Outlines.{AreListedChunksOf}
 use Rattle.streetmap_index.proofs.Following.{follows_insert, follows_replace, follows_delete}
 use Rattle.streetmap_index.proofs.outlined.OutlinedCollection.follow.Goals as goal
 
 pub returns-in-Insert : goal.returns-in-Insert
-returns-in-Insert c = λ s t. follows_insert c.args.self.now c.put.new.self s t c.in-Insert.collection (edit_value c.args.edit.now) c.feature.result.now c.put.result (ap edit_value c.in-Insert.is ∙ ap (edit.insert c.in-Insert.collection) (sym c.feature.ensures)) c.put.ensures
+returns-in-Insert c = λ s t. follows_insert c.args.self.now c.put.new.self s t c.in-Insert.collection (edit_value c.args.edit.now) c.in-Insert.feature c.put.result (ap edit_value c.in-Insert.is) c.put.ensures
 
 pub returns-in-Replace : goal.returns-in-Replace
-returns-in-Replace c = λ s t. follows_replace c.args.self.now c.put-in-Replace.new.self s t c.in-Replace.collection (edit_value c.args.edit.now) c.feature-in-Replace.result.now c.put-in-Replace.result (ap edit_value c.in-Replace.is ∙ ap (edit.replace c.in-Replace.collection) (sym c.feature-in-Replace.ensures)) c.put-in-Replace.ensures
+returns-in-Replace c = λ s t. follows_replace c.args.self.now c.put-in-Replace.new.self s t c.in-Replace.collection (edit_value c.args.edit.now) c.in-Replace.feature c.put-in-Replace.result (ap edit_value c.in-Replace.is) c.put-in-Replace.ensures
 
 pub returns-in-Delete : goal.returns-in-Delete
 returns-in-Delete c = λ s t.

@@ -12,6 +12,7 @@ returns-in_ok-outline_of-in-Ok c = λ d g known told.
     let f = c.args.feature.now in
     let t = option_map interval_value c.in-Ok.time in
     let property = c.as_deref.ensures.value ∙ known.time in
-    let time : time_of d.time f.properties ≡ Ok t = ap (λ p. time_of p f.properties) (sym property) ∙ c.in-Ok.ensures.told in
+    let told_is = rw c.in-Ok.is at c.in_ok-time.ensures.told in
+    let time : time_of d.time f.properties ≡ Ok t = ap (λ p. time_of p f.properties) (sym property) ∙ told_is in
     let outline = subst (λ (x : FeatureValue). IsOutlineOf c.in_ok-outline_of-in-Ok.field-0 x) (told_time d.time f g t time told) c.in_ok-outline_of-in-Ok.ensures in
     on_ok_map c.put.result (λ are. record { title = known.title; time = known.time; outlines = are }) (c.put.ensures d.features g known.outlines outline)
