@@ -1,10 +1,9 @@
 -- The text of a shift.
-use Rattle.std.proofs.Common.{◌≡◌, ℕ, ◌+◌, List, [], ◌∷◌, length, ℤ, refl, ap, subst, ◌∙◌, arith, length-append, length-drop, take_all, take, drop, ◌-◌, Result}
+use Rattle.std.proofs.Common.{◌≡◌, ℕ, ◌+◌, ◌≤◌, not, List, [], ◌∷◌, length, ℤ, refl, ap, subst, ◌∙◌, arith, length-append, length-drop, take_all, take, drop, ◌-◌, Option}
+use Rattle.std.proofs.lemmas.List.Sums.{prefix_len-le-length}
 use Rattle.std.specs.List.{before_first, after_first, position_or_len}
-use Rattle.streetmap_decimal.specs.declared.fault.DecimalFault.{DecimalFault}
 use Rattle.streetmap_decimal.specs.NumberText.{Means}
-use Rattle.streetmap_decimal.specs.Decimal.{ReadsCount}
-use Rattle.streetmap_decimal.specs.Options.{is_comma, IsShift}
+use Rattle.streetmap_decimal.specs.Options.{is_comma, ReadsOption, IsShift}
 
 -- no number is empty
 never_empty : (m e : ℤ) → Means [] m e → ⊥
@@ -27,8 +26,11 @@ nothing (b ∷ bs) e = absurd (omega (arith, e))
 pub no_comma : (text : List ℕ) (x y : ℤ) → position_or_len is_comma text ≡ length text
     → IsShift text x y → ⊥
 no_comma text x y e h =
-    empty_text (after_first is_comma text) h.1.0.0 h.1.0.1 (nothing _ (empty_behind text e))
-    h.1.1.0.1
+    empty_text (after_first is_comma text) h.1.0.0.0 h.1.0.0.1 (nothing _ (empty_behind text e))
+    h.1.0.1.0.1
+
+pub comma_within : (text : List ℕ) → position_or_len is_comma text ≤ length text
+comma_within text = prefix_len-le-length (λ b. not (is_comma b)) text
 
 -- the slices that the code reads
 pub before_comma : (text : List ℕ) (n : ℕ) → n ≡ position_or_len is_comma text
@@ -41,6 +43,6 @@ behind_comma text n e =
     take_all (length text - (n + 1)) (drop (n + 1) text) (omega (arith, length-drop (n + 1) text))
     ∙ ap (λ (k : ℕ). drop (k + 1) text) e
 
-pub counted : (s t : List ℕ) (r q : Result ℤ DecimalFault) → s ≡ t → r ≡ q → ReadsCount 18 s r
-    → ReadsCount 18 t q
-counted s t r q e f h = subst (λ (u : List ℕ). ReadsCount 18 u q) e (subst (ReadsCount 18 s) f h)
+pub counted : (s t : List ℕ) (o q : Option ℤ) → s ≡ t → o ≡ q → ReadsOption 18 s o
+    → ReadsOption 18 t q
+counted s t o q e f h = subst (λ (u : List ℕ). ReadsOption 18 u q) e (subst (ReadsOption 18 s) f h)

@@ -10,11 +10,11 @@ use Rattle.streetmap_decimal.proofs.Signs.{signed_abs}
 
 -- the number times a power
 pub sides_up : (n : ℕ) (k : ℤ) (u : ℕ) → int_le (pos 0) k ≡ true → u ≡ n * 10 ^ unsigned_abs k
-    → u < 10 ^ 36 → Sides n k (Ok (u, u))
+    → u < 10 ^ 37 → Sides n k (Ok (u, u))
 sides_up n (pos k) u up e small = (e, e, small)
 sides_up n (negsuc k) u up e small = absurd (false≢true up)
 
-pub large_up : (n : ℕ) (k : ℤ) → int_le (pos 0) k ≡ true → 10 ^ 36 ≤ n * 10 ^ unsigned_abs k
+pub large_up : (n : ℕ) (k : ℤ) → int_le (pos 0) k ≡ true → 10 ^ 37 ≤ n * 10 ^ unsigned_abs k
     → Sides n k (Err OutOfGrid)
 large_up n (pos k) up large = (n * 10 ^ k, (refl, large))
 large_up n (negsuc k) up large = absurd (false≢true up)
@@ -27,12 +27,12 @@ never k down = let up : int_le (pos 0) (pos k) ≡ true = grind (arith, nat_test
 pub sides_down : (n : ℕ) (k : ℤ) (u v : ℕ) → int_le (pos 0) k ≡ false
     → (u * 10 ^ unsigned_abs k ≤ n) × (n < (u + 1) * 10 ^ unsigned_abs k)
     → (n ≤ v * 10 ^ unsigned_abs k) × (v * 10 ^ unsigned_abs k < n + 10 ^ unsigned_abs k)
-    → u < 10 ^ 36 → Sides n k (Ok (u, v))
+    → u < 10 ^ 37 → Sides n k (Ok (u, v))
 sides_down n (pos k) u v down low high small = absurd (never k down)
 sides_down n (negsuc k) u v down low high small = (low, high, small)
 
 pub large_down : (n : ℕ) (k : ℤ) (u : ℕ) → int_le (pos 0) k ≡ false → (u * 10 ^ unsigned_abs k ≤ n)
-    × (n < (u + 1) * 10 ^ unsigned_abs k) → 10 ^ 36 ≤ u → Sides n k (Err OutOfGrid)
+    × (n < (u + 1) * 10 ^ unsigned_abs k) → 10 ^ 37 ≤ u → Sides n k (Err OutOfGrid)
 large_down n (pos k) u down low large = absurd (never k down)
 large_down n (negsuc k) u down low large = (u, (low, large))
 
@@ -46,7 +46,7 @@ sides_near n (negsuc k) u v low high =
     (omega (arith, low.1, some))
 
 pub far_bound : (places : ℕ) (m e : ℤ) (z : ℤ × ℤ) → Encloses places m e (Ok z)
-    → unsigned_abs z.1 ≤ 10 ^ 36
+    → unsigned_abs z.1 ≤ 10 ^ 37
 far_bound places m e z h =
     let k = e +ℤ pos places in
     let near = sides_near (unsigned_abs m) k h.0.0 h.0.1 h.1.0.0 h.1.0.1 in

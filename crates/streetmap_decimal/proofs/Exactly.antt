@@ -18,7 +18,7 @@ use lib.IntN.{*ℤ_comm, neg_ℤ}
 
 -- ---- in smaller units
 
-sub-mul : (a z p : ℤ) → (a -ℤ z) *ℤ p ≡ a *ℤ p -ℤ z *ℤ p
+pub sub-mul : (a z p : ℤ) → (a -ℤ z) *ℤ p ≡ a *ℤ p -ℤ z *ℤ p
 sub-mul a z p =
     omega (
       arith,
@@ -79,7 +79,7 @@ between_nearest units y z x g low high h i =
 
 -- ---- of a count
 
-placed_scaled : (shift scale n : ℤ) (p : ℕ)
+pub placed_scaled : (shift scale n : ℤ) (p : ℕ)
     → placed shift scale n *ℤ pos p ≡ (n *ℤ pos p -ℤ shift *ℤ pos p) *ℤ scale
 placed_scaled shift scale n p =
     let d = n -ℤ shift in
@@ -87,7 +87,7 @@ placed_scaled shift scale n p =
     ∙ sym (mul-assoc d (pos p) scale)
     ∙ ap (λ (x : ℤ). x *ℤ scale) (sub-mul n shift (pos p))
 
-in_order : (t scale a b : ℤ) → pos 0 ≤ℤ scale → a ≤ℤ b → ((a -ℤ t) *ℤ scale) ≤ℤ ((b -ℤ t) *ℤ scale)
+pub in_order : (t scale a b : ℤ) → pos 0 ≤ℤ scale → a ≤ℤ b → ((a -ℤ t) *ℤ scale) ≤ℤ ((b -ℤ t) *ℤ scale)
 in_order t scale a b up h = mul_mono-right scale (a -ℤ t) (b -ℤ t) up (omega (arith, ints))
 
 -- the counts y and z, and m between them in smaller units

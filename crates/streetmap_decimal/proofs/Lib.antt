@@ -11,5 +11,6 @@ pub mod Rounded
 pub mod Steps
 pub mod Once
 pub mod Exactly
+pub mod OffGrid
 pub mod Placed
 pub mod Commas

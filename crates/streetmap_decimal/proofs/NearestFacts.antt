@@ -10,7 +10,7 @@ use Rattle.streetmap_decimal.proofs.Powers.{multiple_mod, whole_quotient}
 use Rattle.streetmap_decimal.proofs.Signs.{signed_abs, signed-mul, sign_of}
 
 -- how far apart two numbers of one sign are
-abs_apart : (b : Bool) (a c : ℕ) → unsigned_abs (signed b a -ℤ signed b c) ≡ (a - c) + (c - a)
+pub abs_apart : (b : Bool) (a c : ℕ) → unsigned_abs (signed b a -ℤ signed b c) ≡ (a - c) + (c - a)
 abs_apart true a c = grind (arith, ints)
 abs_apart false a c = grind (arith, ints)
 

@@ -58,7 +58,7 @@ cancelled u v p some e =
     let above : v ≤ℤ u = mul_cancel (pos p) v u (omega (arith, ints)) (omega (arith, ints, swap)) in
     omega (arith, ints, below, above)
 
-shifted_once : (m k u v : ℤ) → IsShifted m k u → IsShifted m k v → u ≡ v
+pub shifted_once : (m k u v : ℤ) → IsShifted m k u → IsShifted m k v → u ≡ v
 shifted_once m (pos k) u v h i = h ∙ sym i
 shifted_once m (negsuc k) u v h i = cancelled u v (10 ^ suc k) (pow_some (suc k)) (sym h ∙ i)
 

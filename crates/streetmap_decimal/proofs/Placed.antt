@@ -61,15 +61,15 @@ reads_is text = reads_by text (nat_lt 38 (length text)) refl
 
 -- ---- a count
 
-limited_by : (P : Result ℕ DecimalFault → Type 0) (u : ℕ) (b : Bool) → nat_lt u (10 ^ 36) ≡ b
-    → (u < 10 ^ 36 → P (Ok u)) → (10 ^ 36 ≤ u → P (Err OutOfGrid))
+limited_by : (P : Result ℕ DecimalFault → Type 0) (u : ℕ) (b : Bool) → nat_lt u (10 ^ 37) ≡ b
+    → (u < 10 ^ 37 → P (Ok u)) → (10 ^ 37 ≤ u → P (Err OutOfGrid))
     → P (if b then Ok u else Err OutOfGrid)
-limited_by P u true e fits over = let small : u < 10 ^ 36 = grind (arith, nat_tests) in fits small
-limited_by P u false e fits over = let large : 10 ^ 36 ≤ u = grind (arith, nat_tests) in over large
+limited_by P u true e fits over = let small : u < 10 ^ 37 = grind (arith, nat_tests) in fits small
+limited_by P u false e fits over = let large : 10 ^ 37 ≤ u = grind (arith, nat_tests) in over large
 
-limited_is : (P : Result ℕ DecimalFault → Type 0) (u : ℕ) → (u < 10 ^ 36 → P (Ok u))
-    → (10 ^ 36 ≤ u → P (Err OutOfGrid)) → P (limited u)
-limited_is P u fits over = limited_by P u (nat_lt u (10 ^ 36)) refl fits over
+limited_is : (P : Result ℕ DecimalFault → Type 0) (u : ℕ) → (u < 10 ^ 37 → P (Ok u))
+    → (10 ^ 37 ≤ u → P (Err OutOfGrid)) → P (limited u)
+limited_is P u fits over = limited_by P u (nat_lt u (10 ^ 37)) refl fits over
 
 shifts_by : (n k : ℕ) (b : Bool) → ((n % 10 ^ suc k) == 0) ≡ b
     → Shifts n (negsuc k) (if b then limited (n / 10 ^ suc k) else Err TooManyDigits)

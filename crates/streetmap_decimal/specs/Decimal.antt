@@ -40,9 +40,10 @@ coordinate_places = 18
 abbrev pub scale_places : ℕ
 scale_places = 9
 
--- counts are smaller than this
+-- counts are smaller than this; a coordinate whose count is not lies out of the grid, whatever the
+-- shift and the scale
 abbrev pub count_limit : ℕ
-count_limit = 10 ^ 36
+count_limit = 10 ^ 37
 
 -- u is m * 10 ^ k
 abbrev pub IsShifted : (m k u : ℤ) → Type 0

@@ -1,5 +1,6 @@
 -- The nearest whole number to the exact value of a text.
 use Rattle.std.specs.Prelude.{ℕ, ◌+◌, ◌*◌, ◌^◌, List, ℤ, pos, ◌-ℤ◌, ◌*ℤ◌}
+use Rattle.streetmap_grid.specs.Range.{IsCoordinate}
 use Rattle.streetmap_decimal.specs.NumberText.{Means}
 use Rattle.streetmap_decimal.specs.Decimal.{IsCount, coordinate_places}
 use Rattle.streetmap_decimal.specs.Grid.{IsNearestOf, one}
@@ -15,3 +16,8 @@ IsNearestTo shift scale m e g =
 abbrev pub IsNearestToText : (shift scale : ℤ) → List ℕ → ℤ → Type 0
 IsNearestToText shift scale text g =
     (m : ℤ) × ((e : ℤ) × (Means text m e × IsNearestTo shift scale m e g))
+
+-- the nearest whole number to what the text comes to in the grid is no coordinate
+abbrev pub IsOffGrid : (shift scale : ℤ) → List ℕ → Type 0
+IsOffGrid shift scale text =
+    (g : ℤ) → IsNearestToText shift scale text g → IsCoordinate g → ⊥

@@ -6,8 +6,9 @@ ghost use Rattle.std.specs.List.{list_all};
 ghost use Rattle.std.specs.Str.Parse.{digits_value_after};
 ghost use Rattle.streetmap_decimal.specs.NumberText.{signed};
 
-/// What a count must be smaller than.
-pub(crate) const COUNT_LIMIT: u128 = 1_000_000_000_000_000_000_000_000_000_000_000_000;
+/// What a count must be smaller than. A coordinate whose count is not lies out of the grid, whatever
+/// the options: it is at least 9 * 10^18 away from any shift, and a scale is at least 10^-9.
+pub(crate) const COUNT_LIMIT: u128 = 10_000_000_000_000_000_000_000_000_000_000_000_000;
 
 /// A number, or that number below zero.
 pub(crate) fn signed(is_negative: bool, magnitude: u128) -> i128
@@ -34,13 +35,13 @@ pub(crate) fn digits_value(before: u128, digits: &[u8]) -> u128
 
 /// The number times 10^power, where that is below the limit.
 pub(crate) fn multiplied(number: u128, power: u128) -> Option<u128>
-    ensures some { IfSome result (λ n. (n ≡ number * 10 ^ power) × (n < 10 ^ 36)) }
-    ensures none { IfNone result (10 ^ 36 ≤ number * 10 ^ power) }
+    ensures some { IfSome result (λ n. (n ≡ number * 10 ^ power) × (n < 10 ^ 37)) }
+    ensures none { IfNone result (10 ^ 37 ≤ number * 10 ^ power) }
 {
     if number == 0 {
         return Some(0);
     }
-    if power >= 36 {
+    if power >= 37 {
         return None;
     }
     let product = number.checked_mul(10u128.pow(power as u32))?;

@@ -11,6 +11,9 @@ const MAX_LEN: usize = 38;
 /// The decimal places that are kept of coordinates and of the shift.
 pub(crate) const COORDINATE_PLACES: u8 = 18;
 
+/// What the count of an option, a scale or a shift, must be smaller than.
+const OPTION_LIMIT: u128 = 1_000_000_000_000_000_000_000_000_000_000_000_000;
+
 /// The number m * 10^e, for a whole mantissa m and a whole exponent e.
 #[derive(Clone, Copy, PartialEq, Eq)]
 pub(crate) struct Decimal {
@@ -21,11 +24,12 @@ pub(crate) struct Decimal {
 }
 
 impl Decimal {
-    ghost use Rattle.std.specs.Prelude.{◌<◌, ◌^◌};
+    ghost use Rattle.std.specs.Prelude.{◌<◌, ◌^◌, IfSome};
     ghost use Rattle.streetmap_decimal.specs.Decimal.{Counts, Encloses, Shifts, Sides};
     ghost use Rattle.streetmap_decimal.specs.Decimal.{ReadsDecimal, ReadsCount};
     ghost use Rattle.streetmap_decimal.specs.DecimalViews.{decimal_view};
     ghost use Rattle.streetmap_decimal.specs.NumberText.{mantissa, exponent};
+    ghost use Rattle.streetmap_decimal.specs.Options.{ReadsOption};
     ghost use Rattle.streetmap_decimal.specs.Readable.{IsReadable};
     ghost use Rattle.streetmap_decimal.specs.Views.{components_view};
 
@@ -74,7 +78,7 @@ impl Decimal {
     ///
     /// # Errors
     ///
-    /// `TooManyDigits` where that is no whole number, `OutOfGrid` where it is 10^36 or more.
+    /// `TooManyDigits` where that is no whole number, `OutOfGrid` where it is 10^37 or more.
     pub fn count(&self, places: u8) -> Result<i128, DecimalFault>
         ensures { Counts places self.now.mantissa self.now.exponent result }
     {
@@ -83,16 +87,24 @@ impl Decimal {
         Ok(signed(self.mantissa < 0, magnitude))
     }
 
-    /// How often the number of a text holds 10^-places.
-    ///
-    /// # Errors
-    ///
-    /// Those of [`Decimal::read`] and [`Decimal::count`].
-    pub fn count_of_text(text: &[u8], places: u8) -> Result<i128, DecimalFault>
+    // How often the number of a text holds 10^-places.
+    fn count_of_text(text: &[u8], places: u8) -> Result<i128, DecimalFault>
         ensures { ReadsCount places text.now result }
     {
         let decimal = Decimal::read(text)?;
         decimal.count(places)
+    }
+
+    /// How often the number of an option's text holds 10^-places, if that is a whole number below
+    /// 10^36.
+    pub fn count_of_option(text: &[u8], places: u8) -> Option<i128>
+        ensures reads { ReadsOption places text.now result }
+        ensures bound { IfSome result (λ u. unsigned_abs u < 10 ^ 36) }
+    {
+        match Decimal::count_of_text(text, places) {
+            Ok(count) if count.unsigned_abs() < OPTION_LIMIT => Some(count),
+            _ => None,
+        }
     }
 
     /// The whole counts of 10^-places on both sides of the number, of which the first is nearer to
@@ -100,7 +112,7 @@ impl Decimal {
     ///
     /// # Errors
     ///
-    /// `OutOfGrid` where the count is 10^36 or more.
+    /// `OutOfGrid` where the count is 10^37 or more.
     pub fn enclosing(&self, places: u8) -> Result<(i128, i128), DecimalFault>
         ensures { Encloses places self.now.mantissa self.now.exponent result }
     {

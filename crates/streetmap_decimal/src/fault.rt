@@ -8,7 +8,7 @@ pub enum DecimalFault {
     /// The text has more than 38 characters, or the number has a digit other than zero behind its
     /// 18th decimal place, and is not rounded or comes to different numbers with it and without.
     TooManyDigits,
-    /// The number is 10^18 or more, or comes to no coordinate of the grid.
+    /// The number comes to no coordinate of the grid.
     OutOfGrid,
     /// The number comes to no whole number, and is not to be rounded.
     Fraction,

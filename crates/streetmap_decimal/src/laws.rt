@@ -1,11 +1,13 @@
 //! Laws of the definitions that the contracts cite.
-ghost use Rattle.std.specs.Prelude.{◌≡◌, ℕ, ◌^◌, ℤ, pos, ◌≤ℤ◌, List, Result, Ok};
+ghost use Rattle.std.specs.Prelude.{◌≡◌, ℕ, ◌<◌, ◌^◌, ℤ, pos, ◌≤ℤ◌, ◌<ℤ◌, unsigned_abs};
+ghost use Rattle.std.specs.Prelude.{List, Result, Ok, Err};
 ghost use Rattle.streetmap_grid.specs.Range.{IsCoordinate};
 ghost use Rattle.streetmap_decimal.specs.NumberText.{Means};
 ghost use Rattle.streetmap_decimal.specs.Grid.{IsNearest, Places, PlacesText};
-ghost use Rattle.streetmap_decimal.specs.Nearest.{IsNearestToText};
+ghost use Rattle.streetmap_decimal.specs.Nearest.{IsNearestToText, IsOffGrid};
 ghost use Rattle.streetmap_decimal.specs.Placing.{placed_text};
 ghost use Rattle.streetmap_decimal.specs.declared.fault.DecimalFault.{DecimalFault};
+ghost use Rattle.streetmap_decimal.specs.declared.fault.DecimalFault.TheVariants.{OutOfGrid};
 ghost use Rattle.streetmap_decimal.specs.declared.rounding.Rounding.{Rounding};
 
 /// A text means one mantissa and one exponent at most.
@@ -38,6 +40,14 @@ pub fn placed_text_is_nearest()
     ensures { (shift scale : ℤ) (rounding : Rounding) (text : List ℕ) (g : ℤ)
         → pos 0 ≤ℤ scale
         → PlacesText shift scale rounding text (Ok g) → IsNearestToText shift scale text g }
+{}
+
+/// What is refused as out of the grid has no coordinate as the nearest whole number to its exact
+/// value, for every shift and scale that an option may have.
+pub fn refused_text_is_off_grid()
+    ensures { (shift scale : ℤ) (rounding : Rounding) (text : List ℕ)
+        → unsigned_abs shift < 10 ^ 36 → pos 0 <ℤ scale → unsigned_abs scale < 10 ^ 36
+        → PlacesText shift scale rounding text (Err OutOfGrid) → IsOffGrid shift scale text }
 {}
 
 /// Each text comes to a number of the grid, or to a fault: that of the function.

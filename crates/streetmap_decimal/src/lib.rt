@@ -7,11 +7,11 @@
 //! ([`Axis`]). A result between two whole numbers is rounded, half away from zero, or refused
 //! ([`Rounding`]).
 //!
-//! A number text (RFC 8259, section 6) has at most 38 characters. Coordinates and the shift are
-//! whole multiples of 10^-18 below 10^18, the scale one of 10^-9 below 10^27. What is beyond that
-//! is a fault, and nothing is dropped: digits of a coordinate behind its 18th decimal place are
-//! taken where it is rounded, and the number comes out the same at both ends of the gap that they
-//! lie in.
+//! A number text (RFC 8259, section 6) has at most 38 characters. The shift is a whole multiple of
+//! 10^-18 below 10^18, the scale one of 10^-9 below 10^27, and a coordinate may be as large as the
+//! grid takes. What is beyond that is a fault, and nothing is dropped: digits of a coordinate after
+//! its 18th decimal place are taken if it is rounded, and the number comes out the same at both
+//! ends of the gap that they lie in.
 //!
 //! No call of this crate takes memory.
 //!

@@ -1,5 +1,5 @@
 //! From a map's coordinates to the whole numbers of the grid.
-ghost use Rattle.std.specs.Prelude.{◌≡◌, ◌<◌, ◌≤◌, ◌^◌, IfOk, IfSome, IfNone, pos, ◌<ℤ◌};
+ghost use Rattle.std.specs.Prelude.{◌≡◌, ◌<◌, ◌≤◌, ◌^◌, IfOk, IfSome, IfNone, pos, ◌<ℤ◌, Err};
 ghost use Rattle.std.specs.Prelude.{unsigned_abs};
 ghost use Rattle.streetmap_decimal.specs.Grid.{placed, RoundsTo, Stands};
 
@@ -31,7 +31,8 @@ pub struct Placement {
 impl Placement {
     ghost use Rattle.streetmap_decimal.specs.Axes.{shift_of};
     ghost use Rattle.streetmap_decimal.specs.Grid.{PlacesText};
-    ghost use Rattle.streetmap_decimal.specs.Nearest.{IsNearestToText};
+    ghost use Rattle.streetmap_decimal.specs.Nearest.{IsNearestToText, IsOffGrid};
+    ghost use Rattle.streetmap_decimal.specs.declared.fault.DecimalFault.TheVariants.{OutOfGrid};
 
     /// The number of the grid, in millimetres, of a coordinate of the map from its text: (n -
     /// shift) * scale, and a height times the scale alone.
@@ -40,16 +41,19 @@ impl Placement {
     ///
     /// `TooManyDigits` where the text has more than 38 characters, else `NotANumber` where it is no
     /// number (RFC 8259, section 6). Then, where the result has to be whole: `TooManyDigits` where
-    /// the number has digits behind the 18th decimal place, `OutOfGrid` where it is 10^18 or more
-    /// or the nearest whole number is no coordinate, and `Fraction` where the result is not whole.
-    /// Where it is rounded: `OutOfGrid` where the number is 10^18 or more, or beyond the grid on
-    /// both sides of the gap behind the 18th place, and `TooManyDigits` where the two sides differ.
+    /// the number has digits behind the 18th decimal place, `OutOfGrid` where the nearest whole
+    /// number is no coordinate, and `Fraction` where the result is not whole. Where it is rounded:
+    /// `OutOfGrid` where the result is beyond the grid on both sides of the gap behind the 18th
+    /// place, and `TooManyDigits` where the two sides differ.
     pub fn grid_of_text(&self, axis: Axis, text: &[u8]) -> Result<i64, DecimalFault>
         ensures places { PlacesText (shift_of axis self.now.shift) self.now.scale.count
             self.now.rounding text.now result }
         // What is answered is the nearest whole number to the exact value, half away from zero.
         ensures nearest { IfOk result (λ g. IsNearestToText (shift_of axis self.now.shift)
             self.now.scale.count text.now g) }
+        // What is refused as out of the grid has no coordinate there, by its exact value.
+        ensures off_grid { result ≡ Err OutOfGrid → IsOffGrid (shift_of axis self.now.shift)
+            self.now.scale.count text.now }
     {
         let coordinate = Decimal::read(text)?;
         self.axis(axis).grid(&coordinate, self.rounding)
@@ -106,7 +110,7 @@ impl AxisPlacement {
 
     // The number of the grid of a count that has to come to a whole number.
     fn standing(&self, count: i128) -> Result<i64, DecimalFault>
-        requires { unsigned_abs count ≤ 10 ^ 36 }
+        requires { unsigned_abs count ≤ 10 ^ 37 }
         ensures { Stands (placed self.now.shift self.now.scale count) result }
     {
         match self.placed(count) {
@@ -117,8 +121,8 @@ impl AxisPlacement {
 
     // The number of the grid that two counts both come to.
     fn agreed(&self, near: i128, far: i128) -> Result<i64, DecimalFault>
-        requires near { unsigned_abs near ≤ 10 ^ 36 }
-        requires far { unsigned_abs far ≤ 10 ^ 36 }
+        requires near { unsigned_abs near ≤ 10 ^ 37 }
+        requires far { unsigned_abs far ≤ 10 ^ 37 }
         ensures { Agrees (placed self.now.shift self.now.scale near)
             (placed self.now.shift self.now.scale far) result }
     {
@@ -131,7 +135,7 @@ impl AxisPlacement {
 
     // The coordinate that a count is nearest to.
     fn nearest(&self, count: i128) -> Option<i64>
-        requires { unsigned_abs count ≤ 10 ^ 36 }
+        requires { unsigned_abs count ≤ 10 ^ 37 }
         ensures { RoundsTo (placed self.now.shift self.now.scale count) result }
     {
         match self.placed(count) {
@@ -142,7 +146,7 @@ impl AxisPlacement {
 
     // (count - shift) * scale, where that is below 2^127.
     fn placed(&self, count: i128) -> Option<i128>
-        requires { unsigned_abs count ≤ 10 ^ 36 }
+        requires { unsigned_abs count ≤ 10 ^ 37 }
         ensures some { IfSome result (λ z. z ≡ placed self.now.shift self.now.scale count) }
         ensures none { IfNone result
             (2 ^ 127 ≤ unsigned_abs (placed self.now.shift self.now.scale count)) }

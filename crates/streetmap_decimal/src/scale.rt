@@ -42,8 +42,8 @@ impl Scale {
     pub fn read(text: &[u8]) -> Result<Scale, OptionFault>
         ensures { ReadsScale text.now result }
     {
-        match Decimal::count_of_text(text, SCALE_PLACES) {
-            Ok(count) if count >= LEAST => Ok(Scale { count }),
+        match Decimal::count_of_option(text, SCALE_PLACES) {
+            Some(count) if count >= LEAST => Ok(Scale { count }),
             _ => Err(OptionFault::BadScale),
         }
     }

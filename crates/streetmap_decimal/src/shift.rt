@@ -47,10 +47,10 @@ impl Shift {
         if comma == text.len() {
             return Err(OptionFault::BadShift);
         }
-        let easting = Decimal::count_of_text(&text[..comma], COORDINATE_PLACES);
-        let northing = Decimal::count_of_text(&text[comma + 1..], COORDINATE_PLACES);
+        let easting = Decimal::count_of_option(&text[..comma], COORDINATE_PLACES);
+        let northing = Decimal::count_of_option(&text[comma + 1..], COORDINATE_PLACES);
         match (easting, northing) {
-            (Ok(easting), Ok(northing)) => Ok(Shift { easting, northing }),
+            (Some(easting), Some(northing)) => Ok(Shift { easting, northing }),
             _ => Err(OptionFault::BadShift),
         }
     }

@@ -14,7 +14,7 @@ agreed-requires-clause-far c =
     let k = c.in_ok-near-in-Nearest in
     let d = c.args.coordinate.now in
     let f : FitsSigned w128 k.far = search rules in
-    subst (λ (z : ℤ). unsigned_abs z ≤ 10 ^ 36) (sym (to_z-of_z w128 k.far f))
+    subst (λ (z : ℤ). unsigned_abs z ≤ 10 ^ 37) (sym (to_z-of_z w128 k.far f))
     (far_bound 18 d.mantissa d.exponent (k.near, k.far) k.ensures)
 
 pub returns-in_ok-near-in-Nearest : goal.returns-in_ok-near-in-Nearest

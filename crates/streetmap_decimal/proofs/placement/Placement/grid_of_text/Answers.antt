@@ -1,8 +1,9 @@
 use Rattle.std.proofs.Common.{subst, ℤ}
 use Rattle.streetmap_decimal.specs.Axes.{shift_of}
 use Rattle.streetmap_decimal.specs.Decimal.{ReadsDecimal}
-use Rattle.streetmap_decimal.specs.Grid.{Places}
+use Rattle.streetmap_decimal.specs.Grid.{Places, PlacesText}
 use Rattle.streetmap_decimal.proofs.Exactly.{if_nearest}
+use Rattle.streetmap_decimal.proofs.OffGrid.{text_off_grid, shift_small}
 use Rattle.streetmap_decimal.proofs.Steps.{then_next}
 use Rattle.streetmap_decimal.proofs.placement.Placement.grid_of_text.Goals as goal
 
@@ -21,4 +22,7 @@ returns c =
     record {
       places = all;
       nearest = if_nearest shift p.scale.count p.rounding c.args.text.now r p.scale.above_zero all;
+      off_grid = λ e. text_off_grid shift p.scale.count p.rounding c.args.text.now
+          (shift_small c.args.axis p.shift) p.scale.above_zero p.scale.count_in
+          (subst (PlacesText shift p.scale.count p.rounding c.args.text.now) e all);
     }
