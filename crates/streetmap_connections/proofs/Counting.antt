@@ -1,5 +1,5 @@
 -- Counts of lists that grow.
-use Rattle.std.proofs.Common.{◌≡◌, ℕ, ◌+◌, ◌-◌, ◌^◌, ◌<◌, List, ◌++◌, Option, Some, None, IsSome, length, map, min, take, drop, subst, get_or, set, refl, sym, ap, ◌∙◌, arith, rules, true, false, length-append}
+use Rattle.std.proofs.Common.{◌≡◌, ℕ, ◌+◌, ◌-◌, ◌^◌, ◌<◌, ◌≤◌, List, ◌++◌, Option, Some, None, IsSome, length, map, min, take, drop, subst, get_or, set, refl, sym, ap, ◌∙◌, arith, rules, true, false, length-append}
 use Rattle.std.specs.List.{flat_map}
 use Rattle.std.proofs.lemmas.List.{length-map}
 use Rattle.std.proofs.Math.Seq.{take-append_seam}
@@ -68,3 +68,11 @@ all_given_back n xs ys long = subst (λ k. take k (xs ++ drop (length xs) ys) �
 pub lent_and_back : {A : Type 0} (R : List A → List A → Type 0) (n : ℕ) (lent old new : List A) → lent ≡ old → length new ≡ n → R lent new → R old (take n (new ++ drop (length new) old))
 lent_and_back {A} R n lent old new same long holds =
     subst (λ (xs : List A). R old xs) (sym (all_given_back n new old long)) (subst (λ (xs : List A). R xs new) same holds)
+
+-- lists with the same values of a function have as many elements
+pub as_few_by :
+    {A B : Type 0} (f : A → B) (xs ys : List A) (n : ℕ) → map f xs ≡ map f ys → length ys ≤ n
+    → length xs ≤ n
+as_few_by {B = B} f xs ys n same few =
+    let long : length (map f xs) ≡ length (map f ys) = ap (λ (zs : List B). length zs) same in
+    omega (arith, long, few, length-map xs f, length-map ys f)

@@ -1,5 +1,5 @@
 -- Clients that are late.
-use Rattle.std.proofs.Common.{◌≡◌, List, [], ◌∷◌, ◌++◌, Option, Some, None, rules}
+use Rattle.std.proofs.Common.{◌≡◌, ◌⊎◌, inl, inr, true, false, List, [], ◌∷◌, ◌++◌, Option, Some, None, IsSome, rules, subst, sym}
 use Rattle.std.specs.List.{All}
 use Rattle.std.proofs.lemmas.List.Elements.{All-nil, All-cons, All-head}
 use Rattle.streetmap_connections.specs.declared.client.Client.{Client}
@@ -27,3 +27,17 @@ module _ {S : Type 0} (Late : Client S → Type 0) {F : Type 0} (past : List (Cl
       → All (λ c. Late c → HasEnded past new c) (present o)
   ended_late None new ends said = All-nil (λ c. Late c → HasEnded past new c)
   ended_late (Some c) new ends said = All-cons (λ d. Late d → HasEnded past new d) c [] (λ late. ends (All-head (λ d. Late d → F) c [] said late)) (All-nil (λ d. Late d → HasEnded past new d))
+
+none_is_no_some : ¬ (false ≡ true)
+none_is_no_some e = search rules
+
+module _ {S : Type 0} (Late Left : Client S → Type 0) where
+  -- where nobody was, nobody was not late
+  pub none_there : (was : Option (Client S)) → was ≡ None → All Late (present was)
+  none_there was none = subst (λ (o : Option (Client S)). All Late (present o)) (sym none) (All-nil Late)
+
+  pub ends_rightly : (past after : List (Client S)) (was taken : Option (Client S)) → IsSome taken → after ≡ past ++ present taken
+      → All Late (present was) ⊎ All Left (present taken) → All Late (present was) ⊎ ((c : Client S) × (after ≡ past ++ c ∷ []) × Left c)
+  ends_rightly past after was None some e why = absurd (none_is_no_some some)
+  ends_rightly past after was (Some c) some e (inl late) = inl late
+  ends_rightly past after was (Some c) some e (inr left) = inr (c, e, All-head Left c [] left)

@@ -8,7 +8,10 @@ pub mod InTurn
 pub mod Interleavings
 pub mod Lateness
 pub mod MoveLemmas
+pub mod PatienceRows
 pub mod ServingLemmas
+pub mod Refusals
 pub mod Sending
 pub mod Timing
 pub mod Turned
+pub mod Timelines

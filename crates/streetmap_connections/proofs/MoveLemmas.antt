@@ -5,9 +5,13 @@ use Rattle.std.proofs.lemmas.List.Elements.{All-nil, All-cons, All-append}
 use Rattle.std.specs.Bool.{OnTrue, OnFalse}
 use Rattle.std.specs.Io.KnownBytes.{Appends, Consumes, Keeps}
 use Rattle.http_server.proofs.KnownLemmas.{Appends-then, Consumes-then}
-use Rattle.streetmap_connections.specs.History.{Exchange, History, MayFollow, after_receive, after_answer, after_send}
+use Rattle.streetmap_connections.specs.History.{Exchange, History, Refusal, MayFollow, after_receive, after_answer, after_refusal, after_send}
+use Rattle.streetmap_connections.specs.Refusing.{AddsRefusals, AreRefused, Refusing}
 use Rattle.streetmap_connections.specs.Leads.{Answering, Calls, Leads}
 use Rattle.streetmap_connections.specs.Moves.{Moves, Place}
+use Rattle.streetmap_connections.specs.Timeline.Step.{reads, writes}
+use Rattle.streetmap_connections.specs.Timeline.Step.{answers as answers_one, refuses as refuses_one}
+use Rattle.streetmap_connections.proofs.Timelines.{stays, one_step, steps_then}
 
 consumes_none : (u v : Option (List ℕ)) → v ≡ u → Consumes u v []
 consumes_none None v e = tt
@@ -38,6 +42,8 @@ stays_put most p = record {
   gone = [];
   sent = sym (append-nil p.history.sent);
   appended = appends_none p.held p.held refl;
+  answered = [];
+  steps = stays p.history p.history refl;
 }
 
 pub moves_then : (most : ℕ) (p q r : Place) → Moves most p q → Moves most q r → Moves most p r
@@ -51,6 +57,8 @@ moves_then most p q r a b = record {
   gone = a.gone ++ b.gone;
   sent = b.sent ∙ (ap (λ (xs : List ℕ). xs ++ b.gone) a.sent ∙ append_assoc p.history.sent a.gone b.gone);
   appended = Appends-then p.held q.held r.held a.gone b.gone a.appended b.appended;
+  answered = a.answered ++ b.answered;
+  steps = steps_then a.steps b.steps;
 }
 
 pub moves_within : (most more : ℕ) (p q : Place) → most ≤ more → Moves most p q → Moves more p q
@@ -64,10 +72,22 @@ moves_within most more p q le a = record {
   gone = a.gone;
   sent = a.sent;
   appended = a.appended;
+  answered = a.answered;
+  steps = a.steps;
 }
 
 pub moves_to : (most : ℕ) (p q r : Place) → Moves most p q → r ≡ q → Moves most p r
 moves_to most p q r a e = subst (λ (x : Place). Moves most p x) (sym e) a
+
+pub moves_from : (most : ℕ) (p q r : Place) → q ≡ p → Moves most q r → Moves most p r
+moves_from most p q r e a = subst (λ (x : Place). Moves most x r) e a
+
+abbrev pub place_at : History → Option (List ℕ) → Option (List ℕ) → Bool → Place
+place_at h left held finishes = record { history = h; left = left; held = held; finishes = finishes }
+
+pub place_same : {S : Type 0} (remaining contents : S → Option (List ℕ)) (old new : History) (s s' : S) (finishes : Bool) → new ≡ old → s' ≡ s
+    → place_at new (remaining s') (contents s') finishes ≡ place_at old (remaining s) (contents s) finishes
+place_same remaining contents old new s s' finishes h e = rw (h, e) refl
 
 -- nothing was answered
 pub no_calls : {V : Type 0} (answers : Answering V) (s : V) (es : List Exchange) → Calls answers s s es es
@@ -96,6 +116,8 @@ moves_by_receive most (Ok n) old new left left' held held' finishes A less ok er
   gone = [];
   sent = ap (λ (h : History). h.sent) ok.3 ∙ sym (append-nil old.sent);
   appended = appends_none held held' kept;
+  answered = [];
+  steps = one_step old new [] (reads ok.0 refl ok.3);
 }
 moves_by_receive most (Err e) old new left left' held held' finishes A less ok err kept = record {
   more = [];
@@ -107,6 +129,8 @@ moves_by_receive most (Err e) old new left left' held held' finishes A less ok e
   gone = [];
   sent = ap (λ (h : History). h.sent) err.0 ∙ sym (append-nil old.sent);
   appended = appends_none held held' kept;
+  answered = [];
+  steps = stays old new err.0;
 }
 
 pub unanswered_by_receive : {E : Type 0} (r : Result ℕ E) (old new : History) (A : ℕ → List ℕ → Type 0) (B : List ℕ → Type 0) (K : Type 0)
@@ -130,6 +154,8 @@ moves_by_send most (Ok n) old new left left' held held' finishes ok err kept = r
   gone = take n old.unsent;
   sent = ap (λ (h : History). h.sent) ok.0;
   appended = ok.1;
+  answered = [];
+  steps = one_step old new [] (writes n refl ok.0);
 }
 moves_by_send most (Err e) old new left left' held held' finishes ok err kept = record {
   more = [];
@@ -141,6 +167,8 @@ moves_by_send most (Err e) old new left left' held held' finishes ok err kept = 
   gone = [];
   sent = ap (λ (h : History). h.sent) err.0 ∙ sym (append-nil old.sent);
   appended = kept_appends held held' err.1;
+  answered = [];
+  steps = stays old new err.0;
 }
 
 pub unanswered_by_send : {E : Type 0} (r : Result ℕ E) (old new : History) (A : ℕ → Type 0) (K : Type 0)
@@ -163,6 +191,8 @@ moves_by_answer most is_request true old new left held finishes A K on off = rec
   gone = [];
   sent = ap (λ (h : History). h.sent) on.3 ∙ sym (append-nil old.sent);
   appended = appends_none held held refl;
+  answered = on.0 ∷ [];
+  steps = one_step old new (on.0 ∷ []) (answers_one on.0 refl on.3);
 }
 moves_by_answer most is_request false old new left held finishes A K on off = record {
   more = [];
@@ -174,6 +204,8 @@ moves_by_answer most is_request false old new left held finishes A K on off = re
   gone = [];
   sent = ap (λ (h : History). h.sent) off.0 ∙ sym (append-nil old.sent);
   appended = appends_none held held refl;
+  answered = [];
+  steps = stays old new off.0;
 }
 
 pub calls_by_answer : {V : Type 0} (is_request : List ℕ → Type 0) (answers : Answering V) (r : Bool) (old new : History) (s s' : V)
@@ -199,4 +231,34 @@ moves_by_finish most h left left' held held' before after finishes kept = record
   gone = [];
   sent = sym (append-nil h.sent);
   appended = appends_none held held' kept;
+  answered = [];
+  steps = stays h h refl;
 }
+
+-- a request was refused
+pub moves_by_refusal : (most : ℕ) (old new : History) (text : List ℕ) (left held : Option (List ℕ)) (finishes : Bool) → new ≡ after_refusal old text
+    → Moves most (record { history = old; left = left; held = held; finishes = finishes }) (record { history = new; left = left; held = held; finishes = finishes })
+moves_by_refusal most old new text left held finishes is = record {
+  more = [];
+  received = ap (λ (h : History). h.received) is ∙ sym (append-nil old.received);
+  consumed = λ stays. (stays, consumes_none left left refl);
+  reads = [];
+  waited = ap (λ (h : History). h.waited) is ∙ sym (append-nil old.waited);
+  within = All-nil (λ n. n < most);
+  gone = [];
+  sent = ap (λ (h : History). h.sent) is ∙ sym (append-nil old.sent);
+  appended = appends_none held held refl;
+  answered = [];
+  steps = one_step old new [] (refuses_one text refl is);
+}
+
+-- refusals that were added
+pub none_refused : (refuses : Refusing) (before after : List Refusal) → after ≡ before → AddsRefusals refuses before after
+none_refused refuses before after same = ([], same ∙ sym (append-nil before), All-nil (λ (r : Refusal). refuses r.bytes r.text))
+
+pub refused_then : (refuses : Refusing) (xs ys zs : List Refusal) → AddsRefusals refuses xs ys → AddsRefusals refuses ys zs → AddsRefusals refuses xs zs
+refused_then refuses xs ys zs a b =
+    (a.0 ++ b.0, b.1 ∙ (ap (λ (rs : List Refusal). rs ++ b.0) a.1 ∙ append_assoc xs a.0 b.0), All-append (λ (r : Refusal). refuses r.bytes r.text) a.0 b.0 a.2 b.2)
+
+pub all_refused : (refuses : Refusing) (before after : List Refusal) → AddsRefusals refuses before after → AreRefused refuses before → AreRefused refuses after
+all_refused refuses before after a were = subst (λ (rs : List Refusal). AreRefused refuses rs) (sym a.1) (All-append (λ (r : Refusal). refuses r.bytes r.text) before a.0 were a.2)

@@ -2,8 +2,9 @@
 use Rattle.std.specs.Prelude.{ℕ, List, take, drop, map, flat_map}
 use Rattle.streetmap_connections.specs.declared.buffers.Buffers.{Buffers}
 use Rattle.streetmap_connections.specs.declared.buffers.Turn.{Turn}
+use Rattle.streetmap_connections.specs.declared.service.Answer.{Answer}
 use Rattle.streetmap_connections.specs.Answers.{answer_text}
-use Rattle.streetmap_connections.specs.History.{Exchange, History}
+use Rattle.streetmap_connections.specs.History.{Exchange, History, Refusal}
 use Rattle.streetmap_connections.specs.Outgoings.{unsent_of}
 
 abbrev pub exchange_of : List ℕ → Turn → Exchange
@@ -14,6 +15,9 @@ exchange_of input t = record {
       = t.closes;
 }
 
+abbrev pub refusal_of : List ℕ → Answer → Refusal
+refusal_of input answer = record { bytes = input; text = answer_text answer }
+
 abbrev pub history_of : Buffers → History
 history_of b = record {
   received = flat_map (λ r. drop r.1 r.0.items) b.reads.items;
@@ -21,6 +25,7 @@ history_of b = record {
   unread = b.input.items;
   waited = map (λ r. r.1) b.reads.items;
   exchanges = map (λ t. exchange_of t.0.items t.1) b.turns.items;
+  refusals = map (λ r. refusal_of r.0.items r.1) b.refusals.items;
   closes = b.closes;
   sent = flat_map (λ w. take w.1 (unsent_of w.0)) b.writes.items;
   unsent = unsent_of b.outgoing;

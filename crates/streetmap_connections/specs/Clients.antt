@@ -1,10 +1,11 @@
 -- What a contract sees of a client.
-use Rattle.std.specs.Prelude.{◌≡◌, ◌⊎◌, ◌-◌, ◌<◌, ◌||◌, ℕ, Bool, false, List, [], Option}
+use Rattle.std.specs.Prelude.{◌≡◌, ◌⊎◌, ◌-◌, ◌<◌, ◌||◌, ℕ, Bool, false, true, List, [], Option}
 use Rattle.std.specs.Prelude.{if◌then◌else◌}
 use Rattle.streetmap_connections.specs.declared.client.Client.{Client}
 use Rattle.streetmap_connections.specs.declared.client.TheConstants.{LAST_PATIENCE}
-use Rattle.streetmap_connections.specs.Connections.{history}
-use Rattle.streetmap_connections.specs.History.{Exchange, FitsStream}
+use Rattle.streetmap_connections.specs.declared.limits.TheConstants.{LONGEST_REQUEST}
+use Rattle.streetmap_connections.specs.Connections.{history, IsOver}
+use Rattle.streetmap_connections.specs.History.{Exchange, FitsStream, Refusal}
 use Rattle.streetmap_connections.specs.Moves.{Place}
 
 module _ {S : Type 0} where
@@ -18,6 +19,9 @@ module _ {S : Type 0} where
 
   abbrev pub exchanges_of : Client S → List Exchange
   exchanges_of c = (history c.connection).exchanges
+
+  abbrev pub refusals_of : Client S → List Refusal
+  refusals_of c = (history c.connection).refusals
 
   -- what the client sent is answered in order, and what was answered is what it is sent
   abbrev pub IsOrderly : Client S → Type 0
@@ -39,10 +43,18 @@ module _ {S : Type 0} where
         || writable;
   }
 
-  -- the time from which its patience is counted is now, or the one before
-  abbrev pub IsTimedFrom : ℕ → Client S → Client S → Type 0
-  IsTimedFrom now old new = (new.since ≡ now) ⊎ (new.since ≡ old.since)
-
-  -- the client took longer than the patience, or than the last one where all was sent
+  -- the client took longer than the patience, or than the last one where all was sent; or its
+  -- request takes longer than any may
   abbrev pub IsLate : ℕ → ℕ → Client S → Type 0
-  IsLate now patience c = (if c.finishes then LAST_PATIENCE else patience) < now - c.since
+  IsLate now patience c = ((if c.finishes then LAST_PATIENCE else patience) < now - c.since)
+      ⊎ (LONGEST_REQUEST < now - c.request_since)
+
+  -- its stream is gone, or all was sent, nothing more can be answered, and the end of what it sends
+  -- was read
+  abbrev pub HasLeft : (S → Type 0) → Client S → Type 0
+  HasLeft is_gone c = is_gone c.stream
+      ⊎ (IsOver c.connection × ((history c.connection).ended ≡ true))
+
+  -- nothing of an answer is left to send, and the end of what it sends is not awaited
+  abbrev pub IsQuiet : Client S → Type 0
+  IsQuiet c = (c.finishes ≡ false) × ((history c.connection).unsent ≡ [])

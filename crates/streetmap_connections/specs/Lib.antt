@@ -9,8 +9,15 @@ pub mod History
 pub mod InTurn
 pub mod Interleaving
 pub mod Leads
+pub mod Leaving
 pub mod Moves
 pub mod Outgoings
+pub mod Refusing
 pub mod Served
+pub mod AllClients
 pub mod Serving
+pub mod SlotClients
 pub mod Slots
+pub mod Timing
+pub mod Over
+pub mod Timeline

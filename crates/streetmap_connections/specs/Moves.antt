@@ -1,7 +1,8 @@
 -- What a client read and was sent between two points.
 use Rattle.std.specs.Prelude.{◌≡◌, ℕ, ◌<◌, Bool, false, List, ◌++◌, Option, All}
 use Rattle.std.specs.Io.KnownBytes.{Appends, Consumes}
-use Rattle.streetmap_connections.specs.History.{History}
+use Rattle.streetmap_connections.specs.History.{Exchange, History}
+use Rattle.streetmap_connections.specs.Timeline.{Steps}
 
 -- a client's connection, the bytes that its stream has left, and those that were written to it
 pub record Place : Type 0 where
@@ -12,7 +13,8 @@ pub record Place : Type 0 where
   pub finishes : Bool
 
 -- What was received is what the stream gave, and what was sent is what was written to it. Each read
--- came while less than so many bytes waited for an answer.
+-- came while less than so many bytes waited for an answer. All of it was in steps, one after the
+-- other.
 pub record Moves (most : ℕ) (old new : Place) : Type 0 where
   pub more : List ℕ
   pub received : new.history.received ≡ old.history.received ++ more
@@ -23,3 +25,5 @@ pub record Moves (most : ℕ) (old new : Place) : Type 0 where
   pub gone : List ℕ
   pub sent : new.history.sent ≡ old.history.sent ++ gone
   pub appended : Appends old.held new.held gone
+  pub answered : List Exchange
+  pub steps : Steps old.history answered new.history

@@ -1,26 +1,24 @@
 -- The clients of slots, those that ended first.
-use Rattle.std.specs.Prelude.{◌≡◌, ◌≤◌, ◌-◌, ℕ, Bool, List, [], ◌∷◌, ◌++◌, map, flat_map, Option}
+use Rattle.std.specs.Prelude.{◌≡◌, ◌⊎◌, ◌≤◌, ◌-◌, ℕ, Bool, List, [], ◌∷◌, ◌++◌, flat_map}
+use Rattle.std.specs.Prelude.{Option}
 use Rattle.std.specs.Prelude.{Some, None, option_map, IsSome, All, slice_get}
 use Rattle.streetmap_connections.specs.declared.client.Client.{Client}
 use Rattle.streetmap_connections.specs.declared.slot.Slot.{Slot}
-use Rattle.streetmap_connections.specs.Clients.{exchanges_of, IsAtRest, IsIdle, IsLate, woken}
-use Rattle.streetmap_connections.specs.History.{Exchange}
+pub use Rattle.streetmap_connections.specs.SlotClients.{present, past_of, clients_in, ended_in}
+pub use Rattle.streetmap_connections.specs.SlotClients.{client_history, histories_in}
+use Rattle.streetmap_connections.specs.Clients.{exchanges_of, refusals_of}
+use Rattle.streetmap_connections.specs.Clients.{HasLeft, IsAtRest, IsIdle}
+use Rattle.streetmap_connections.specs.Clients.{IsLate, IsQuiet, woken}
+use Rattle.streetmap_connections.specs.History.{Exchange, Refusal}
 
 module _ {S : Type 0} where
-  abbrev pub present : Option (Client S) → List (Client S)
-  present (Some c) = c ∷ []
-  present None = []
-
-  -- those that the slot had before
-  abbrev pub past_of : Slot S → List (Client S)
-  past_of s = map (λ e. e.0) s.past.items
-
-  abbrev pub clients_in : Slot S → List (Client S)
-  clients_in s = past_of s ++ present s.client
-
   -- what they all were answered, one client behind the other
   abbrev pub exchanges_in : Slot S → List Exchange
   exchanges_in s = flat_map exchanges_of (clients_in s)
+
+  -- what was refused of them
+  abbrev pub refusals_in : Slot S → List Refusal
+  refusals_in s = flat_map refusals_of (clients_in s)
 
   -- the slot is free, or its client is at rest
   abbrev pub GivesWay : Slot S → Type 0
@@ -64,6 +62,12 @@ module _ {S : Type 0} where
   EndsLate now patience old new = All (λ c. IsLate now patience c → (new.client ≡ None)
       × (past_of new ≡ past_of old ++ c ∷ [])) (present old.client)
 
-  -- those that ended, over all slots
-  abbrev pub ended_in : List (Slot S) → List (Client S)
-  ended_in slots = flat_map past_of slots
+  -- if the slot is free, nobody was there, or the client was late, or it has ended as one that left
+  abbrev pub EndsOnly : ℕ → ℕ → (S → Type 0) → Slot S → Slot S → Type 0
+  EndsOnly now patience is_gone old new = new.client ≡ None
+      → All (λ c. IsLate now patience c) (present old.client)
+      ⊎ ((c : Client S) × (past_of new ≡ past_of old ++ c ∷ []) × HasLeft is_gone c)
+
+-- its client, if it has one, is quiet
+abbrev pub AreQuiet : {S : Type 0} → Slot S → Type 0
+AreQuiet slot = All IsQuiet (present slot.client)

@@ -1,5 +1,6 @@
 //! What a connection holds.
-ghost use Rattle.std.specs.Prelude.{◌≡◌, ◌<◌, ◌≤◌, ℕ, List, [], length, take, false, IfOk, OnErr};
+ghost use Rattle.std.specs.Prelude.{◌≡◌, ◌≢◌, ◌<◌, ◌≤◌, ℕ, List, [], length, take, false, IfOk};
+ghost use Rattle.std.specs.Prelude.{IfErr, OnErr};
 ghost use Rattle.std.specs.Bool.{OnTrue, OnFalse};
 ghost use Rattle.std.specs.Io.KnownBytes.{Appends, Consumes, Keeps};
 
@@ -8,7 +9,7 @@ use crate::service::{Answer, Cut, Service};
 use crate::stream::Stream;
 use bytes::BytesMut;
 use http_server::Log;
-use std::alloc::Global;
+use std::alloc::{AllocError, Global};
 use std::io;
 
 /// The least and the most bytes of room that a read is given.
@@ -43,6 +44,8 @@ pub(crate) struct Buffers {
     pub(crate) turns: Log<BytesMut, Turn>,
     /// The answer before each write, and how many bytes of it went.
     pub(crate) writes: Log<Outgoing, usize>,
+    /// The input that was refused, and the answer.
+    pub(crate) refusals: Log<BytesMut, Answer>,
 }
 
 impl Buffers {
@@ -50,6 +53,8 @@ impl Buffers {
     ghost use Rattle.streetmap_connections.specs.Cuts.{HasNone, HasNoneBefore};
     ghost use Rattle.streetmap_connections.specs.History.{Exchange, MayFollow, new_history};
     ghost use Rattle.streetmap_connections.specs.History.{after_receive, after_answer, after_send};
+    ghost use Rattle.streetmap_connections.specs.History.{after_refusal};
+    ghost use Rattle.streetmap_connections.specs.Leaving.{IsFinal};
 
     /// Nothing, which takes no memory.
     pub(crate) fn new(alloc: Global) -> Buffers
@@ -66,25 +71,59 @@ impl Buffers {
             reads: Log::new(),
             turns: Log::new(),
             writes: Log::new(),
+            refusals: Log::new(),
         }
     }
 
-    /// Reads once.
-    pub(crate) fn receive_from<S: Stream>(&mut self, stream: &mut S) -> io::Result<usize>
-        ensures ok { IfOk result (λ n. (more : List ℕ) × (length more ≡ n)
+    /// Reads once, if there is memory for what would come.
+    pub(crate) fn receive_from<S: Stream>(
+        &mut self,
+        stream: &mut S,
+    ) -> Result<io::Result<usize>, AllocError>
+        ensures ok { IfOk result (λ r. IfOk r (λ n. (more : List ℕ) × (length more ≡ n)
             × Consumes (S.remaining stream.old) (S.remaining stream.new) more
-            × (history_of self.new ≡ after_receive (history_of self.old) more)) }
-        ensures err { OnErr result ((history_of self.new ≡ history_of self.old)
-            × Keeps (S.remaining stream.old) (S.remaining stream.new)) }
+            × (history_of self.new ≡ after_receive (history_of self.old) more))) }
+        ensures err { IfOk result (λ r. OnErr r ((history_of self.new ≡ history_of self.old)
+            × Keeps (S.remaining stream.old) (S.remaining stream.new))) }
+        ensures gone { IfOk result (λ r. IfErr r (λ e. IsFinal e → S.is_gone stream.new)) }
+        ensures no_memory { OnErr result ((history_of self.new ≡ history_of self.old)
+            × (stream.new ≡ stream.old)) }
         ensures kept { S.contents stream.new ≡ S.contents stream.old }
         ensures awaits { self.new.needs ≡ self.old.needs }
     {
         let len = self.input.len();
         self.input.reserve(room_for(self.needs, len))?;
+        Ok(self.read(stream))
+    }
+
+    /// Reads once into the room that is there.
+    fn read<S: Stream>(&mut self, stream: &mut S) -> io::Result<usize>
+        ensures ok { IfOk result (λ n. (more : List ℕ) × (length more ≡ n)
+            × Consumes (S.remaining stream.old) (S.remaining stream.new) more
+            × (history_of self.new ≡ after_receive (history_of self.old) more)) }
+        ensures err { OnErr result ((history_of self.new ≡ history_of self.old)
+            × Keeps (S.remaining stream.old) (S.remaining stream.new)) }
+        ensures gone { IfErr result (λ e. IsFinal e → S.is_gone stream.new) }
+        ensures kept { S.contents stream.new ≡ S.contents stream.old }
+        ensures awaits { self.new.needs ≡ self.old.needs }
+    {
+        let len = self.input.len();
         let count = stream.receive(&mut self.input)?;
         self.reads = self.reads.and(&self.input, &len);
         self.ended = count == 0;
         Ok(count)
+    }
+
+    /// Has the service refuse the input, for which there is no memory. The input is let go.
+    pub(crate) fn refuse<V: Service>(&mut self, service: &V)
+        ensures refused { (text : List ℕ) × V.refuses (history_of self.old).unread text
+            × (history_of self.new ≡ after_refusal (history_of self.old) text) }
+    {
+        let answer = service.refuse(self.input.as_slice());
+        self.refusals = self.refusals.and(&self.input, &answer);
+        self.input = BytesMut::new(self.alloc);
+        self.closes = true;
+        self.outgoing = Outgoing::new(answer);
     }
 
     /// Has the service answer the first request of the input. Whether it did.
@@ -144,6 +183,9 @@ impl Buffers {
             (take n (history_of self.old).unsent)) }
         ensures err { OnErr result ((history_of self.new ≡ history_of self.old)
             × Keeps (S.contents stream.old) (S.contents stream.new)) }
+        ensures none { IfOk result (λ n. n ≡ 0 → (history_of self.old).unsent ≢ []
+            → S.is_gone stream.new) }
+        ensures gone { IfErr result (λ e. IsFinal e → S.is_gone stream.new) }
         ensures kept { S.remaining stream.new ≡ S.remaining stream.old }
         ensures awaits { self.new.needs ≡ self.old.needs }
     {

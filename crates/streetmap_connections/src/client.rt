@@ -1,10 +1,14 @@
 //! A connection and its stream.
-ghost use Rattle.std.specs.Prelude.{◌≡◌, ◌≤◌, ◌↔◌, ◌||◌, [], true, false, length, IsTrue};
-ghost use Rattle.streetmap_connections.specs.Connections.{history};
+ghost use Rattle.std.specs.Prelude.{◌≡◌, ◌≢◌, ◌≤◌, ◌↔◌, ◌||◌, [], true, false, length, IsTrue};
+ghost use Rattle.std.specs.Prelude.{◌<◌, if◌then◌else◌, IfOk, OnErr, IsErrAnd, MatchResult};
+ghost use Rattle.std.specs.Bool.{OnFalse};
+ghost use Rattle.streetmap_connections.specs.Connections.{history, IsOver};
+ghost use Rattle.streetmap_connections.specs.Leaving.{IsFinal};
 ghost use Rattle.streetmap_connections.specs.Moves.{Moves};
 ghost use Rattle.streetmap_connections.specs.Leads.{Calls};
 
 use crate::connection::Connection;
+use crate::limits::{LONGEST_REQUEST, PIECE};
 use crate::service::Service;
 use crate::stream::Stream;
 use std::alloc::Global;
@@ -37,19 +41,26 @@ pub struct Client<S> {
     writable: bool,
     /// All was sent, and the end of what the other side sends is awaited.
     finishes: bool,
-    /// When it was accepted, was last answered, or last took a byte of an answer, in milliseconds.
+    /// When it was accepted, was last answered, last took a byte of an answer, or sent the last
+    /// whole piece of a request, in milliseconds.
     since: u64,
+    /// The same, but for pieces of a request.
+    request_since: u64,
 }
 
 impl<S: Stream> Client<S> {
     ghost use Rattle.streetmap_connections.specs.History.{new_history};
-    ghost use Rattle.streetmap_connections.specs.Clients.{place_of, exchanges_of, woken, IsIdle};
-    ghost use Rattle.streetmap_connections.specs.Clients.{IsLate, IsTimedFrom};
+    ghost use Rattle.streetmap_connections.specs.Clients.{place_of, exchanges_of, woken, IsIdle, IsQuiet};
+    ghost use Rattle.streetmap_connections.specs.Clients.{refusals_of};
+    ghost use Rattle.streetmap_connections.specs.Clients.{IsLate, HasLeft};
+    ghost use Rattle.streetmap_connections.specs.Refusing.{AddsRefusals};
+    ghost use Rattle.streetmap_connections.specs.Timing.{IsTimedFrom, times_of, pieces_of};
+    ghost use Rattle.streetmap_connections.specs.Timing.{restarted, renewed};
 
     /// A client of this stream, from this time on, in milliseconds.
     pub fn new(alloc: Global, stream: S, now: u64) -> Client<S>
         ensures ready { (result.readable ≡ true) × (result.writable ≡ true) }
-        ensures since { result.since ≡ now }
+        ensures since { (result.since ≡ now) × (result.request_since ≡ now) }
         ensures place { place_of S.remaining S.contents result
             ≡ record {
               history = new_history;
@@ -65,6 +76,7 @@ impl<S: Stream> Client<S> {
             writable: true,
             finishes: false,
             since: now,
+            request_since: now,
         }
     }
 
@@ -84,8 +96,9 @@ impl<S: Stream> Client<S> {
         self.writable = self.writable || writable;
     }
 
-    /// Whether it took longer than `patience`, in milliseconds, to send a whole request or to take
-    /// a byte of an answer; or longer than a second to end its side once all was sent.
+    /// Whether it took longer than `patience`, in milliseconds, to send the next piece of a request
+    /// or the rest of it, or to take a byte of an answer; longer than any request may take; or
+    /// longer than a second to end its side once all was sent.
     pub fn is_late(&self, now: u64, patience: u64) -> bool
         ensures { IsTrue result ↔ IsLate now patience self.now }
     {
@@ -95,6 +108,7 @@ impl<S: Stream> Client<S> {
             patience
         };
         now.saturating_sub(self.since) > patience
+            || now.saturating_sub(self.request_since) > LONGEST_REQUEST
     }
 
     /// Whether nothing of a request came, nothing is to be sent, and its stream had nothing more to
@@ -105,7 +119,16 @@ impl<S: Stream> Client<S> {
         !self.readable && !self.finishes && self.connection.is_idle()
     }
 
-    /// When it was accepted, was last answered, or last took a byte of an answer, in milliseconds.
+    /// Whether an answer, or a part of one, is still to be sent, or the end of what the other side
+    /// sends is awaited.
+    pub fn is_busy(&self) -> bool
+        ensures { OnFalse result (IsQuiet self.now) }
+    {
+        self.finishes || self.connection.wants_send()
+    }
+
+    /// When it was accepted, was last answered, last took a byte of an answer, or sent the last
+    /// whole piece of a request, in milliseconds.
     pub fn since(&self) -> u64
         ensures { result ≡ self.now.since }
     {
@@ -125,7 +148,9 @@ impl<S: Stream> Client<S> {
             (place_of S.remaining S.contents self.new) }
         ensures calls { Calls V.answers service.old service.new (exchanges_of self.old)
             (exchanges_of self.new) }
-        ensures timed { IsTimedFrom now self.old self.new }
+        ensures refuses { AddsRefusals V.refuses (refusals_of self.old) (refusals_of self.new) }
+        ensures timed { IsTimedFrom now (times_of self.old) (times_of self.new) }
+        ensures ends { result ≡ Work.Ends → HasLeft S.is_gone self.new }
     {
         for _step in 0..STEPS {
             match self.step(service, now, most_input) {
@@ -141,7 +166,9 @@ impl<S: Stream> Client<S> {
             (place_of S.remaining S.contents self.new) }
         ensures calls { Calls V.answers service.old service.new (exchanges_of self.old)
             (exchanges_of self.new) }
-        ensures timed { IsTimedFrom now self.old self.new }
+        ensures refuses { AddsRefusals V.refuses (refusals_of self.old) (refusals_of self.new) }
+        ensures timed { IsTimedFrom now (times_of self.old) (times_of self.new) }
+        ensures ends { result ≡ Work.Ends → HasLeft S.is_gone self.new }
     {
         if self.finishes {
             return self.await_end();
@@ -155,14 +182,25 @@ impl<S: Stream> Client<S> {
         if self.connection.is_over() {
             return self.finish(now);
         }
-        self.receive(most_input)
+        self.receive(service, now, most_input)
+    }
+
+    /// Something was done for it.
+    fn restart(&mut self, now: u64)
+        ensures { self.new ≡ restarted now self.old }
+    {
+        self.since = now;
+        self.request_since = now;
     }
 
     fn send(&mut self, now: u64) -> Work
+        requires { (history self.old.connection).unsent ≢ [] }
         ensures moves { Moves 0 (place_of S.remaining S.contents self.old)
             (place_of S.remaining S.contents self.new) }
         ensures unanswered { exchanges_of self.new ≡ exchanges_of self.old }
-        ensures timed { IsTimedFrom now self.old self.new }
+        ensures unrefused { refusals_of self.new ≡ refusals_of self.old }
+        ensures timed { IsTimedFrom now (times_of self.old) (times_of self.new) }
+        ensures ends { result ≡ Work.Ends → S.is_gone self.new.stream }
     {
         if !self.writable {
             return Work::Rests;
@@ -174,12 +212,16 @@ impl<S: Stream> Client<S> {
     fn note_sent(&mut self, sent: io::Result<usize>, now: u64) -> Work
         ensures same { place_of S.remaining S.contents self.new
             ≡ place_of S.remaining S.contents self.old }
-        ensures timed { IsTimedFrom now self.old self.new }
+        ensures stream { self.new.stream ≡ self.old.stream }
+        ensures some { IfOk sent (λ n. 0 < n → self.new ≡ restarted now self.old) }
+        ensures none { IfOk sent (λ n. n ≡ 0 → times_of self.new ≡ times_of self.old) }
+        ensures failed { OnErr sent (times_of self.new ≡ times_of self.old) }
+        ensures ends { result ≡ Work.Ends → MatchResult sent (λ n. n ≡ 0) IsFinal }
     {
         match sent {
             Ok(0) => Work::Ends,
             Ok(_) => {
-                self.since = now;
+                self.restart(now);
                 Work::Goes
             }
             Err(e) => {
@@ -196,44 +238,72 @@ impl<S: Stream> Client<S> {
             (place_of S.remaining S.contents self.new) }
         ensures calls { Calls V.answers service.old service.new (exchanges_of self.old)
             (exchanges_of self.new) }
-        ensures timed { IsTimedFrom now self.old self.new }
+        ensures unrefused { refusals_of self.new ≡ refusals_of self.old }
+        ensures timed { IsTimedFrom now (times_of self.old) (times_of self.new) }
+        ensures goes { result ≡ Work.Goes }
     {
         let answered = self.connection.answer(service);
-        self.note_answered(answered, now)
-    }
-
-    fn note_answered(&mut self, answered: bool, now: u64) -> Work
-        ensures same { place_of S.remaining S.contents self.new
-            ≡ place_of S.remaining S.contents self.old }
-        ensures timed { IsTimedFrom now self.old self.new }
-    {
-        if answered {
-            self.since = now;
-        }
+        self.note_answered(answered, now);
         Work::Goes
     }
 
-    /// Reads once, where less than so much of the input waits.
-    fn receive(&mut self, most_input: usize) -> Work
-        requires { (history self.old.connection).unsent ≡ [] }
+    fn note_answered(&mut self, answered: bool, now: u64)
+        ensures { self.new ≡ (if answered then restarted now self.old else self.old) }
+    {
+        if answered {
+            self.restart(now);
+        }
+    }
+
+    /// Reads once, where less than so much of the input waits. Where there is no memory for what
+    /// would come, the request is refused.
+    fn receive<V: Service>(&mut self, service: &V, now: u64, most_input: usize) -> Work
+        requires sent { (history self.old.connection).unsent ≡ [] }
+        requires stays { (history self.old.connection).closes ≡ false }
         ensures moves { Moves most_input (place_of S.remaining S.contents self.old)
             (place_of S.remaining S.contents self.new) }
         ensures unanswered { exchanges_of self.new ≡ exchanges_of self.old }
+        ensures refuses { AddsRefusals V.refuses (refusals_of self.old) (refusals_of self.new) }
         ensures limit { most_input ≤ length (history self.old.connection).unread
             → history self.new.connection ≡ history self.old.connection }
-        ensures since { self.new.since ≡ self.old.since }
+        ensures timed { IsTimedFrom now (times_of self.old) (times_of self.new) }
+        ensures ends { result ≡ Work.Ends → S.is_gone self.new.stream }
     {
         if !self.readable || self.connection.waiting() >= most_input {
             return Work::Rests;
         }
-        let received = self.connection.receive_from(&mut self.stream);
-        self.note_received(received)
+        let pieces = self.pieces();
+        match self.connection.receive_from(&mut self.stream) {
+            Ok(received) => {
+                self.renew(pieces, now);
+                self.note_received(received)
+            }
+            Err(_) => self.refuse(service, now),
+        }
+    }
+
+    /// The whole pieces of its input that wait for an answer.
+    fn pieces(&self) -> usize
+        ensures { result ≡ pieces_of (history self.now.connection) }
+    {
+        self.connection.waiting() / PIECE
+    }
+
+    /// Renews its patience, where more whole pieces wait than so many.
+    fn renew(&mut self, pieces: usize, now: u64)
+        ensures { self.new ≡ renewed pieces now self.old }
+    {
+        if self.pieces() > pieces {
+            self.since = now;
+        }
     }
 
     fn note_received(&mut self, received: io::Result<usize>) -> Work
         ensures same { place_of S.remaining S.contents self.new
             ≡ place_of S.remaining S.contents self.old }
-        ensures since { self.new.since ≡ self.old.since }
+        ensures stream { self.new.stream ≡ self.old.stream }
+        ensures times { times_of self.new ≡ times_of self.old }
+        ensures ends { result ≡ Work.Ends → IsErrAnd received IsFinal }
     {
         match received {
             Ok(_) => Work::Goes,
@@ -244,20 +314,40 @@ impl<S: Stream> Client<S> {
         }
     }
 
-    /// Says that nothing more is sent. What the other side still sends is read and dropped, since
-    /// an unread byte could cost it the last answer.
-    fn finish(&mut self, now: u64) -> Work
+    /// Refuses what came of a request, for which there is no memory.
+    fn refuse<V: Service>(&mut self, service: &V, now: u64) -> Work
+        requires sent { (history self.old.connection).unsent ≡ [] }
+        requires stays { (history self.old.connection).closes ≡ false }
         ensures moves { Moves 0 (place_of S.remaining S.contents self.old)
             (place_of S.remaining S.contents self.new) }
         ensures unanswered { exchanges_of self.new ≡ exchanges_of self.old }
-        ensures timed { IsTimedFrom now self.old self.new }
+        ensures refuses { AddsRefusals V.refuses (refusals_of self.old) (refusals_of self.new) }
+        ensures timed { IsTimedFrom now (times_of self.old) (times_of self.new) }
+        ensures goes { result ≡ Work.Goes }
+    {
+        self.connection.refuse(service);
+        self.restart(now);
+        Work::Goes
+    }
+
+    /// Says that nothing more is sent. What the other side still sends is read and dropped, since
+    /// an unread byte could cost it the last answer.
+    fn finish(&mut self, now: u64) -> Work
+        requires over { IsOver self.old.connection }
+        requires first { self.old.finishes ≡ false }
+        ensures moves { Moves 0 (place_of S.remaining S.contents self.old)
+            (place_of S.remaining S.contents self.new) }
+        ensures unanswered { exchanges_of self.new ≡ exchanges_of self.old }
+        ensures unrefused { refusals_of self.new ≡ refusals_of self.old }
+        ensures timed { IsTimedFrom now (times_of self.old) (times_of self.new) }
+        ensures ends { result ≡ Work.Ends → HasLeft S.is_gone self.new }
     {
         if self.connection.has_ended() {
             return Work::Ends;
         }
         self.stream.finish();
         self.finishes = true;
-        self.since = now;
+        self.restart(now);
         Work::Goes
     }
 
@@ -266,7 +356,9 @@ impl<S: Stream> Client<S> {
         ensures moves { Moves 0 (place_of S.remaining S.contents self.old)
             (place_of S.remaining S.contents self.new) }
         ensures unanswered { exchanges_of self.new ≡ exchanges_of self.old }
-        ensures since { self.new.since ≡ self.old.since }
+        ensures unrefused { refusals_of self.new ≡ refusals_of self.old }
+        ensures times { times_of self.new ≡ times_of self.old }
+        ensures ends { result ≡ Work.Ends → S.is_gone self.new.stream }
     {
         if !self.readable {
             return Work::Rests;
@@ -288,7 +380,9 @@ fn is_blocked(e: &io::Error) -> bool {
 
 /// A stream that is not ready is waited for, an interrupted call is made again, and any other error
 /// ends it.
-fn after_error(e: &io::Error) -> Work {
+fn after_error(e: &io::Error) -> Work
+    ensures { result ≡ Work.Ends → IsFinal e.now }
+{
     match e.kind() {
         ErrorKind::WouldBlock => Work::Rests,
         ErrorKind::Interrupted => Work::Goes,

@@ -1,9 +1,10 @@
 //! The clients of a server.
 ghost use Rattle.std.specs.Prelude.{◌≡◌, ◌⊎◌, ◌+◌, [], Some, map, flat_map, length, vec_len};
+ghost use Rattle.std.specs.Bool.{OnFalse};
 ghost use Rattle.std.specs.Prelude.{slice_get, All, IfOk, IfSome, IfNone};
 ghost use Rattle.std.specs.List.{AllZip};
 ghost use Rattle.streetmap_connections.specs.Counts.{count_of, CountsOn};
-ghost use Rattle.streetmap_connections.specs.Slots.{clients_in, past_of, ended_in, EndsLate};
+ghost use Rattle.streetmap_connections.specs.Slots.{clients_in, past_of, ended_in, EndsLate, EndsOnly};
 
 use crate::client::{Client, Work};
 use crate::limits::Limits;
@@ -41,9 +42,10 @@ impl Round {
 
     /// The client of the slot takes its turn, and leaves where it is over.
     fn give_turn<S: Stream + Drop, V: Service>(&mut self, slot: &mut Slot<S>, service: &mut V)
-        ensures turn { TakesTurn S.remaining S.contents V.answers service.old service.new
+        ensures turn { TakesTurn S.remaining S.contents V.answers V.refuses service.old service.new
             (clients_in slot.old) (clients_in slot.new) }
         ensures late { EndsLate self.old.now self.old.limits.patience slot.old slot.new }
+        ensures ends { EndsOnly self.old.now self.old.limits.patience S.is_gone slot.old slot.new }
         ensures counted { CountsOn self.old.ended self.new.ended (past_of slot.old)
             (past_of slot.new) }
         ensures same { (self.new.now ≡ self.old.now) × (self.new.limits ≡ self.old.limits) }
@@ -64,10 +66,12 @@ impl Round {
 
     /// The client of each slot takes its turn.
     fn give_turns<S: Stream + Drop, V: Service>(&mut self, slots: &mut [Slot<S>], service: &mut V)
-        ensures serves { Serves V.answers service.old service.new slots.old slots.new }
+        ensures serves { Serves V.answers V.refuses service.old service.new slots.old slots.new }
         ensures moves { EachMoves S.remaining S.contents (flat_map clients_in slots.old)
             (flat_map clients_in slots.new) }
         ensures late { AllZip (EndsLate self.old.now self.old.limits.patience) slots.old slots.new }
+        ensures ends { AllZip (EndsOnly self.old.now self.old.limits.patience S.is_gone)
+            slots.old slots.new }
         ensures counted { CountsOn self.old.ended self.new.ended (ended_in slots.old)
             (ended_in slots.new) }
     {
@@ -78,13 +82,13 @@ impl Round {
 }
 
 impl<S: Stream + Drop> Clients<S> {
-    ghost use Rattle.streetmap_connections.specs.Clients.{exchanges_of};
-    ghost use Rattle.streetmap_connections.specs.Interleaving.{GoesOnAs};
     ghost use Rattle.streetmap_connections.specs.Serving.{EachMoves, Serves};
-    ghost use Rattle.streetmap_connections.specs.Served.{clients_of, ended_of, slots_of};
-    ghost use Rattle.streetmap_connections.specs.Slots.{exchanges_in, woken_in, CameAt, GivesWayAt};
+    ghost use Rattle.streetmap_connections.specs.Served.{all_refusals, clients_of, ended_of, slots_of};
+    ghost use Rattle.streetmap_connections.specs.Slots.{exchanges_in, histories_in, woken_in};
+    ghost use Rattle.streetmap_connections.specs.Slots.{CameAt, GivesWayAt};
     ghost use Rattle.streetmap_connections.specs.Slots.{IsFreeAt, IsLongestIdleAt, IsTaken};
-    ghost use Rattle.streetmap_connections.specs.Slots.{NoneIdlesBeyond};
+    ghost use Rattle.streetmap_connections.specs.Slots.{AreQuiet, NoneIdlesBeyond};
+    ghost use Rattle.streetmap_connections.specs.Timeline.{Timeline};
     ghost use Rattle.streetmap_connections.specs.declared.slot.Slot.{Slot};
 
     /// No client, and room for as many as the limits allow.
@@ -183,10 +187,11 @@ impl<S: Stream + Drop> Clients<S> {
     /// Lets a client in at a place that gives way: the client that is there ends.
     pub fn let_in(&mut self, place: usize, stream: S, now: u64)
         requires { GivesWayAt self.old.slots.items place }
-        ensures unanswered { GoesOnAs (map exchanges_of (clients_of self.old)) []
-            (map exchanges_of (clients_of self.new)) }
+        ensures comes { Timeline (histories_in (slots_of self.old)) []
+            (histories_in (slots_of self.new)) }
         ensures kept { map exchanges_in (slots_of self.new)
             ≡ map exchanges_in (slots_of self.old) }
+        ensures unrefused { all_refusals self.new ≡ all_refusals self.old }
         ensures one_more { length (clients_of self.new) ≡ length (clients_of self.old) + 1 }
         ensures here { CameAt now self.new.slots.items place }
     {
@@ -199,16 +204,29 @@ impl<S: Stream + Drop> Clients<S> {
 
     /// Notes that the stream of the client at a place became ready.
     pub fn wake(&mut self, place: usize, readable: bool, writable: bool)
-        ensures same { map exchanges_of (clients_of self.new)
-            ≡ map exchanges_of (clients_of self.old) }
+        ensures same { histories_in (slots_of self.new) ≡ histories_in (slots_of self.old) }
         ensures kept { map exchanges_in (slots_of self.new)
             ≡ map exchanges_in (slots_of self.old) }
+        ensures unrefused { all_refusals self.new ≡ all_refusals self.old }
         ensures woken { (s : Slot S) → slice_get self.old.slots.items place ≡ Some s
             → slice_get self.new.slots.items place ≡ Some (woken_in readable writable s) }
     {
         if place < self.slots.len() {
             self.slots[place].wake(readable, writable);
         }
+    }
+
+    /// Whether a client is busy (`Client::is_busy`).
+    pub fn is_busy(&self) -> bool
+        ensures { OnFalse result (All AreQuiet self.now.slots.items) }
+    {
+        let slots = self.slots.as_slice();
+        for slot in slots {
+            if slot.is_busy() {
+                return true;
+            }
+        }
+        false
     }
 
     /// The bytes of input that wait for an answer, over all clients.
@@ -223,12 +241,14 @@ impl<S: Stream + Drop> Clients<S> {
     /// Each client takes its turn, and those that are late, or over, leave. Whether one can go on
     /// at once.
     pub fn work<V: Service>(&mut self, service: &mut V, now: u64) -> bool
-        ensures serves { Serves V.answers service.old service.new (slots_of self.old)
+        ensures serves { Serves V.answers V.refuses service.old service.new (slots_of self.old)
             (slots_of self.new) }
         ensures moves { EachMoves S.remaining S.contents (clients_of self.old)
             (clients_of self.new) }
         ensures late { AllZip (EndsLate now self.old.limits.patience) self.old.slots.items
             self.new.slots.items }
+        ensures ends { AllZip (EndsOnly now self.old.limits.patience S.is_gone)
+            self.old.slots.items self.new.slots.items }
     {
         let mut round = Round {
             limits: self.limits,

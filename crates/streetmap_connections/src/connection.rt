@@ -1,17 +1,19 @@
 //! One connection, with no input or output of its own.
 ghost use Rattle.std.specs.Prelude.{◌≡◌, ◌≢◌, ◌<◌, ◌↔◌, ℕ, List, [], length, take, false, IfOk};
-ghost use Rattle.std.specs.Prelude.{OnErr, IsTrue};
+ghost use Rattle.std.specs.Prelude.{IfErr, OnErr, IsTrue};
 ghost use Rattle.std.specs.Bool.{OnTrue, OnFalse};
 ghost use Rattle.std.specs.Io.KnownBytes.{Appends, Consumes, Keeps};
 ghost use Rattle.streetmap_connections.specs.Buffers.{history_of};
 ghost use Rattle.streetmap_connections.specs.History.{Exchange, FitsStream, MayFollow, new_history};
 ghost use Rattle.streetmap_connections.specs.History.{after_receive, after_answer, after_send};
+ghost use Rattle.streetmap_connections.specs.History.{after_refusal};
+ghost use Rattle.streetmap_connections.specs.Leaving.{IsFinal};
 
 use crate::buffers::Buffers;
 use crate::limits::MOST_INPUT;
 use crate::service::Service;
 use crate::stream::Stream;
-use std::alloc::Global;
+use std::alloc::{AllocError, Global};
 use std::io;
 
 /// What was received and not yet answered, and what was answered and not yet sent. One request is
@@ -87,14 +89,20 @@ impl Connection {
     ///
     /// # Errors
     ///
-    /// As the stream's, and `OutOfMemory` where there is no room for what would come.
-    pub fn receive_from<S: Stream>(&mut self, stream: &mut S) -> io::Result<usize>
+    /// Where there is no memory for what would come: nothing is read then.
+    pub fn receive_from<S: Stream>(
+        &mut self,
+        stream: &mut S,
+    ) -> Result<io::Result<usize>, AllocError>
         requires { (history self.old).unsent ≡ [] }
-        ensures ok { IfOk result (λ n. (more : List ℕ) × (length more ≡ n)
+        ensures ok { IfOk result (λ r. IfOk r (λ n. (more : List ℕ) × (length more ≡ n)
             × Consumes (S.remaining stream.old) (S.remaining stream.new) more
-            × (history self.new ≡ after_receive (history self.old) more)) }
-        ensures err { OnErr result ((history self.new ≡ history self.old)
-            × Keeps (S.remaining stream.old) (S.remaining stream.new)) }
+            × (history self.new ≡ after_receive (history self.old) more))) }
+        ensures err { IfOk result (λ r. OnErr r ((history self.new ≡ history self.old)
+            × Keeps (S.remaining stream.old) (S.remaining stream.new))) }
+        ensures gone { IfOk result (λ r. IfErr r (λ e. IsFinal e → S.is_gone stream.new)) }
+        ensures no_memory { OnErr result ((history self.new ≡ history self.old)
+            × (stream.new ≡ stream.old)) }
         ensures kept { S.contents stream.new ≡ S.contents stream.old }
         ensures awaits { awaited self.new ≡ awaited self.old }
     {
@@ -121,6 +129,17 @@ impl Connection {
         self.buffers.answer(service)
     }
 
+    /// Has the service refuse what came of a request, for which there is no memory. It is let go,
+    /// and the connection closes after the answer.
+    pub fn refuse<V: Service>(&mut self, service: &V)
+        requires sent { (history self.old).unsent ≡ [] }
+        requires stays { (history self.old).closes ≡ false }
+        ensures refused { (text : List ℕ) × V.refuses (history self.old).unread text
+            × (history self.new ≡ after_refusal (history self.old) text) }
+    {
+        self.buffers.refuse(service);
+    }
+
     /// Writes once, and answers how many bytes the stream took.
     ///
     /// # Errors
@@ -132,6 +151,9 @@ impl Connection {
             (take n (history self.old).unsent)) }
         ensures err { OnErr result ((history self.new ≡ history self.old)
             × Keeps (S.contents stream.old) (S.contents stream.new)) }
+        ensures none { IfOk result (λ n. n ≡ 0 → (history self.old).unsent ≢ []
+            → S.is_gone stream.new) }
+        ensures gone { IfErr result (λ e. IsFinal e → S.is_gone stream.new) }
         ensures kept { S.remaining stream.new ≡ S.remaining stream.old }
         ensures awaits { awaited self.new ≡ awaited self.old }
     {

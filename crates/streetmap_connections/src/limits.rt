@@ -1,5 +1,5 @@
 //! What clients may take.
-ghost use Rattle.std.specs.Prelude.{◌≡◌, ◌≤◌};
+ghost use Rattle.std.specs.Prelude.{◌≡◌, ◌-◌, min, max};
 
 /// The bytes of the longest request: a head and a body. No more of a client's input is read than
 /// these and one read.
@@ -9,13 +9,20 @@ pub const MOST_INPUT: usize = 16_384 + 8_388_608;
 /// sent.
 pub(crate) const MOST_HEAD: usize = 16_384;
 
+/// The bytes of a piece of a request. Each whole piece that came renews a client's patience.
+pub const PIECE: usize = 65_536;
+
+/// The milliseconds that a client may take to send a whole request, however much of it comes
+/// meanwhile.
+pub const LONGEST_REQUEST: u64 = 600_000;
+
 /// What the clients of a server may take.
 #[derive(Drop, Clone, Copy)]
 pub struct Limits {
     /// How many are served at once; with none nobody is let in.
     pub clients: usize,
-    /// The milliseconds that a client may take to send a whole request, or to take a byte of an
-    /// answer.
+    /// The milliseconds that a client may take to send the next piece of a request or the rest of
+    /// it, or to take a byte of an answer.
     pub patience: u64,
     /// The milliseconds for which a client is idle at least before another is let in in its place.
     pub least_idle: u64,
@@ -61,7 +68,7 @@ impl Limits {
 
     /// How much input one client may have while the others have so much.
     pub(crate) fn most_input(&self, others: usize) -> usize
-        ensures { result ≤ MOST_INPUT }
+        ensures { result ≡ min (max (self.now.most_waiting - others) MOST_HEAD) MOST_INPUT }
     {
         self.most_waiting
             .saturating_sub(others)

@@ -1,10 +1,12 @@
 //! Clients over a listener, in one thread.
-ghost use Rattle.std.specs.Prelude.{◌≡◌, ◌≤◌, ◌↔◌, [], length, map, IsOk};
-ghost use Rattle.streetmap_connections.specs.Clients.{exchanges_of};
-ghost use Rattle.streetmap_connections.specs.Interleaving.{GoesOnAs};
+ghost use Rattle.std.specs.Prelude.{◌≡◌, ◌≤◌, ◌+◌, ◌↔◌, ◌≢◌, [], true, length, map, IsOk, IsErrOf};
+ghost use Rattle.std.specs.Prelude.{IfErr};
+ghost use Rattle.streetmap_connections.specs.Over.{IsDrained};
 ghost use Rattle.streetmap_connections.specs.Serving.{Serves};
-ghost use Rattle.streetmap_connections.specs.Served.{clients_of, ended_of, slots_of};
-ghost use Rattle.streetmap_connections.specs.Slots.{exchanges_in, GivesWayAt};
+ghost use Rattle.streetmap_connections.specs.Served.{all_refusals, clients_of, ended_of, slots_of};
+ghost use Rattle.streetmap_connections.specs.Served.{LetsInUpTo};
+ghost use Rattle.streetmap_connections.specs.Slots.{exchanges_in, histories_in, GivesWayAt};
+ghost use Rattle.streetmap_connections.specs.Timeline.{Timeline};
 
 use crate::clients::Clients;
 use crate::service::Service;
@@ -29,6 +31,8 @@ pub enum ServeFault {
     Net,
     /// `memory`: memory was refused before a client was accepted or read.
     Memory,
+    /// `over`: the service is over, and what was begun of answers was sent.
+    Over,
 }
 
 impl ServeFault {
@@ -42,6 +46,7 @@ impl ServeFault {
         match self {
             ServeFault::Net => "net",
             ServeFault::Memory => "memory",
+            ServeFault::Over => "over",
         }
     }
 
@@ -53,6 +58,7 @@ impl ServeFault {
         match self {
             ServeFault::Net => "No connection can be accepted.",
             ServeFault::Memory => "Memory was refused; the call may be made again.",
+            ServeFault::Over => "The service answers no more requests.",
         }
     }
 }
@@ -60,9 +66,10 @@ impl ServeFault {
 impl From<io::Error> for ServeFault {
     ghost use Rattle.std.specs.IoError.{error_kind};
     ghost use Rattle.std.specs.declared.io.ErrorKind.TheVariants.{OutOfMemory};
-    ghost use Rattle.streetmap_connections.specs.declared.serve.ServeFault.TheVariants.{Memory};
+    ghost use Rattle.streetmap_connections.specs.declared.serve.ServeFault.TheVariants.{Memory, Over};
 
-    ghost from_gives = { λ given fault. (fault ≡ Memory) ↔ (error_kind given ≡ OutOfMemory) };
+    ghost from_gives = { λ given fault. ((fault ≡ Memory) ↔ (error_kind given ≡ OutOfMemory))
+        × (fault ≢ Over) };
 
     fn from(e: io::Error) -> ServeFault {
         match e.kind() {
@@ -89,10 +96,10 @@ struct Acceptor {
     listener: mio::net::TcpListener,
     /// The token of the listener; a lower one is the place of a client.
     token: usize,
-    /// How many clients are to be let in over all.
-    count: u64,
     /// Whether a client may wait to be accepted.
     pending: bool,
+    /// Since when the service is over, in milliseconds.
+    over_since: Option<u64>,
 }
 
 /// What one call of `accept` gave.
@@ -110,8 +117,9 @@ impl Acceptor {
         rt: &R,
         listener: &TcpListener,
         token: usize,
-        count: u64,
-    ) -> Result<Acceptor, ServeFault> {
+    ) -> Result<Acceptor, ServeFault>
+        ensures { IfErr result (λ fault. fault ≢ ServeFault.Over) }
+    {
         let poll = Poll::new(rt)?;
         let listener = listener.try_clone()?;
         listener.set_nonblocking(true)?;
@@ -122,8 +130,8 @@ impl Acceptor {
             poll,
             listener,
             token,
-            count,
             pending: true,
+            over_since: None,
         })
     }
 
@@ -134,10 +142,12 @@ impl Acceptor {
         clients: &mut Clients<TcpStream>,
         longest: u64,
     ) -> Result<(), ServeFault>
-        ensures same { map exchanges_of (clients_of clients.new)
-            ≡ map exchanges_of (clients_of clients.old) }
+        ensures same { histories_in (slots_of clients.new)
+            ≡ histories_in (slots_of clients.old) }
         ensures kept { map exchanges_in (slots_of clients.new)
             ≡ map exchanges_in (slots_of clients.old) }
+        ensures unrefused { all_refusals clients.new ≡ all_refusals clients.old }
+        ensures fault { IfErr result (λ fault. fault ≢ ServeFault.Over) }
     {
         self.poll
             .poll(events, Some(Duration::from_millis(longest)))?;
@@ -155,15 +165,23 @@ impl Acceptor {
         Ok(())
     }
 
-    /// Lets in the clients that wait, as far as there are places.
-    fn let_in(&mut self, clients: &mut Clients<TcpStream>, now: u64) -> Result<(), ServeFault>
-        ensures unanswered { GoesOnAs (map exchanges_of (clients_of clients.old)) []
-            (map exchanges_of (clients_of clients.new)) }
+    /// Lets in the clients that wait, as far as there are places, and up to that number in all.
+    fn let_in(
+        &mut self,
+        count: u64,
+        clients: &mut Clients<TcpStream>,
+        now: u64,
+    ) -> Result<(), ServeFault>
+        ensures comes { Timeline (histories_in (slots_of clients.old)) []
+            (histories_in (slots_of clients.new)) }
         ensures kept { map exchanges_in (slots_of clients.new)
             ≡ map exchanges_in (slots_of clients.old) }
+        ensures unrefused { all_refusals clients.new ≡ all_refusals clients.old }
+        ensures few { LetsInUpTo count clients.old clients.new }
+        ensures fault { IfErr result (λ fault. fault ≢ ServeFault.Over) }
     {
         for _attempt in 0..self.token {
-            if !self.pending || clients.begun() >= self.count {
+            if !self.pending || self.over_since.is_some() || clients.begun() >= count {
                 return Ok(());
             }
             let Some(place) = clients.place_for_next(now) else {
@@ -184,10 +202,13 @@ impl Acceptor {
         now: u64,
     ) -> Result<bool, ServeFault>
         requires { GivesWayAt clients.old.slots.items place }
-        ensures unanswered { GoesOnAs (map exchanges_of (clients_of clients.old)) []
-            (map exchanges_of (clients_of clients.new)) }
+        ensures comes { Timeline (histories_in (slots_of clients.old)) []
+            (histories_in (slots_of clients.new)) }
         ensures kept { map exchanges_in (slots_of clients.new)
             ≡ map exchanges_in (slots_of clients.old) }
+        ensures unrefused { all_refusals clients.new ≡ all_refusals clients.old }
+        ensures one { length (clients_of clients.new) ≤ length (clients_of clients.old) + 1 }
+        ensures fault { IfErr result (λ fault. fault ≢ ServeFault.Over) }
     {
         match self.accept(place) {
             Ok(Accepted::Client(stream)) => {
@@ -232,18 +253,31 @@ impl Acceptor {
     /// once.
     fn round<V: Service>(
         &mut self,
+        count: u64,
         clients: &mut Clients<TcpStream>,
         service: &mut V,
         now: u64,
     ) -> Result<bool, ServeFault>
-        ensures { Serves V.answers service.old service.new (slots_of clients.old)
+        ensures serves { Serves V.answers V.refuses service.old service.new (slots_of clients.old)
             (slots_of clients.new) }
+        ensures few { LetsInUpTo count clients.old clients.new }
+        ensures fault { IfErr result (λ fault. fault ≢ ServeFault.Over) }
     {
-        self.let_in(clients, now)?;
+        self.let_in(count, clients, now)?;
         Ok(clients.work(service, now))
     }
 
-    /// Serves clients until so many ended that were let in.
+    /// Whether no client waits for the rest of an answer, or one has had its time for it. From here
+    /// on nobody is let in.
+    fn is_drained(&mut self, clients: &Clients<TcpStream>, now: u64) -> bool
+        ensures { result ≡ true → IsDrained now self.new.over_since clients.now }
+    {
+        let since = self.over_since.unwrap_or(now);
+        self.over_since = Some(since);
+        !clients.is_busy() || now.saturating_sub(since) > clients.limits.patience
+    }
+
+    /// Serves clients until so many ended that were let in, or the service is over.
     fn serve<R: Clock, V: Service>(
         &mut self,
         rt: &R,
@@ -252,9 +286,11 @@ impl Acceptor {
         clients: &mut Clients<TcpStream>,
         service: &mut V,
     ) -> Result<(), ServeFault>
-        ensures serves { Serves V.answers service.old service.new (slots_of clients.old)
+        ensures serves { Serves V.answers V.refuses service.old service.new (slots_of clients.old)
             (slots_of clients.new) }
         ensures counted { IsOk result → count ≤ length (ended_of clients.new) }
+        ensures few { LetsInUpTo count clients.old clients.new }
+        ensures over { IsErrOf result ServeFault.Over → V.is_over service.new }
     {
         let start = Instant::now(rt)?;
         let mut goes = true;
@@ -263,21 +299,27 @@ impl Acceptor {
                 return Ok(());
             }
             self.wait(events, clients, if goes { 0 } else { LONGEST_WAIT })?;
-            goes = self.round(clients, service, millis(start.elapsed(rt)?))?;
+            let now = millis(start.elapsed(rt)?);
+            if service.is_over() && self.is_drained(clients, now) {
+                return Err(ServeFault::Over);
+            }
+            goes = self.round(count, clients, service, now)?;
         }
         Err(ServeFault::Net)
     }
 }
 
 /// Serves clients of a listener, many at once, until so many ended that were let in. A client that
-/// fails, is late, or has no memory for its input ends alone.
+/// fails or is late ends alone. One for whose input there is no memory is refused by the service,
+/// and its connection closes after that answer.
 ///
 /// From here on a call of `accept` on the listener does not wait.
 ///
 /// # Errors
 ///
 /// `Net` where no client can be accepted while there is none, or the sockets cannot be waited for,
-/// and `Memory` where there is no room for what is waited for.
+/// and `Memory` where there is no room for what is waited for. `Over` once the service is over and
+/// what was begun of answers was sent, or a client took longer than its patience for that.
 pub fn serve_connections<R: Net + Clock, V: Service>(
     rt: &R,
     listener: &TcpListener,
@@ -289,12 +331,15 @@ pub fn serve_connections<R: Net + Clock, V: Service>(
     // that the one before left; it goes on from any interleaving of the clients' own lists before
     // as one of their lists after. The clients of a place were answered in turn, each to its end
     // before the next was answered at all.
-    ensures serves { Serves V.answers service.old service.new (slots_of clients.old)
+    ensures serves { Serves V.answers V.refuses service.old service.new (slots_of clients.old)
         (slots_of clients.new) }
     ensures counted { IsOk result → count ≤ length (ended_of clients.new) }
+    // No more are let in.
+    ensures few { LetsInUpTo count clients.old clients.new }
+    ensures over { IsErrOf result ServeFault.Over → V.is_over service.new }
 {
     let mut events = Events::with_capacity(clients.alloc, MOST_EVENTS)?;
-    let mut acceptor = Acceptor::new(rt, listener, clients.capacity(), count)?;
+    let mut acceptor = Acceptor::new(rt, listener, clients.capacity())?;
     acceptor.serve(rt, count, &mut events, clients, service)
 }
 

@@ -1,5 +1,5 @@
 //! What answers the requests.
-ghost use Rattle.std.specs.Prelude.{◌≡◌, ◌≤◌, ℕ, Bool, List, take, length};
+ghost use Rattle.std.specs.Prelude.{◌≡◌, ◌≤◌, ℕ, Bool, true, List, take, length};
 ghost use Rattle.streetmap_connections.specs.Cuts.{IfWhole, IfWaits, HasNone, HasNoneBefore};
 
 /// An answer: its head and its body, both at hand.
@@ -56,6 +56,12 @@ pub trait Service {
     // connection or not, and the second state is left.
     ghost answers: { Self → List ℕ → List ℕ → Bool → Self → Type 0 };
 
+    // A request of which these bytes came, and which is not whole, is refused by a text.
+    ghost refuses: { List ℕ → List ℕ → Type 0 };
+
+    // It is over: no request is answered any more.
+    ghost is_over: { Self → Type 0 };
+
     /// Finds the first request of `input`.
     fn cut(&self, input: &[u8]) -> Cut
         ensures fits { IfWhole result (λ len. len ≤ length input.now) }
@@ -67,4 +73,13 @@ pub trait Service {
     fn answer(&mut self, request: &[u8]) -> (Answer, bool)
         requires { is_request request.now }
         ensures { answers self.old request.now (answer_text result.0) result.1 self.new };
+
+    /// Refuses a request for which there is no memory. The connection closes after the answer,
+    /// which is to take no memory itself.
+    fn refuse(&self, input: &[u8]) -> Answer
+        ensures { refuses input.now (answer_text result) };
+
+    /// Whether serving ends now: what was begun of answers is sent, and nobody else is let in.
+    fn is_over(&self) -> bool
+        ensures { result ≡ true → is_over self.now };
 }

@@ -1,5 +1,5 @@
 //! A place for one client at a time.
-ghost use Rattle.std.specs.Prelude.{◌≡◌, ◌<◌, ◌≤◌, ℕ, [], ◌∷◌, ◌++◌, Some, None, length, map, All};
+ghost use Rattle.std.specs.Prelude.{◌≡◌, ◌⊎◌, ◌<◌, ◌≤◌, ℕ, [], ◌∷◌, ◌++◌, Some, None, length, map, All};
 ghost use Rattle.std.specs.Bool.{OnTrue, OnFalse};
 
 use crate::client::{Client, Work};
@@ -17,8 +17,9 @@ pub(crate) struct Slot<S> {
 }
 
 impl<S: Stream + Drop> Slot<S> {
-    ghost use Rattle.streetmap_connections.specs.Clients.{exchanges_of, IsLate};
-    ghost use Rattle.streetmap_connections.specs.Slots.{clients_in, past_of, present, woken_in};
+    ghost use Rattle.streetmap_connections.specs.Clients.{HasLeft, IsLate, IsQuiet};
+    ghost use Rattle.streetmap_connections.specs.Slots.{clients_in, past_of, present, refusals_in};
+    ghost use Rattle.streetmap_connections.specs.Slots.{client_history, woken_in};
     ghost use Rattle.streetmap_connections.specs.Slots.{GivesWay, IdlesFor, IsTaken};
     ghost use Rattle.streetmap_connections.specs.Serving.{TakesTurn};
 
@@ -38,6 +39,16 @@ impl<S: Stream + Drop> Slot<S> {
         ensures gives_way { OnTrue result (GivesWay self.now) }
     {
         self.client.is_none()
+    }
+
+    /// Whether its client is busy (`Client::is_busy`).
+    pub(crate) fn is_busy(&self) -> bool
+        ensures { OnFalse result (All IsQuiet (present self.now.client)) }
+    {
+        match &self.client {
+            Some(client) => client.is_busy(),
+            None => false,
+        }
     }
 
     /// How many clients it has: one or none.
@@ -69,8 +80,9 @@ impl<S: Stream + Drop> Slot<S> {
 
     /// Notes that the client's stream became ready.
     pub(crate) fn wake(&mut self, readable: bool, writable: bool)
-        ensures same { map exchanges_of (clients_in self.new)
-            ≡ map exchanges_of (clients_in self.old) }
+        ensures same { map client_history (clients_in self.new)
+            ≡ map client_history (clients_in self.old) }
+        ensures unrefused { refusals_in self.new ≡ refusals_in self.old }
         ensures past { past_of self.new ≡ past_of self.old }
         ensures woken { self.new ≡ woken_in readable writable self.old }
     {
@@ -110,10 +122,14 @@ impl<S: Stream + Drop> Slot<S> {
         most_input: usize,
     ) -> Work
         requires { most_input ≤ MOST_INPUT }
-        ensures turn { TakesTurn S.remaining S.contents V.answers service.old service.new
+        ensures turn { TakesTurn S.remaining S.contents V.answers V.refuses service.old service.new
             (clients_in self.old) (clients_in self.new) }
         ensures past { past_of self.new ≡ past_of self.old }
+        ensures stays { self.new.client ≡ None → self.old.client ≡ None }
         ensures ends { result ≡ Work.Ends → IsTaken self.new }
+        ensures left { result ≡ Work.Ends
+            → All (λ c. IsLate now patience c) (present self.old.client)
+            ⊎ All (λ c. HasLeft S.is_gone c) (present self.new.client) }
         ensures late { All (λ c. IsLate now patience c → (result ≡ Work.Ends)
             × (self.new ≡ self.old) × (service.new ≡ service.old)) (present self.old.client) }
     {

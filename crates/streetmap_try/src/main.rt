@@ -11,7 +11,7 @@ use std::process::ExitCode;
 use streetmap_connections::{Clients, Limits, ServeFault};
 use streetmap_memory::PlainKeeper;
 use streetmap_routes::{Base, BaseFault};
-use streetmap_web::{KeeperService, serve_clients};
+use streetmap_web::{KeeperService, Watch, serve_clients};
 
 /// How many clients are served at once.
 const MOST_CLIENTS: usize = 16;
@@ -47,7 +47,7 @@ impl From<BaseFault> for TryFault {
 impl From<ServeFault> for TryFault {
     fn from(fault: ServeFault) -> TryFault {
         match fault {
-            ServeFault::Net => TryFault::Net,
+            ServeFault::Net | ServeFault::Over => TryFault::Net,
             ServeFault::Memory => TryFault::Memory,
         }
     }
@@ -96,6 +96,7 @@ fn run(rt: &HostRuntime) -> Result<(), TryFault> {
         keeper: PlainKeeper::new(rt.alloc()),
         base,
         log: false.then(|| rt.stderr()),
+        watch: Watch::new(rt.stderr(), true),
     };
     Ok(serve_clients(rt, &listener, u64::MAX, &mut clients, &mut service)?)
 }

@@ -1,24 +1,30 @@
 -- Requests that were answered one behind the other, as what the keeper stood for.
-use Rattle.std.proofs.Common.{◌≡◌, List, [], ◌∷◌, Bool, Some, refl, sym, subst, ◌∙◌, ap}
+use Rattle.std.proofs.Common.{◌≡◌, ℕ, List, [], ◌∷◌, Bool, Some, refl, sym, subst, ◌∙◌, ap}
 use Rattle.mio.specs.declared.net.stream.TcpStream.{TcpStream}
 use Rattle.streetmap_batch.specs.Text.{Text}
 use Rattle.streetmap_ledger.specs.State.{State}
 use Rattle.streetmap_ledger.specs.Keep.{LeavesOnly}
 use Rattle.streetmap_connections.specs.declared.slot.Slot.{Slot}
+use Rattle.std.proofs.lemmas.List.Elements.{All-nil}
+use Rattle.streetmap_connections.specs.Clients.{IsOrderly}
 use Rattle.streetmap_connections.specs.History.{Exchange}
 use Rattle.streetmap_connections.specs.Leads.{Leads}
 use Rattle.streetmap_connections.specs.Serving.{Serves}
 use Rattle.streetmap_web.specs.Coming.{ComesAll}
 use Rattle.streetmap_web.specs.Exchanges as web
 use Rattle.streetmap_web.specs.Response.{AnswerSent, sent_so}
+use Rattle.streetmap_web.specs.Refusing.{IsRefusal}
 use Rattle.streetmap_web.specs.Sight.{Sight, StandsSo}
 use Rattle.streetmap_web.specs.Standing.{Standing, of_state}
 use Rattle.streetmap_routes.specs.BaseView.{root_of}
 use Rattle.streetmap_routes.specs.declared.base.Base.{Base}
 use Rattle.streetmap_web.specs.declared.keeper_service.KeeperService.{KeeperService}
 use Rattle.streetmap_web.specs.Answering.{AnswersOne}
-use Rattle.streetmap_web.specs.ServingClients.{AnsweredInTurn, IsAnswerTo, ServesClients}
-use Rattle.streetmap_web.specs.SurvivingClients.{SurvivesClients, acted_over, answered_over}
+use Rattle.streetmap_web.specs.ServingClients.{AnsweredInTurn, IsAnswerTo, ServesClients, ServesInRow}
+use Rattle.streetmap_web.specs.SurvivingClients.{SurvivesClients, SurvivesInRow, acted_over, answered_over}
+use Rattle.streetmap_connections.proofs.Interleavings.{same_goes_on}
+use Rattle.streetmap_connections.proofs.InTurn.{in_turn_kept}
+use Rattle.streetmap_connections.proofs.Timelines.{timeline_stays}
 use Rattle.streetmap_web.proofs.Coming.{for_answer}
 use Rattle.streetmap_web.proofs.SurvivingClients.{LeavesBehind, none_leaves, more_leaves, answered_first}
 
@@ -74,7 +80,7 @@ module _ {K W : Type 0} (sight : Sight K) where
         comes = (l.0.keeper, for_answer sight root x w.request w.outcome (sent_so e.text e.closes) old.keeper l.0.keeper came, rest.comes);
       }
 
-  module _ (old new : KeeperService K W) (before after : List (Slot TcpStream)) (s : Serves Answers old new before after) (clean : sight.is_clean new.keeper) where
+  module _ (old new : KeeperService K W) (before after : List (Slot TcpStream)) (s : Serves Answers IsRefusal old new before after) (clean : sight.is_clean new.keeper) where
     pub serves_clients : (x : Standing) → StandsSo sight old.keeper x → ServesClients sight (root_of old.base) x old.keeper new.keeper before after
     serves_clients x stands =
         let turns = in_turn old new s.exchanges s.leads clean x stands in
@@ -82,7 +88,9 @@ module _ {K W : Type 0} (sight : Sight K) where
           exchanges = s.exchanges;
           interleaved = s.interleaved;
           in_turn = s.in_turn;
+          timeline = s.timeline;
           in_order = s.in_order;
+          refused = s.refused;
           requests = turns.requests;
           answered = turns.answered;
           standing = turns.standing;
@@ -103,3 +111,36 @@ module _ {K W : Type 0} (sight : Sight K) where
           acknowledged_first = answered_first (of_state t) turns.requests;
           leaves = turns.leaves only;
         }
+
+  -- nobody was served
+  abbrev nothing_served : (kept : KeeperService K W) → Serves {S = TcpStream} Answers IsRefusal kept kept [] []
+  nothing_served kept = record {
+    exchanges = [];
+    leads = refl;
+    interleaved = same_goes_on _ _ refl;
+    in_turn = in_turn_kept [] [] refl;
+    timeline = timeline_stays [] [] refl;
+    in_order = All-nil IsOrderly;
+    refused = λ were. were;
+  }
+
+  pub none_in_row : (kept : KeeperService K W) → sight.is_clean kept.keeper → (x : Standing) → StandsSo sight kept.keeper x → (count : ℕ) (Done : Type 0) → ¬ Done
+      → ServesInRow sight (root_of kept.base) x kept.keeper kept.keeper count Done
+  unfolding serves_clients
+  none_in_row kept clean x stands count Done none = record {
+    before = [];
+    after = [];
+    nobody = refl;
+    serves = serves_clients kept kept [] [] (nothing_served kept) clean x stands;
+    in_row = refl;
+    counted = λ done. absurd (none done);
+  }
+
+  pub none_survives : (kept : KeeperService K W) → sight.is_clean kept.keeper → (t : State) → sight.stands kept.keeper t → LeavesOnly (sight.may_leave kept.keeper) (Some t)
+      → SurvivesInRow sight (root_of kept.base) t kept.keeper kept.keeper
+  none_survives kept clean t stands only = record {
+    before = [];
+    after = [];
+    nobody = refl;
+    survives = survives_clients kept kept [] [] (nothing_served kept) clean t stands only;
+  }

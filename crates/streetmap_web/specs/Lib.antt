@@ -3,9 +3,13 @@ pub mod Standing
 pub mod Sight
 pub mod Responds
 pub mod Turns
+pub mod StreamEnds
 pub mod Exchanges
 pub mod Coming
 pub mod Beginnings
 pub mod Answering
+pub mod Log
+pub mod Refusing
 pub mod ServingClients
 pub mod SurvivingClients
+pub mod Watching

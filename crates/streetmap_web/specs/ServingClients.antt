@@ -1,5 +1,5 @@
 -- Many clients served over one keeper.
-use Rattle.std.specs.Prelude.{◌≡◌, List, [], ◌∷◌, map, flat_map, All, ⊤}
+use Rattle.std.specs.Prelude.{◌≡◌, ◌≤◌, ℕ, List, [], ◌∷◌, length, map, flat_map, All, ⊤}
 use Rattle.mio.specs.declared.net.stream.TcpStream.{TcpStream}
 use Rattle.streetmap_batch.specs.Text.{Text}
 use Rattle.streetmap_connections.specs.declared.slot.Slot.{Slot}
@@ -7,9 +7,12 @@ use Rattle.streetmap_connections.specs.Clients.{exchanges_of, IsOrderly}
 use Rattle.streetmap_connections.specs.History.{Exchange}
 use Rattle.streetmap_connections.specs.InTurn.{IsInTurn}
 use Rattle.streetmap_connections.specs.Interleaving.{GoesOnAs}
-use Rattle.streetmap_connections.specs.Slots.{clients_in}
+use Rattle.streetmap_connections.specs.Refusing.{AreRefused}
+use Rattle.streetmap_connections.specs.Slots.{clients_in, ended_in, histories_in, refusals_in}
+use Rattle.streetmap_connections.specs.Timeline.{Timeline}
 use Rattle.streetmap_web.specs.Coming.{ComesAll}
 use Rattle.streetmap_web.specs.Exchanges as web
+use Rattle.streetmap_web.specs.Refusing.{IsRefusal}
 use Rattle.streetmap_web.specs.Sight.{Sight, StandsSo}
 use Rattle.streetmap_web.specs.Standing.{Standing}
 
@@ -33,18 +36,34 @@ AnsweredInTurn root x (e ∷ es) (w ∷ ws) = IsAnswerTo root x e w
 -- There is one list of requests with their answers, each answered for what the keeper stood for
 -- behind the one before. It is an interleaving of the clients' own lists: it goes on from those
 -- before as one of those after. The clients of each slot were answered in turn: each to its end
--- before the next was answered at all. What a client sent is, in order, the requests of its list
--- and what was not answered; what it was sent are their answers, as far as they were sent. The
--- keeper came along these requests: each batch was answered by what `apply` came to, or was never
--- asked.
+-- before the next was answered at all. They were answered so along one timeline of all that was
+-- read and written. What a client sent is, in order, the requests of its list
+-- and what was not answered; what it was sent are their answers, as far as they were sent, and then
+-- at most the refusal of a request for which there was no memory: the fixed answer 503. The keeper
+-- came along these requests: each batch was answered by what `apply` came to, or was never asked.
 pub record ServesClients {K : Type 0} (sight : Sight K) (root : Text) (x : Standing) (old new : K)
     (before after : List (Slot TcpStream)) : Type 0 where
   pub exchanges : List Exchange
   pub interleaved : GoesOnAs (map exchanges_of (flat_map clients_in before)) exchanges
       (map exchanges_of (flat_map clients_in after))
   pub in_turn : IsInTurn before exchanges after
+  pub timeline : Timeline (histories_in before) exchanges (histories_in after)
   pub in_order : All IsOrderly (flat_map clients_in after)
+  pub refused : AreRefused IsRefusal (flat_map refusals_in before)
+      → AreRefused IsRefusal (flat_map refusals_in after)
   pub requests : List web.HttpExchange
   pub answered : AnsweredInTurn root x exchanges requests
   pub standing : StandsSo sight new (web.standing_after_all x requests)
   pub comes : ComesAll sight root x old requests new
+
+-- The clients of one place, where nobody was before: they were served one after the other. The
+-- requests are those of the clients' own lists, one list after the other, in the order in which the
+-- clients were let in. If the call is done, that number of them ended.
+pub record ServesInRow {K : Type 0} (sight : Sight K) (root : Text) (x : Standing) (old new : K)
+    (count : ℕ) (Done : Type 0) : Type 0 where
+  pub before : List (Slot TcpStream)
+  pub after : List (Slot TcpStream)
+  pub nobody : flat_map clients_in before ≡ []
+  pub serves : ServesClients sight root x old new before after
+  pub in_row : serves.exchanges ≡ flat_map exchanges_of (flat_map clients_in after)
+  pub counted : Done → count ≤ length (ended_in after)

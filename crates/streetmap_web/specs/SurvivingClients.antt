@@ -1,10 +1,11 @@
 -- The batches of many clients, and the states that a stop may leave of them.
-use Rattle.std.specs.Prelude.{◌≡◌, List, [], ◌∷◌, length, take}
+use Rattle.std.specs.Prelude.{◌≡◌, List, [], ◌∷◌, length, take, flat_map}
 use Rattle.mio.specs.declared.net.stream.TcpStream.{TcpStream}
 use Rattle.streetmap_batch.specs.Text.{Text}
 use Rattle.streetmap_batch.specs.BatchValue.{BatchValue}
 use Rattle.streetmap_ledger.specs.State.{State}
 use Rattle.streetmap_connections.specs.declared.slot.Slot.{Slot}
+use Rattle.streetmap_connections.specs.Slots.{clients_in}
 use Rattle.streetmap_web.specs.Standing.{Standing, of_state, shut, unknown}
 use Rattle.streetmap_web.specs.Exchanges as web
 use Rattle.streetmap_web.specs.Beginnings.{LeavesBeginning, batches_acted}
@@ -40,3 +41,11 @@ pub record SurvivesClients {K : Type 0} (sight : Sight K) (root : Text) (s : Sta
   pub acknowledged_are : acknowledged ≡ answered_over (of_state s) serves.requests
   pub acknowledged_first : take (length acknowledged) acted ≡ acknowledged
   pub leaves : LeavesBeginning s acted (length acknowledged) (sight.may_leave new)
+
+-- the same of the clients of one place, where nobody was before
+pub record SurvivesInRow {K : Type 0} (sight : Sight K) (root : Text) (s : State) (old new : K)
+    : Type 0 where
+  pub before : List (Slot TcpStream)
+  pub after : List (Slot TcpStream)
+  pub nobody : flat_map clients_in before ≡ []
+  pub survives : SurvivesClients sight root s old new before after

@@ -68,7 +68,7 @@ fn finish(room: String, response: Response, closes: bool, bare: bool) -> Answer
 }
 
 /// The head of the answer with a keeper's fault.
-fn fixed_head(fault: Fault) -> &'static str
+pub(crate) fn fixed_head(fault: Fault) -> &'static str
     ensures { result.now ≡ head_text (head_of true (fault_response (faults.Keeper fault))) }
 {
     match fault {

@@ -6,24 +6,30 @@ ghost use Rattle.streetmap_routes.specs.BaseView.{root_of};
 ghost use Rattle.streetmap_web.specs.Sight.{sight_of};
 ghost use Rattle.streetmap_web.specs.Response.{sent_so};
 ghost use Rattle.streetmap_web.specs.Answering.{AnswersOne};
+ghost use Rattle.streetmap_web.specs.Refusing.{IsFrontBare, IsRefusal};
+ghost use Rattle.streetmap_web.specs.Watching.{IsOver};
 
+use crate::answer::fixed;
 use crate::log::tell;
 use crate::requests::answer_request;
+use crate::watch::Watch;
+use httparse::spans::EMPTY_HEADER_SPAN;
 use std::alloc::Global;
 use std::io::Write;
 use streetmap_connections::{Answer, Cut, Service};
-use streetmap_http::{Arrival, arrival_of};
-use streetmap_ledger::Keeper;
+use streetmap_http::{Arrival, FIELD_LIMIT, Framed, HeadScan, arrival_of, frame_of, is_bare};
+use streetmap_ledger::{Fault, Keeper};
 use streetmap_routes::Base;
 
-/// A keeper, the base of the links in its answers, and where a line is written for each answer, if
-/// one is.
+/// A keeper, the base of the links in its answers, where a line is written for each answer, if one
+/// is, and what is done once the keeper's store has failed.
 #[derive(Drop)]
 pub struct KeeperService<K, W> {
     pub alloc: Global,
     pub keeper: K,
     pub base: Base,
     pub log: Option<W>,
+    pub watch: Watch<W>,
 }
 
 /// Where the first request of some bytes ends.
@@ -40,12 +46,30 @@ fn cut_of(input: &[u8]) -> Cut
     }
 }
 
+/// Whether the answer to a request of which these bytes came has no body.
+fn is_front_bare(input: &[u8]) -> bool
+    ensures { IsFrontBare input.now result }
+{
+    let Some(len) = HeadScan::new().find_head(input) else {
+        return false;
+    };
+    let mut headers = [EMPTY_HEADER_SPAN; FIELD_LIMIT];
+    match frame_of(&input[..len], &mut headers) {
+        Framed::Broken(bare, _) => bare,
+        Framed::Request(head) => is_bare(head.method),
+    }
+}
+
 impl<K: Keeper, W: Write> Service for KeeperService<K, W> {
     ghost is_request = { IsAnswered };
 
     ghost answers = { λ old request text closes new. (new.base ≡ old.base)
         × AnswersOne (sight_of K.stands K.cause K.may_leave K.is_clean K.applies K.spares K.fails)
         (root_of old.base) old.keeper request (sent_so text closes) new.keeper };
+
+    ghost refuses = { IsRefusal };
+
+    ghost is_over = { λ k. IsOver k.watch };
 
     fn cut(&self, input: &[u8]) -> Cut {
         cut_of(input)
@@ -54,6 +78,15 @@ impl<K: Keeper, W: Write> Service for KeeperService<K, W> {
     fn answer(&mut self, request: &[u8]) -> (Answer, bool) {
         let (answer, closes) = answer_request(self.alloc, &mut self.keeper, &self.base, request);
         tell(self.alloc, &mut self.log, request, &answer);
+        self.watch.note(&answer);
         (answer, closes)
+    }
+
+    fn refuse(&self, input: &[u8]) -> Answer {
+        fixed(Fault::Memory, is_front_bare(input))
+    }
+
+    fn is_over(&self) -> bool {
+        self.watch.is_over()
     }
 }

@@ -10,10 +10,11 @@
 //!
 //! For an edge with many connections there are the two halves of a turn: `streetmap_http` says what
 //! bytes that came hold of a request, and `answer_request` answers the bytes of one.
-//! `serve_clients` serves the clients of a listener so: many at once, or one after the other.
+//! `serve_clients` serves the clients of a listener so: many at once, or one after the other, as
+//! `serve_count` does.
 //!
 //! Modules, in the order of reading: `response`, `respond` (what is answered in a state), `answer`
-//! (with its head), `requests` (the bytes of one), `serving` (a stream); `log`, `keeper_service`
+//! (with its head), `requests` (the bytes of one), `serving` (a stream); `log`, `watch`, `keeper_service`
 //! (a request of a client), `clients`.
 #![tactic(auto)]
 
@@ -25,8 +26,10 @@ mod requests;
 mod respond;
 mod response;
 mod serving;
+mod watch;
 
-pub use clients::serve_clients;
+pub use clients::{serve_clients, serve_count};
 pub use keeper_service::KeeperService;
 pub use requests::answer_request;
 pub use serving::{End, Served, serve};
+pub use watch::Watch;

@@ -1,4 +1,9 @@
 //! A line for each answer.
+ghost use Rattle.std.specs.Prelude.{◌≡◌, codes, if◌then◌else◌};
+ghost use Rattle.std.specs.Str.Lines.{strip_carriage_return};
+ghost use Rattle.streetmap_http.specs.Lines.{is_full as is_full_text};
+ghost use Rattle.streetmap_web.specs.Log.{is_told_byte, is_plain_text, request_line_of};
+
 use std::alloc::Global;
 use std::io::Write;
 use std::str;
@@ -8,20 +13,53 @@ use streetmap_connections::Answer;
 const MOST_TOLD: usize = 2_048;
 
 /// Whether a byte can be told between double quotes.
-fn is_told(byte: &u8) -> bool {
+fn is_told(byte: &u8) -> bool
+    ensures { result ≡ is_told_byte byte.now }
+{
     (b' '..=b'~').contains(byte) && *byte != b'"'
 }
 
-/// The request line, or `-` where it is empty, too long, or has bytes that are not told.
-fn request_line(request: &[u8]) -> &str {
-    let line = request
-        .split(|byte| *byte == b'\r' || *byte == b'\n')
-        .next();
-    match line.map(|bytes| str::from_utf8(bytes)) {
-        Some(Ok(text))
-            if !text.is_empty()
-                && text.len() <= MOST_TOLD
-                && text.bytes().all(|byte| is_told(&byte)) => text,
+/// Whether the text of a line is more than a CR or nothing.
+#[tactic(auto, unfolding(streetmap_http::specs::Lines::is_full))]
+fn is_full(text: &[u8]) -> bool
+    ensures { result ≡ is_full_text text.now }
+{
+    !text.is_empty() && text != b"\r".as_slice()
+}
+
+/// A line without the CR that may end it.
+fn without_return(line: &[u8]) -> &[u8]
+    ensures { result.now ≡ strip_carriage_return line.now }
+{
+    line.strip_suffix(b"\r").unwrap_or(line)
+}
+
+/// The request line: empty lines before it are passed over, as they are in reading it.
+fn request_line(request: &[u8]) -> &[u8]
+    ensures { result.now ≡ request_line_of request.now }
+{
+    let found = request
+        .split(|byte| *byte == b'\n')
+        .find(|line| is_full(line));
+    match found {
+        Some(line) => without_return(line),
+        None => &[],
+    }
+}
+
+/// Whether a line is told as it is.
+fn is_plain(line: &[u8]) -> bool
+    ensures { result ≡ is_plain_text line.now }
+{
+    (1..=MOST_TOLD).contains(&line.len()) && line.iter().all(|byte| is_told(byte))
+}
+
+/// A request line, or `-` where it is empty, too long, or has bytes that are not told.
+fn shown(line: &[u8]) -> &str
+    ensures { result.now ≡ (if is_plain_text line.now then line.now else codes "-") }
+{
+    match str::from_utf8(line) {
+        Ok(text) if is_plain(line) => text,
         _ => "-",
     }
 }
@@ -42,7 +80,7 @@ pub(crate) fn tell<W: Write>(alloc: Global, log: &mut Option<W>, request: &[u8],
         return;
     };
     let (asked, status, len) = (
-        request_line(request),
+        shown(request_line(request)),
         status(answer.head()),
         answer.body().len(),
     );

@@ -4,7 +4,7 @@ use Rattle.std.proofs.lemmas.List.Elements.{length_all_zip}
 use Rattle.streetmap_connections.specs.declared.slot.Slot.{Slot}
 use Rattle.streetmap_connections.specs.Counts.{count_of}
 use Rattle.streetmap_connections.specs.Serving.{EachMoves, Serves}
-use Rattle.streetmap_connections.specs.Slots.{clients_in, ended_in, EndsLate}
+use Rattle.streetmap_connections.specs.Slots.{clients_in, ended_in, EndsLate, EndsOnly}
 use Rattle.streetmap_connections.proofs.Counting.{all_given_back, count_by_length, count_is_added, lent_and_back}
 use Rattle.streetmap_connections.proofs.clients.Clients.work.Goals as goal
 
@@ -27,7 +27,7 @@ invariant_of-self g c =
 pub returns-clause-serves : goal.returns-clause-serves
 returns-clause-serves g c =
     let slots = c.args.self.now.slots in
-    lent_and_back (λ (xs ys : List (Slot g.row.S.Denot)). Serves g.V.Service.answers c.args.service.now c.give_turns.new.service xs ys)
+    lent_and_back (λ (xs ys : List (Slot g.row.S.Denot)). Serves g.V.Service.answers g.V.Service.refuses c.args.service.now c.give_turns.new.service xs ys)
     slots.len c.as_mut_slice.result.now slots.items c.give_turns.new.slots c.as_mut_slice.ensures.value (c.give_turns.auto.slots ∙ c.as_mut_slice.ensures.len) c.give_turns.ensures.serves
 
 pub returns-clause-moves : goal.returns-clause-moves
@@ -41,3 +41,9 @@ returns-clause-late g c =
     let slots = c.args.self.now.slots in
     lent_and_back (λ (xs ys : List (Slot g.row.S.Denot)). AllZip (EndsLate c.args.now c.args.self.now.limits.patience) xs ys)
     slots.len c.as_mut_slice.result.now slots.items c.give_turns.new.slots c.as_mut_slice.ensures.value (c.give_turns.auto.slots ∙ c.as_mut_slice.ensures.len) c.give_turns.ensures.late
+
+pub returns-clause-ends : goal.returns-clause-ends
+returns-clause-ends g c =
+    let slots = c.args.self.now.slots in
+    lent_and_back (λ (xs ys : List (Slot g.row.S.Denot)). AllZip (EndsOnly c.args.now c.args.self.now.limits.patience g.S.Stream.is_gone) xs ys)
+    slots.len c.as_mut_slice.result.now slots.items c.give_turns.new.slots c.as_mut_slice.ensures.value (c.give_turns.auto.slots ∙ c.as_mut_slice.ensures.len) c.give_turns.ensures.ends

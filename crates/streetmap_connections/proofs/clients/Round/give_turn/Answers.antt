@@ -1,9 +1,9 @@
-use Rattle.std.proofs.Common.{◌≡◌, ◌++◌, sym, subst, ◌∙◌}
+use Rattle.std.proofs.Common.{◌≡◌, ◌++◌, inl, sym, subst, ◌∙◌}
 use Rattle.streetmap_connections.specs.declared.slot.Slot.{Slot}
-use Rattle.streetmap_connections.specs.Clients.{IsLate}
+use Rattle.streetmap_connections.specs.Clients.{HasLeft, IsLate}
 use Rattle.streetmap_connections.specs.Slots.{past_of, present}
 use Rattle.streetmap_connections.proofs.Counting.{counts_kept, counts_one, one_present}
-use Rattle.streetmap_connections.proofs.Lateness.{ended_late, goes_is_not_ends, not_late, rests_is_not_ends}
+use Rattle.streetmap_connections.proofs.Lateness.{ended_late, ends_rightly, goes_is_not_ends, none_there, not_late, rests_is_not_ends}
 use Rattle.streetmap_connections.proofs.clients.Round.give_turn.Goals.{in-Rests, in-Goes, in-Ends}
 use Rattle.streetmap_connections.proofs.clients.Round.give_turn.Goals as goal
 
@@ -31,4 +31,18 @@ returns-clause-late g c =
       | in-Goes w ↦ rw w.slot-is (not_late Late past old.client taken (λ ends. goes_is_not_ends (sym w.in-Goes.is ∙ ends.0)) said)
       | in-Ends w ↦ rw w.slot-is (ended_late Late past old.client w.end.new.self
           (λ ends. (w.end.ensures.free, subst (λ (s : Slot g.row.S.Denot). past_of w.end.new.self ≡ past_of s ++ present s.client) ends.1 w.end.ensures.past)) said)
+    ]
+
+pub returns-clause-ends : goal.returns-clause-ends
+returns-clause-ends g c =
+    let old = c.args.slot.now in
+    let taken = c.take_turn.new.self in
+    let said = c.take_turn.ensures in
+    let Late = IsLate c.args.self.now.now c.args.self.now.limits.patience in
+    let Left = HasLeft g.S.Stream.is_gone in
+    elim c.match-take_turn.branch [
+      | in-Rests w ↦ rw w.slot-is (λ none. inl (none_there Late Left old.client (said.stays none)))
+      | in-Goes w ↦ rw w.slot-is (λ none. inl (none_there Late Left old.client (said.stays none)))
+      | in-Ends w ↦ rw w.slot-is (λ none. ends_rightly Late Left (past_of old) (past_of w.end.new.self) old.client taken.client (said.ends w.in-Ends.is)
+          (rw said.past at w.end.ensures.past) (said.left w.in-Ends.is))
     ]

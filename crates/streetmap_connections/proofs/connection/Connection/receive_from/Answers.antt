@@ -5,4 +5,4 @@ use Rattle.streetmap_connections.proofs.connection.Connection.receive_from.Goals
 
 pub invariant_of-self : goal.invariant_of-self
 invariant_of-self g c =
-    record { in_order = ∥∥₁_map c.args.self.now.in_order (kept_by_receive c.receive_from.result (history_of c.args.self.now.buffers) (history_of c.receive_from.new.self) _ _ _ c.receive_from.ensures.ok c.receive_from.ensures.err) }
+    record { in_order = ∥∥₁_map c.args.self.now.in_order (kept_by_receive c.receive_from.result (history_of c.args.self.now.buffers) (history_of c.receive_from.new.self) _ _ _ _ c.receive_from.ensures.ok c.receive_from.ensures.err c.receive_from.ensures.no_memory) }

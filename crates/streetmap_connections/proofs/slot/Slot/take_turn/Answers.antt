@@ -14,6 +14,7 @@ returns-else-is_late-clause-turn g c = inl (record {
   is = refl;
   moves = moves_within c.args.most_input MOST_INPUT _ _ c.requires c.work.ensures.moves;
   calls = c.work.ensures.calls;
+  refused = c.work.ensures.refuses;
 })
 
 pub returns-else-is_late-clause-late : goal.returns-else-is_late-clause-late

@@ -1,0 +1,101 @@
+-- The request that was answered last on a stream, as bytes, and how the stream ended: for each turn alike.
+use Rattle.std.proofs.Common.{◌≡◌, ◌≢◌, inl, inr, ℕ, ◌<◌, ◌-◌, List, [], ◌∷◌, ◌++◌, length, take, drop, Bool, true, false, Option, None, Some, refl, sym, subst, ap, ◌∙◌, append-nil, arith}
+use Rattle.std.specs.Prelude.{All}
+use Rattle.std.specs.Io.KnownBytes.{Consumes, Appends, Keeps}
+use Rattle.std.proofs.KnownBytes.{Consumes-nil}
+use Rattle.std.proofs.lemmas.List.{take-append-drop, length-drop}
+use Rattle.std.proofs.lemmas.List.Elements.{All-nil, All-cons}
+use Rattle.streetmap_batch.specs.Text.{Text}
+use Rattle.streetmap_connections.specs.History.{Exchange, LeavesOpen, requests_of, texts_of}
+use Rattle.streetmap_web.specs.Standing.{Standing}
+use Rattle.streetmap_web.specs.StreamEnds.{EndsSo}
+use Rattle.streetmap_web.specs.Turns.{end_of}
+use Rattle.streetmap_web.specs.Exchanges as web
+use Rattle.streetmap_web.specs.Exchanges.{HttpExchange, Around, IsExchange, TurnSays, last_of}
+use Rattle.streetmap_web.specs.ServingClients.{AnsweredInTurn, IsAnswerTo}
+use Rattle.streetmap_web.specs.declared.serving.End.{End}
+use Rattle.streetmap_web.specs.declared.serving.End.TheVariants as variants
+use Rattle.streetmap_web.specs.declared.serving.Turn.{Turn}
+use Rattle.streetmap_web.specs.declared.serving.Turn.TheVariants.{Open, Closed, Ended, Truncated, ReadFailed, WriteFailed}
+
+-- a request of the web with its answer, as bytes
+abbrev pub exchange_at : Text → Standing → HttpExchange → Exchange
+exchange_at root x w = record { request = w.bytes; text = web.answer_bytes root x w; closes = web.closes root x w }
+
+abbrev pub exchanges_at : Text → Standing → List HttpExchange → List Exchange
+exchanges_at root x [] = []
+exchanges_at root x (w ∷ ws) = exchange_at root x w ∷ exchanges_at root (web.standing_after x w) ws
+
+pub is_answer : (root : Text) (x : Standing) (w : HttpExchange) → IsExchange x w → IsAnswerTo root x (exchange_at root x w) w
+is_answer root x w is = record { is = is; request = refl; text = refl; closes = refl }
+
+kept_appends : (a b : Option Text) → Keeps a b → Appends a b []
+kept_appends None b h = tt
+kept_appends (Some xs) None h = absurd h
+kept_appends (Some xs) (Some ys) h = h ∙ sym (append-nil xs)
+
+more_left : (n : ℕ) (text : Text) → n < length text → drop n text ≢ []
+more_left n text less none =
+    let left : length (drop n text) ≡ length text - n = length-drop n text in
+    let zero : length (drop n text) ≡ 0 = ap length none in
+    omega (arith, less, left, zero)
+
+abbrev pub closes_last : Text → Standing → List HttpExchange → Bool
+closes_last root y [] = false
+closes_last root y (w ∷ ws) = web.closes root y w
+
+-- what the last turn did, with the request that it answered, if it did
+pub record IsLast (root : Text) (y : Standing) (a : Around) (end : End) (last : List HttpExchange) : Type 0 where
+  pub answered : AnsweredInTurn root y (exchanges_at root y last) last
+  pub left : Option Text
+  pub read : Consumes a.input_before left (requests_of (exchanges_at root y last))
+  pub part : Text
+  pub unsent : Text
+  pub written : Appends a.output_before a.output_after part
+  pub parts : texts_of (exchanges_at root y last) ≡ part ++ unsent
+  pub stays : closes_last root y last ≡ false → All LeavesOpen (exchanges_at root y last)
+  pub closed :
+      (before : List Exchange) → All LeavesOpen before → closes_last root y last ≡ true
+      → (front : List Exchange) × (e : Exchange) × (before ++ exchanges_at root y last ≡ front ++ e ∷ []) × All LeavesOpen front
+  pub ends : EndsSo end (closes_last root y last) unsent left a.input_after
+
+module _ (root : Text) (y : Standing) (a : Around) where
+  one : (end : End) (w : HttpExchange) → IsExchange y w → Consumes a.input_before a.input_after w.bytes → (part unsent : Text) → Appends a.output_before a.output_after part
+      → web.answer_bytes root y w ≡ part ++ unsent → EndsSo end (web.closes root y w) unsent a.input_after a.input_after → IsLast root y a end (w ∷ [])
+  one end w is read part unsent written parts ends = record {
+    answered = (is_answer root y w is, tt);
+    left = a.input_after;
+    read = subst (Consumes a.input_before a.input_after) (sym (append-nil w.bytes)) read;
+    part = part;
+    unsent = unsent;
+    written = written;
+    parts = append-nil (web.answer_bytes root y w) ∙ parts;
+    stays = λ stays. All-cons LeavesOpen (exchange_at root y w) [] stays (All-nil LeavesOpen);
+    closed = λ before all closes. (before, exchange_at root y w, refl, all);
+    ends = ends;
+  }
+
+  none : (end : End) → Keeps a.output_before a.output_after → EndsSo end false [] a.input_before a.input_after → IsLast root y a end []
+  none end kept ends = record {
+    answered = tt;
+    left = a.input_before;
+    read = Consumes-nil a.input_before;
+    part = [];
+    unsent = [];
+    written = kept_appends a.output_before a.output_after kept;
+    parts = refl;
+    stays = λ stays. All-nil LeavesOpen;
+    closed = λ before all closes. absurd (let bad : false ≡ true = closes in cc);
+    ends = ends;
+  }
+
+  pub is_last : (turn : Turn) (says : TurnSays turn root y a) → turn ≢ Open → IsLast root y a (end_of turn) (last_of turn root y a says)
+  is_last Open says shut = absurd (shut refl)
+  is_last Closed says shut =
+      one variants.Ended says.0 says.1.is says.1.read (web.answer_bytes root y says.0) [] says.2 (sym (append-nil (web.answer_bytes root y says.0))) (refl, inl (says.3, refl))
+  is_last (WriteFailed begun) says shut =
+      let text = web.answer_bytes root y says.0 in
+      one variants.WriteFailed says.0 says.1.is says.1.read (take says.2 text) (drop says.2 text) says.5 (sym (take-append-drop says.2 text)) (more_left says.2 text says.3, refl)
+  is_last Ended says shut = none variants.Ended says.0.written (refl, inr (says.1, says.2, says.3, says.4))
+  is_last Truncated says shut = none variants.Truncated says.0.written (refl, (says.1, says.2, says.3, says.4))
+  is_last ReadFailed says shut = none variants.ReadFailed says.written refl
