@@ -2,5 +2,8 @@ pub mod OneLineFurther
 pub mod LineBehindBatch
 pub mod LooksInTurn
 pub mod LinesSoFar
+pub mod FrontLemmas
+pub mod CutLines
+pub mod StartLemmas
 pub mod PartOfLine
 pub mod Telling

@@ -1,64 +1,78 @@
 -- Lines that are those of a journal so far.
-use Rattle.std.proofs.Common.{◌≡◌, ◌≤◌, ◌<◌, ◌+◌, ◌-◌, ◌^◌, ℕ, min, List, [], ◌∷◌, ◌++◌}
-use Rattle.std.proofs.Common.{length}
-use Rattle.std.proofs.Common.{drop, true, false, Option, None, Some, Err}
-use Rattle.std.proofs.Common.{IfSome}
-use Rattle.std.proofs.Common.{refl, sym, ap, subst, ◌∙◌, inl, inr, arith, append_assoc}
-use Rattle.std.proofs.Common.{append-nil}
-use Rattle.std.proofs.Common.{length-append, option_map}
-use Rattle.std.specs.Prelude.{slice_get, bytes_eq}
-use Rattle.std.specs.Cmp.Lexicographic.{nat_list_eq_equiv}
-use Rattle.std.specs.Io.KnownBytes.{Consumes, Keeps, IsAtEnd}
+use Rattle.std.proofs.Common.{◌≡◌, ◌≤◌, ◌<◌, ◌+◌, ◌^◌, ℕ, List, [], ◌∷◌, ◌++◌}
+use Rattle.std.proofs.Common.{length, drop, Option, None, Some, IfSome, option_map}
+use Rattle.std.proofs.Common.{refl, sym, ap, subst, ◌∙◌, arith, length-append}
+use Rattle.std.specs.Prelude.{slice_get}
+use Rattle.std.proofs.Common.{Err}
+use Rattle.std.specs.Io.KnownBytes.{Consumes, Keeps}
 use Rattle.std.proofs.KnownBytes.{Consumes-nil, Consumes-trans}
-use Rattle.std.proofs.lemmas.Slice.Eq.{bytes_eq-Decides}
 use Rattle.streetmap_batch.specs.Text.{Text}
 use Rattle.streetmap_ledger.specs.State.{State}
 use Rattle.streetmap_ledger.specs.WellFormed.{IsState}
 use Rattle.streetmap_ledger.specs.Kept.{KeyedBatch, batch_in}
+use Rattle.streetmap_ledger.specs.Keep.{AsBefore}
+use Rattle.streetmap_ledger.specs.declared.reply.Cause.{Cause}
+use Rattle.streetmap_ledger.specs.declared.reply.Fault.{Fault}
+use Rattle.streetmap_ledger.specs.declared.reply.Fault.TheVariants.{Reopen}
 use Rattle.streetmap_ledger.proofs.Serials.{found_under}
+use Rattle.streetmap_replay.specs.Faults.{StaysBut}
 use Rattle.streetmap_replay.specs.Journal.{journal, kept_text}
 use Rattle.streetmap_replay.specs.JournalText.{journal_lines, text_of_lines}
 use Rattle.streetmap_replay.specs.Lines.{numbered, line_bytes}
 use Rattle.streetmap_replay.proofs.AllThere.{journal_is_whole}
 use Rattle.streetmap_replay.proofs.ItemsByPlace.{get_drop, get_low}
 use Rattle.streetmap_replay.proofs.TornLines.{lines-append}
-use Rattle.streetmap_text_lines.specs.Reading.{HasNoLineFeed, WhereKnown}
-use Rattle.streetmap_text_lines.specs.Whole.{EndsWithin}
-use Rattle.streetmap_text_lines.specs.declared.fault.LineFault.{LineFault}
 use Rattle.streetmap_journal.proofs.OneLineFurther.{get_numbered, take_one}
-use Rattle.streetmap_journal.specs.Matching.{IsLineWith, MatchesLine, lines_from}
-use Rattle.streetmap_journal.specs.Matching.{InputBeginsWith}
-use Rattle.streetmap_journal.specs.Matching.{serial_behind, IsCutLine, NextIs, MatchesBy, Matches}
+use Rattle.streetmap_journal.specs.Matching.{line_of, lines_from, serial_behind, EndsBy, RestIs}
+use Rattle.streetmap_journal.specs.Matching.{InputBeginsWith, Matches, IsOwn, StaysAt}
+use Rattle.streetmap_journal.specs.Matching.{LineShuts, EndShuts}
+use Rattle.streetmap_journal.specs.Completing.{StaysUnshut}
+use Rattle.streetmap_journal.proofs.LooksInTurn.{shut_further, reopen_further}
+use Rattle.streetmap_journal.proofs.PartOfLine.{opened_further}
+use Rattle.streetmap_journal.specs.declared.matching.Matched.{Matched}
 use Rattle.streetmap_journal.specs.declared.matching.MatchEnd.{MatchEnd}
 use Rattle.streetmap_journal.specs.declared.matching.MatchEnd.TheVariants.{All, Cut, Other, Ahead}
 use Rattle.streetmap_journal.specs.declared.matching.MatchEnd.TheVariants.{NotRead, Stopped}
 
 -- ---- one line
 
-pub is_line : (s : State) (serial : ℕ) (text expected line : List ℕ) →
-    Some text ≡ option_map kept_text (batch_in s serial) →
-    expected ≡ line_bytes (numbered serial text) → bytes_eq expected line ≡ true →
-    IsLineWith s serial line
-is_line s serial text expected line there made same =
-    (text, sym there, sym made ∙ (bytes_eq-Decides expected line).0 same)
+-- they are the line of the batch that is kept with this serial, without its line feed
+abbrev IsLineWith : State → ℕ → List ℕ → Type 0
+IsLineWith s serial bytes =
+    (text : Text) × (option_map kept_text (batch_in s serial) ≡ Some text)
+    × (line_bytes (numbered serial text) ≡ bytes)
 
-pub other_line : (s : State) (serial : ℕ) (text expected line : List ℕ) →
+pub line_due : (s : State) (serial : ℕ) (text line : List ℕ) →
     Some text ≡ option_map kept_text (batch_in s serial) →
-    expected ≡ line_bytes (numbered serial text) → bytes_eq expected line ≡ false →
-    IsLineWith s serial line → ⊥
-other_line s serial text expected line there made other h =
-    let both : Some text ≡ Some h.0 = there ∙ h.1 in
-    let texts : text ≡ h.0 = cc in
-    let same : expected ≡ line =
-    made ∙ (ap (λ (t : Text). line_bytes (numbered serial t)) texts ∙ h.2) in
-    let equal : bytes_eq expected line ≡ true =
-    ap (λ (x : List ℕ). bytes_eq x line) same ∙ nat_list_eq_equiv.refl line in
-    let no : false ≡ true = sym other ∙ equal in cc
+    line ≡ line_bytes (numbered serial text) ++ 10 ∷ [] → line_of s serial ≡ Some line
+line_due s serial text line there made =
+    by_batch (batch_in s serial) there where
+      by_batch : (o : Option KeyedBatch) → Some text ≡ option_map kept_text o →
+          option_map (λ (b : KeyedBatch). line_bytes (numbered serial (kept_text b)) ++ 10 ∷ []) o
+          ≡ Some line
+      by_batch None h = absurd (let no : Some text ≡ None = h in cc)
+      by_batch (Some b) h =
+          let texts : kept_text b ≡ text = cc in
+          ap (λ (t : Text). Some (line_bytes (numbered serial t) ++ 10 ∷ [])) texts
+          ∙ ap Some (sym made)
 
-pub no_line : (s : State) (serial : ℕ) (line : List ℕ) → None ≡ batch_in s serial →
-    IsLineWith s serial line → ⊥
-no_line s serial line none h =
-    let both : None ≡ Some h.0 = ap (option_map kept_text) none ∙ h.1 in cc
+pub none_due : (s : State) (serial : ℕ) → None ≡ batch_in s serial → line_of s serial ≡ None
+none_due s serial none = ap (option_map (λ (b : KeyedBatch).
+    line_bytes (numbered serial (kept_text b)) ++ 10 ∷ [])) (sym none)
+
+-- a line that is due, without its line feed
+due_is : (s : State) (serial : ℕ) (line : List ℕ) (o : Option KeyedBatch) → batch_in s serial ≡ o →
+    option_map (λ (b : KeyedBatch). line_bytes (numbered serial (kept_text b)) ++ 10 ∷ []) o
+    ≡ Some line →
+    (body : List ℕ) × IsLineWith s serial body × (line ≡ body ++ 10 ∷ [])
+due_is s serial line None there h = absurd (let no : None ≡ Some line = h in cc)
+due_is s serial line (Some b) there h =
+    let body = line_bytes (numbered serial (kept_text b)) in
+    let same : body ++ 10 ∷ [] ≡ line = cc in (
+      body,
+      (kept_text b, ap (option_map kept_text) there, refl),
+      sym same,
+    )
 
 -- ---- the journal's lines
 
@@ -117,7 +131,7 @@ pub record SoFar (s : State) (after : ℕ) (old now : Option (List ℕ)) (count 
     (stands : State → Type 0) : Type 0 where
   pub within : count ≤ length (drop after (journal_lines s))
   pub taken : Consumes old now (text_of_lines (lines_from s after count))
-  pub size : bytes ≡ min (length (text_of_lines (lines_from s after count))) (2 ^ 64 - 1)
+  pub size : bytes ≡ length (text_of_lines (lines_from s after count))
   pub stood : stands s
 
 pub begins : (s : State) (after : ℕ) (old : Option (List ℕ)) (stands : State → Type 0) →
@@ -135,41 +149,12 @@ front_of None now bytes h = tt
 front_of (Some xs) None bytes h = absurd h
 front_of (Some xs) (Some ys) bytes h = (ys, h)
 
-all_taken : (old now later : Option (List ℕ)) (front : List ℕ) → Consumes old now front →
-    Keeps now later × IsAtEnd now → IfSome old (λ bytes. bytes ≡ front)
-all_taken None now later front h end = tt
-all_taken (Some xs) None later front h end = absurd h
-all_taken (Some xs) (Some ys) later front h end =
-    h ∙ (ap (λ (l : List ℕ). front ++ l) end.1 ∙ append-nil front)
-
-next_taken : (old now later : Option (List ℕ)) (front line : List ℕ)
-    (P : List ℕ → List ℕ → Type 0) → Consumes old now front →
-    Consumes now later (line ++ 10 ∷ []) → HasNoLineFeed line →
-    ((rest : List ℕ) → P line rest) → NextIs old front P
-next_taken None now later front line P h took one p = tt
-next_taken (Some xs) None later front line P h took one p = absurd h
-next_taken (Some xs) (Some ys) None front line P h took one p = absurd took
-next_taken (Some xs) (Some ys) (Some zs) front line P h took one p = (
-  line,
-  10 ∷ zs,
-  h ∙ ap (λ (l : List ℕ). front ++ l) (took ∙ append_assoc line (10 ∷ []) zs),
-  one,
-  p (10 ∷ zs),
-)
-
-cut_taken : (s : State) (serial : ℕ) (old now later : Option (List ℕ)) (front : List ℕ) →
-    Consumes old now front → WhereKnown now later EndsWithin →
-    NextIs old front (λ part rest. IsCutLine s serial part rest)
-cut_taken s serial None now later front h end = tt
-cut_taken s serial (Some xs) None later front h end = absurd h
-cut_taken s serial (Some xs) (Some ys) None front h end = absurd end
-cut_taken s serial (Some xs) (Some ys) (Some zs) front h end = (
-  ys,
-  [],
-  h ∙ ap (λ (l : List ℕ). front ++ l) (sym (append-nil ys)),
-  end.unended,
-  inl (refl, end.some),
-)
+-- what is behind what was taken
+rest_is : (old now : Option (List ℕ)) (front : List ℕ) (P : List ℕ → Type 0) →
+    Consumes old now front → IfSome now P → RestIs old front P
+rest_is None now front P h p = tt
+rest_is (Some xs) None front P h p = absurd h
+rest_is (Some xs) (Some ys) front P h p = (ys, h, p)
 
 module _ (s : State) (sound : IsState s) (after : ℕ) (old now later : Option (List ℕ))
     (count bytes : ℕ) (stood stands : State → Type 0)
@@ -180,61 +165,126 @@ module _ (s : State) (sound : IsState s) (after : ℕ) (old now later : Option (
   abbrev serial : ℕ
   serial = serial_behind after count
 
-  pub further : (line : List ℕ) (more : ℕ) → IsLineWith s serial line → stands s →
-      Consumes now later (line ++ 10 ∷ []) →
-      more ≡ min (min (bytes + length line) (2 ^ 64 - 1) + 1) (2 ^ 64 - 1) →
+  with_body : (body line : List ℕ) (more : ℕ) → IsLineWith s serial body → line ≡ body ++ 10 ∷ [] →
+      stands s → Consumes now later line → more ≡ bytes + length line →
       SoFar s after old later (count + 1) more stands
-  further line more is there took size =
-      let grown = one_further s sound after count line is in
-      let long = length-append front (line ++ 10 ∷ []) in
-      let wide = length-append line (10 ∷ []) in
+  with_body body line more is whole there took size =
+      let grown : text_of_lines (lines_from s after (count + 1)) ≡ front ++ line =
+      one_further s sound after count body is ∙ ap (λ (l : List ℕ). front ++ l) (sym whole) in
+      let long = length-append front line in
       let all = ap length grown in
       let was = it.size in
       record {
-        within = within_further s sound after count line is;
+        within = within_further s sound after count body is;
         taken = subst (Consumes old later) (sym grown)
-            (Consumes-trans old now later front (line ++ 10 ∷ []) it.taken took);
-        size = omega (arith, size, was, long, wide, all);
+            (Consumes-trans old now later front line it.taken took);
+        size = omega (arith, size, was, long, all);
         stood = there;
       }
 
-  ended : (end : MatchEnd) → MatchesBy s serial front old end stands →
+  pub further : (line : List ℕ) (more : ℕ) → line_of s serial ≡ Some line → stands s →
+      Consumes now later line → more ≡ bytes + length line →
+      SoFar s after old later (count + 1) more stands
+  further line more due there took size =
+      let is = due_is s serial line (batch_in s serial) refl due in
+      with_body is.0 line more is.1 is.2 there took size
+
+  pub ended : (end : MatchEnd) → IfSome now (λ rest. EndsBy (line_of s serial) serial rest end) →
+      StaysAt s end stands →
       Matches s after old (record { count = count; bytes = bytes; end = end }) stands
-  ended end ends = record {
+  ended end ends stays = record {
     within = it.within;
     front = front_of old now front it.taken;
     size = it.size;
-    ends = ends;
+    ends = rest_is old now front (λ rest. EndsBy (line_of s serial) serial rest end) it.taken ends;
+    stays = stays;
   }
 
-  pub line_ends : (line : List ℕ) (end : MatchEnd) → HasNoLineFeed line →
-      Consumes now later (line ++ 10 ∷ []) → MatchesLine s serial line (Err end) stands →
-      Matches s after old (record { count = count; bytes = bytes; end = end }) stands
-  line_ends line All one took h = absurd h
-  line_ends line Cut one took h =
-      ended Cut (
-        next_taken old now later front line (λ part rest. IsCutLine s serial part rest)
-            it.taken took one (λ rest. inr (h.0, h.1)),
-        h.2,
-      )
-  line_ends line Other one took h =
-      ended Other (
-        next_taken old now later front line (λ l rest. IsLineWith s serial l → ⊥)
-            it.taken took one (λ rest. h.0),
-        h.1,
-      )
-  line_ends line Ahead one took h = ended Ahead h
-  line_ends line (NotRead fault) one took h = absurd h
-  line_ends line (Stopped fault) one took h = ended (Stopped fault) h
+-- an end that says nothing of the rest
+pub unread : (due : Option (List ℕ)) (serial : ℕ) (now : Option (List ℕ)) →
+    IfSome now (λ rest. EndsBy due serial rest NotRead)
+unread due _ None = tt
+unread None _ (Some rest) = tt
+unread (Some line) _ (Some rest) = tt
 
-  pub all_read : Keeps now later × IsAtEnd now → stands s →
-      Matches s after old (record { count = count; bytes = bytes; end = All }) stands
-  all_read end h = ended All (all_taken old now later front it.taken end, h)
+pub stopped : (due : Option (List ℕ)) (serial : ℕ) (fault : Fault) (now : Option (List ℕ)) →
+    IfSome now (λ rest. EndsBy due serial rest (Stopped fault))
+stopped due _ fault None = tt
+stopped None _ fault (Some rest) = tt
+stopped (Some line) _ fault (Some rest) = tt
 
-  pub cut_off : WhereKnown now later EndsWithin → stands s →
-      Matches s after old (record { count = count; bytes = bytes; end = Cut }) stands
-  cut_off end h = ended Cut (cut_taken s serial old now later front it.taken end, h)
+-- a keeper that was not the cause of an end stands for its state
+pub own_stays : (s : State) (end : MatchEnd) (stands : State → Type 0) → IsOwn end → stands s →
+    StaysAt s end stands
+own_stays s All stands own h = h
+own_stays s Cut stands own h = h
+own_stays s Other stands own h = h
+own_stays s Ahead stands own h = h
+own_stays s NotRead stands own h = h
+own_stays s (Stopped fault) stands own h =
+    subst (λ (f : Fault). StaysBut s f stands) (sym own) h
 
-  pub unread : (fault : LineFault) → stands s →
-      Matches s after old (record { count = count; bytes = bytes; end = NotRead fault }) stands
-  unread fault h = ended (NotRead fault) h
+-- ---- what shuts the keeper
+
+module _ {K : Type 0} (cause : K → Option Cause) (old now new : K) where
+  pub end_shuts : (end : MatchEnd) → StaysUnshut cause old now →
+      LineShuts (Err end) (cause now) (cause new) → EndShuts cause end old new
+  end_shuts All opened h = opened_further cause old now new opened h.0 h.1
+  end_shuts Cut opened h = opened_further cause old now new opened h.0 h.1
+  end_shuts Other opened h = opened_further cause old now new opened h.0 h.1
+  end_shuts Ahead opened h = opened_further cause old now new opened h.0 h.1
+  end_shuts NotRead opened h = opened_further cause old now new opened h.0 h.1
+  end_shuts (Stopped fault) opened h = shut_further cause old now new (Unit {0}) fault opened h
+
+  pub end_reopens : (end : MatchEnd) (stands : K → State → Type 0)
+      (leaves : K → Option State → Type 0) → end ≡ Stopped Reopen → StaysUnshut cause old now →
+      LineShuts (Err end) (cause now) (cause new) →
+      AsBefore (stands now) (stands new) (leaves now) (leaves new) →
+      AsBefore (stands old) (stands new) (leaves old) (leaves new)
+  end_reopens All stands leaves is opened h before = absurd cc
+  end_reopens Cut stands leaves is opened h before = absurd cc
+  end_reopens Other stands leaves is opened h before = absurd cc
+  end_reopens Ahead stands leaves is opened h before = absurd cc
+  end_reopens NotRead stands leaves is opened h before = absurd cc
+  end_reopens (Stopped fault) stands leaves is opened h before =
+      let same : fault ≡ Reopen = cc in
+      reopen_further cause old now new (Unit {0}) stands leaves fault same opened h before
+
+-- ---- of the same bytes, and of none
+
+pub matches_kept : (s : State) (after : ℕ) (a b : Option (List ℕ)) (found : Matched)
+    (stands : State → Type 0) → Keeps a b → Matches s after b found stands →
+    Matches s after a found stands
+matches_kept s after None b found stands same h = record {
+  within = h.within;
+  front = tt;
+  size = h.size;
+  ends = tt;
+  stays = h.stays;
+}
+matches_kept s after (Some xs) None found stands same h = absurd same
+matches_kept s after (Some xs) (Some ys) found stands same h =
+    subst (λ (bytes : List ℕ). Matches s after (Some bytes) found stands) same h
+
+pub nothing_matches : (s : State) (after : ℕ) (a : Option (List ℕ)) (stands : State → Type 0) →
+    IfSome a (λ bytes. bytes ≡ []) → stands s →
+    Matches s after a (record { count = 0; bytes = 0; end = All }) stands
+nothing_matches s after None stands none h = record {
+  within = omega arith;
+  front = tt;
+  size = refl;
+  ends = tt;
+  stays = h;
+}
+nothing_matches s after (Some bytes) stands none h = record {
+  within = omega arith;
+  front = (bytes, refl);
+  size = refl;
+  ends = (bytes, refl, no_rest (line_of s (serial_behind after 0)) bytes none);
+  stays = h;
+}
+  where
+    no_rest : (due : Option (List ℕ)) (rest : List ℕ) → rest ≡ [] →
+        EndsBy due (serial_behind after 0) rest All
+    no_rest None rest none = none
+    no_rest (Some line) rest none = none

@@ -1,27 +1,17 @@
 -- Looks at a keeper, one behind the other; and how a journal begins.
-use Rattle.std.proofs.Math.ListN.{drop_of_length-le}
-use Rattle.std.proofs.Common.{◌≡◌, ◌≤◌, ◌+◌, ◌-◌, ◌^◌, ℕ, min, true, false, List, []}
-use Rattle.std.proofs.Common.{take, drop, Option, None, Some, Result, Ok, Err, IsSome}
-use Rattle.std.proofs.Common.{sym, ap, subst, ◌∙◌, inl, inr, arith, ◌++◌}
-use Rattle.std.proofs.lemmas.List.{length-take}
+use Rattle.std.proofs.Common.{◌≡◌, ℕ, List}
+use Rattle.std.proofs.Common.{Option, None, Some, Result, Ok, Err, IsSome}
+use Rattle.std.proofs.Common.{sym, ap, subst, ◌∙◌, inl, inr}
 use Rattle.std.specs.Io.KnownBytes.{Keeps}
 use Rattle.streetmap_ledger.specs.Keep.{AsBefore, Looks, ShutsBy}
 use Rattle.streetmap_ledger.specs.State.{State}
-use Rattle.streetmap_ledger.specs.WellFormed.{IsState}
 use Rattle.streetmap_ledger.specs.declared.reply.Cause.{Cause}
 use Rattle.streetmap_ledger.specs.declared.reply.Fault.{Fault}
 use Rattle.streetmap_ledger.specs.declared.reply.Fault.TheVariants.{Memory, Device, Damaged, Reopen}
 use Rattle.streetmap_ledger.specs.declared.reply.Reply.{Reply}
-use Rattle.streetmap_ledger.specs.Kept.{batch_count}
-use Rattle.streetmap_replay.specs.Journal.{journal}
-use Rattle.streetmap_replay.specs.JournalText.{journal_lines, text_of_lines}
-use Rattle.streetmap_replay.specs.Lines.{Line}
-use Rattle.streetmap_replay.proofs.AllThere.{journal_is_whole}
-use Rattle.streetmap_replay.proofs.ItemsByPlace.{length-numbered}
 use Rattle.streetmap_journal.specs.Completing.{StaysUnshut}
-use Rattle.streetmap_journal.specs.Written.{Position, HoldsJournal, OfReply, line_at}
+use Rattle.streetmap_journal.specs.Written.{Position, HoldsJournal, OfReply}
 use Rattle.streetmap_replay.specs.Faults.{StaysBut}
-use Rattle.streetmap_journal.specs.Written.{lines_between}
 
 pub of_reply : (came : Result Reply Fault → Type 0) (r : Result Reply Fault) → came r →
     OfReply came r
@@ -66,36 +56,6 @@ module _ {K : Type 0} (cause : K → Option Cause) (old now new : K) where
   reopen_further T stands leaves Reopen is opened shut h =
       was_shut opened shut.0 (λ same.
       subst (λ (k : K). AsBefore (stands k) (stands new) (leaves k) (leaves new)) same h)
-
--- a journal of which no line is there holds none of the state's
-pub begun_holds : (s : State) → IsState s → (p : Position) (bytes : Option (List ℕ)) →
-    p.after ≤ batch_count s → p.next ≡ min (p.after + 1) (2 ^ 64 - 1) → p.part ≡ 0 →
-    p.behind ≡ true → bytes ≡ Some [] → HoldsJournal p bytes s
-begun_holds s sound p None few next part behind is = absurd (let wrong : None ≡ Some [] = is in cc)
-begun_holds s sound p (Some bytes) few next part behind is =
-    let none : bytes ≡ [] = cc in
-    let most = sound.not_too_many in
-    let many = length-numbered 0 (journal s) in
-    let count = (journal_is_whole s sound).0 in
-    let next_is : p.next ≡ p.after + 1 = omega (arith, next, few, most, count) in
-    let place : p.next - 1 ≡ p.after = omega (arith, next_is) in
-    let long = length-take p.after (journal_lines s) in
-    let nothing : lines_between s p.after p.next ≡ [] =
-    ap (λ (n : ℕ). drop p.after (take n (journal_lines s))) place
-    ∙ drop_of_length-le (take p.after (journal_lines s)) {i = p.after} (omega (arith, long)) in
-    let torn : take p.part (line_at s p.next) ≡ [] =
-    ap (λ (n : ℕ). take n (line_at s p.next)) part in
-    record {
-      reaches = record {
-        behind_first = omega (arith, next_is);
-        within = omega (arith, next_is, few, many, count);
-        is = none ∙ (ap (λ (ls : List Line). text_of_lines ls ++ []) (sym nothing)
-            ∙ ap (λ (bs : List ℕ). text_of_lines (lines_between s p.after p.next) ++ bs)
-            (sym torn));
-        part = omega (arith, part);
-      };
-      whole = λ no. (let wrong : true ≡ false = sym behind ∙ no in absurd cc);
-    }
 
 -- where the writer is told something
 pub told_holds : (s : State) (p q : Position) (a b : Option (List ℕ)) → q ≡ p → Keeps a b →

@@ -1,43 +1,117 @@
 -- Lines beside the journal of a state.
-use Rattle.std.specs.Prelude.{◌≡◌, ◌≤◌, ◌<◌, ◌+◌, ◌-◌, ◌^◌, ℕ, min, List, [], ◌++◌, ◌⊎◌}
-use Rattle.std.specs.Prelude.{Option, None}
-use Rattle.std.specs.Prelude.{Some, Result, Ok, Err, IfSome, length, take, drop, option_map}
-use Rattle.std.specs.Prelude.{slice_get}
-use Rattle.streetmap_batch.specs.Text.{Text}
+use Rattle.std.specs.Prelude.{◌≡◌, ◌≤◌, ◌<◌, ◌+◌, ◌-◌, ◌^◌, ℕ, min, List, [], ◌∷◌, ◌++◌, true}
+use Rattle.std.specs.Prelude.{Option, None, Some, Result, Ok, Err, IfSome, length, take, drop}
+use Rattle.std.specs.Prelude.{option_map, ◌==◌, if◌then◌else◌}
+use Rattle.std.specs.Io.{StartsWith}
+use Rattle.std.specs.Io.KnownBytes.{Consumes}
 use Rattle.streetmap_ledger.specs.State.{State}
 use Rattle.streetmap_ledger.specs.Kept.{batch_in}
+use Rattle.streetmap_ledger.specs.Keep.{ShutsBy}
+use Rattle.streetmap_ledger.specs.declared.reply.Cause.{Cause}
+use Rattle.streetmap_ledger.specs.declared.reply.Fault.TheVariants.{Memory}
 use Rattle.streetmap_replay.specs.Journal.{kept_text}
 use Rattle.streetmap_replay.specs.JournalText.{journal_lines, text_of_lines}
 use Rattle.streetmap_replay.specs.Lines.{Line, numbered, line_bytes}
-use Rattle.streetmap_text_lines.specs.Reading.{HasNoLineFeed}
 use Rattle.streetmap_replay.specs.Faults.{StaysBut}
+use Rattle.streetmap_journal.specs.Completing.{StaysUnshut}
+use Rattle.streetmap_journal.specs.Front.{are_zeros}
+use Rattle.streetmap_journal.specs.declared.front.Left.{Left}
+use Rattle.streetmap_journal.specs.declared.front.Left.TheVariants as left
 use Rattle.streetmap_journal.specs.declared.matching.Matched.{Matched}
 use Rattle.streetmap_journal.specs.declared.matching.MatchEnd.{MatchEnd}
 use Rattle.streetmap_journal.specs.declared.matching.MatchEnd.TheVariants.{All, Cut, Other, Ahead}
 use Rattle.streetmap_journal.specs.declared.matching.MatchEnd.TheVariants.{NotRead, Stopped}
 
--- a zero byte stands in them
-abbrev pub HasZero : List ℕ → Type 0
-HasZero bytes = (n : ℕ) × (slice_get bytes n ≡ Some 0)
+-- what a crash leaves of a line that was being written: a prefix of it, and then zeros alone
+pub record IsCutOf (line bytes : List ℕ) : Type 0 where
+  pub part : List ℕ
+  pub zeros : List ℕ
+  pub is : bytes ≡ part ++ zeros
+  pub begins : StartsWith line part
+  pub alone : are_zeros zeros ≡ true
+  pub some : 0 < length bytes
 
--- they are the line of the batch that is kept with this serial
-abbrev pub IsLineWith : State → ℕ → List ℕ → Type 0
-IsLineWith s serial bytes =
-    (text : Text) × (option_map kept_text (batch_in s serial) ≡ Some text)
-    × (line_bytes (numbered serial text) ≡ bytes)
+-- the bytes of the line of the batch with this serial, its line feed counted, where there is one
+abbrev pub line_of : State → ℕ → Option (List ℕ)
+line_of s serial =
+    option_map (λ b. line_bytes (numbered serial (kept_text b)) ++ 10 ∷ []) (batch_in s serial)
 
--- a line was compared with that of the batch with this serial, and the state stays
-abbrev pub MatchesLine : State → ℕ → List ℕ → Result (Unit {0}) MatchEnd → (State → Type 0) → Type 0
-MatchesLine s serial bytes (Ok _) stands = IsLineWith s serial bytes × stands s
-MatchesLine s serial bytes (Err All) stands = ⊥
-MatchesLine s serial bytes (Err Cut) stands =
-    (IsLineWith s serial bytes → ⊥) × HasZero bytes × stands s
-MatchesLine s serial bytes (Err Other) stands = (IsLineWith s serial bytes → ⊥) × stands s
-MatchesLine s serial bytes (Err Ahead) stands = (batch_in s serial ≡ None) × stands s
-MatchesLine s serial bytes (Err (NotRead fault)) stands = ⊥
-MatchesLine s serial bytes (Err (Stopped fault)) stands = StaysBut s fault stands
+-- the rest of an input ends so, where this line is due
+abbrev pub EndsWithin : (line rest : List ℕ) → MatchEnd → Type 0
+EndsWithin line rest All = rest ≡ []
+EndsWithin line rest Cut = IsCutOf line rest
+EndsWithin line rest Other =
+    (rest ≡ [] → ⊥) × (IsCutOf line rest → ⊥) × (StartsWith rest line → ⊥)
+EndsWithin line rest Ahead = ⊥
+EndsWithin line rest NotRead = Unit {0}
+EndsWithin line rest (Stopped fault) = Unit {0}
 
--- so many lines of a state's journal behind a serial
+-- the serial and the tab with which a line begins
+abbrev pub line_head : ℕ → List ℕ
+line_head serial = line_bytes (numbered serial [])
+
+-- the rest of an input ends so, where no batch is kept with this serial
+abbrev pub EndsAfterLast : (serial : ℕ) → (rest : List ℕ) → MatchEnd → Type 0
+EndsAfterLast serial rest All = rest ≡ []
+EndsAfterLast serial rest Cut = IsCutOf [] rest
+EndsAfterLast serial rest Other =
+    (rest ≡ [] → ⊥) × (IsCutOf [] rest → ⊥) × (StartsWith rest (line_head serial) → ⊥)
+EndsAfterLast serial rest Ahead = StartsWith rest (line_head serial)
+EndsAfterLast serial rest NotRead = Unit {0}
+EndsAfterLast serial rest (Stopped fault) = Unit {0}
+
+-- the rest of an input ends so, where a line is due or none is
+abbrev pub EndsBy : (due : Option (List ℕ)) → (serial : ℕ) → (rest : List ℕ) → MatchEnd → Type 0
+EndsBy None serial rest end = EndsAfterLast serial rest end
+EndsBy (Some line) serial rest end = EndsWithin line rest end
+
+-- the end by what is left of an input after so many bytes of a line
+abbrev pub ends_of : Left → (count : ℕ) → MatchEnd
+ends_of left.Nothing count = if count == 0 then All else Cut
+ends_of left.Zeros count = Cut
+ends_of left.Other count = Other
+
+-- the keeper was not the cause of an end
+abbrev pub IsOwn : MatchEnd → Type 0
+IsOwn (Stopped fault) = fault ≡ Memory
+IsOwn end = Unit {0}
+
+-- the reader failed
+abbrev pub IsUnread : MatchEnd → Type 0
+IsUnread NotRead = Unit {0}
+IsUnread (Stopped fault) = fault ≡ Memory
+IsUnread All = ⊥
+IsUnread Cut = ⊥
+IsUnread Other = ⊥
+IsUnread Ahead = ⊥
+
+-- a keeper that stood for this state does so still, unless its store failed
+abbrev pub StaysAt : State → MatchEnd → (State → Type 0) → Type 0
+StaysAt s (Stopped fault) stands = StaysBut s fault stands
+StaysAt s end stands = stands s
+
+-- the line of the batch with this serial was taken off behind so many bytes, or something else was
+-- next
+abbrev pub MatchesLine : State → (serial bytes : ℕ) → (old new : Option (List ℕ)) →
+    Result ℕ MatchEnd → (State → Type 0) → Type 0
+MatchesLine s serial bytes old new (Ok more) stands =
+    (line : List ℕ) × (line_of s serial ≡ Some line) × Consumes old new line
+    × (more ≡ bytes + length line) × stands s
+MatchesLine s serial bytes old new (Err end) stands =
+    IfSome old (λ rest. EndsBy (line_of s serial) serial rest end) × StaysAt s end stands
+
+-- what shut the keeper, by a line
+abbrev pub LineShuts : Result ℕ MatchEnd → (old new : Option Cause) → Type 0
+LineShuts (Err (Stopped fault)) old new = ShutsBy {T = Unit {0}} (Err fault) old new
+LineShuts result old new = (old ≡ None) × (new ≡ None)
+
+-- what shut the keeper, by an end
+abbrev pub EndShuts : {K : Type 0} → (K → Option Cause) → MatchEnd → (old new : K) → Type 0
+EndShuts cause (Stopped fault) old new =
+    ShutsBy {T = Unit {0}} (Err fault) (cause old) (cause new)
+EndShuts cause end old new = StaysUnshut cause old new
+
+-- that number of lines of a state's journal after a serial
 abbrev pub lines_from : State → ℕ → ℕ → List Line
 lines_from s after count = take count (drop after (journal_lines s))
 
@@ -45,41 +119,24 @@ lines_from s after count = take count (drop after (journal_lines s))
 abbrev pub InputBeginsWith : Option (List ℕ) → List ℕ → Type 0
 InputBeginsWith input front = IfSome input (λ bytes. (rest : List ℕ) × (bytes ≡ front ++ rest))
 
--- the serial of the line behind so many, as far as one is a number of 64 bits
+-- the serial of the line after so many, as far as one is a number of 64 bits
 abbrev pub serial_behind : (after count : ℕ) → ℕ
 serial_behind after count = min (min (after + count) (2 ^ 64 - 1) + 1) (2 ^ 64 - 1)
 
--- the input ends within a line; or the next line is not that of the batch with this serial, and a
--- zero byte stands in it
-abbrev pub IsCutLine : State → (serial : ℕ) → (part rest : List ℕ) → Type 0
-IsCutLine s serial part rest =
-    ((rest ≡ []) × (0 < length part)) ⊎ ((IsLineWith s serial part → ⊥) × HasZero part)
+-- what is behind the first bytes of the input
+abbrev pub RestIs : Option (List ℕ) → (front : List ℕ) → (List ℕ → Type 0) → Type 0
+RestIs input front P =
+    IfSome input (λ bytes. (rest : List ℕ) × (bytes ≡ front ++ rest) × P rest)
 
--- what is next of the input
-abbrev pub NextIs : Option (List ℕ) → (front : List ℕ) → (List ℕ → List ℕ → Type 0) → Type 0
-NextIs input front P =
-    IfSome input (λ bytes. (line : List ℕ) × (rest : List ℕ) × (bytes ≡ front ++ (line ++ rest))
-    × HasNoLineFeed line × P line rest)
-
--- how it ended behind them: the state stays, and what is next of the input is known
-abbrev pub MatchesBy : State → (serial : ℕ) → (front : List ℕ) → Option (List ℕ) → MatchEnd →
-    (State → Type 0) → Type 0
-MatchesBy s serial front input All stands = IfSome input (λ bytes. bytes ≡ front) × stands s
-MatchesBy s serial front input Cut stands =
-    NextIs input front (λ part rest. IsCutLine s serial part rest) × stands s
-MatchesBy s serial front input Other stands =
-    NextIs input front (λ line rest. IsLineWith s serial line → ⊥) × stands s
-MatchesBy s serial front input Ahead stands = (batch_in s serial ≡ None) × stands s
-MatchesBy s serial front input (NotRead fault) stands = stands s
-MatchesBy s serial front input (Stopped fault) stands = StaysBut s fault stands
-
--- so many of the first lines are those of the state's journal behind a serial
-pub record Matches (s : State) (after : ℕ) (old : Option (List ℕ)) (result : Matched)
+-- that many of the first lines are those of the state's journal after a serial, and what is behind
+-- them is known by the end
+pub record Matches (s : State) (after : ℕ) (input : Option (List ℕ)) (result : Matched)
     (stands : State → Type 0) : Type 0 where
   pub within : result.count ≤ length (drop after (journal_lines s))
-  pub front : InputBeginsWith old (text_of_lines (lines_from s after result.count))
-  pub size :
-      result.bytes ≡ min (length (text_of_lines (lines_from s after result.count))) (2 ^ 64 - 1)
+  pub front : InputBeginsWith input (text_of_lines (lines_from s after result.count))
+  pub size : result.bytes ≡ length (text_of_lines (lines_from s after result.count))
   pub ends :
-      MatchesBy s (serial_behind after result.count)
-      (text_of_lines (lines_from s after result.count)) old result.end stands
+      RestIs input (text_of_lines (lines_from s after result.count))
+      (λ rest. EndsBy (line_of s (serial_behind after result.count))
+      (serial_behind after result.count) rest result.end)
+  pub stays : StaysAt s result.end stands

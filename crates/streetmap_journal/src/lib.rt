@@ -5,24 +5,26 @@
 //! is the lines of that state's journal behind the serial at which it began; or, where a write
 //! failed, all bytes of them up to there (`specs/Written`). The line of a batch is made before the
 //! batch is applied, so that a batch that acted is answered. Lines that are missing are written
-//! before the next batch, behind the bytes that are there, or when the journal is begun
-//! (`start_journal`, `specs/Starting`).
+//! before the next batch, behind the bytes that are there, or when the journal is begun.
 //!
-//! `match_lines` reads lines as long as they are those of the batches that a keeper keeps
-//! (`specs/Matching`).
+//! `start_journal` begins a journal where it is kept, over any `JournalPlace` (`specs/Starting`):
+//! what is there must be lines of the batches that a keeper keeps, but for the cut of a last line
+//! that a crash leaves (`match_lines`, `specs/Matching`). All else is refused, and nothing written.
 //!
-//! Modules, in the order of reading: `journal` (lines), `completing`, `starting`, `keeper`,
-//! `matching`.
+//! Modules, in the order of reading: `journal` (lines), `completing`, `keeper`, `front` (bytes of a
+//! reader beside those expected), `matching`, `place`, `starting`.
 #![tactic(auto)]
 
 mod completing;
+mod front;
 mod journal;
 mod keeper;
 mod matching;
+mod place;
 mod starting;
 
 pub use journal::{Journal, JournalWriter};
 pub use keeper::JournaledKeeper;
 pub use matching::{MatchEnd, Matched, match_lines};
+pub use place::JournalPlace;
 pub use starting::{StartFault, start_journal};
-pub use streetmap_replay::MAX_LINE;

@@ -1,35 +1,38 @@
 //! Lines of a journal, beside the batches that a keeper keeps.
-ghost use Rattle.std.specs.Prelude.{◌≡◌, ◌+◌, true, false};
+ghost use Rattle.std.specs.Prelude.{◌≡◌, Some, IfErr, IfSome, OnOk, IsErrOf};
+ghost use Rattle.std.specs.Io.KnownBytes.{Consumes};
+ghost use Rattle.streetmap_ledger.specs.Keep.{AsBefore, LeavesOnly};
 ghost use Rattle.streetmap_ledger.specs.State.{State};
-ghost use Rattle.streetmap_journal.specs.Matching.{HasZero, MatchesLine, Matches};
+ghost use Rattle.streetmap_journal.specs.Matching.{ends_of, EndsWithin, EndsAfterLast, IsOwn};
+ghost use Rattle.streetmap_journal.specs.Matching.{IsUnread, MatchesLine, Matches, LineShuts, EndShuts};
 
-use crate::journal::line_with;
+use crate::front::{Left, left_of, take_front};
+use crate::journal::{line_with, whole_line};
 use std::alloc::Global;
 use std::io::BufRead;
 use streetmap_ledger::{Fault, KeepsBatches};
-use streetmap_replay::MAX_LINE;
-use streetmap_text_lines::{LineFault, WholeLine, next_whole_line};
+use streetmap_text_lines::LineFault;
 
 /// By what the matching of lines ended.
 #[derive(Clone, Copy, Drop)]
 pub enum MatchEnd {
     /// All lines are those of the batches with their serials.
     All,
-    /// The next line lacks its line feed, or is another and has a zero byte: what a power cut
-    /// leaves.
+    /// The rest is a prefix of the next line and then zero bytes alone: what a crash leaves of a
+    /// line that was being written.
     Cut,
-    /// The next line is not that of the batch with its serial.
+    /// The rest begins with another line, and is not what a crash leaves of one.
     Other,
-    /// No batch is kept with the serial of the next line.
+    /// The rest begins with a serial that no batch has yet.
     Ahead,
-    /// The next line was not read.
-    NotRead(LineFault),
+    /// The rest was not read.
+    NotRead,
     /// The keeper answered with a fault, or memory was refused.
     Stopped(Fault),
 }
 
 /// How many of the first lines are those of the batches, how many bytes they have, their line feeds
-/// counted, and by what it ended.
+/// counted, and by what it ended. More bytes than a number of 64 bits can count are not read.
 #[derive(Clone, Copy, Drop)]
 pub struct Matched {
     pub count: u64,
@@ -37,50 +40,107 @@ pub struct Matched {
     pub end: MatchEnd,
 }
 
-/// Whether a zero byte is among these.
-fn has_zero(bytes: &[u8]) -> bool
-    ensures { result ≡ true → HasZero bytes.now }
+/// The end by a reader that fails.
+fn not_read(fault: LineFault) -> MatchEnd
+    ensures { IsUnread result }
 {
-    bytes.contains(&0)
+    match fault {
+        LineFault::Memory => MatchEnd::Stopped(Fault::Memory),
+        LineFault::ReadFailed | LineFault::LineTooLong => MatchEnd::NotRead,
+    }
 }
 
-/// Compares a line with that of the batch with a serial.
-fn match_line<K: KeepsBatches>(
+/// The end by what is left of an input, after `count` bytes of the line that is next.
+fn end_by(left: Left, count: usize) -> MatchEnd
+    ensures { result ≡ ends_of left count }
+{
+    match left {
+        Left::Nothing if count == 0 => MatchEnd::All,
+        Left::Nothing | Left::Zeros => MatchEnd::Cut,
+        Left::Other => MatchEnd::Other,
+    }
+}
+
+/// Takes a line off a reader if it is next, and else says what is.
+fn take_line<R: BufRead>(reader: &mut R, line: &[u8]) -> Result<(), MatchEnd>
+    ensures taken { OnOk result
+        (Consumes (R.remaining reader.old) (R.remaining reader.new) line.now) }
+    ensures ends { IfErr result (λ end. IfSome (R.remaining reader.old)
+        (λ rest. EndsWithin line.now rest end)) }
+    ensures own { IfErr result IsOwn }
+{
+    let count = match take_front(reader, line) {
+        Ok(count) => count,
+        Err(fault) => return Err(not_read(fault)),
+    };
+    if count == line.len() {
+        return Ok(());
+    }
+    match left_of(reader) {
+        Ok(left) => Err(end_by(left, count)),
+        Err(fault) => Err(not_read(fault)),
+    }
+}
+
+/// What is next of a reader after the line of the last batch, where the next has this serial.
+fn end_after_last<R: BufRead>(alloc: Global, serial: u64, reader: &mut R) -> MatchEnd
+    ensures ends { IfSome (R.remaining reader.old) (λ rest. EndsAfterLast serial rest result) }
+    ensures own { IsOwn result }
+{
+    let Ok(head) = line_with(alloc, serial, b"") else {
+        return MatchEnd::Stopped(Fault::Memory);
+    };
+    match take_front(reader, head.as_slice()) {
+        Ok(0) => match left_of(reader) {
+            Ok(left) => end_by(left, 0),
+            Err(fault) => not_read(fault),
+        },
+        Ok(count) if count == head.len() => MatchEnd::Ahead,
+        Ok(_) => MatchEnd::Other,
+        Err(fault) => not_read(fault),
+    }
+}
+
+/// Takes the line of the batch with a serial off a reader if it is next, and returns how many bytes
+/// were taken off with it.
+fn match_line<K: KeepsBatches, R: BufRead>(
     alloc: Global,
     keeper: &mut K,
     serial: u64,
-    line: &[u8],
-) -> Result<(), MatchEnd>
+    bytes: u64,
+    reader: &mut R,
+) -> Result<u64, MatchEnd>
     ensures spared { K.spares keeper.old keeper.new }
     ensures began_clean { K.is_clean keeper.new → K.is_clean keeper.old }
     ensures matches { K.is_clean keeper.new → (s : State) → K.stands keeper.old s →
-        MatchesLine s serial line.now result (K.stands keeper.new) }
+        MatchesLine s serial bytes (R.remaining reader.old) (R.remaining reader.new) result
+        (K.stands keeper.new) }
+    ensures faults { LineShuts result (K.cause keeper.old) (K.cause keeper.new) }
+    ensures device { K.is_clean keeper.new → (s : State) → K.stands keeper.old s →
+        IsErrOf result (MatchEnd.Stopped Fault.Device) → K.fails keeper.old keeper.new }
+    ensures leaves { K.is_clean keeper.new → (s : State) → K.stands keeper.old s →
+        LeavesOnly (K.may_leave keeper.old) (Some s) →
+        LeavesOnly (K.may_leave keeper.new) (Some s) }
+    ensures reopen { IsErrOf result (MatchEnd.Stopped Fault.Reopen) →
+        AsBefore (K.stands keeper.old) (K.stands keeper.new)
+        (K.may_leave keeper.old) (K.may_leave keeper.new) }
 {
     match keeper.batch(serial) {
-        Ok(Some(kept)) => match line_with(alloc, serial, kept.text.as_slice()) {
-            Ok(expected) => {
-                if expected.as_slice() == line {
-                    Ok(())
-                } else if has_zero(line) {
-                    Err(MatchEnd::Cut)
-                } else {
-                    Err(MatchEnd::Other)
-                }
+        Ok(Some(kept)) => match whole_line(alloc, serial, kept.text.as_slice()) {
+            Ok(line) => {
+                take_line(reader, line.as_slice())?;
+                bytes
+                    .checked_add(line.len() as u64)
+                    .ok_or(MatchEnd::NotRead)
             }
             Err(_) => Err(MatchEnd::Stopped(Fault::Memory)),
         },
-        Ok(None) => {
-            if has_zero(line) {
-                Err(MatchEnd::Cut)
-            } else {
-                Err(MatchEnd::Ahead)
-            }
-        }
+        Ok(None) => Err(end_after_last(alloc, serial, reader)),
         Err(fault) => Err(MatchEnd::Stopped(fault)),
     }
 }
 
-/// Reads lines as long as they are those of the batches that a keeper keeps behind a serial, in
+/// Reads lines as long as they are those of the batches that a keeper keeps after a serial, in
 /// order.
 pub fn match_lines<K: KeepsBatches, R: BufRead>(
     alloc: Global,
@@ -92,31 +152,33 @@ pub fn match_lines<K: KeepsBatches, R: BufRead>(
     ensures began_clean { K.is_clean keeper.new → K.is_clean keeper.old }
     ensures matches { K.is_clean keeper.new → (s : State) → K.stands keeper.old s →
         Matches s after (R.remaining reader.old) result (K.stands keeper.new) }
+    ensures faults { EndShuts K.cause result.end keeper.old keeper.new }
+    ensures device { K.is_clean keeper.new → (s : State) → K.stands keeper.old s →
+        result.end ≡ MatchEnd.Stopped Fault.Device → K.fails keeper.old keeper.new }
+    ensures leaves { K.is_clean keeper.new → (s : State) → K.stands keeper.old s →
+        LeavesOnly (K.may_leave keeper.old) (Some s) →
+        LeavesOnly (K.may_leave keeper.new) (Some s) }
+    ensures reopen { result.end ≡ MatchEnd.Stopped Fault.Reopen →
+        AsBefore (K.stands keeper.old) (K.stands keeper.new)
+        (K.may_leave keeper.old) (K.may_leave keeper.new) }
 {
     let mut bytes: u64 = 0;
     for turn in 0..u64::MAX {
         let serial = after.saturating_add(turn).saturating_add(1);
-        let end = match next_whole_line(alloc, reader, MAX_LINE) {
-            Ok(WholeLine::Line(line)) => match match_line(alloc, keeper, serial, line.as_slice()) {
-                Ok(()) => {
-                    bytes = bytes.saturating_add(line.len() as u64).saturating_add(1);
-                    continue;
-                }
-                Err(end) => end,
-            },
-            Ok(WholeLine::Cut) => MatchEnd::Cut,
-            Ok(WholeLine::End) => MatchEnd::All,
-            Err(fault) => MatchEnd::NotRead(fault),
-        };
-        return Matched {
-            count: turn,
-            bytes,
-            end,
-        };
+        match match_line(alloc, keeper, serial, bytes, reader) {
+            Ok(more) => bytes = more,
+            Err(end) => {
+                return Matched {
+                    count: turn,
+                    bytes,
+                    end,
+                };
+            }
+        }
     }
     Matched {
         count: u64::MAX,
         bytes,
-        end: MatchEnd::NotRead(LineFault::ReadFailed),
+        end: MatchEnd::NotRead,
     }
 }

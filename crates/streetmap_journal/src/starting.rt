@@ -1,42 +1,179 @@
-//! A journal, begun behind a serial.
-ghost use Rattle.std.specs.Prelude.{◌≡◌, ◌+◌, ◌-◌, ◌^◌, min, true, Some, Err, IfErr, IfOk, OnOk};
-ghost use Rattle.std.specs.Prelude.{IsErrOf};
+//! A journal, begun where it is kept.
+ghost use Rattle.std.specs.Prelude.{◌≡◌, ◌+◌, ◌^◌, ◌-◌, min, true, Some, Err, IfErr, IfOk, OnOk};
+ghost use Rattle.std.specs.Prelude.{IsErrOf, IfSome, MatchResult, take};
+ghost use Rattle.std.specs.Io.KnownBytes.{Keeps};
 ghost use Rattle.streetmap_ledger.specs.State.{State};
 ghost use Rattle.streetmap_ledger.specs.Keep.{AsBefore, LeavesOnly, ShutsBy};
 ghost use Rattle.streetmap_journal.specs.Completing.{StaysUnshut};
-ghost use Rattle.streetmap_journal.specs.Starting.{BeginsBy, StartsBy, StartShuts};
+ghost use Rattle.streetmap_journal.specs.Starting.{BeginsBy, ComparesBy, StartsBy, StartShuts};
+ghost use Rattle.streetmap_journal.specs.Starting.{BeginsAfter, HasFirstSerial, IsRefused};
+ghost use Rattle.streetmap_journal.specs.Starting.{ChecksEnd, HasFailedSince, IsOwnFault};
+ghost use Rattle.streetmap_journal.specs.Matching.{EndShuts, serial_behind};
 ghost use Rattle.streetmap_journal.specs.Telling.{WriterIsTold, IsWholeUnless};
 
 use crate::completing::complete;
 use crate::journal::{Journal, JournalWriter};
+use crate::matching::{MatchEnd, Matched, match_lines};
+use crate::place::JournalPlace;
 use std::alloc::Global;
+use std::io::{BufRead, Error, ErrorKind, Read};
 use streetmap_ledger::{Fault, KeepsBatches};
+use streetmap_replay::read_line;
+
+/// The most bytes of a serial and the tab after it.
+const MOST_HEAD: u64 = 21;
 
 /// Why a journal is not begun.
-#[derive(Clone, Copy, Drop)]
+#[derive(Drop)]
 pub enum StartFault {
-    /// The keeper keeps fewer batches.
+    /// It has serials that the keeper lacks.
     Ahead,
-    /// The keeper answered with a fault.
+    /// It is no journal of the keeper's batches: the line with this serial is another, and is not
+    /// what a crash leaves of it.
+    Other(u64),
+    /// It could not be opened or cut.
+    NotOpened(Error),
+    /// It could not be read.
+    NotRead,
+    /// The keeper answered with a fault, or memory was refused.
     Stopped(Fault),
 }
 
-/// A journal of which no line is there behind a serial.
-fn empty<W>(after: u64, writer: W) -> Journal<W>
+impl From<Error> for StartFault {
+    ghost use Rattle.streetmap_journal.specs.declared.starting.StartFault.TheVariants.{NotOpened};
+
+    ghost from_gives = { λ error fault. fault ≡ NotOpened error };
+
+    fn from(error: Error) -> StartFault {
+        StartFault::NotOpened(error)
+    }
+}
+
+/// The first bytes of an input, as many as a serial and its tab may have.
+fn first_bytes<R: BufRead + Drop>(alloc: Global, reader: R) -> Result<Vec<u8>, Error>
+    ensures { IfOk result (λ head. IfSome (R.remaining reader) (λ bytes.
+        head.items ≡ take MOST_HEAD bytes)) }
+{
+    let mut head = Vec::new(alloc);
+    reader.take(MOST_HEAD).read_to_end(&mut head)?;
+    Ok(head)
+}
+
+/// The serial of the first line, if the input begins with one and a tab.
+fn first_serial<R: BufRead + Drop>(alloc: Global, reader: R) -> Result<Option<u64>, Error>
+    ensures { IfOk result (λ serial. IfSome (R.remaining reader) (λ bytes.
+        HasFirstSerial bytes serial)) }
+{
+    let head = first_bytes(alloc, reader)?;
+    let line = read_line(head.as_slice());
+    Ok(line.serial)
+}
+
+/// Why a journal is not begun whose first bytes were not read.
+fn unread(error: &Error) -> StartFault
+    ensures { IsOwnFault result }
+{
+    match error.kind() {
+        ErrorKind::OutOfMemory => StartFault::Stopped(Fault::Memory),
+        _ => StartFault::NotRead,
+    }
+}
+
+/// The serial after which a journal begins: the one before that of its first line, or the one that
+/// is asked for if it has no line.
+fn serial_before<P: JournalPlace>(
+    alloc: Global,
+    place: &mut P,
+    asked: u64,
+) -> Result<u64, StartFault>
+    ensures after { IfOk result (λ after. IfSome (P.contents place.old) (λ bytes.
+        BeginsAfter bytes asked after)) }
+    ensures own { IfErr result IsOwnFault }
+    ensures kept { Keeps (P.contents place.old) (P.contents place.new) }
+{
+    let Some(reader) = place.read()? else {
+        return Ok(asked);
+    };
+    match first_serial(alloc, reader) {
+        Ok(Some(serial)) if serial > 0 => Ok(serial - 1),
+        Ok(_) => Ok(asked),
+        Err(error) => Err(unread(&error)),
+    }
+}
+
+/// A journal that is not there.
+fn nothing() -> Matched
+    ensures { result ≡ record { count = 0; bytes = 0; end = MatchEnd.All } }
+{
+    Matched {
+        count: 0,
+        bytes: 0,
+        end: MatchEnd::All,
+    }
+}
+
+/// Compares the lines of a journal with the batches that a keeper keeps after a serial.
+fn match_place<K: KeepsBatches, P: JournalPlace>(
+    alloc: Global,
+    keeper: &mut K,
+    after: u64,
+    place: &mut P,
+) -> Result<Matched, Error>
+    ensures spared { K.spares keeper.old keeper.new }
+    ensures began_clean { K.is_clean keeper.new → K.is_clean keeper.old }
+    ensures compares { K.is_clean keeper.new → (s : State) → K.stands keeper.old s →
+        ComparesBy s after (P.contents place.old) result (K.stands keeper.new) }
+    ensures faults { MatchResult result
+        (λ matched. EndShuts K.cause matched.end keeper.old keeper.new)
+        (λ _. keeper.new ≡ keeper.old) }
+    ensures device { K.is_clean keeper.new → (s : State) → K.stands keeper.old s →
+        IfOk result (λ matched. matched.end ≡ MatchEnd.Stopped Fault.Device →
+        K.fails keeper.old keeper.new) }
+    ensures leaves { K.is_clean keeper.new → (s : State) → K.stands keeper.old s →
+        LeavesOnly (K.may_leave keeper.old) (Some s) →
+        LeavesOnly (K.may_leave keeper.new) (Some s) }
+    ensures reopen { IfOk result (λ matched. matched.end ≡ MatchEnd.Stopped Fault.Reopen →
+        AsBefore (K.stands keeper.old) (K.stands keeper.new)
+        (K.may_leave keeper.old) (K.may_leave keeper.new)) }
+    ensures kept { Keeps (P.contents place.old) (P.contents place.new) }
+{
+    match place.read()? {
+        Some(mut reader) => Ok(match_lines(alloc, keeper, after, &mut reader)),
+        None => Ok(nothing()),
+    }
+}
+
+/// Why a journal whose lines were compared is not begun.
+fn check_end(after: u64, matched: Matched) -> Result<(), StartFault>
+    ensures { ChecksEnd after matched result }
+{
+    match matched.end {
+        MatchEnd::All | MatchEnd::Cut => Ok(()),
+        MatchEnd::Other => Err(StartFault::Other(
+            after.saturating_add(matched.count).saturating_add(1),
+        )),
+        MatchEnd::Ahead => Err(StartFault::Ahead),
+        MatchEnd::NotRead => Err(StartFault::NotRead),
+        MatchEnd::Stopped(fault) => Err(StartFault::Stopped(fault)),
+    }
+}
+
+/// A journal whose first `count` lines after a serial are there, and which may lack others.
+fn resumed<W>(after: u64, count: u64, writer: W) -> Journal<W>
     ensures { (result.writer ≡ writer) × (result.after ≡ after) × (result.part ≡ 0)
-        × (result.next ≡ min (after + 1) (2 ^ 64 - 1)) × (result.is_behind ≡ true) }
+        × (result.next ≡ serial_behind after count) × (result.is_behind ≡ true) }
 {
     Journal {
         writer,
         after,
-        next: after.saturating_add(1),
+        next: after.saturating_add(count).saturating_add(1),
         part: 0,
         is_behind: true,
     }
 }
 
-/// Writes the lines that a journal lacks. Where not all of them could be written, its writer is
-/// told.
+/// Writes the lines that a journal lacks. If not all of them could be written, its writer is
+/// informed.
 fn begin<K: KeepsBatches, W: JournalWriter + Drop>(
     alloc: Global,
     keeper: &mut K,
@@ -70,22 +207,25 @@ fn begin<K: KeepsBatches, W: JournalWriter + Drop>(
     }
 }
 
-/// Begins a journal behind a serial, and writes the lines of the batches that a keeper keeps behind
-/// it. Where not all of them could be written, the writer is told.
+/// Begins a journal where it is kept. It must have the lines of the batches that a keeper keeps
+/// after the serial before its first line, or after the one that is asked for if it has none. What
+/// a crash left of its last line is taken off, and the lines that it lacks are written. If not all
+/// of them could be written, its writer is informed.
 ///
 /// # Errors
 ///
-/// `Ahead` where fewer batches are kept: no byte is written. `Stopped` with the fault of the
-/// keeper, or with `Memory` where a line has no room.
-pub fn start_journal<K: KeepsBatches, W: JournalWriter + Drop>(
+/// `Ahead` if the keeper keeps fewer batches, and `Other` if a line is another: nothing is written.
+/// `NotOpened` and `NotRead` if the place fails: nothing is written. `Stopped` with the fault of the
+/// keeper, or with `Memory` if a line has no room.
+pub fn start_journal<K: KeepsBatches, P: JournalPlace>(
     alloc: Global,
     keeper: &mut K,
-    after: u64,
-    writer: W,
-) -> Result<Journal<W>, StartFault>
+    asked: u64,
+    place: &mut P,
+) -> Result<Journal<P::Writer>, StartFault>
     ensures spared { K.spares keeper.old keeper.new }
     ensures began_clean { K.is_clean keeper.new → K.is_clean keeper.old }
-    ensures faults { StartShuts result (K.cause keeper.old) (K.cause keeper.new) }
+    ensures faults { StartShuts K.cause result keeper.old keeper.new }
     ensures device { K.is_clean keeper.new → (s : State) → K.stands keeper.old s →
         IsErrOf result (StartFault.Stopped Fault.Device) → K.fails keeper.old keeper.new }
     ensures leaves { K.is_clean keeper.new → (s : State) → K.stands keeper.old s →
@@ -94,20 +234,28 @@ pub fn start_journal<K: KeepsBatches, W: JournalWriter + Drop>(
     ensures reopen { IsErrOf result (StartFault.Stopped Fault.Reopen) →
         AsBefore (K.stands keeper.old) (K.stands keeper.new)
         (K.may_leave keeper.old) (K.may_leave keeper.new) }
+    // What is there is the journal of the state up to a cut line, and all of it is there then; or
+    // why it is not begun.
     ensures starts { K.is_clean keeper.new → (s : State) → K.stands keeper.old s →
-        StartsBy s after (W.contents writer) W.contents result (K.stands keeper.new) }
-    // The writer knows what is missing; and where something is, it failed.
-    ensures told { IfOk result (λ journal. WriterIsTold W.told W.is_kept journal
-        × (journal.is_behind ≡ true → W.fails writer journal.writer)) }
+        StartsBy s asked (P.contents place.old) P.Writer.contents result (K.stands keeper.new) }
+    // A journal that is refused is as it was.
+    ensures refused { IsRefused result → Keeps (P.contents place.old) (P.contents place.new) }
+    // The writer knows what is missing; and if something is, it failed.
+    ensures told { IfOk result (λ journal. WriterIsTold P.Writer.told P.Writer.is_kept journal
+        × (journal.is_behind ≡ true → HasFailedSince P.Writer.fails journal.writer)) }
 {
     let count = match keeper.batch_count() {
         Ok(count) => count,
         Err(fault) => return Err(StartFault::Stopped(fault)),
     };
+    let after = serial_before(alloc, place, asked)?;
     if count < after {
         return Err(StartFault::Ahead);
     }
-    match begin(alloc, keeper, empty(after, writer)) {
+    let matched = match_place(alloc, keeper, after, place)?;
+    check_end(after, matched)?;
+    let writer = place.write_after(matched.bytes)?;
+    match begin(alloc, keeper, resumed(after, matched.count, writer)) {
         Ok(journal) => Ok(journal),
         Err(fault) => Err(StartFault::Stopped(fault)),
     }
