@@ -1,0 +1,60 @@
+-- What serving guarantees.
+use Rattle.std.specs.Prelude.{◌≡◌, List, ◌∷◌, ◌++◌, map, All}
+use Rattle.std.specs.Prelude.{Some}
+use Rattle.serde_json.specs.Written.{compact_text}
+use Rattle.streetmap_http.specs.declared.answer_head.MediaType.TheVariants.{GeoJson}
+use Rattle.streetmap_query.specs.QueryValue.{QueryValue}
+use Rattle.streetmap_batch.specs.Text.{Text}
+use Rattle.streetmap_ledger.specs.State.{State}
+use Rattle.streetmap_ledger.specs.Batches.{after_all}
+use Rattle.streetmap_ledger.specs.Pages.{PageValue, page_in}
+use Rattle.streetmap_routes.specs.Ask.{page}
+use Rattle.streetmap_bodies.specs.Bodies.{page_data}
+use Rattle.streetmap_connections.specs.History.{History, Exchange, FitsStream}
+use Rattle.streetmap_connections.specs.Interleaving.{IsInterleaving}
+use Rattle.streetmap_connections.specs.Refusing.{AreRefused}
+use Rattle.streetmap_web.specs.Refusing.{IsRefusal}
+use Rattle.streetmap_web.specs.Response.{ResponseValue, found}
+use Rattle.streetmap_guarantee.specs.Server.{Server, serving, state_of, HasKept}
+use Rattle.streetmap_guarantee.specs.Histories.{Event, IsSequential, acknowledged}
+
+-- the requests of a connection with their answers, in order
+abbrev pub exchanges_of : History → List Exchange
+exchanges_of h = h.exchanges
+
+-- What was received is these requests, in order, then what was refused and what waits; what was sent
+-- and what waits to be sent is their answers, and then the refusal: one at most.
+abbrev pub IsInOrder : History → Type 0
+IsInOrder h = ∥ FitsStream h ∥₁
+
+-- what was refused is the fixed answer 503: out of memory
+abbrev pub RefusesForMemory : History → Type 0
+RefusesForMemory h = AreRefused IsRefusal h.refusals
+
+-- the response is the page of the state
+abbrev pub ShowsPage : Text → State → Text → QueryValue → ResponseValue → Type 0
+ShowsPage root s name q response = (p : PageValue) × (page_in s name q ≡ Some p)
+    × (response ≡ found GeoJson (compact_text (page_data root name q p)))
+
+-- Connections were served, from a state on. A crash leaves one of the images that `leaves` admits,
+-- and `holds` says which state an image holds.
+pub record Guarantee {Image : Type 0} (holds : Image → State → Type 0) (leaves : Image → Type 0)
+    (root : Text) (s : State) (connections : List History) : Type 0 where
+  -- one history: the connections' own requests and answers, interleaved
+  pub history : List Event
+  pub in_order : All IsInOrder connections
+  pub refused : All RefusesForMemory connections
+  pub interleaved : IsInterleaving (map exchanges_of connections) (map (λ e. e.exchange) history)
+  -- a server that handles one request at a time, from the state on, could have given it
+  pub server : Server
+  pub sequential : IsSequential root (serving s) history server
+  -- each page is the page of the state that the batches acknowledged before it made
+  pub pages :
+      (before later : List Event) (e : Event) (name : Text) (q : QueryValue)
+      → history ≡ before ++ e ∷ later → e.request.ask ≡ page name q → e.response.status ≡ 200
+      → ShowsPage root (after_all s (acknowledged before)) name q e.response
+  -- the server has acted on the acknowledged batches, and on no other
+  pub acts : state_of server ≡ after_all s (acknowledged history)
+  -- whatever a crash leaves holds the state that this server has kept: that of all acknowledged
+  -- batches, or, if the store failed at a request, that or the one after it
+  pub survives : (image : Image) → leaves image → (t : State) × holds image t × HasKept server t

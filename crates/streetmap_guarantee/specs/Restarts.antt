@@ -1,0 +1,34 @@
+-- Runs of a server, with a crash between each two.
+use Rattle.std.specs.Prelude.{◌≡◌, ◌≤◌, List, ◌++◌, length}
+use Rattle.streetmap_batch.specs.Text.{Text}
+use Rattle.streetmap_batch.specs.BatchValue.{BatchValue}
+use Rattle.streetmap_ledger.specs.State.{State}
+use Rattle.streetmap_ledger.specs.Batches.{after_all}
+use Rattle.streetmap_connections.specs.History.{History}
+use Rattle.streetmap_guarantee.specs.Guarantee.{Guarantee}
+use Rattle.streetmap_guarantee.specs.Histories.{acknowledged}
+
+-- One run: an image is opened, and connections are served from the state that it holds, whichever
+-- that is. Then there is a crash, which leaves an image.
+pub record Run {Image : Type 0} (holds : Image → State → Type 0) (root : Text)
+    (opened left : Image) : Type 1 where
+  pub leaves : Image → Type 0
+  pub connections : List History
+  pub guarantee : (s : State) → holds opened s → Guarantee holds leaves root s connections
+  pub crashed : leaves left
+
+-- runs, each of which opens what the crash before it left
+pub data Runs {Image : Type 0} (holds : Image → State → Type 0) (root : Text)
+    : (first last : Image) → Type 1 where
+  none : {image : Image} → Runs holds root image image
+  more : {first left last : Image} → Run holds root first left → Runs holds root left last
+      → Runs holds root first last
+
+-- From one state the runs led to another: each to the state after the batches that it acknowledged,
+-- in the order of its history, and after one more at most, at which its store failed.
+abbrev pub LeadTo : {Image : Type 0} {holds : Image → State → Type 0} {root : Text}
+    {first last : Image} → Runs holds root first last → State → State → Type 0
+LeadTo none s t = t ≡ s
+LeadTo {holds = holds} {first = first} (more run runs) s t =
+    (held : holds first s) × (extra : List BatchValue) × (length extra ≤ 1)
+    × LeadTo runs (after_all s (acknowledged (run.guarantee s held).history ++ extra)) t

@@ -1,0 +1,30 @@
+//! A stream of requests.
+ghost use Rattle.std.specs.Prelude.{◌≡◌};
+ghost use Rattle.streetmap_ledger.specs.State.{State};
+ghost use Rattle.streetmap_routes.specs.BaseView.{root_of};
+ghost use Rattle.streetmap_guarantee.specs.Streams.{GuaranteeOfStream};
+
+use crate::durable::Durable;
+use std::alloc::Global;
+use std::io::{BufRead, Write};
+use streetmap_routes::Base;
+use streetmap_web::{Served, serve};
+
+/// Serves a stream of requests over a keeper: reads them from the reader, and writes their answers
+/// to the writer, in order, up to the first that closes the connection (`streetmap_web::serve`).
+pub fn pipe<K: Durable, R: BufRead, W: Write>(
+    alloc: Global,
+    keeper: &mut K,
+    base: &Base,
+    reader: &mut R,
+    writer: &mut W,
+) -> Served
+    ensures guarantee { K.is_clean keeper.new → (s : State) →
+        K.stands keeper.old s →
+        GuaranteeOfStream K.holds (K.leaves keeper.new) (root_of base.now) s result.end
+        (R.remaining reader.old) (R.remaining reader.new)
+        (W.contents writer.old) (W.contents writer.new) }
+    ensures spared { K.spares keeper.old keeper.new }
+{
+    serve(alloc, keeper, base, reader, writer)
+}

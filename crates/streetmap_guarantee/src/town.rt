@@ -1,0 +1,44 @@
+//! The clients of a listener.
+ghost use Rattle.std.specs.Prelude.{◌≡◌, ◌≤◌, [], length, map, IsErrOf, IsOk};
+ghost use Rattle.streetmap_ledger.specs.State.{State};
+ghost use Rattle.streetmap_routes.specs.BaseView.{root_of};
+ghost use Rattle.streetmap_connections.specs.AllClients.{clients_of, ended_of};
+ghost use Rattle.streetmap_web.specs.Watching.{IsOver};
+ghost use Rattle.streetmap_guarantee.specs.Town.{GuaranteeOfTown};
+ghost use Rattle.streetmap_guarantee.specs.Connections.{history_of};
+
+use crate::durable::Durable;
+use mio::net::TcpStream;
+use std::io::Write;
+use std::net::{Net, TcpListener};
+use std::time::Clock;
+use streetmap_connections::{Clients, ServeFault};
+use streetmap_web::{KeeperService, serve_clients};
+
+/// Serves the clients of a listener over a keeper, many at once, until that number of them ended
+/// (`streetmap_web::serve_clients`).
+///
+/// # Errors
+///
+/// `Net` if no client can be accepted while there is none, or sockets cannot be waited for;
+/// `Memory` if there is no room for what is waited for; `Over` once the store failed, if the
+/// service ends then.
+pub fn serve_town<R: Net + Clock, K: Durable, W: Write>(
+    rt: &R,
+    listener: &TcpListener,
+    count: u64,
+    clients: &mut Clients<TcpStream>,
+    service: &mut KeeperService<K, W>,
+) -> Result<(), ServeFault>
+    requires { clients_of clients.old ≡ [] }
+    ensures guarantee { K.is_clean service.new.keeper → (s : State) →
+        K.stands service.old.keeper s →
+        GuaranteeOfTown K.holds (K.leaves service.new.keeper) (root_of service.old.base) s
+        (map history_of (clients_of clients.new)) }
+    ensures counted { IsOk result → count ≤ length (ended_of clients.new) }
+    ensures few { length (clients_of clients.new) ≤ count }
+    ensures over { IsErrOf result ServeFault.Over → IsOver service.new.watch }
+    ensures spared { K.spares service.old.keeper service.new.keeper }
+{
+    serve_clients(rt, listener, count, clients, service)
+}
