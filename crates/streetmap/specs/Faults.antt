@@ -2,8 +2,11 @@
 use Rattle.std.specs.Prelude.{Result, Ok, Err}
 use Rattle.std.specs.declared.io.ErrorKind.{ErrorKind}
 use Rattle.std.specs.declared.io.ErrorKind.TheVariants as kinds
+use Rattle.std.specs.IoError.{error_kind}
 use Rattle.streetmap_ledger.specs.declared.reply.Fault.{Fault as KeeperFault}
 use Rattle.streetmap_ledger.specs.declared.reply.Fault.TheVariants as keeper
+use Rattle.streetmap_journal.specs.declared.starting.StartFault.{StartFault}
+use Rattle.streetmap_journal.specs.declared.starting.StartFault.TheVariants as starting
 use Rattle.streetmap_store.specs.declared.fault.CreateFault.{CreateFault}
 use Rattle.streetmap_store.specs.declared.fault.CreateFault.TheVariants as creation
 use Rattle.streetmap_store.specs.declared.fault.OpenFault.{OpenFault}
@@ -24,6 +27,8 @@ use Rattle.streetmap_faults.specs.declared.fault.ProgramFault.TheVariants.{Taken
 use Rattle.streetmap_faults.specs.declared.fault.ProgramFault.TheVariants.{NoText, ReadFailed}
 use Rattle.streetmap_faults.specs.declared.fault.ProgramFault.TheVariants.{WriteFailed, Damaged}
 use Rattle.streetmap_faults.specs.declared.fault.ProgramFault.TheVariants.{Device, Memory}
+use Rattle.streetmap_faults.specs.declared.fault.ProgramFault.TheVariants.{NoJournal, JournalAhead}
+use Rattle.streetmap_faults.specs.declared.fault.ProgramFault.TheVariants.{NotItsJournal}
 
 -- where no file is made
 abbrev pub fault_of_create : CreateFault → ProgramFault
@@ -46,6 +51,19 @@ fault_of_keeper keeper.Memory = Memory
 fault_of_keeper keeper.Damaged = Damaged
 fault_of_keeper keeper.Device = Device
 fault_of_keeper keeper.Reopen = Device
+
+-- where a journal cannot be opened
+abbrev pub fault_of_journal : ErrorKind → ProgramFault
+fault_of_journal kinds.OutOfMemory = Memory
+fault_of_journal kind = NoJournal
+
+-- where a journal is not begun
+abbrev pub fault_of_start : StartFault → ProgramFault
+fault_of_start starting.Ahead = JournalAhead
+fault_of_start (starting.Other serial) = NotItsJournal serial
+fault_of_start (starting.NotOpened error) = fault_of_journal (error_kind error)
+fault_of_start starting.NotRead = ReadFailed
+fault_of_start (starting.Stopped fault) = fault_of_keeper fault
 
 -- where a replay does not come to its end
 abbrev pub fault_of_replay : ReplayStop → ProgramFault

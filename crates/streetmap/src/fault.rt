@@ -3,11 +3,13 @@ ghost use Rattle.std.specs.Prelude.{◌≡◌, ◌≢◌};
 ghost use Rattle.std.specs.IoError.{error_kind};
 ghost use Rattle.streetmap.specs.Faults.{fault_of_create, fault_of_open, fault_of_check};
 ghost use Rattle.streetmap.specs.Faults.{fault_of_text, end_of_stream, end_of_followed};
-ghost use Rattle.streetmap.specs.Faults.{fault_of_keeper, fault_of_replay};
+ghost use Rattle.streetmap.specs.Faults.{fault_of_keeper, fault_of_replay, fault_of_journal};
+ghost use Rattle.streetmap.specs.Faults.{fault_of_start};
 
 use std::io::{Error, ErrorKind};
 use streetmap_checking::CheckFault;
 use streetmap_faults::ProgramFault;
+use streetmap_journal::StartFault;
 use streetmap_ledger::Fault;
 use streetmap_replay::{End as FollowEnd, Followed, ReplayStop};
 use streetmap_store::{CreateFault, OpenFault};
@@ -41,15 +43,25 @@ pub(crate) fn of_text(error: &Error) -> ProgramFault
 
 /// The fault of a journal that cannot be opened: memory is refused, or the device fails.
 pub(crate) fn of_journal(error: &Error) -> ProgramFault
-    ensures memory { error_kind error.now ≡ ErrorKind.OutOfMemory
-        → result ≡ ProgramFault.Memory }
-    ensures other { error_kind error.now ≢ ErrorKind.OutOfMemory →
-        result ≡ ProgramFault.NoJournal }
+    ensures { result ≡ fault_of_journal (error_kind error.now) }
 {
     if error.kind() == ErrorKind::OutOfMemory {
         ProgramFault::Memory
     } else {
         ProgramFault::NoJournal
+    }
+}
+
+/// The fault of a journal that is not begun.
+pub(crate) fn of_start(fault: &StartFault) -> ProgramFault
+    ensures { result ≡ fault_of_start fault.now }
+{
+    match fault {
+        StartFault::Ahead => ProgramFault::JournalAhead,
+        StartFault::Other(serial) => ProgramFault::NotItsJournal(*serial),
+        StartFault::NotOpened(error) => of_journal(error),
+        StartFault::NotRead => ProgramFault::ReadFailed,
+        StartFault::Stopped(fault) => of_keeper(*fault),
     }
 }
 

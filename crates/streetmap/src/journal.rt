@@ -5,14 +5,11 @@ ghost use Rattle.streetmap.specs.Counted.{HasFailed};
 use crate::fault;
 use std::fs::{File, OpenOptions};
 use std::io::{BufReader, Error, ErrorKind, Stderr, Write};
-use std::str;
 use streetmap_command::JournalAsked;
 use streetmap_faults::ProgramFault;
-use streetmap_journal::{
-    Journal, JournalWriter, MAX_LINE, MatchEnd, Matched, StartFault, match_lines, start_journal,
-};
+use streetmap_journal::{Journal, JournalPlace, JournalWriter, start_journal};
 use streetmap_ledger::KeepsBatches;
-use streetmap_text_lines::{LineFault, NotWritten, WholeLine, next_whole_line, write_bytes};
+use streetmap_text_lines::{NotWritten, write_bytes};
 
 /// The file of a journal, to whose end its lines are written.
 #[derive(Drop)]
@@ -101,131 +98,51 @@ impl JournalWriter for JournalFile {
     }
 }
 
-/// A journal that is begun, and the serial of its first line.
+/// Where the journal that is asked for is kept.
 #[derive(Drop)]
-pub(crate) struct Begun {
-    pub(crate) journal: Journal<JournalFile>,
-    pub(crate) first: u64,
+struct JournalPath<'a> {
+    rt: &'a HostRuntime,
+    asked: JournalAsked<'a>,
 }
 
-/// Opens a file for reading, where it is there.
-fn open_if_there(rt: &HostRuntime, path: &str) -> Result<Option<File>, ProgramFault> {
-    match File::open(rt, path) {
-        Ok(file) => Ok(Some(file)),
-        Err(error) if error.kind() == ErrorKind::NotFound => Ok(None),
-        Err(error) => Err(fault::of_journal(&error)),
-    }
-}
+impl<'a> JournalPlace for JournalPath<'a> {
+    type Reader = BufReader<File>;
 
-/// The serial of a line, in front of its tab.
-fn serial_of(line: &[u8]) -> Option<u64> {
-    let tab = line.iter().position(|byte| *byte == b'\t')?;
-    str::from_utf8(line.get(..tab)?).ok()?.parse::<u64>().ok()
-}
+    type Writer = JournalFile;
 
-/// The serial behind which a journal begins: that before its first line, where it has a whole one,
-/// or else the one that is asked for.
-fn beginning(
-    rt: &HostRuntime,
-    file: Option<File>,
-    asked: JournalAsked<'_>,
-) -> Result<u64, ProgramFault> {
-    let after = asked.after as u64;
-    let Some(file) = file else {
-        return Ok(after);
-    };
-    let Ok(mut reader) = BufReader::new(rt.alloc(), file) else {
-        return Err(ProgramFault::Memory);
-    };
-    match next_whole_line(rt.alloc(), &mut reader, MAX_LINE) {
-        Ok(WholeLine::Line(line)) => match serial_of(line.as_slice()) {
-            Some(serial) => Ok(serial.saturating_sub(1)),
-            None => Ok(after),
-        },
-        Ok(WholeLine::Cut | WholeLine::End) => Ok(after),
-        Err(LineFault::LineTooLong) => Ok(after),
-        Err(LineFault::ReadFailed) => Err(ProgramFault::ReadFailed),
-        Err(LineFault::Memory) => Err(ProgramFault::Memory),
-    }
-}
-
-/// How many of a journal's lines behind a serial are those of the file's batches, and how many
-/// bytes they have. What a cut left behind them is none.
-fn compare<K: KeepsBatches>(
-    rt: &HostRuntime,
-    keeper: &mut K,
-    file: Option<File>,
-    after: u64,
-) -> Result<Matched, ProgramFault> {
-    let Some(file) = file else {
-        return Ok(Matched {
-            count: 0,
-            bytes: 0,
-            end: MatchEnd::All,
-        });
-    };
-    let Ok(mut reader) = BufReader::new(rt.alloc(), file) else {
-        return Err(ProgramFault::Memory);
-    };
-    let matched = match_lines(rt.alloc(), keeper, after, &mut reader);
-    match matched.end {
-        MatchEnd::All | MatchEnd::Cut => Ok(matched),
-        MatchEnd::Ahead => Err(ProgramFault::JournalAhead),
-        MatchEnd::Other | MatchEnd::NotRead(LineFault::LineTooLong) => {
-            let serial = after.saturating_add(matched.count).saturating_add(1);
-            Err(ProgramFault::NotItsJournal(serial))
+    fn read(&mut self) -> Result<Option<BufReader<File>>, Error> {
+        match File::open(self.rt, self.asked.path) {
+            Ok(file) => Ok(Some(BufReader::new(self.rt.alloc(), file)?)),
+            Err(error) if error.kind() == ErrorKind::NotFound => Ok(None),
+            Err(error) => Err(error),
         }
-        MatchEnd::NotRead(LineFault::ReadFailed) => Err(ProgramFault::ReadFailed),
-        MatchEnd::NotRead(LineFault::Memory) => Err(ProgramFault::Memory),
-        MatchEnd::Stopped(stopped) => Err(fault::of_keeper(stopped)),
+    }
+
+    fn write_after(&mut self, bytes: u64) -> Result<JournalFile, Error> {
+        let file = OpenOptions::new()
+            .append(true)
+            .create(true)
+            .open(self.rt, self.asked.path)?;
+        file.set_len(bytes)?;
+        Ok(JournalFile {
+            file,
+            messages: self.rt.stderr(),
+            syncs: self.asked.sync,
+            told: None,
+            is_kept: false,
+            failures: 0,
+        })
     }
 }
 
-/// Opens a journal for writing behind so many bytes, and makes it where it is missing.
-fn open_behind(
-    rt: &HostRuntime,
-    asked: JournalAsked<'_>,
-    bytes: u64,
-) -> Result<JournalFile, ProgramFault> {
-    let opened = OpenOptions::new()
-        .append(true)
-        .create(true)
-        .open(rt, asked.path);
-    let file = opened.map_err(|error| fault::of_journal(&error))?;
-    file.set_len(bytes)
-        .map_err(|error| fault::of_journal(&error))?;
-    Ok(JournalFile {
-        file,
-        messages: rt.stderr(),
-        syncs: asked.sync,
-        told: None,
-        is_kept: false,
-        failures: 0,
-    })
-}
-
-/// Begins the journal that is asked for: its lines are compared with the file's batches, what a cut
-/// left of a line is taken off, and the lines that are missing are written. Where it is refused,
-/// nothing is written.
+/// Begins the journal that is asked for (`streetmap_journal::start_journal`).
 pub(crate) fn begin<K: KeepsBatches>(
     rt: &HostRuntime,
     keeper: &mut K,
     asked: JournalAsked<'_>,
-) -> Result<Begun, ProgramFault> {
-    let after = beginning(rt, open_if_there(rt, asked.path)?, asked)?;
-    if keeper.batch_count().map_err(fault::of_keeper)? < after {
-        return Err(ProgramFault::JournalAhead);
-    }
-    let file = open_if_there(rt, asked.path)?;
-    let matched = compare(rt, keeper, file, after)?;
-    let writer = open_behind(rt, asked, matched.bytes)?;
-    let behind = after.saturating_add(matched.count);
-    match start_journal(rt.alloc(), keeper, behind, writer) {
-        Ok(journal) => Ok(Begun {
-            journal,
-            first: after.saturating_add(1),
-        }),
-        Err(StartFault::Ahead) => Err(ProgramFault::JournalAhead),
-        Err(StartFault::Stopped(stopped)) => Err(fault::of_keeper(stopped)),
-    }
+) -> Result<Journal<JournalFile>, ProgramFault> {
+    let mut place = JournalPath { rt, asked };
+    start_journal(rt.alloc(), keeper, asked.after as u64, &mut place).map_err(
+        |refused| fault::of_start(&refused),
+    )
 }

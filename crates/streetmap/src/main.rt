@@ -4,7 +4,7 @@
 //! Modules, in the order of reading: `files` (the keeper of a file), `tasks` (what the commands do
 //! over it), and one for each group of commands: `serving` (`serve`, `pipe`), with `journal` below
 //! it, `exchange` (`import`, `export`), with `texts` and `progress` below it, `loading` (`load`),
-//! `batches` (`batches`, `apply`), `checking` (`check`), `lines` (`lines`).
+//! `batches` (`batches`, `apply`), `checking` (`check`), `lines` (`lines`), `help` (help).
 //! `fault` turns faults of the crates below into that of the program. The command line, what is
 //! printed for a fault, and what the commands do in turn, stand in those crates.
 #![tactic(auto)]
@@ -14,6 +14,7 @@ mod checking;
 mod exchange;
 mod fault;
 mod files;
+mod help;
 mod journal;
 mod lines;
 mod loading;
@@ -42,6 +43,7 @@ fn run(rt: &HostRuntime) -> Result<(), ProgramFault> {
 /// Does what a command asks for. A base of links is judged before the file is looked for.
 fn perform(rt: &HostRuntime, command: Command<'_>) -> Result<(), ProgramFault> {
     match command {
+        Command::Help(topic) => help::print(rt, topic),
         Command::Version => print_version(rt),
         Command::Lines => Ok(lines::run(rt)?),
         Command::Create { file } => files::create(rt, file),
@@ -80,12 +82,12 @@ fn print_version(rt: &HostRuntime) -> Result<(), ProgramFault> {
 }
 
 /// Prints the line of a fault, and of a text that is no sequence of features also what makes one.
-/// Features that were passed over, and a collection that is another in a replay, have their lines
-/// already.
+/// Features that were passed over, a collection that is another in a replay, and a store that failed
+/// while it was served have their lines already.
 fn print_fault(rt: &HostRuntime, fault: ProgramFault) {
     if !matches!(
         fault,
-        ProgramFault::PassedOver | ProgramFault::NotReplayed(None)
+        ProgramFault::PassedOver | ProgramFault::NotReplayed(None) | ProgramFault::Shut
     ) {
         let _ = eprintln!(rt; "{fault}");
     }

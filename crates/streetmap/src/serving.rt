@@ -1,6 +1,6 @@
 //! What serves requests: a stream, or the clients of a port.
 use crate::fault;
-use crate::journal::{Begun, JournalFile, begin};
+use crate::journal::{JournalFile, begin};
 use mio::net::TcpStream;
 use sqlite::Alter;
 use std::io::{BufReader, writer};
@@ -13,7 +13,7 @@ use streetmap_journal::{Journal, JournaledKeeper};
 use streetmap_ledger::{Keeper, KeepsBatches};
 use streetmap_routes::Base;
 use streetmap_store::{TableKeeper, serve_clients_over_tables, serve_over_tables};
-use streetmap_web::KeeperService;
+use streetmap_web::{KeeperService, Watch};
 
 /// Serves the requests of standard input on standard output.
 pub(crate) fn pipe<S: Alter + Drop>(
@@ -53,10 +53,10 @@ fn warm<K: Keeper>(keeper: &mut K) -> Result<(), ProgramFault> {
 fn tell_journal(
     rt: &HostRuntime,
     asked: JournalAsked<'_>,
-    begun: &Begun,
+    journal: &Journal<JournalFile>,
 ) -> Result<(), ProgramFault> {
-    let (path, first) = (asked.path, begun.first);
-    let last = begun.journal.next.saturating_sub(1);
+    let (path, first) = (asked.path, journal.after.saturating_add(1));
+    let last = journal.next.saturating_sub(1);
     println!(rt; "journal {path} from {first} to {last}").map_err(|_| ProgramFault::WriteFailed)
 }
 
@@ -78,10 +78,10 @@ fn listen_with_journal<K: KeepsBatches>(
     let Some(asked) = asked else {
         return Ok((listen(rt, port)?, None));
     };
-    let begun = begin(rt, keeper, asked)?;
+    let journal = begin(rt, keeper, asked)?;
     let listener = listen(rt, port)?;
-    tell_journal(rt, asked, &begun)?;
-    Ok((listener, Some(begun.journal)))
+    tell_journal(rt, asked, &journal)?;
+    Ok((listener, Some(journal)))
 }
 
 /// Makes ready what connections are served by.
@@ -123,6 +123,7 @@ pub(crate) fn serve<S: Alter + Drop>(
         },
         base,
         log: connections.log.then(|| rt.stderr()),
+        watch: Watch::new(rt.stderr(), connections.count.is_none()),
     };
     let count = connections.count.map_or(u64::MAX, u64::from);
     serve_clients_over_tables(rt, &serving.listener, count, &mut clients, &mut service).map_err(

@@ -1,7 +1,8 @@
 -- A command as a value.
 use Rattle.std.specs.Prelude.{string_bytes}
 use Rattle.streetmap_command.specs.declared.command.Command.{Command}
-use Rattle.streetmap_command.specs.declared.command.Command.TheVariants.{Version, Lines, Create}
+use Rattle.streetmap_command.specs.declared.command.Command.TheVariants.{Help, Version}
+use Rattle.streetmap_command.specs.declared.command.Command.TheVariants.{Lines, Create}
 use Rattle.streetmap_command.specs.declared.command.Command.TheVariants.{Pipe, Serve}
 use Rattle.streetmap_command.specs.declared.command.Command.TheVariants.{Import, Export, Check}
 use Rattle.streetmap_command.specs.declared.command.Command.TheVariants.{Load, Batches, Apply}
@@ -9,7 +10,8 @@ use Rattle.streetmap_command.specs.declared.command.Connections.{Connections}
 use Rattle.streetmap_command.specs.declared.words.LoadAsked.{LoadAsked}
 use Rattle.streetmap_command.specs.declared.words.JournalAsked.{JournalAsked}
 use Rattle.std.specs.Prelude.{option_map}
-use Rattle.streetmap_command.specs.Program.{CommandValue, version_command, lines_command}
+use Rattle.streetmap_command.specs.Program.{CommandValue, help_command, version_command}
+use Rattle.streetmap_command.specs.Program.{lines_command}
 use Rattle.streetmap_command.specs.Program.{create_command, pipe_command, serve_command}
 use Rattle.streetmap_command.specs.Program.{import_command, export_command, check_command}
 use Rattle.streetmap_command.specs.Program.{load_command, batches_command, apply_command}
@@ -51,6 +53,7 @@ connections_value c = record {
 }
 
 abbrev pub command_value : Command → CommandValue
+command_value (Help topic) = help_command topic
 command_value Version = version_command
 command_value Lines = lines_command
 command_value (Create file) = create_command file.now

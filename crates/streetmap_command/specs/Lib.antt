@@ -1,3 +1,4 @@
 pub mod CommandFaults
 pub mod CommandView
 pub mod Program
+pub mod Topics

@@ -6,9 +6,13 @@ use Rattle.std.specs.Prelude.{nat_lt, nat_le, true, ◌&&◌, ◌++◌}
 use Rattle.std.specs.Str.{bytes_eq, all_ascii_digits}
 use Rattle.std.specs.Str.Parse.{digits_value}
 use Rattle.clap.specs.Words.{App, Rule, Row, Text, Kinds, IsAmong, new_app, new_rule, with_rule}
-use Rattle.clap.specs.Words.{with_subcommand, first_of, takes, fault_of, subcommand_of}
+use Rattle.clap.specs.Words.{with_subcommand, first_of, fault_of, subcommand_of}
+use Rattle.clap.specs.declared.error.kind.ErrorKind.{ErrorKind}
 use Rattle.clap.specs.declared.error.kind.ErrorKind.TheVariants as kinds
 use Rattle.clap.specs.declared.builder.action.ArgAction.TheVariants.{Set, SetTrue}
+use Rattle.streetmap_command.specs.Topics.{topic_of, help_called}
+use Rattle.streetmap_command.specs.declared.help.Topic.{Topic}
+use Rattle.streetmap_command.specs.declared.help.Topic.TheVariants as topics
 
 -- a value that has to be given, by its place alone
 abbrev pub positional : Text → Rule
@@ -115,6 +119,20 @@ program =
     let seven = with_subcommand (with_subcommand five export.top) check.top in
     with_subcommand (with_subcommand (with_subcommand seven load.top) batches.top) apply.top
 
+-- the command line that help is on
+abbrev pub help_app : Topic → App
+help_app topics.Program = program
+help_app topics.Lines = lines
+help_app topics.Create = create
+help_app topics.Pipe = pipe
+help_app topics.Serve = serve
+help_app topics.Import = import
+help_app topics.Export = export
+help_app topics.Check = check
+help_app topics.Load = load
+help_app topics.Batches = batches
+help_app topics.Apply = apply
+
 -- the load of a text of features, as it is asked for
 pub record LoadWords : Type 0 where
   pub text : Option Text
@@ -152,6 +170,7 @@ pub record ConnectionsWords : Type 0 where
 
 -- what a command line asks for
 pub data CommandValue : Type 0 where
+  help_command : (topic : Topic) → CommandValue
   version_command : CommandValue
   lines_command : CommandValue
   create_command : (file : Text) → CommandValue
@@ -356,19 +375,46 @@ command_named name rows =
 abbrev pub command_by : Option (Text × List Row) → Option CommandValue
 command_by found = option_and_then (λ p. command_named p.0 p.1) found
 
--- `clap` finds no fault in the words, and this is the command that they ask for; or it finds one,
--- the request for the version, and this is it
-abbrev pub FindsCommand : Kinds → Option CommandValue → CommandValue → Type 0
-FindsCommand [] asked command = Some command ≡ asked
-FindsCommand (k ∷ ks) asked command =
-    IsAmong kinds.DisplayVersion (k ∷ ks) × (command ≡ version_command)
+-- the command that a fault of `clap` stands for: a request for the version or for help
+abbrev pub request_of : ErrorKind → List Text → Option CommandValue
+request_of kinds.DisplayVersion words = Some version_command
+request_of kinds.DisplayHelp words = Some (help_command (topic_of words))
+request_of _ words = None
 
--- this is the command of these words
+-- `clap` finds no fault in the words, and this is the command that they ask for; or this is the
+-- request that one of the faults that it finds stands for
+abbrev pub FindsCommand : Kinds → List Text → CommandValue → Type 0
+FindsCommand [] words command = Some command ≡ command_by (subcommand_of program words)
+FindsCommand (k ∷ ks) words command =
+    (x : ErrorKind) × (IsAmong x (k ∷ ks) × (Some command ≡ request_of x words))
+
+-- the words ask for help with no option, and this is what is asked for; or `clap` reads them
+abbrev pub FindsHelp : Option (Option Topic) → List Text → CommandValue → Type 0
+FindsHelp (Some topic) words command = Some command ≡ option_map help_command topic
+FindsHelp None words command = FindsCommand (fault_of program words) words command
+
+-- this is the command of these words, of which the first is the program's name
 abbrev pub IsCommandOf : List Text → CommandValue → Type 0
-IsCommandOf words command =
-    FindsCommand (fault_of program words) (command_by (subcommand_of program words)) command
+IsCommandOf words command = FindsHelp (help_called words) words command
+
+-- what `clap` finds that the words ask for, by the faults that it finds: nothing where there is one
+-- that is no request, or where there are several
+abbrev pub asked_by_faults : Kinds → List Text → Option CommandValue
+asked_by_faults [] words = command_by (subcommand_of program words)
+asked_by_faults (k ∷ []) words = request_of k words
+asked_by_faults (k ∷ l ∷ ks) words = None
+
+abbrev pub asked_or_help : Option (Option Topic) → List Text → Option CommandValue
+asked_or_help (Some topic) words = option_map help_command topic
+asked_or_help None words = asked_by_faults (fault_of program words) words
 
 -- what the words ask for, of which the first is the program's name: nothing where `clap` does not
 -- take them, or where they name no command
 abbrev pub asked_by : List Text → Option CommandValue
-asked_by words = if takes program words then command_by (subcommand_of program words) else None
+asked_by words = asked_or_help (help_called words) words
+
+-- with these words after the program's name, and `--help` or `-h` after them, help is asked for
+abbrev pub AsksForHelp : List Text → Topic → Type 0
+AsksForHelp words topic =
+    (asked_by (codes "streetmap" ∷ (words ++ codes "--help" ∷ [])) ≡ Some (help_command topic))
+    × (asked_by (codes "streetmap" ∷ (words ++ codes "-h" ∷ [])) ≡ Some (help_command topic))

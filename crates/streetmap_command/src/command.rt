@@ -1,7 +1,7 @@
 //! The command line.
 ghost use Rattle.std.specs.Prelude.{◌≡◌, ◌≢◌, ◌∷◌, [], map, codes, IfOk, IfErr, Some, string_bytes};
 ghost use Rattle.std.specs.Prelude.{IsSome, IfSome, ◌≤◌, unwrap_or, option_map, Ok, Err};
-ghost use Rattle.clap.specs.Words.{fault_of as fault_of_words, subcommand_of, subcommand_rows_of};
+ghost use Rattle.clap.specs.Words.{fault_of as fault_of_words, subcommand_rows_of};
 ghost use Rattle.clap.specs.Words.{kind_of, rows_of, found_of, first_of};
 ghost use Rattle.std.specs.List.{list_all};
 ghost use Rattle.std.specs.Char.{is_ascii_digit};
@@ -9,9 +9,13 @@ ghost use Rattle.streetmap_command.specs.Program.{program, command_by, create_by
 ghost use Rattle.streetmap_command.specs.Program.{serve_by, connections_by};
 ghost use Rattle.streetmap_command.specs.Program.{import_by, export_by, check_by, number_up_to};
 ghost use Rattle.streetmap_command.specs.Program.{port_given, count_given, clients_given, is_set};
-ghost use Rattle.streetmap_command.specs.Program.{asked_by, IsCommandOf};
+ghost use Rattle.streetmap_command.specs.Program.{asked_by, asked_by_faults, request_of};
+ghost use Rattle.streetmap_command.specs.Program.{IsCommandOf, FindsCommand, AsksForHelp};
+ghost use Rattle.streetmap_command.specs.Program.{version_command};
+ghost use Rattle.streetmap_command.specs.declared.help.Topic.TheVariants as topics;
 ghost use Rattle.streetmap_command.specs.CommandView.{command_value, connections_value};
 
+use crate::help::{Topic, help_called, topic_of};
 use crate::parser::make_parser;
 use crate::words::{JournalAsked, LoadAsked, read_apply, read_batches, read_journal, read_load};
 use clap::error::ErrorKind;
@@ -55,6 +59,8 @@ pub struct Import<'a> {
 /// What the program is to do.
 #[derive(Drop)]
 pub enum Command<'a> {
+    /// `streetmap`, `streetmap help [COMMAND]`, `streetmap [COMMAND] --help`: print help.
+    Help(Topic),
     /// `streetmap --version`: print the name of the program and its version.
     Version,
     /// `streetmap lines`: answer the lines of standard input, over a ledger in memory.
@@ -369,40 +375,31 @@ fn command_of<'a>(alloc: Global, matches: &ArgMatches<'a>) -> Result<Command<'a>
     }
 }
 
-/// What is asked for where `clap` gives no matches: the version, or nothing.
-fn without_matches<'a>(error: &Error) -> Result<Command<'a>, CommandFault>
+/// What is asked for where `clap` gives no matches: help, the version, or nothing.
+fn without_matches<'a>(error: &Error, words: &[String]) -> Result<Command<'a>, CommandFault>
     ensures memory { kind_of error.now ≡ ErrorKind.OutOfMemory →
         result ≡ Err CommandFault.Memory }
-    ensures version { kind_of error.now ≡ ErrorKind.DisplayVersion →
-        result ≡ Ok Command.Version }
-    ensures found { IfOk result (λ c. (c ≡ Command.Version)
-        × (kind_of error.now ≡ ErrorKind.DisplayVersion)) }
+    ensures found { IfOk result (λ c. Some (command_value c)
+        ≡ request_of (kind_of error.now) (map string_bytes words.now)) }
+    ensures refused { IfErr result (λ e.
+        IsSome (request_of (kind_of error.now) (map string_bytes words.now)) → ⊥) }
 {
     match error.kind() {
         ErrorKind::OutOfMemory => Err(CommandFault::Memory),
+        ErrorKind::DisplayHelp => Ok(Command::Help(topic_of(words))),
         ErrorKind::DisplayVersion => Ok(Command::Version),
         _ => Err(CommandFault::Usage),
     }
 }
 
-/// The command that the words ask for, of which the first is the program's name.
-///
-/// # Errors
-///
-/// `Usage` where `clap` does not take the words or a port or a count is out of its range, and
-/// `Memory` where memory was refused.
-pub fn read_command<'a>(alloc: Global, words: &'a [String]) -> Result<Command<'a>, CommandFault>
-    // What is read is what the words ask for, and `clap` finds no fault in them; or it is the
-    // version, and `clap` finds that the words ask for it.
-    ensures found { IfOk result (λ c.
-        IsCommandOf (map string_bytes words.entry.now) (command_value c)) }
-    // Words that ask for a command are refused for memory alone.
-    ensures asked { IfErr result (λ e.
-        IsSome (asked_by (map string_bytes words.entry.now)) → e ≡ CommandFault.Memory) }
-    // So are words that ask for the version.
-    ensures version { IfErr result (λ e.
-        fault_of_words program (map string_bytes words.entry.now) ≡ ErrorKind.DisplayVersion ∷ [] →
-        e ≡ CommandFault.Memory) }
+/// The command that the words ask for, as `clap` reads them.
+fn read_by_parser<'a>(alloc: Global, words: &'a [String]) -> Result<Command<'a>, CommandFault>
+    ensures found { IfOk result (λ c. FindsCommand
+        (fault_of_words program (map string_bytes words.entry.now))
+        (map string_bytes words.entry.now) (command_value c)) }
+    ensures refused { IfErr result (λ e. IsSome (asked_by_faults
+        (fault_of_words program (map string_bytes words.entry.now))
+        (map string_bytes words.entry.now)) → e ≡ CommandFault.Memory) }
 {
     let parser = match make_parser(alloc) {
         Ok(parser) => parser,
@@ -410,12 +407,49 @@ pub fn read_command<'a>(alloc: Global, words: &'a [String]) -> Result<Command<'a
     };
     match parser.try_get_matches_from(words) {
         Ok(matches) => command_of(alloc, &matches),
-        Err(error) => without_matches(&error),
+        Err(error) => without_matches(&error, words),
+    }
+}
+
+/// The command that the words ask for, of which the first is the program's name.
+///
+/// # Errors
+///
+/// `Usage` where `clap` does not take the words, a port or a count is out of its range, or `help`
+/// is asked for what is no command, and `Memory` where memory was refused.
+pub fn read_command<'a>(alloc: Global, words: &'a [String]) -> Result<Command<'a>, CommandFault>
+    // What is read is what the words ask for: help with no option, or what `clap` reads.
+    ensures found { IfOk result (λ c.
+        IsCommandOf (map string_bytes words.entry.now) (command_value c)) }
+    // Words that ask for a command, for help or for the version are refused for memory alone.
+    ensures asked { IfErr result (λ e.
+        IsSome (asked_by (map string_bytes words.entry.now)) → e ≡ CommandFault.Memory) }
+{
+    let Some(called) = help_called(words) else {
+        return read_by_parser(alloc, words);
+    };
+    match called {
+        Some(topic) => Ok(Command::Help(topic)),
+        None => Err(CommandFault::Usage),
     }
 }
 
 /// The words `streetmap --version` ask for the version.
 pub fn version_is_asked()
-    ensures { fault_of_words program (codes "streetmap" ∷ codes "--version" ∷ []) ≡
-        ErrorKind.DisplayVersion ∷ [] }
+    ensures { asked_by (codes "streetmap" ∷ codes "--version" ∷ []) ≡ Some version_command }
+{}
+
+/// `streetmap --help` and `-h` ask for help on the program, and after a command for help on it.
+pub fn help_is_asked()
+    ensures program { AsksForHelp [] topics.Program }
+    ensures lines { AsksForHelp (codes "lines" ∷ []) topics.Lines }
+    ensures create { AsksForHelp (codes "create" ∷ []) topics.Create }
+    ensures pipe { AsksForHelp (codes "pipe" ∷ []) topics.Pipe }
+    ensures serve { AsksForHelp (codes "serve" ∷ []) topics.Serve }
+    ensures import { AsksForHelp (codes "import" ∷ []) topics.Import }
+    ensures export { AsksForHelp (codes "export" ∷ []) topics.Export }
+    ensures check { AsksForHelp (codes "check" ∷ []) topics.Check }
+    ensures load { AsksForHelp (codes "load" ∷ []) topics.Load }
+    ensures batches { AsksForHelp (codes "batches" ∷ []) topics.Batches }
+    ensures apply { AsksForHelp (codes "apply" ∷ []) topics.Apply }
 {}

@@ -1,13 +1,19 @@
 //! The command line of the program: what its words ask for.
 //!
-//! Modules, in the order of reading: `parser` (the command line as `clap` reads it), `command`
-//! (what was found, as a command), `words` (the commands that move features and batches).
+//! Modules, in the order of reading: `parser` (the command line as `clap` reads it), `texts` (what
+//! help says), `help` (which help is asked for, and its text), `command` (what was found, as a
+//! command), `words` (the commands that move features and batches).
 #![tactic(auto)]
 
 mod command;
+mod help;
 mod parser;
+mod texts;
 mod words;
 
-pub use command::{Command, CommandFault, Connections, Import, read_command, version_is_asked};
+pub use command::{
+    Command, CommandFault, Connections, Import, help_is_asked, read_command, version_is_asked,
+};
+pub use help::{Topic, help_text};
 pub use parser::VERSION;
 pub use words::{JournalAsked, LoadAsked};

@@ -5,55 +5,59 @@ ghost use Rattle.clap.specs.declared.builder.command.Command.TheViews.{out-Comma
 ghost use Rattle.streetmap_command.specs.Program.{optional, load, load_into, load_numbers};
 ghost use Rattle.streetmap_command.specs.Program.{batches, apply};
 ghost use Rattle.streetmap_command.specs.Program.{program, positional, option, required_option};
-ghost use Rattle.streetmap_command.specs.Program.{flag};
+ghost use Rattle.streetmap_command.specs.Program.{flag, file, lines};
 ghost use Rattle.streetmap_command.specs.Program.{create, pipe, serve, serve_clients, import};
 ghost use Rattle.streetmap_command.specs.Program.{export, check};
 ghost use Rattle.streetmap_command.specs.Program.{versioned};
 
+use crate::texts;
 use clap::{Arg, ArgAction, Command};
 use std::alloc::{AllocError, Global};
 
 /// The version of the program.
 pub const VERSION: &str = "0.1.0";
 
-/// A value that has to be given, by its place alone.
-fn positional_arg<'a>(alloc: Global, name: &'a str) -> Arg<'a>
-    ensures rule { rule_of result ≡ positional name.entry.now }
-    ensures local { result.global ≡ false }
-{
-    Arg::new(alloc, name).required(true).action(ArgAction::Set)
-}
-
 /// A value by its place alone, which may be left out.
-fn optional_arg<'a>(alloc: Global, name: &'a str) -> Arg<'a>
+fn optional_arg<'a>(alloc: Global, name: &'a str, help: &'a str) -> Arg<'a>
     ensures rule { rule_of result ≡ optional name.entry.now }
     ensures local { result.global ≡ false }
 {
-    Arg::new(alloc, name).action(ArgAction::Set)
+    Arg::new(alloc, name).action(ArgAction::Set).help(help)
+}
+
+/// A value that has to be given, by its place alone.
+fn positional_arg<'a>(alloc: Global, name: &'a str, help: &'a str) -> Arg<'a>
+    ensures rule { rule_of result ≡ positional name.entry.now }
+    ensures local { result.global ≡ false }
+{
+    optional_arg(alloc, name, help).required(true)
 }
 
 /// An option with a value.
-fn option_arg<'a>(alloc: Global, name: &'a str) -> Arg<'a>
+fn option_arg<'a>(alloc: Global, name: &'a str, help: &'a str) -> Arg<'a>
     ensures rule { rule_of result ≡ option name.entry.now }
     ensures local { result.global ≡ false }
 {
-    Arg::new(alloc, name).long(name).action(ArgAction::Set)
+    optional_arg(alloc, name, help).long(name)
 }
 
 /// An option with a value that has to be given.
-fn required_arg<'a>(alloc: Global, name: &'a str) -> Arg<'a>
+fn required_arg<'a>(alloc: Global, name: &'a str, help: &'a str) -> Arg<'a>
     ensures rule { rule_of result ≡ required_option name.entry.now }
     ensures local { result.global ≡ false }
 {
-    option_arg(alloc, name).required(true)
+    option_arg(alloc, name, help).required(true)
 }
 
 /// An option with no value.
-fn flag_arg<'a>(alloc: Global, name: &'a str) -> Arg<'a>
+fn flag_arg<'a>(alloc: Global, name: &'a str, help: &'a str) -> Arg<'a>
     ensures rule { rule_of result ≡ flag name.entry.now }
     ensures local { result.global ≡ false }
 {
-    Arg::new(alloc, name).long(name).action(ArgAction::SetTrue)
+    Arg::new(alloc, name)
+        .long(name)
+        .action(ArgAction::SetTrue)
+        .help(help)
 }
 
 /// The command with one more argument, which is not global, unless memory ran out.
@@ -83,101 +87,130 @@ fn with_subcommand<'a>(
     command?.subcommand(subcommand?)
 }
 
-fn make_create<'a>(alloc: Global) -> Result<Command<'a>, AllocError>
+/// A command with no argument yet, and the sentence on it in help.
+fn new_command<'a>(alloc: Global, name: &'a str, about: &'a str) -> Command<'a>
+    ensures app { app_of result ≡ new_app name.entry.now }
+    ensures local { (fields_of result).has_globals ≡ false }
+{
+    Command::new(alloc, name).about(about)
+}
+
+/// A command over a file, which is its first argument.
+fn file_command<'a>(alloc: Global, name: &'a str, about: &'a str) -> Result<Command<'a>, AllocError>
+    ensures app { IfOk result (λ c. app_of c ≡ with_rule (new_app name.entry.now) file) }
+    ensures local { IfOk result (λ c. (fields_of c).has_globals ≡ false) }
+{
+    new_command(alloc, name, about).arg(positional_arg(alloc, "file", texts::FILE))
+}
+
+pub(crate) fn make_lines<'a>(alloc: Global) -> Command<'a>
+    ensures app { app_of result ≡ lines }
+    ensures local { (fields_of result).has_globals ≡ false }
+{
+    new_command(alloc, "lines", texts::LINES)
+}
+
+pub(crate) fn make_create<'a>(alloc: Global) -> Result<Command<'a>, AllocError>
     ensures app { IfOk result (λ c. app_of c ≡ create) }
     ensures local { IfOk result (λ c. (fields_of c).has_globals ≡ false) }
 {
-    Command::new(alloc, "create").arg(positional_arg(alloc, "file"))
+    new_command(alloc, "create", texts::CREATE).arg(positional_arg(alloc, "file", texts::NEW_FILE))
 }
 
-fn make_pipe<'a>(alloc: Global) -> Result<Command<'a>, AllocError>
+pub(crate) fn make_pipe<'a>(alloc: Global) -> Result<Command<'a>, AllocError>
     ensures app { IfOk result (λ c. app_of c ≡ pipe) }
     ensures local { IfOk result (λ c. (fields_of c).has_globals ≡ false) }
 {
-    let command = Command::new(alloc, "pipe").arg(positional_arg(alloc, "file"));
-    with_argument(command, option_arg(alloc, "base"))
+    let command = file_command(alloc, "pipe", texts::PIPE);
+    with_argument(command, option_arg(alloc, "base", texts::BASE))
 }
 
 fn make_serve_clients<'a>(alloc: Global) -> Result<Command<'a>, AllocError>
     ensures app { IfOk result (λ c. app_of c ≡ serve_clients) }
     ensures local { IfOk result (λ c. (fields_of c).has_globals ≡ false) }
 {
-    let command = Command::new(alloc, "serve").arg(positional_arg(alloc, "file"));
-    let command = with_argument(command, required_arg(alloc, "port"));
-    let command = with_argument(command, option_arg(alloc, "count"));
-    let command = with_argument(command, option_arg(alloc, "clients"));
-    let command = with_argument(command, flag_arg(alloc, "log"));
-    let command = with_argument(command, option_arg(alloc, "base"));
-    with_argument(command, flag_arg(alloc, "warm"))
+    let command = file_command(alloc, "serve", texts::SERVE);
+    let command = with_argument(command, required_arg(alloc, "port", texts::PORT));
+    let command = with_argument(command, option_arg(alloc, "count", texts::COUNT));
+    let command = with_argument(command, option_arg(alloc, "clients", texts::CLIENTS));
+    let command = with_argument(command, flag_arg(alloc, "log", texts::LOG));
+    let command = with_argument(command, option_arg(alloc, "base", texts::BASE));
+    with_argument(command, flag_arg(alloc, "warm", texts::WARM))
 }
 
-fn make_serve<'a>(alloc: Global) -> Result<Command<'a>, AllocError>
+pub(crate) fn make_serve<'a>(alloc: Global) -> Result<Command<'a>, AllocError>
     ensures app { IfOk result (λ c. app_of c ≡ serve) }
     ensures local { IfOk result (λ c. (fields_of c).has_globals ≡ false) }
 {
     let command = make_serve_clients(alloc);
-    let command = with_argument(command, option_arg(alloc, "journal"));
-    let command = with_argument(command, option_arg(alloc, "journal-after"));
-    with_argument(command, flag_arg(alloc, "journal-sync"))
+    let command = with_argument(command, option_arg(alloc, "journal", texts::JOURNAL));
+    let command = with_argument(
+        command,
+        option_arg(alloc, "journal-after", texts::JOURNAL_AFTER),
+    );
+    with_argument(
+        command,
+        flag_arg(alloc, "journal-sync", texts::JOURNAL_SYNC),
+    )
 }
 
-fn make_import<'a>(alloc: Global) -> Result<Command<'a>, AllocError>
+pub(crate) fn make_import<'a>(alloc: Global) -> Result<Command<'a>, AllocError>
     ensures app { IfOk result (λ c. app_of c ≡ import) }
     ensures local { IfOk result (λ c. (fields_of c).has_globals ≡ false) }
 {
-    let command = Command::new(alloc, "import").arg(positional_arg(alloc, "file"));
-    let command = with_argument(command, positional_arg(alloc, "text"));
-    let command = with_argument(command, required_arg(alloc, "key"));
-    let command = with_argument(command, required_arg(alloc, "collection"));
-    let command = with_argument(command, flag_arg(alloc, "replace"));
-    with_argument(command, flag_arg(alloc, "progress"))
+    let command = file_command(alloc, "import", texts::IMPORT);
+    let command = with_argument(command, positional_arg(alloc, "text", texts::IMPORT_TEXT));
+    let command = with_argument(command, required_arg(alloc, "key", texts::IMPORT_KEY));
+    let command = with_argument(command, required_arg(alloc, "collection", texts::INTO));
+    let command = with_argument(command, flag_arg(alloc, "replace", texts::REPLACE));
+    with_argument(command, flag_arg(alloc, "progress", texts::PROGRESS))
 }
 
-fn make_export<'a>(alloc: Global) -> Result<Command<'a>, AllocError>
+pub(crate) fn make_export<'a>(alloc: Global) -> Result<Command<'a>, AllocError>
     ensures app { IfOk result (λ c. app_of c ≡ export) }
     ensures local { IfOk result (λ c. (fields_of c).has_globals ≡ false) }
 {
-    let command = Command::new(alloc, "export").arg(positional_arg(alloc, "file"));
-    let command = with_argument(command, required_arg(alloc, "collection"));
-    with_argument(command, flag_arg(alloc, "progress"))
+    let command = file_command(alloc, "export", texts::EXPORT);
+    let command = with_argument(command, required_arg(alloc, "collection", texts::FROM));
+    with_argument(command, flag_arg(alloc, "progress", texts::PROGRESS))
 }
 
-fn make_check<'a>(alloc: Global) -> Result<Command<'a>, AllocError>
+pub(crate) fn make_check<'a>(alloc: Global) -> Result<Command<'a>, AllocError>
     ensures app { IfOk result (λ c. app_of c ≡ check) }
     ensures local { IfOk result (λ c. (fields_of c).has_globals ≡ false) }
 {
-    let command = Command::new(alloc, "check").arg(positional_arg(alloc, "file"));
-    with_argument(command, flag_arg(alloc, "replay"))
+    let command = file_command(alloc, "check", texts::CHECK);
+    with_argument(command, flag_arg(alloc, "replay", texts::REPLAY))
 }
 
-fn make_batches<'a>(alloc: Global) -> Result<Command<'a>, AllocError>
+pub(crate) fn make_batches<'a>(alloc: Global) -> Result<Command<'a>, AllocError>
     ensures app { IfOk result (λ c. app_of c ≡ batches) }
     ensures local { IfOk result (λ c. (fields_of c).has_globals ≡ false) }
 {
-    let command = Command::new(alloc, "batches").arg(positional_arg(alloc, "file"));
-    with_argument(command, option_arg(alloc, "after"))
+    let command = file_command(alloc, "batches", texts::BATCHES);
+    with_argument(command, option_arg(alloc, "after", texts::AFTER))
 }
 
-fn make_apply<'a>(alloc: Global) -> Result<Command<'a>, AllocError>
+pub(crate) fn make_apply<'a>(alloc: Global) -> Result<Command<'a>, AllocError>
     ensures app { IfOk result (λ c. app_of c ≡ apply) }
     ensures local { IfOk result (λ c. (fields_of c).has_globals ≡ false) }
 {
-    let command = Command::new(alloc, "apply").arg(positional_arg(alloc, "file"));
-    with_argument(command, optional_arg(alloc, "text"))
+    let command = file_command(alloc, "apply", texts::APPLY);
+    with_argument(command, optional_arg(alloc, "text", texts::APPLY_TEXT))
 }
 
 fn make_load_into<'a>(alloc: Global) -> Result<Command<'a>, AllocError>
     ensures app { IfOk result (λ c. app_of c ≡ load_into) }
     ensures local { IfOk result (λ c. (fields_of c).has_globals ≡ false) }
 {
-    let command = Command::new(alloc, "load").arg(positional_arg(alloc, "file"));
-    let command = with_argument(command, optional_arg(alloc, "text"));
-    let command = with_argument(command, required_arg(alloc, "key"));
-    let command = with_argument(command, required_arg(alloc, "collection"));
-    let command = with_argument(command, option_arg(alloc, "each"));
-    let command = with_argument(command, flag_arg(alloc, "open"));
-    let command = with_argument(command, option_arg(alloc, "title"));
-    with_argument(command, option_arg(alloc, "time"))
+    let command = file_command(alloc, "load", texts::LOAD);
+    let command = with_argument(command, optional_arg(alloc, "text", texts::LOAD_TEXT));
+    let command = with_argument(command, required_arg(alloc, "key", texts::LOAD_KEY));
+    let command = with_argument(command, required_arg(alloc, "collection", texts::INTO));
+    let command = with_argument(command, option_arg(alloc, "each", texts::EACH));
+    let command = with_argument(command, flag_arg(alloc, "open", texts::OPEN));
+    let command = with_argument(command, option_arg(alloc, "title", texts::TITLE));
+    with_argument(command, option_arg(alloc, "time", texts::TIME))
 }
 
 fn make_load_numbers<'a>(alloc: Global) -> Result<Command<'a>, AllocError>
@@ -185,22 +218,22 @@ fn make_load_numbers<'a>(alloc: Global) -> Result<Command<'a>, AllocError>
     ensures local { IfOk result (λ c. (fields_of c).has_globals ≡ false) }
 {
     let command = make_load_into(alloc);
-    let command = with_argument(command, option_arg(alloc, "scale"));
-    let command = with_argument(command, option_arg(alloc, "shift"));
-    let command = with_argument(command, flag_arg(alloc, "round"));
-    with_argument(command, option_arg(alloc, "fractions"))
+    let command = with_argument(command, option_arg(alloc, "scale", texts::SCALE));
+    let command = with_argument(command, option_arg(alloc, "shift", texts::SHIFT));
+    let command = with_argument(command, flag_arg(alloc, "round", texts::ROUND));
+    with_argument(command, option_arg(alloc, "fractions", texts::FRACTIONS))
 }
 
-fn make_load<'a>(alloc: Global) -> Result<Command<'a>, AllocError>
+pub(crate) fn make_load<'a>(alloc: Global) -> Result<Command<'a>, AllocError>
     ensures app { IfOk result (λ c. app_of c ≡ load) }
     ensures local { IfOk result (λ c. (fields_of c).has_globals ≡ false) }
 {
     let command = make_load_numbers(alloc);
-    let command = with_argument(command, flag_arg(alloc, "replace"));
-    let command = with_argument(command, flag_arg(alloc, "skip"));
-    let command = with_argument(command, flag_arg(alloc, "check"));
-    let command = with_argument(command, flag_arg(alloc, "print"));
-    with_argument(command, flag_arg(alloc, "progress"))
+    let command = with_argument(command, flag_arg(alloc, "replace", texts::REPLACE));
+    let command = with_argument(command, flag_arg(alloc, "skip", texts::SKIP));
+    let command = with_argument(command, flag_arg(alloc, "check", texts::ONLY_CHECK));
+    let command = with_argument(command, flag_arg(alloc, "print", texts::PRINT));
+    with_argument(command, flag_arg(alloc, "progress", texts::PROGRESS))
 }
 
 /// The program, with its version and no command yet.
@@ -208,14 +241,14 @@ fn make_program<'a>(alloc: Global) -> Command<'a>
     ensures app { app_of result ≡ versioned (new_app (codes "streetmap")) }
     ensures local { (fields_of result).has_globals ≡ false }
 {
-    Command::new(alloc, "streetmap").version(VERSION)
+    new_command(alloc, "streetmap", texts::PROGRAM).version(VERSION)
 }
 
 /// The program's command line.
 pub(crate) fn make_parser<'a>(alloc: Global) -> Result<Command<'a>, AllocError>
     ensures { IfOk result (λ c. app_of c ≡ program) }
 {
-    let command = make_program(alloc).subcommand(Command::new(alloc, "lines"));
+    let command = make_program(alloc).subcommand(make_lines(alloc));
     let command = with_subcommand(command, make_create(alloc));
     let command = with_subcommand(command, make_pipe(alloc));
     let command = with_subcommand(command, make_serve(alloc));

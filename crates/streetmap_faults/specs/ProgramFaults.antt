@@ -27,7 +27,7 @@ use Rattle.streetmap_faults.specs.declared.fault.ProgramFault.TheVariants.{NewFo
 use Rattle.streetmap_faults.specs.declared.fault.ProgramFault.TheVariants.{Taken, NoText, Import}
 use Rattle.streetmap_faults.specs.declared.fault.ProgramFault.TheVariants.{Export, LineTooLong}
 use Rattle.streetmap_faults.specs.declared.fault.ProgramFault.TheVariants.{ReadFailed, WriteFailed}
-use Rattle.streetmap_faults.specs.declared.fault.ProgramFault.TheVariants.{Net, Damaged, Device}
+use Rattle.streetmap_faults.specs.declared.fault.ProgramFault.TheVariants.{Net, Damaged, Device, Shut}
 use Rattle.streetmap_faults.specs.declared.fault.ProgramFault.TheVariants.{Memory}
 use Rattle.streetmap_faults.specs.declared.fault.ProgramFault.TheVariants.{SameFile, NoJournal}
 use Rattle.streetmap_faults.specs.declared.fault.ProgramFault.TheVariants.{JournalAhead}
@@ -82,6 +82,7 @@ code_of WriteFailed = codes "write_failed"
 code_of Net = codes "net"
 code_of Damaged = codes "damaged"
 code_of Device = codes "device"
+code_of Shut = codes "shut"
 code_of Memory = codes "memory"
 
 -- what is said of it
@@ -114,6 +115,7 @@ description_of WriteFailed = codes "The output could not be written."
 description_of Net = codes "No connection can be accepted."
 description_of Damaged = codes "The store holds a row that cannot be read."
 description_of Device = codes "The store failed and must be opened again."
+description_of Shut = codes "The store failed while it was served."
 description_of Memory = codes "Memory was refused; the call may be made again."
 
 -- the exit status where a keeper does not answer
@@ -198,6 +200,7 @@ status_of WriteFailed = 3
 status_of Net = 3
 status_of Damaged = 3
 status_of Device = 3
+status_of Shut = 3
 status_of Memory = 4
 
 -- the place of the feature at fault in the text that is imported, counted from 1
@@ -268,4 +271,5 @@ fault_of_lines lines.Memory = Memory
 -- where connections are not served to their end
 abbrev pub fault_of_serve : ServeFault → ProgramFault
 fault_of_serve serve.Net = Net
+fault_of_serve serve.Over = Shut
 fault_of_serve serve.Memory = Memory

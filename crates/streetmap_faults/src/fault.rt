@@ -81,6 +81,8 @@ pub enum ProgramFault {
     Damaged,
     /// `device`: the file could not be read, written or locked.
     Device,
+    /// `shut`: the store failed while it was served. The fault has its line already.
+    Shut,
     /// `memory`: memory was refused.
     Memory,
 }
@@ -118,6 +120,7 @@ impl ProgramFault {
             ProgramFault::Net => "net",
             ProgramFault::Damaged => "damaged",
             ProgramFault::Device => "device",
+            ProgramFault::Shut => "shut",
             ProgramFault::Memory => "memory",
         }
     }
@@ -153,6 +156,7 @@ impl ProgramFault {
             ProgramFault::Net => "No connection can be accepted.",
             ProgramFault::Damaged => "The store holds a row that cannot be read.",
             ProgramFault::Device => "The store failed and must be opened again.",
+            ProgramFault::Shut => "The store failed while it was served.",
             ProgramFault::Memory => "Memory was refused; the call may be made again.",
         }
     }
@@ -168,7 +172,8 @@ impl ProgramFault {
             | ProgramFault::WriteFailed
             | ProgramFault::Net
             | ProgramFault::Damaged
-            | ProgramFault::Device => 3,
+            | ProgramFault::Device
+            | ProgramFault::Shut => 3,
             ProgramFault::Memory => 4,
             ProgramFault::Import(stop) => status_of_import(stop),
             ProgramFault::Export(fault) => status_of_export(fault),
@@ -380,6 +385,7 @@ impl From<ServeFault> for ProgramFault {
     fn from(fault: ServeFault) -> ProgramFault {
         match fault {
             ServeFault::Net => ProgramFault::Net,
+            ServeFault::Over => ProgramFault::Shut,
             ServeFault::Memory => ProgramFault::Memory,
         }
     }

@@ -1,12 +1,11 @@
-use Rattle.streetmap_command.proofs.Adding.{last_added, last_local}
 use Rattle.streetmap_command.proofs.parser.make_batches.Goals as goal
 
 pub returns-clause-app : goal.returns-clause-app
 returns-clause-app c =
-    let one = last_added _ _ _ _ _ c.arg-command.ensures c.new.ensures.app c.positional_arg.ensures.rule c.positional_arg.ensures.local in
+    let one = c.file_command-command.ensures.app in
     c.with_argument.ensures.app _ _ one c.option_arg.ensures.rule c.option_arg.ensures.local
 
 pub returns-clause-local : goal.returns-clause-local
 returns-clause-local c =
-    let one = last_local _ _ _ c.arg-command.ensures c.new.ensures.local c.positional_arg.ensures.local in
+    let one = c.file_command-command.ensures.local in
     c.with_argument.ensures.local one c.option_arg.ensures.local

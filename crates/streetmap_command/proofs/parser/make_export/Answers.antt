@@ -1,14 +1,13 @@
-use Rattle.streetmap_command.proofs.Adding.{last_added, last_local}
 use Rattle.streetmap_command.proofs.parser.make_export.Goals as goal
 
 pub returns-clause-app : goal.returns-clause-app
 returns-clause-app c =
-    let one = last_added _ _ _ _ _ c.arg-command.ensures c.new.ensures.app c.positional_arg.ensures.rule c.positional_arg.ensures.local in
+    let one = c.file_command-command.ensures.app in
     let two = c.with_argument-command.ensures.app _ _ one c.required_arg.ensures.rule c.required_arg.ensures.local in
     c.with_argument.ensures.app _ _ two c.flag_arg.ensures.rule c.flag_arg.ensures.local
 
 pub returns-clause-local : goal.returns-clause-local
 returns-clause-local c =
-    let one = last_local _ _ _ c.arg-command.ensures c.new.ensures.local c.positional_arg.ensures.local in
+    let one = c.file_command-command.ensures.local in
     let two = c.with_argument-command.ensures.local one c.required_arg.ensures.local in
     c.with_argument.ensures.local two c.flag_arg.ensures.local

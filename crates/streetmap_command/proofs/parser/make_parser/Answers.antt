@@ -3,7 +3,7 @@ use Rattle.streetmap_command.proofs.parser.make_parser.Goals as goal
 
 pub returns : goal.returns
 returns c =
-    let one = last_command _ _ _ _ _ c.subcommand-command.ensures c.make_program.ensures.app c.new.ensures.local c.new.ensures.app in
+    let one = last_command _ _ _ _ _ c.subcommand-command.ensures c.make_program.ensures.app c.make_lines.ensures.local c.make_lines.ensures.app in
     let two = c.with_subcommand-command.ensures _ _ one c.make_create.ensures.app c.make_create.ensures.local in
     let three = c.with_subcommand-command-2.ensures _ _ two c.make_pipe.ensures.app c.make_pipe.ensures.local in
     let four = c.with_subcommand-command-3.ensures _ _ three c.make_serve.ensures.app c.make_serve.ensures.local in

@@ -1,9 +1,8 @@
-use Rattle.streetmap_command.proofs.Adding.{last_added, last_local}
 use Rattle.streetmap_command.proofs.parser.make_serve_clients.Goals as goal
 
 pub returns-clause-app : goal.returns-clause-app
 returns-clause-app c =
-    let one = last_added _ _ _ _ _ c.arg-command.ensures c.new.ensures.app c.positional_arg.ensures.rule c.positional_arg.ensures.local in
+    let one = c.file_command-command.ensures.app in
     let two = c.with_argument-command.ensures.app _ _ one c.required_arg.ensures.rule c.required_arg.ensures.local in
     let three = c.with_argument-command-2.ensures.app _ _ two c.option_arg.ensures.rule c.option_arg.ensures.local in
     let four = c.with_argument-command-3.ensures.app _ _ three c.option_arg-2.ensures.rule c.option_arg-2.ensures.local in
@@ -13,7 +12,7 @@ returns-clause-app c =
 
 pub returns-clause-local : goal.returns-clause-local
 returns-clause-local c =
-    let one = last_local _ _ _ c.arg-command.ensures c.new.ensures.local c.positional_arg.ensures.local in
+    let one = c.file_command-command.ensures.local in
     let two = c.with_argument-command.ensures.local one c.required_arg.ensures.local in
     let three = c.with_argument-command-2.ensures.local two c.option_arg.ensures.local in
     let four = c.with_argument-command-3.ensures.local three c.option_arg-2.ensures.local in

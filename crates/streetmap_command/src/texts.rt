@@ -1,0 +1,91 @@
+//! What help says of the program, its commands, and their arguments.
+
+pub(crate) const PROGRAM: &str =
+    "A server for features of streets, changed by batches that apply whole or not at all";
+
+pub(crate) const LINES: &str = "Answers the lines of standard input, over features in memory";
+
+pub(crate) const CREATE: &str = "Makes an empty file";
+
+pub(crate) const NEW_FILE: &str = "The file to make";
+
+pub(crate) const PIPE: &str = "Serves one stream of requests on standard input and output";
+
+pub(crate) const FILE: &str = "The file that holds the features";
+
+pub(crate) const BASE: &str = "What the links in answers begin with";
+
+pub(crate) const SERVE: &str = "Serves the features of a file over HTTP";
+
+pub(crate) const PORT: &str = "The port of 127.0.0.1 to listen on, 1 to 65535";
+
+pub(crate) const COUNT: &str = "Ends after this number of connections";
+
+pub(crate) const CLIENTS: &str = "Serves this number of clients at once, 1 to 1024";
+
+pub(crate) const LOG: &str = "Writes a line on standard error for each answer";
+
+pub(crate) const WARM: &str = "Learns the index of each collection before it listens";
+
+pub(crate) const JOURNAL: &str = "Writes each accepted batch to this file before its answer";
+
+pub(crate) const JOURNAL_AFTER: &str = "Begins an empty journal after this serial";
+
+pub(crate) const JOURNAL_SYNC: &str = "Synchronises the journal before each answer";
+
+pub(crate) const IMPORT: &str = "Puts the features of a text into a collection, as one batch";
+
+pub(crate) const IMPORT_TEXT: &str = "A GeoJSON FeatureCollection";
+
+pub(crate) const IMPORT_KEY: &str = "The key of the batch";
+
+pub(crate) const INTO: &str = "The collection that the features are put into";
+
+pub(crate) const REPLACE: &str = "Replaces features that have the same id";
+
+pub(crate) const PROGRESS: &str = "Says on standard error how far it is";
+
+pub(crate) const EXPORT: &str = "Writes a collection on standard output";
+
+pub(crate) const FROM: &str = "The collection to write";
+
+pub(crate) const CHECK: &str = "Says whether a file is sound, and counts what it holds";
+
+pub(crate) const REPLAY: &str = "Applies the accepted batches again, and compares the result";
+
+pub(crate) const LOAD: &str =
+    "Puts the features of a text, one a line, into a collection by batches";
+
+pub(crate) const LOAD_TEXT: &str = "GeoJSON features, one a line: standard input if it is left out";
+
+pub(crate) const LOAD_KEY: &str = "The key K of the batches K.1, K.2 and so on";
+
+pub(crate) const EACH: &str = "The most features of a batch, 1 to 10000 [default: 1000]";
+
+pub(crate) const OPEN: &str = "Opens the collection with the first batch";
+
+pub(crate) const TITLE: &str = "The title of the collection that is opened";
+
+pub(crate) const TIME: &str = "The time property of the collection that is opened";
+
+pub(crate) const SCALE: &str = "The millimetres in one unit of the map [default: 1]";
+
+pub(crate) const SHIFT: &str = "The position X,Y of the map that is 0,0 in the grid [default: 0,0]";
+
+pub(crate) const ROUND: &str = "Rounds coordinates to whole millimetres";
+
+pub(crate) const FRACTIONS: &str = "If it is \"text\", keeps numbers that are not whole as texts";
+
+pub(crate) const SKIP: &str = "Passes over features that are at fault, and lists them";
+
+pub(crate) const ONLY_CHECK: &str = "Only reads the features, and lists those that are at fault";
+
+pub(crate) const PRINT: &str = "Prints the batches in place of applying them";
+
+pub(crate) const BATCHES: &str = "Prints the accepted batches, a line each";
+
+pub(crate) const AFTER: &str = "Prints only the batches after this serial";
+
+pub(crate) const APPLY: &str = "Applies the lines of a text as batches, in order";
+
+pub(crate) const APPLY_TEXT: &str = "Batches, one a line: standard input if it is left out";
