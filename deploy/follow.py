@@ -2,9 +2,11 @@
 
     python3 deploy/follow.py SOURCE URL [--position FILE | --journal F] [--once]
 
-SOURCE is a journal's file, or a PostgreSQL with the table of journal_to_postgres.py, as
-`postgresql://..`. URL is that of the follower, which nobody else sends batches to. It runs until it
-is stopped, at any time and in any way, and then goes on where the follower is.
+SOURCE is the path of a journal, or a PostgreSQL with the table of journal_to_postgres.py, as
+`postgresql://..`. A path names all files of its journal, with the number of one of them or without
+it (journal_files.py): once a file has ended, the next one is read. URL is that of the follower,
+which nobody else sends batches to. It runs until it is stopped, at any time and in any way, and
+then goes on where the follower is.
 
 It goes on behind a serial: that in FILE, which it keeps there; or that of the last whole line of F,
 the follower's own journal (`serve --journal F`); else the first of all. Lines that are sent twice
@@ -21,7 +23,8 @@ and sends nothing behind it:
     body_too_large SERIAL     the batch text is longer than a body; the words that help follow
     position_ahead SERIAL     the follower lacks the batch up to which it should go on
     lines_missing FROM TO     SOURCE begins behind what the follower needs next
-    bad_line SERIAL           SOURCE has no line there; line_too_long SERIAL likewise
+    bad_line SERIAL           SOURCE has no line there, or a zero byte amid others;
+                              line_too_long SERIAL likewise
     bad_position FILE         FILE has no position
     bad_source CODE           the database refuses what is asked of it
 
@@ -40,17 +43,16 @@ from pathlib import Path
 from typing import Any
 from urllib.parse import urlsplit
 
+from journal_files import JournalFiles, last_line
 from journal_lines import (
     MOST_OF_BODY,
     Away,
     Fault,
-    JournalFile,
     Line,
     Pauses,
     Source,
     SourceAway,
     end,
-    last_line,
     not_empty,
     tell,
 )
@@ -325,9 +327,9 @@ def url(text: str) -> str:
 
 
 def source_of(text: str) -> Source:
-    """The source of a word: a database, or a file."""
+    """The source of a word: a database, or a journal."""
     if not text.startswith(("postgresql://", "postgres://")):
-        return JournalFile(Path(text))
+        return JournalFiles(Path(text))
     from journal_table import TableSource
 
     return TableSource(text)
@@ -344,7 +346,7 @@ def own_place(journal: Path) -> Place:
 
 def arguments() -> argparse.Namespace:
     words = argparse.ArgumentParser(prog=NAME, description=(__doc__ or "").splitlines()[0])
-    words.add_argument("source", type=not_empty, help="a journal's file, or postgresql://..")
+    words.add_argument("source", type=not_empty, help="a journal's path, or postgresql://..")
     words.add_argument("url", type=url, help="the follower's URL")
     kept = words.add_mutually_exclusive_group()
     kept.add_argument("--position", type=Path, help="the file that keeps the serial")

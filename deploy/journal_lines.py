@@ -1,8 +1,8 @@
-"""The lines of a journal, a journal's file as it grows, and how the scripts beside it end.
+"""The lines of a journal, and how the scripts beside it end.
 
 A journal has a line for each accepted batch, in order of serials: the serial in decimal, a tab, the
-batch text, a line feed (docs/API.md, "Batches out and in again"). follow.py and
-journal_to_postgres.py share what is here.
+batch text, a line feed (docs/API.md, "Batches out and in again"). follow.py, journal_to_postgres.py
+and rotate_journal.py share what is here.
 
 A script that ends by itself prints `NAME: CODE ..` on standard error. Its exit status is 0 where it
 was to end (`--once`), 1 for what is the same at the next start, 2 for words that it does not take,
@@ -11,19 +11,15 @@ and 3 where a file of its own cannot be written.
 
 import os
 import re
-import shlex
 import sys
 import time
 from collections.abc import Iterator
 from dataclasses import dataclass
-from pathlib import Path
 from typing import BinaryIO, Protocol
 
 # In bytes: a body of `POST /batches`, and a line of a journal without its line feed, at most.
 MOST_OF_BODY = 8_388_608
 MOST_OF_LINE = 16_777_216
-# In seconds: between two looks at a file that may have grown.
-LOOK_SECONDS = 0.05
 # In seconds: the first pause before a thing that is away is tried again, and the longest.
 FIRST_PAUSE, LONGEST_PAUSE = 0.05, 10.0
 
@@ -89,89 +85,24 @@ class Source(Protocol):
 
 
 def whole_line(file: BinaryIO, where: object) -> bytes | None:
-    """The next line of a file, without its line feed. None where it is not there as a whole: it
-    lacks its line feed, or has a byte that a power cut left as zero."""
+    """The next line of a file, without its line feed. None if it is not complete yet: it lacks its
+    line feed, or it is the last and has a zero byte, as a power cut may leave. A zero byte with
+    more after its line is `bad_line`; `where` says which line that is."""
+    start = file.tell()
     found = file.readline(MOST_OF_LINE + 1)
     if len(found) > MOST_OF_LINE and not found.endswith(b"\n"):
         raise Fault("line_too_long", where)
-    if not found.endswith(b"\n") or b"\0" in found:
+    if b"\0" in found:
+        if file.read(1) and is_still_there(file, start, found):
+            raise Fault("bad_line", where)
         return None
-    return found[:-1]
+    return found[:-1] if found.endswith(b"\n") else None
 
 
-class JournalFile:
-    """A journal in a file that a server writes. It is read from behind the last whole line that was
-    read before, and from its beginning where an earlier line is asked for.
-
-    A file that is another than before, or shorter, is `SourceAway` once, so that whoever reads it
-    compares what is there with what was read.
-    """
-
-    def __init__(self, path: Path) -> None:
-        self.path = path
-        # Which file was read: its device and inode. How far: the serial, and the bytes up to it.
-        self.identity: tuple[int, int] | None = None
-        self.serial = self.offset = 0
-
-    def behind(self, serial: int) -> Iterator[Line]:
-        try:
-            with self.path.open("rb") as file:
-                self.look_at(file, serial)
-                yield from self.lines(file, serial)
-        except OSError as error:
-            raise SourceAway(str(error)) from error
-
-    def look_at(self, file: BinaryIO, serial: int) -> None:
-        """Finds where to read on, and puts the file there."""
-        status = os.fstat(file.fileno())
-        identity, before = (status.st_dev, status.st_ino), self.identity
-        same = identity == before and status.st_size >= self.offset
-        self.identity = identity
-        if not same or serial < self.serial:
-            self.serial = self.offset = 0
-        if before is not None and not same:
-            raise SourceAway(f"{self.path} is another file, or shorter than before")
-        file.seek(self.offset)
-
-    def lines(self, file: BinaryIO, serial: int) -> Iterator[Line]:
-        """The whole lines from here on that are behind a serial. Their serials are in a row."""
-        while (found := whole_line(file, self.serial + 1)) is not None:
-            line = Line.of(found, self.serial + 1)
-            if self.offset and line.serial != self.serial + 1:
-                raise Fault("bad_line", self.serial + 1)
-            if line.serial > serial:
-                yield line
-            self.serial, self.offset = line.serial, self.offset + len(found) + 1
-
-    def wait(self) -> None:
-        time.sleep(LOOK_SECONDS)
-
-    def words(self, serial: int) -> str:
-        return f"sed -n '/^{serial}\\t/{{p;q}}' {shlex.quote(str(self.path))}"
-
-
-def last_line(path: Path) -> Line | None:
-    """The last whole line of a journal's file; none where it has none, or is not there."""
-    try:
-        with path.open("rb") as file:
-            last = last_whole_line(file, path)
-    except FileNotFoundError:
-        return None
-    except OSError as error:
-        raise SourceAway(str(error)) from error
-    return None if last is None else Line.of(last, path)
-
-
-def last_whole_line(file: BinaryIO, path: Path) -> bytes | None:
-    """The last whole line of an open file, which is among its last two lines of the most bytes."""
-    start = max(0, os.fstat(file.fileno()).st_size - 2 * (MOST_OF_LINE + 1))
-    file.seek(start)
-    if start:
-        file.readline()
-    last = None
-    while (found := whole_line(file, path)) is not None:
-        last = found
-    return last
+def is_still_there(file: BinaryIO, start: int, found: bytes) -> bool:
+    """Whether a file still has these bytes, after which others follow. A server that starts may
+    have replaced them meanwhile."""
+    return os.pread(file.fileno(), len(found), start) == found
 
 
 class Pauses:

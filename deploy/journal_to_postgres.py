@@ -2,7 +2,8 @@
 
     python3 deploy/journal_to_postgres.py J DSN [--once]
 
-J is the journal that `streetmap serve --journal J` writes. DSN is that of a database
+J is the journal that `streetmap serve --journal J` writes, or the path that all its files share
+(journal_files.py): once a file has ended, the next one is read. DSN is that of a database
 (`postgresql://..`), in which it makes the table `streetmap_journal` where that is missing:
 journal_table.py says what it has. PostgreSQL carries the table to other sites by its own
 replication, and follow.py reads it there.
@@ -15,7 +16,8 @@ to look at, and puts nothing in behind it:
 
     other_text SERIAL        the table has another text there: it is another server's
     lines_missing FROM TO    J begins behind what the table needs next
-    bad_line SERIAL          J has no line there; line_too_long SERIAL likewise
+    bad_line SERIAL          J has no line there, or a zero byte amid others;
+                             line_too_long SERIAL likewise
     bad_source CODE          the database refuses what is asked of it
 
 `usage` has status 2.
@@ -26,17 +28,8 @@ import sys
 from collections.abc import Iterable, Iterator
 from pathlib import Path
 
-from journal_lines import (
-    Away,
-    Fault,
-    JournalFile,
-    Line,
-    Pauses,
-    end,
-    last_line,
-    not_empty,
-    tell,
-)
+from journal_files import JournalFiles, last_line
+from journal_lines import Away, Fault, Line, Pauses, end, not_empty, tell
 from journal_table import JournalTable
 
 NAME = "journal_to_postgres"
@@ -64,7 +57,7 @@ class Copying:
 
     def __init__(self, path: Path, dsn: str) -> None:
         self.path = path
-        self.journal = JournalFile(path)
+        self.journal = JournalFiles(path)
         self.table = JournalTable(dsn)
         self.serial: int | None = None
 
@@ -113,7 +106,7 @@ def run(copying: Copying, once: bool) -> None:
 
 def main() -> int:
     words = argparse.ArgumentParser(prog=NAME, description=(__doc__ or "").splitlines()[0])
-    words.add_argument("journal", type=not_empty, help="the journal's file")
+    words.add_argument("journal", type=not_empty, help="the journal's path")
     words.add_argument("dsn", type=not_empty, help="the database, as postgresql://..")
     words.add_argument("--once", action="store_true", help="ends with the lines that are there")
     asked = words.parse_args()

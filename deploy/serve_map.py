@@ -3,11 +3,16 @@
     python3 deploy/serve_map.py PROGRAM FILE [--port PORT] [--place TABLE]
 
 The program listens on a free port, and nginx on PORT in front of it: the page at /map/, all else
-the program's. nginx's files stand in a scratch folder. A FILE that is not there is made.
+the program's. nginx's files are in a scratch folder. A FILE that is not there is made. If the
+program or nginx ends, all of it ends, with that status.
+
+The page keeps edits apart by the town that they are for. It reads the town's name in map.json,
+which is here the path of FILE, unless TABLE has another.
 """
 
 import argparse
 import contextlib
+import json
 import os
 import shutil
 import signal
@@ -32,26 +37,24 @@ def free_port() -> int:
         return port
 
 
-def wait_for(port: int, process: subprocess.Popen[bytes], name: str, seconds: float = 30) -> None:
-    """Waits until something listens on the port; fails where the process ends first."""
-    end = time.monotonic() + seconds
-    while time.monotonic() < end:
-        if process.poll() is not None:
-            raise SystemExit(f"{name} ended with status {process.returncode}")
+def wait_for(port: int, process: subprocess.Popen[bytes], name: str) -> None:
+    """Waits until something listens on the port, however long a large file takes to open; fails if
+    the process ends first."""
+    while process.poll() is None:
         with contextlib.suppress(OSError), socket.create_connection(("127.0.0.1", port), 1):
             return
         time.sleep(0.05)
-    raise SystemExit(f"{name} does not listen on port {port}")
+    raise SystemExit(f"{name} ended with status {process.returncode}")
 
 
-def configuration(folder: Path, port: int, server: int, place: Path) -> str:
+def configuration(folder: Path, port: int, server: int, place: Path, root: Path = ROOT) -> str:
     """The text of serve_map.conf, its words filled in."""
     words = {
         "folder": folder,
         "port": port,
         "server": server,
         "user": "user root;" if os.geteuid() == 0 else "",
-        "root": ROOT,
+        "root": root,
         "leaflet": LEAFLET,
         "place": place,
         "locations": DEPLOY / "locations.conf",
@@ -72,7 +75,7 @@ def nginx_command(folder: Path, file: Path) -> list[str]:
 
 @contextlib.contextmanager
 def running(command: list[str], port: int, **options: Any) -> Iterator[subprocess.Popen[bytes]]:
-    """A process that listens on the port; it is ended behind the block."""
+    """A process that listens on the port; it is ended after the block."""
     process: subprocess.Popen[bytes] = subprocess.Popen(command, **options)
     try:
         wait_for(port, process, command[0])
@@ -87,12 +90,35 @@ def running(command: list[str], port: int, **options: Any) -> Iterator[subproces
 
 
 @contextlib.contextmanager
-def front(folder: Path, port: int, server: int, place: Path | None = None) -> Iterator[str]:
-    """nginx on a port, in front of a server on another; gives the address of the map."""
+def front(
+    folder: Path, port: int, server: int, place: Path | None = None, root: Path = ROOT
+) -> Iterator[subprocess.Popen[bytes]]:
+    """nginx on a port, in front of a server on another: the page of `root` is at /map/."""
     file = folder / "nginx.conf"
-    file.write_text(configuration(folder, port, server, place or folder / "map.json"))
-    with running(nginx_command(folder, file), port):
-        yield f"http://localhost:{port}/map/"
+    file.write_text(configuration(folder, port, server, place or folder / "map.json", root))
+    with running(nginx_command(folder, file), port) as nginx:
+        yield nginx
+
+
+def map_json(table: Path | None, town: str) -> str:
+    """What the page reads of the office: the table that places the grid, and the town's name."""
+    try:
+        held = json.loads(table.read_text()) if table else {}
+    except (OSError, ValueError) as fault:
+        raise SystemExit(f"{table} cannot be read: {fault}") from fault
+    return json.dumps({"town": town} | held)
+
+
+def wait_for_end(processes: dict[str, subprocess.Popen[bytes]]) -> int:
+    """Waits until one of the processes ends, and reports it. Returns its status, or as a shell
+    does 128 and the number of the signal that ended it."""
+    while True:
+        for name, process in processes.items():
+            status = process.poll()
+            if status is not None:
+                print(f"{name} ended with status {status}", file=sys.stderr)
+                return status if status >= 0 else 128 - status
+        os.waitid(os.P_ALL, 0, os.WEXITED | os.WNOWAIT)
 
 
 def main() -> None:
@@ -109,14 +135,15 @@ def main() -> None:
     server = free_port()
     serve = [program, "serve", str(asked.file), "--port", str(server), "--clients", "64"]
     serve += ["--base", f"http://localhost:{asked.port}/"]
-    place = asked.place.resolve() if asked.place else None
+    held = map_json(asked.place, str(asked.file.resolve()))
     with contextlib.ExitStack() as stack:
         folder = Path(stack.enter_context(tempfile.TemporaryDirectory()))
-        stack.enter_context(running(serve, server, stdout=subprocess.DEVNULL))
-        address = stack.enter_context(front(folder, asked.port, server, place))
-        print(f"The map: {address} (Ctrl-C ends it)", flush=True)
+        (folder / "map.json").write_text(held)
+        started = stack.enter_context(running(serve, server, stdout=subprocess.DEVNULL))
+        nginx = stack.enter_context(front(folder, asked.port, server))
+        print(f"The map: http://localhost:{asked.port}/map/ (Ctrl-C ends it)", flush=True)
         with contextlib.suppress(KeyboardInterrupt):
-            signal.pause()
+            sys.exit(wait_for_end({program: started, "nginx": nginx}))
 
 
 if __name__ == "__main__":

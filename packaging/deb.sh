@@ -27,5 +27,6 @@ cp "$program" "$tree/streetmap"
 
 cd "$tree"
 dpkg-buildpackage --build=binary --no-sign
-cp "$scratch"/streetmap_*.deb "$folder"
-echo "The package: $(cd "$folder" && realpath "$(ls -t streetmap_*.deb | head -n 1)")"
+package=$(basename "$scratch"/streetmap_*.deb)
+cp "$scratch/$package" "$folder"
+echo "The package: $folder/$package"

@@ -1,6 +1,6 @@
 #!/usr/bin/env bash
-# Installs a built program with its manual page, completion, documents, map page, units, settings,
-# and the scripts of followers:
+# Installs a built program with its manual pages, completion, documents, map page, units, settings,
+# and the scripts of journals and followers:
 #
 #     [PREFIX=/usr/local] [DESTDIR=] [UNITS=PREFIX/lib/systemd/system] packaging/install.sh PROGRAM
 #
@@ -37,10 +37,11 @@ settings() {
 
 install -D "$program" "$root$prefix/bin/streetmap"
 put "$prefix/share/man/man1" docs/man/streetmap.1
+put "$prefix/share/man/man8" docs/man/streetmap-rotate-journal.8
 put_as "$prefix/share/bash-completion/completions/streetmap" packaging/completion/streetmap.bash
 
 put "$documents" README.md CHANGELOG.md
-put "$documents/docs" docs/*.md
+put "$documents/docs" docs/*.md docs/openapi.json
 put "$documents/examples" examples/*.json
 [ ! -e LICENSE ] || put "$documents" LICENSE
 
@@ -52,7 +53,10 @@ if [ -d map ]; then
 fi
 
 put "$prefix/share/streetmap/deploy" \
-    deploy/{follow,journal_lines,journal_table,journal_to_postgres}.py
+    deploy/{follow,journal_files,journal_lines,journal_table,journal_to_postgres}.py
+install -m 755 -t "$root$prefix/share/streetmap/deploy" deploy/rotate_journal.py
+install -d "$root$prefix/sbin"
+ln -sf ../share/streetmap/deploy/rotate_journal.py "$root$prefix/sbin/streetmap-rotate-journal"
 for unit in streetmap streetmap-follower streetmap-journal; do
     put_as "$units/$unit@.service" "deploy/$unit@.service"
 done

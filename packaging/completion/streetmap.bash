@@ -5,8 +5,13 @@ _streetmap() {
     _init_completion -s || return
     local commands="create pipe serve import export load batches apply check lines"
 
+    if ((cword == 2)) && [[ $prev == help ]]; then
+        mapfile -t COMPREPLY < <(compgen -W "$commands" -- "$cur")
+        return
+    fi
     if ((cword == 1)); then
-        [[ $cur == -* ]] && commands="--version"
+        commands+=" help"
+        [[ $cur == -* ]] && commands="--help --version"
         mapfile -t COMPREPLY < <(compgen -W "$commands" -- "$cur")
         return
     fi
@@ -56,10 +61,10 @@ _streetmap() {
             batches) options="--after" ;;
             check) options="--replay" ;;
         esac
-        mapfile -t COMPREPLY < <(compgen -W "$options" -- "$cur")
+        mapfile -t COMPREPLY < <(compgen -W "$options --help" -- "$cur")
         return
     fi
 
-    [[ ${words[1]} == lines ]] || _filedir
+    [[ ${words[1]} == @(lines|help) ]] || _filedir
 } &&
     complete -F _streetmap streetmap
