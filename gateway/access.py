@@ -1,7 +1,8 @@
 """Who may write: bearer tokens and passwords of the settings file.
 
-The file keeps no token and no password: `python3 -m gateway.access NAME` makes a token and prints
-it with its line for the file; with `--password` it asks for a password and prints that line.
+The file keeps no token and no password: `python3 -m gateway.access NAME` makes a token, and prints
+the entry for the file on standard output and the token itself on standard error; with `--password`
+it asks for a password, and prints the entry.
 """
 
 import argparse
@@ -11,6 +12,7 @@ import getpass
 import hashlib
 import hmac
 import secrets
+import sys
 from collections.abc import Callable, Sequence
 
 from fastapi import Request
@@ -97,7 +99,8 @@ def main() -> None:
         print(f'password = "{line}"')
     else:
         token = secrets.token_urlsafe(24)
-        print(f'token = "{token_line(token)}"  # the token is {token}')
+        print(f'token = "{token_line(token)}"')
+        print(f"The token, which is kept nowhere: {token}", file=sys.stderr)
 
 
 if __name__ == "__main__":

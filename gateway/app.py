@@ -5,6 +5,7 @@ from starlette.exceptions import HTTPException
 
 from .edits import edit_routes
 from .gateway import Gateway
+from .origins import OwnOrigin
 from .problems import Problem, answer_http_fault, answer_problem
 from .reading import add_description, collection_routes, feature_routes, service_routes
 
@@ -26,5 +27,6 @@ def make_app(gateway: Gateway) -> FastAPI:
     add_description(app, gateway)
     app.add_exception_handler(Problem, answer_problem)
     app.add_exception_handler(HTTPException, answer_http_fault)
-    app.router.on_shutdown.append(gateway.client.close)
+    app.add_middleware(OwnOrigin, address=gateway.settings.address)
+    app.router.on_shutdown += [gateway.client.close, gateway.workers.close]
     return app

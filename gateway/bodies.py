@@ -1,37 +1,106 @@
-"""The features that requests carry, read and carried to the grid.
+"""The features that requests carry, read, carried to the grid, and made batches of one edit.
 
 What is not a coordinate stays as it was written, but by `fractions = "text"`. What is no feature
-stays too: the server refuses it with its own code.
+stays too: the server refuses it with its own code. Two of its limits are checked here first, since
+what follows takes time for each position and a call for each level.
 """
 
 import json
 import re
+from dataclasses import dataclass
 from decimal import Decimal
+from itertools import islice
 from typing import Any
 
 from .geojson import NumberText, compact, positions_of
 from .grid import STEPS, decimal_of, nearest_step
 from .problems import Problem
-from .systems import System
+from .systems import System, Systems
 
-WHOLE = re.compile(r"(-?[0-9]{1,20})(\.0+)?")
+ZEROS = re.compile(r"(-?[0-9]+)\.0+")
+LONGEST_WHOLE = 20
+# The server's limits of a feature.
+MOST_POSITIONS, MOST_LEVELS = 100_000, 64
+
+
+@dataclass(frozen=True)
+class Sent:
+    """What a request sends: a feature in a reference system, to be inserted or replaced under a
+    key. A feature without an id is given this one; a feature that replaces has to have it."""
+
+    op: str
+    collection: str
+    feature: str
+    key: str
+    system: str
+    body: bytes
+
+
+@dataclass(frozen=True)
+class Batch:
+    """A batch for the server, and the id of its feature."""
+
+    text: bytes
+    feature: str
+
+
+def batch_of(sent: Sent, systems: Systems, fractions: str) -> Batch:
+    """The batch that a request becomes."""
+    feature = grid_feature(read_body(sent.body), systems.by_uri[sent.system], fractions)
+    identity = sent.feature
+    if isinstance(feature, dict):
+        identity = str(feature.setdefault("id", sent.feature))
+        if sent.op == "replace" and identity != sent.feature:
+            raise Problem(400, "other_id", "The feature's id is not that of the path.")
+    edit = {"op": sent.op, "collection": sent.collection, "feature": feature}
+    return Batch(batch_text(sent.key, edit), identity)
+
+
+def batch_text(key: str, edit: dict[str, Any]) -> bytes:
+    """The text of a batch of one edit."""
+    try:
+        return json_text({"key": key, "edits": [edit]}).encode()
+    except UnicodeEncodeError as fault:
+        raise Problem(400, "bad_feature", "The feature cannot be read.") from fault
 
 
 def read_body(body: bytes) -> Any:
     """The JSON value of a request, each number that is not whole as it was written."""
     try:
-        return json.loads(
-            body.decode("utf-8"), parse_float=number, parse_int=number, parse_constant=no_number
+        value = json.loads(
+            body.decode("utf-8"), parse_float=fraction, parse_int=whole, parse_constant=no_number
         )
     except (ValueError, RecursionError) as fault:
         raise Problem(400, "not_json", "The body is no JSON in UTF-8.") from fault
+    if is_deep(value):
+        detail = f"The feature has more than {MOST_LEVELS} levels."
+        raise Problem(400, "bad_feature", detail, cause="too_deep")
+    return value
 
 
-def number(text: str) -> int | NumberText:
-    """A number text; a fraction of zeros alone is whole, as the server reads it."""
-    whole = WHOLE.fullmatch(text)
-    value = int(whole[1]) if whole else None
+def is_deep(value: Any) -> bool:
+    """Whether a value has more levels than the server takes."""
+    level = [value] if isinstance(value, (dict, list)) else []
+    for _ in range(MOST_LEVELS):
+        each = [member.values() if isinstance(member, dict) else member for member in level]
+        level = [inner for outer in each for inner in outer if isinstance(inner, (dict, list))]
+        if not level:
+            return False
+    return True
+
+
+def whole(text: str) -> int | NumberText:
+    """The number of a text of digits, of 64 bits at most."""
+    value = int(text) if len(text) <= LONGEST_WHOLE else None
     return value if value is not None and -(2**63) <= value < 2**64 else NumberText(text)
+
+
+def fraction(text: str) -> int | NumberText:
+    """The number of a text with a point or an exponent: whole if its fraction is of zeros alone, as
+    the server reads it."""
+    digits = ZEROS.fullmatch(text) if text.endswith("0") else None
+    found = whole(digits[1]) if digits else text
+    return found if isinstance(found, int) else NumberText(text)
 
 
 def no_number(text: str) -> Any:
@@ -40,6 +109,8 @@ def no_number(text: str) -> Any:
 
 def json_text(value: Any) -> str:
     """The compact text of a value that `read_body` read."""
+    if type(value) is int:
+        return repr(value)
     if isinstance(value, NumberText):
         return str(value)
     if isinstance(value, dict):
@@ -52,7 +123,12 @@ def json_text(value: Any) -> str:
 
 def place_on_grid(geometry: Any, system: System) -> None:
     """Carries all positions of a request's geometry to the nearest grid positions, in place."""
-    positions = list(positions_of(geometry)) if isinstance(geometry, dict) else []
+    if not isinstance(geometry, dict):
+        return
+    positions = list(islice(positions_of(geometry), MOST_POSITIONS + 1))
+    if len(positions) > MOST_POSITIONS:
+        detail = f"The feature has more than {MOST_POSITIONS} positions."
+        raise Problem(400, "bad_feature", detail, cause="too_many_positions")
     numbers = [[coordinate(value) for value in position] for position in positions]
     placed = system.read([(first, second) for first, second, *_ in numbers])
     for position, (x, y), (_, _, *height) in zip(positions, placed, numbers):

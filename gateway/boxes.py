@@ -1,63 +1,46 @@
-"""Boxes of requests, carried to the grid.
+"""Boxes of requests, and what of them can select a feature of a collection.
 
-A box in the office's system whose bounds are whole steps is the server's own. Each other one
-becomes a region: polygons on the grid whose outline errs by less than a step, against which each
-feature is tested, and bounds for the server, which are rounded outward and grown by a step.
+The server answers exactly what meets a box of whole steps. A box in the office's system with such
+bounds is one, and so is the extent of a collection if the box of a request covers it. Every other
+box is cut to the extent. The server is asked for bounds around what is left, rounded outward, and
+each of its features is tested. No cost of this depends on how large a box is.
 """
 
 import math
-from collections.abc import Iterable, Sequence
+from abc import ABC, abstractmethod
+from collections.abc import Callable, Iterator, Sequence
 from dataclasses import dataclass
 from decimal import Decimal
-from functools import lru_cache
+from functools import reduce
 
 import numpy
-from shapely.geometry import LineString, Point, Polygon
-from shapely.geometry.base import BaseGeometry
-from shapely.prepared import PreparedGeometry, prep
 
 from .grid import BOUND, Grid, Numbers
 from .operation import Operation
+from .outlines import Carried, Rectangle, degrees_around, outline
 from .problems import Problem
 from .reach import Reach
 
 # A box in degrees is grown by so much on each side, up to 0.17 mm: more than coordinates are
-# rounded by, and than an outline errs. So what a client sees in its box is not lost.
+# rounded by. So what a client sees in its box is not lost.
 GROWN = 1.5e-9
-# The points of an outline are off the middle of their neighbours by at most a hundredth of a step,
-# or where that takes more than PIECES a side, by a tenth. It errs by a quarter of that.
-FINE, COARSE = 0.01, 0.1
-FIRST_PIECES, PIECES, MOST_PIECES = 8, 1024, 1 << 17
+# What is computed of an extent in degrees is off by far less.
+SPARE_DEGREES = 1e-9
 
 Bounds = tuple[int, int, int, int]
-Rectangle = tuple[float, float, float, float]
-Outline = Sequence[tuple[float, float]]
-
-
-@dataclass(frozen=True)
-class DegreeBox:
-    """A closed box of WGS 84. West above east is a box across the 180th meridian."""
-
-    west: float
-    south: float
-    east: float
-    north: float
-
-    def halves(self) -> list["DegreeBox"]:
-        if self.west <= self.east:
-            return [self]
-        return [
-            DegreeBox(self.west, self.south, 180, self.north),
-            DegreeBox(-180, self.south, self.east, self.north),
-        ]
+Place = Callable[[Numbers, Numbers], tuple[Numbers, Numbers]]
 
 
 @dataclass(frozen=True)
 class Part:
-    """A part of a region, prepared for tests, a point of it, and a rectangle that lies within."""
+    """A part of a region: a closed rectangle in the system that `place` carries grid positions to,
+    where straight lines of the grid stay straight or not. On the grid it has a corner, and a
+    rectangle that lies within, if there is one."""
 
-    shape: PreparedGeometry
-    point: tuple[float, float]
+    rectangle: Rectangle
+    place: Place
+    is_straight: bool
+    corner: tuple[float, float]
     inner: Rectangle | None
 
 
@@ -77,15 +60,35 @@ class Region:
 NOWHERE = Region(None)
 
 
-def office_region(grid: Grid, box: Sequence[Decimal]) -> Region:
-    """The region of a box in the office's system: easting and northing, lower, then upper."""
-    x0, x1 = grid.easting_steps(box[0]), grid.easting_steps(box[2])
-    y0, y1 = grid.northing_steps(box[1]), grid.northing_steps(box[3])
-    west, south, east, north = (within_bounds(bound) for bound in (x0, y0, x1, y1))
-    if all(bound == int(bound) for bound in (west, south, east, north)):
-        return Region((int(west), int(south), int(east), int(north)))
-    corners = [(west, south), (east, south), (east, north), (west, north)]
-    return region_of([[(float(x), float(y)) for x, y in corners]])
+class Box(ABC):
+    """A box of a request. `whole` are its bounds if the server takes them as they are."""
+
+    whole: Bounds | None = None
+
+    @abstractmethod
+    def region(self, extent: Bounds) -> Region:
+        """What of the box can select a feature of a collection that has this extent."""
+
+
+class OfficeBox(Box):
+    """A box in the office's system: easting and northing, lower, then upper."""
+
+    def __init__(self, grid: Grid, box: Sequence[Decimal]) -> None:
+        x0, x1 = grid.easting_steps(box[0]), grid.easting_steps(box[2])
+        y0, y1 = grid.northing_steps(box[1]), grid.northing_steps(box[3])
+        self.bounds = [within_bounds(bound) for bound in (x0, y0, x1, y1)]
+        if all(bound == int(bound) for bound in self.bounds):
+            west, south, east, north = map(int, self.bounds)
+            self.whole = west, south, east, north
+
+    def region(self, extent: Bounds) -> Region:
+        west, south, east, north = self.bounds
+        if west <= extent[0] and south <= extent[1] and extent[2] <= east and extent[3] <= north:
+            return Region(extent)
+        rectangle = float(west), float(south), float(east), float(north)
+        bounds = common(rounded_outward(rectangle), extent)
+        part = Part(rectangle, lambda x, y: (x, y), True, rectangle[:2], rectangle)
+        return NOWHERE if bounds is None else Region(bounds, (part,))
 
 
 def within_bounds(steps: Decimal) -> Decimal:
@@ -93,127 +96,143 @@ def within_bounds(steps: Decimal) -> Decimal:
     return min(max(steps, Decimal(-2 * BOUND)), Decimal(2 * BOUND))
 
 
-class DegreeRegions:
-    """Regions of boxes in degrees. The last ones are kept, since pages ask for the same again."""
+def rounded_outward(rectangle: Rectangle) -> Bounds:
+    """The bounds of a rectangle of the grid, grown by a step."""
+    x0, y0, x1, y1 = rectangle
+    return math.floor(x0) - 1, math.floor(y0) - 1, math.ceil(x1) + 1, math.ceil(y1) + 1
 
-    def __init__(self, operation: Operation, reach: Reach) -> None:
-        self.operation = operation
-        self.reach = reach
-        self.region = lru_cache(maxsize=64)(self._region)
 
-    def _region(self, box: DegreeBox) -> Region:
-        parts = dict.fromkeys(part for half in box.halves() for part in self.parts(half))
-        return region_of([self.outline(part) for part in parts])
+def common(one: Bounds, other: Bounds) -> Bounds | None:
+    """What two bounds have in common, if they meet."""
+    west, south = max(one[0], other[0]), max(one[1], other[1])
+    east, north = min(one[2], other[2]), min(one[3], other[3])
+    return (west, south, east, north) if west <= east and south <= north else None
 
-    def parts(self, box: DegreeBox) -> Iterable[DegreeBox]:
-        """What of a box lies within reach, in the longitudes of the reach."""
-        reach = self.reach
-        south, north = max(box.south - GROWN, reach.south), min(box.north + GROWN, reach.north)
-        first = math.floor((reach.west - box.east) / 360)
-        last = math.ceil((reach.east - box.west) / 360)
+
+def around_both(one: Bounds, other: Bounds) -> Bounds:
+    """Bounds around two."""
+    lower = min(one[0], other[0]), min(one[1], other[1])
+    return (*lower, max(one[2], other[2]), max(one[3], other[3]))
+
+
+@dataclass(frozen=True)
+class World:
+    """Where boxes in degrees are: an operation, and the degrees within its reach."""
+
+    operation: Operation
+    reach: Reach
+
+    @property
+    def middle(self) -> float:
+        return (self.reach.west + self.reach.east) / 2
+
+    def degrees(self, x: Numbers, y: Numbers) -> tuple[Numbers, Numbers]:
+        """Longitudes within half a turn of the middle of the reach, and latitudes."""
+        longitude, latitude = self.operation.degrees(x, y)
+        with numpy.errstate(invalid="ignore"):
+            longitude = longitude + 360 * numpy.round((self.middle - longitude) / 360)
+        return longitude, latitude
+
+    def around(self, extent: Bounds) -> Rectangle | None:
+        """A rectangle around an extent, in the longitudes of the reach; none if the extent goes
+        beyond what can be placed, or around the world."""
+        around = degrees_around(self.operation, extent)
+        if around is None or around[2] - around[0] > 180:
+            return None
+        west, south, east, north = around
+        turn = 360 * round((self.middle - (west + east) / 2) / 360)
+        west, east = west + turn - SPARE_DEGREES, east + turn + SPARE_DEGREES
+        return west, south - SPARE_DEGREES, east, north + SPARE_DEGREES
+
+
+@dataclass(frozen=True)
+class DegreeBox(Box):
+    """A closed box of WGS 84. West above east is a box across the 180th meridian."""
+
+    world: World
+    west: float
+    south: float
+    east: float
+    north: float
+
+    def region(self, extent: Bounds) -> Region:
+        around = self.world.around(extent)
+        found: list[tuple[Bounds, Part]] = []
+        for rectangle in self.rectangles():
+            if around is not None and covers(rectangle, around):
+                return Region(extent)
+            cut = rectangle if around is None else overlap(rectangle, around)
+            if cut[0] < cut[2] and cut[1] < cut[3]:
+                bounds, part = self.part(cut)
+                within = common(bounds, extent)
+                found += [] if within is None else [(within, part)]
+        if not found:
+            return NOWHERE
+        bounds = reduce(around_both, (bounds for bounds, _ in found))
+        return Region(bounds, tuple(part for _, part in found))
+
+    def rectangles(self) -> list[Rectangle]:
+        """What of the grown box lies within reach, in the longitudes of the reach. No two of these
+        meet."""
+        reach = self.world.reach
+        south, north = max(self.south - GROWN, reach.south), min(self.north + GROWN, reach.north)
+        found: list[Rectangle] = []
+        for west, east in sorted(span for half in self.halves() for span in self.turned(*half)):
+            if found and west <= found[-1][2]:
+                west, east = found[-1][0], max(found.pop()[2], east)
+            found.append((west, south, east, north))
+        return found
+
+    def halves(self) -> list[tuple[float, float]]:
+        if self.west <= self.east:
+            return [(self.west, self.east)]
+        return [(self.west, 180), (-180, self.east)]
+
+    def turned(self, west: float, east: float) -> Iterator[tuple[float, float]]:
+        """What of grown longitudes lies within reach, after whole turns."""
+        reach = self.world.reach
+        first = math.floor((reach.west - east) / 360)
+        last = math.ceil((reach.east - west) / 360)
         for turn in range(first, last + 1):
-            west = max(box.west + 360 * turn - GROWN, reach.west)
-            east = min(box.east + 360 * turn + GROWN, reach.east)
-            if west < east and south < north:
-                yield DegreeBox(west, south, east, north)
+            start = max(west + 360 * turn - GROWN, reach.west)
+            end = min(east + 360 * turn + GROWN, reach.east)
+            if start < end:
+                yield start, end
 
-    def outline(self, box: DegreeBox) -> list[tuple[float, float]]:
-        """The outline of a box on the grid, as dense as it has to be."""
-        pieces = FIRST_PIECES
-        while pieces <= MOST_PIECES:
-            longitude, latitude = ring(box, 2 * pieces)
-            x, y = self.operation.steps(longitude, latitude)
-            error = chord_error(x, y)
-            if error <= FINE or (pieces >= PIECES and error <= COARSE):
-                return list(zip(x.tolist(), y.tolist()))
-            pieces = next_pieces(pieces, error)
-        raise Problem(400, "bad_bbox", "The box cannot be placed in the system of the server.")
+    def part(self, rectangle: Rectangle) -> tuple[Bounds, Part]:
+        """The part of a rectangle in degrees, and bounds around it on the grid."""
+        on_grid = Carried(*self.world.operation.steps(*outline(rectangle)))
+        if not on_grid.is_placed:
+            raise Problem(400, "bad_bbox", "The box cannot be placed in the system of the server.")
+        corner = float(on_grid.x[0]), float(on_grid.y[0])
+        inner = self.inner(rectangle, on_grid.between())
+        part = Part(rectangle, self.world.degrees, False, corner, inner)
+        return rounded_outward(on_grid.around()), part
+
+    def inner(self, rectangle: Rectangle, between: Rectangle) -> Rectangle | None:
+        """The rectangle of the grid between the four sides, if it lies within the box. No side goes
+        into it, so its middle tells."""
+        x0, y0, x1, y1 = between
+        if not (x0 < x1 and y0 < y1):
+            return None
+        middle = numpy.array([(x0 + x1) / 2]), numpy.array([(y0 + y1) / 2])
+        (longitude,), (latitude,) = self.world.degrees(*middle)
+        west, south, east, north = rectangle
+        is_within = west <= longitude <= east and south <= latitude <= north
+        return between if is_within else None
 
 
-def ring(box: DegreeBox, pieces: int) -> tuple[Numbers, Numbers]:
-    """The corners of a box and the points between, counterclockwise, the first not again."""
-    up = numpy.arange(pieces) / pieces
-    across, along = box.east - box.west, box.north - box.south
-    longitude = numpy.concatenate(
-        [
-            box.west + across * up,
-            numpy.full(pieces, box.east),
-            box.east - across * up,
-            numpy.full(pieces, box.west),
-        ]
+def covers(one: Rectangle, other: Rectangle) -> bool:
+    """Whether the other rectangle lies within this one."""
+    return overlap(one, other) == other
+
+
+def overlap(one: Rectangle, other: Rectangle) -> Rectangle:
+    """What two rectangles have in common; a lower bound is not below the upper one if they have no
+    area in common."""
+    return (
+        max(one[0], other[0]),
+        max(one[1], other[1]),
+        min(one[2], other[2]),
+        min(one[3], other[3]),
     )
-    latitude = numpy.concatenate(
-        [
-            numpy.full(pieces, box.south),
-            box.south + along * up,
-            numpy.full(pieces, box.north),
-            box.north - along * up,
-        ]
-    )
-    return longitude, latitude
-
-
-def chord_error(x: Numbers, y: Numbers) -> float:
-    """How far the points at odd places are from the middle of their neighbours, at most."""
-    off_x = x[1::2] - (x[0::2] + numpy.roll(x[0::2], -1)) / 2
-    off_y = y[1::2] - (y[0::2] + numpy.roll(y[0::2], -1)) / 2
-    with numpy.errstate(invalid="ignore"):
-        error = float(numpy.max(numpy.hypot(off_x, off_y)))
-    return error if math.isfinite(error) else math.inf
-
-
-def next_pieces(pieces: int, error: float) -> int:
-    """How many pieces a side to try next: the error falls by their square."""
-    if not math.isfinite(error):
-        return MOST_PIECES + 1
-    fine, coarse = (pieces * factor_for(error / wanted) for wanted in (FINE, COARSE))
-    return max(2 * pieces, fine if fine <= PIECES else max(coarse, PIECES))
-
-
-def factor_for(times: float) -> int:
-    """The power of two by which an error so many times too large is met."""
-    return 1 << max(0, math.ceil(math.log2(max(times, 1)) / 2))
-
-
-def region_of(outlines: Sequence[Outline]) -> Region:
-    """The region that these outlines bound."""
-    if not outlines:
-        return NOWHERE
-    xs = [x for outline in outlines for x, _ in outline]
-    ys = [y for outline in outlines for _, y in outline]
-    bounds = (
-        max(math.floor(min(xs)) - 1, -2 * BOUND),
-        max(math.floor(min(ys)) - 1, -2 * BOUND),
-        min(math.ceil(max(xs)) + 1, 2 * BOUND),
-        min(math.ceil(max(ys)) + 1, 2 * BOUND),
-    )
-    if bounds[0] > bounds[2] or bounds[1] > bounds[3]:
-        return NOWHERE
-    return Region(bounds, tuple(part_of(each) for each in outlines))
-
-
-def part_of(outline: Outline) -> Part:
-    prepared = prep(shape(outline))
-    return Part(prepared, outline[0], inner_of(outline, prepared))
-
-
-def inner_of(outline: Outline, prepared: PreparedGeometry) -> Rectangle | None:
-    """The rectangle between the innermost points of the four sides, where it lies within. No side
-    goes into it, so its middle tells."""
-    side, ring = len(outline) // 4, [*outline, outline[0]]
-    south, east, north, west = (ring[n * side : (n + 1) * side + 1] for n in range(4))
-    x0, y0 = max(x for x, _ in west), max(y for _, y in south)
-    x1, y1 = min(x for x, _ in east), min(y for _, y in north)
-    is_within = x0 < x1 and y0 < y1 and prepared.contains(Point((x0 + x1) / 2, (y0 + y1) / 2))
-    return (x0, y0, x1, y1) if is_within else None
-
-
-def shape(outline: Outline) -> BaseGeometry:
-    """A polygon, or the line or point that a box without an area is."""
-    points = list(dict.fromkeys(outline))
-    if len(points) == 1:
-        return Point(points[0])
-    polygon = Polygon(points) if len(points) > 2 else None
-    if polygon is not None and polygon.area > 0:
-        return polygon
-    return LineString(points)

@@ -1,14 +1,16 @@
 """Create, replace and delete (OGC API - Features Part 4, draft 20-002r1): one batch each.
 
-With an `Idempotency-Key` the key of the batch is that field's SHA-256, so the same request sent
-again acts once. Without one it says who and when: USER:TIME:RANDOM.
+A batch's key begins with the name of the writer. With an `Idempotency-Key` the SHA-256 of that
+field follows, so the same request sent again by the same writer acts once. Without one the key says
+who and when: USER:TIME:RANDOM.
 """
 
+import base64
 import hashlib
 import re
 import secrets
+from dataclasses import dataclass
 from datetime import datetime, timezone
-from typing import Any
 
 from fastapi import APIRouter, Request
 from fastapi.concurrency import run_in_threadpool
@@ -16,14 +18,17 @@ from fastapi.responses import Response
 from starlette.requests import ClientDisconnect
 
 from . import openapi
-from .bodies import grid_feature, json_text, read_body
+from .bodies import Batch, Sent, batch_text
+from .conditions import Conditions, failed, read_conditions
 from .gateway import Gateway
+from .links import GEOJSON, JSON
 from .problems import Problem, not_found
 from .query import read_parameters
 from .routes import plain_router
 from .systems import CRS84, System, Systems
 
 LARGEST = 8_388_608
+BODY_TYPES = (GEOJSON, JSON)
 COLLECTION = re.compile(r"[A-Za-z0-9][A-Za-z0-9._-]{0,63}")
 MADE_ID_DIGITS = 32
 ITEMS = "/collections/{collectionId}/items"
@@ -31,7 +36,8 @@ ITEM = ITEMS + "/{featureId:path}"
 
 
 def batch_key(request: Request, writer: str) -> str:
-    """The key of the batch that a request becomes."""
+    """The key of the batch that a request becomes: at most the 64 bytes that the server takes,
+    since a writer's name has at most 20."""
     given = request.headers.getlist("idempotency-key")
     if not given:
         now = datetime.now(timezone.utc).strftime("%Y%m%dT%H%M%SZ")
@@ -39,7 +45,8 @@ def batch_key(request: Request, writer: str) -> str:
     if len(given) > 1 or not 1 <= len(given[0]) <= 255:
         detail = "There must be one Idempotency-Key of 1 to 255 characters."
         raise Problem(400, "bad_idempotency_key", detail)
-    return hashlib.sha256(given[0].encode("latin-1")).hexdigest()
+    digest = hashlib.sha256(given[0].encode("latin-1")).digest()
+    return f"{writer}:{base64.urlsafe_b64encode(digest).rstrip(b'=').decode()}"
 
 
 def made_id(key: str) -> str:
@@ -51,6 +58,16 @@ def content_system(request: Request, systems: Systems) -> System:
     """The reference system of the body: that of Content-Crs, else CRS84."""
     given = request.headers.get("content-crs", f"<{CRS84}>").strip()
     return systems.named(given.removeprefix("<").removesuffix(">"), "bad_content_crs")
+
+
+def check_content_type(request: Request) -> None:
+    """Refuses a body that does not say that it is GeoJSON or JSON. A form of a page cannot say so,
+    and a script of another origin only if the gateway agrees before."""
+    given = [text.partition(";")[0] for text in request.headers.getlist("content-type")]
+    if len(given) != 1 or given[0].strip().lower() not in BODY_TYPES:
+        detail = f"The Content-Type of the body must be {' or '.join(BODY_TYPES)}."
+        headers = {"Accept": ", ".join(BODY_TYPES)}
+        raise Problem(415, "bad_content_type", detail, headers=headers)
 
 
 async def body_of(request: Request) -> bytes:
@@ -66,27 +83,71 @@ async def body_of(request: Request) -> bytes:
     return bytes(body)
 
 
-async def sent_feature(gateway: Gateway, request: Request) -> Any:
-    """The feature of a request, on the grid; what is no feature stays what it is."""
-    system = content_system(request, gateway.systems)
-    value = read_body(await body_of(request))
-    return grid_feature(value, system, gateway.settings.fractions)
+@dataclass(frozen=True)
+class Edit:
+    """An edit of one who may write: what it names, the key of its batch, and its conditions. An
+    edit of a collection names no feature."""
 
+    gateway: Gateway
+    request: Request
+    collection: str
+    feature: str | None
+    key: str
+    conditions: Conditions
 
-async def apply(gateway: Gateway, key: str, edit: dict[str, Any]) -> None:
-    """Sends one edit as a batch. A feature or collection that is not there is a 404."""
-    if not COLLECTION.fullmatch(edit["collection"]):
-        raise not_found()
-    try:
-        batch = json_text({"key": key, "edits": [edit]}).encode()
-    except (UnicodeEncodeError, RecursionError) as fault:
-        raise Problem(400, "bad_feature", "The feature cannot be read.") from fault
-    try:
-        await gateway.client.apply(batch)
-    except Problem as problem:
-        if problem.code in ("no_feature", "no_collection"):
-            problem.status = 404
-        raise
+    @classmethod
+    async def begin(
+        cls, gateway: Gateway, request: Request, collection: str, feature: str | None
+    ) -> "Edit":
+        """The edit of a request, refused where it may not write, or has a parameter or a condition
+        that does not hold."""
+        writer = await run_in_threadpool(gateway.access.writer, request)
+        if request.method in ("POST", "PUT"):
+            check_content_type(request)
+        key = batch_key(request, writer)
+        read_parameters(request, ())
+        if not COLLECTION.fullmatch(collection):
+            raise not_found()
+        if feature is not None and not is_feature_id(feature):
+            raise not_found()
+        edit = cls(gateway, request, collection, feature, key, read_conditions(request))
+        if edit.conditions.is_not_there and await edit.is_there():
+            raise failed("There is something at this path.")
+        return edit
+
+    async def is_there(self) -> bool:
+        """Whether the server has what the request names."""
+        client = self.gateway.client
+        try:
+            if self.feature is None:
+                await client.collection(self.collection)
+            else:
+                await client.feature(self.collection, self.feature)
+        except Problem as problem:
+            if problem.status != 404:
+                raise
+            return False
+        return True
+
+    async def batch(self, op: str) -> Batch:
+        """The batch of the feature that the request sends. What is no feature stays what it is."""
+        system = content_system(self.request, self.gateway.systems)
+        name = made_id(self.key) if self.feature is None else self.feature
+        body = await body_of(self.request)
+        sent = Sent(op, self.collection, name, self.key, system.uri, body)
+        return await self.gateway.workers.batch(sent)
+
+    async def apply(self, batch: bytes) -> None:
+        """Sends a batch. A feature or collection that is not there is a 404, or breaks the
+        condition that it is there."""
+        try:
+            await self.gateway.client.apply(batch)
+        except Problem as problem:
+            if problem.code in ("no_feature", "no_collection"):
+                if self.conditions.is_there:
+                    raise failed("There is nothing at this path.") from problem
+                problem.status = 404
+            raise
 
 
 def is_feature_id(text: str) -> bool:
@@ -104,14 +165,6 @@ def edit_routes(gateway: Gateway) -> APIRouter:
     return router
 
 
-async def begin(gateway: Gateway, request: Request) -> str:
-    """The key of the batch that a request becomes, where it may write and has no parameter."""
-    writer = await run_in_threadpool(gateway.access.writer, request)
-    key = batch_key(request, writer)
-    read_parameters(request, ())
-    return key
-
-
 def add_create(router: APIRouter, gateway: Gateway) -> None:
     @router.post(
         ITEMS,
@@ -121,12 +174,10 @@ def add_create(router: APIRouter, gateway: Gateway) -> None:
         openapi_extra=openapi.edit(with_body=True),
     )
     async def create(request: Request, collectionId: str) -> Response:
-        key = await begin(gateway, request)
-        feature = await sent_feature(gateway, request)
-        if isinstance(feature, dict):
-            feature.setdefault("id", made_id(key))
-        await apply(gateway, key, {"op": "insert", "collection": collectionId, "feature": feature})
-        location = gateway.links.location(collectionId, str(feature["id"]))
+        edit = await Edit.begin(gateway, request, collectionId, None)
+        batch = await edit.batch("insert")
+        await edit.apply(batch.text)
+        location = gateway.links.location(collectionId, batch.feature)
         return Response(status_code=201, headers={"Location": location})
 
 
@@ -139,13 +190,9 @@ def add_replace(router: APIRouter, gateway: Gateway) -> None:
         openapi_extra=openapi.edit(with_body=True),
     )
     async def replace(request: Request, collectionId: str, featureId: str) -> Response:
-        key = await begin(gateway, request)
-        feature = await sent_feature(gateway, request)
-        if not is_feature_id(featureId):
-            raise not_found()
-        if isinstance(feature, dict) and str(feature.setdefault("id", featureId)) != featureId:
-            raise Problem(400, "other_id", "The feature's id is not that of the path.")
-        await apply(gateway, key, {"op": "replace", "collection": collectionId, "feature": feature})
+        edit = await Edit.begin(gateway, request, collectionId, featureId)
+        batch = await edit.batch("replace")
+        await edit.apply(batch.text)
         return Response(status_code=204)
 
 
@@ -158,8 +205,7 @@ def add_delete(router: APIRouter, gateway: Gateway) -> None:
         openapi_extra=openapi.edit(with_body=False),
     )
     async def delete(request: Request, collectionId: str, featureId: str) -> Response:
-        key = await begin(gateway, request)
-        if not is_feature_id(featureId):
-            raise not_found()
-        await apply(gateway, key, {"op": "delete", "collection": collectionId, "id": featureId})
+        edit = await Edit.begin(gateway, request, collectionId, featureId)
+        named = {"op": "delete", "collection": collectionId, "id": featureId}
+        await edit.apply(batch_text(edit.key, named))
         return Response(status_code=204)

@@ -6,8 +6,9 @@ geometry is read, carried over and written. What stands behind it is passed on a
 """
 
 import json
+import sys
+from collections import OrderedDict
 from dataclasses import dataclass
-from functools import lru_cache
 from typing import Any, NamedTuple
 
 from .geojson import compact, place_geometries
@@ -17,9 +18,12 @@ FEATURES, GEOMETRY, ID, LINKS = '{"features":[', '{"geometry":', ',"id":', '],"l
 # Stands between texts of geometries, none of which has it.
 BETWEEN = "|"
 DECODER = json.JSONDecoder()
-# So many pages of at most so many bytes are kept as they were placed. Where the server answers the
-# same bytes again, as to many clients that begin with the same page, they are not placed again.
-KEPT, KEPT_BYTES = 64, 1 << 18
+# Pages of at most PAGE_BYTES are kept as they were placed, the last KEPT_BYTES of them. If the
+# server answers the same bytes again, as to many clients that begin with the same page, they are
+# not placed again.
+PAGE_BYTES, KEPT_BYTES = 1 << 18, 1 << 24
+# What a page that is kept takes beside its texts.
+ENTRY_BYTES = 1 << 10
 
 Geometry = dict[str, Any] | None
 
@@ -56,15 +60,40 @@ class PlacedPage:
     goes_on: bool
 
 
+class KeptPages:
+    """The pages that were asked for last, with the bytes that the server answered."""
+
+    def __init__(self, most_bytes: int) -> None:
+        self.most_bytes = most_bytes
+        self.bytes = 0
+        self.pages: OrderedDict[tuple[bytes, System], PlacedPage] = OrderedDict()
+
+    def page(self, body: bytes, system: System) -> PlacedPage:
+        """The page that an answer holds, carried over; a ValueError where it holds none."""
+        key = body, system
+        page = self.pages.pop(key, None)
+        if page is None:
+            page = carried_page(body, system)
+            self.bytes += size_of(body, page)
+        self.pages[key] = page
+        while self.bytes > self.most_bytes:
+            (oldest, _), dropped = self.pages.popitem(last=False)
+            self.bytes -= size_of(oldest, dropped)
+        return page
+
+
+def size_of(body: bytes, page: PlacedPage) -> int:
+    """What a page takes in memory, nearly."""
+    return sys.getsizeof(body) + sys.getsizeof(page.text) + ENTRY_BYTES
+
+
+KEPT_PAGES = KeptPages(KEPT_BYTES)
+
+
 def placed_page(body: bytes, system: System) -> PlacedPage:
     """The page that an answer holds, carried over; a ValueError where it holds none."""
-    return kept_page(body, system) if len(body) <= KEPT_BYTES else carried_page(body, system)
-
-
-@lru_cache(maxsize=KEPT)
-def kept_page(body: bytes, system: System) -> PlacedPage:
-    """The same of a page that is kept."""
-    return carried_page(body, system)
+    is_small = len(body) <= PAGE_BYTES
+    return KEPT_PAGES.page(body, system) if is_small else carried_page(body, system)
 
 
 def carried_page(body: bytes, system: System) -> PlacedPage:

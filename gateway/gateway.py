@@ -1,4 +1,4 @@
-"""What all requests share: the settings, the reference systems and the pool to the server."""
+"""What all requests share: settings, reference systems, the pool to the server, and workers."""
 
 from dataclasses import dataclass
 
@@ -8,6 +8,7 @@ from .links import Links
 from .settings import Settings
 from .systems import Systems, make_systems
 from .tokens import Signer
+from .workers import Workers
 
 
 @dataclass(frozen=True)
@@ -20,15 +21,18 @@ class Gateway:
     links: Links
     signer: Signer
     access: Access
+    workers: Workers
 
     @classmethod
     def of(cls, settings: Settings) -> "Gateway":
         """The gateway of these settings, refused where its system cannot be served."""
+        systems = make_systems(settings)
         return cls(
             settings=settings,
-            systems=make_systems(settings),
+            systems=systems,
             client=ServerClient(settings.server, settings.connections),
             links=Links(settings.address),
             signer=Signer(settings.secret),
             access=Access(settings.writers),
+            workers=Workers(settings, systems),
         )

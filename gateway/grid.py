@@ -82,6 +82,15 @@ def nearest_step(steps: Decimal) -> int:
     return rounded(steps)
 
 
+def nearest_steps(values: Numbers) -> list[int]:
+    """The same of doubles, all of which are finite."""
+    whole = numpy.trunc(values)
+    # What is left of a double is exact.
+    steps = whole + numpy.where(numpy.abs(values - whole) >= 0.5, numpy.copysign(1, values), 0)
+    found: list[int] = steps.clip(-BOUND - 1, BOUND + 1).astype(numpy.int64).tolist()
+    return found
+
+
 def decimal_of(text: str) -> Decimal | None:
     """The number that a JSON text writes, exactly, where it has few enough digits."""
     if len(text) > LONGEST_NUMBER:

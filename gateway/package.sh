@@ -4,7 +4,7 @@ set -eu
 folder=$(mkdir -p "$1" && realpath "$1")
 root=$(dirname "$(dirname "$(realpath "$0")")")
 depends="python3 (>= 3.11), python3-fastapi, python3-httptools, python3-httpx"
-depends="$depends, python3-numpy, python3-pyproj, python3-shapely, python3-uvicorn, python3-uvloop"
+depends="$depends, python3-numpy, python3-pyproj, python3-uvicorn, python3-uvloop"
 version=$(sed -n 's/^VERSION = "\(.*\)"$/\1/p' "$root/gateway/openapi.py")
 tree=$(mktemp -d)
 trap 'rm -rf "$tree"' EXIT

@@ -7,10 +7,10 @@ short, and still has a `next`.
 from dataclasses import dataclass
 from functools import partial
 
-from .boxes import Region
+from .boxes import NOWHERE, Box, Region
 from .client import ServerClient
 from .features import Feature, placed_page, placed_texts
-from .meeting import meets
+from .meeting import meeting
 from .query import MOST, ItemsQuery
 from .systems import System
 
@@ -36,15 +36,27 @@ async def fill(
     client: ServerClient,
     collection: str,
     query: ItemsQuery,
-    region: Region | None,
+    box: Box | None,
     system: System,
 ) -> Filled:
-    """The page of a query in a reference system. `region` is that of its box, where it has one."""
+    """The page of a query in a reference system. `box` is that of the query, if it has one."""
+    region = None if box is None else await region_of(client, collection, box)
     if region is None or (region.is_exact and region.bounds is not None):
         return await exact_page(client, collection, query, region, system)
     if region.bounds is None:
         return await empty_page(client, collection, query)
     return await tested_page(client, collection, query, region, system)
+
+
+async def region_of(client: ServerClient, collection: str, box: Box) -> Region:
+    """What of a box can select a feature that the collection has now."""
+    if box.whole is not None:
+        return Region(box.whole)
+    shown = await client.collection(collection)
+    if "extent" not in shown:
+        return NOWHERE
+    west, south, east, north = shown["extent"]["spatial"]["bbox"][0]
+    return box.region((west, south, east, north))
 
 
 async def exact_page(
@@ -63,7 +75,7 @@ async def exact_page(
 async def empty_page(client: ServerClient, collection: str, query: ItemsQuery) -> Filled:
     """The page of a box beyond all features; the server judges the rest of the query."""
     await client.page(collection, server_query(query, None, 1, query.after))
-    return Filled("", 0, None, None)
+    return Filled("", 0, None, 0)
 
 
 async def tested_page(
@@ -88,7 +100,8 @@ async def tested_features(
         # Most features of the bounds meet the region, so the first page is mostly enough.
         size = min((query.limit + query.limit // SPARE) * GROWTH**number, MOST)
         page = await client.page(collection, server_query(query, region, size, after))
-        found += [feature for feature in page.features if meets(feature.geometry, region)]
+        is_met = meeting([feature.geometry for feature in page.features], region)
+        found += [feature for feature, meets in zip(page.features, is_met) if meets]
         if len(found) > query.limit:
             shown = found[: query.limit]
             return shown, shown[-1].id

@@ -3,6 +3,7 @@
 import http
 import json
 from collections.abc import Mapping
+from typing import Any
 
 from fastapi import Request
 from fastapi.responses import Response
@@ -31,6 +32,10 @@ class Problem(Exception):
         self.detail = detail
         self.cause = cause
         self.headers = dict(headers or {})
+
+    def __reduce__(self) -> tuple[Any, ...]:
+        """How a refusal is carried from one process to another."""
+        return Problem, (self.status, self.code, self.detail, self.cause, self.headers)
 
     def response(self) -> Response:
         members: dict[str, str | int] = {

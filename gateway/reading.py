@@ -112,9 +112,9 @@ def feature_routes(gateway: Gateway) -> APIRouter:
     async def items_page(request: Request, collectionId: str) -> Response:
         query = read_items_query(request, collectionId, systems, gateway.signer)
         box_system = systems.named(query.box_crs, "bad_bbox_crs")
-        region = box_system.box(query.bounds()) if query.box is not None else None
+        box = box_system.box(query.bounds()) if query.box is not None else None
         system = systems.named(query.crs, "bad_crs")
-        filled = await fill(gateway.client, collectionId, query, region, system)
+        filled = await fill(gateway.client, collectionId, query, box, system)
         members = page_members(gateway, collectionId, request, query, filled)
         text = f'{compact(members)[:-1]},"features":[{filled.text}]}}'
         return geojson_response(text, system)

@@ -15,8 +15,9 @@ import pyproj
 from pyproj.enums import TransformDirection
 from pyproj.transformer import Transformer
 
-from .boxes import DegreeBox, DegreeRegions, Region, office_region
-from .grid import PLACES, Grid, Numbers, double_of, nearest_doubles, nearest_step
+from .boxes import Box, DegreeBox, OfficeBox, World
+from .grid import PLACES, Grid, Numbers
+from .grid import double_of, nearest_doubles, nearest_step, nearest_steps
 from .operation import Operation, choose, read_system
 from .problems import Problem, bad_query
 from .reach import Reach, reach_of
@@ -49,8 +50,8 @@ class System(ABC):
         """The grid positions that are nearest, half away from zero."""
 
     @abstractmethod
-    def region(self, box: Sequence[Decimal]) -> Region:
-        """The region of a box: both lower bounds, then both upper ones, not in axis order."""
+    def own_box(self, bounds: Sequence[Decimal]) -> Box:
+        """The box of both lower bounds, then both upper ones, not in axis order."""
 
     def place(self, positions: Sequence[list[Any]]) -> None:
         """Carries positions of the server over, in place: in the order of the axes, heights
@@ -65,10 +66,10 @@ class System(ABC):
         """The nearest grid positions of pairs in the order of the axes."""
         return self.nearest([(b, a) for a, b in pairs] if self.second_first else pairs)
 
-    def box(self, bounds: Sequence[Decimal]) -> Region:
-        """The region of a box of a request, whose numbers are in the order of the axes."""
+    def box(self, bounds: Sequence[Decimal]) -> Box:
+        """The box of a request, whose numbers are in the order of the axes."""
         a0, b0, a1, b1 = bounds
-        return self.region((b0, a0, b1, a1) if self.second_first else (a0, b0, a1, b1))
+        return self.own_box((b0, a0, b1, a1) if self.second_first else (a0, b0, a1, b1))
 
 
 class OfficeSystem(System):
@@ -85,10 +86,10 @@ class OfficeSystem(System):
         easting, northing = self.grid.easting_steps, self.grid.northing_steps
         return [(nearest_step(easting(e)), nearest_step(northing(n))) for e, n in coordinates]
 
-    def region(self, box: Sequence[Decimal]) -> Region:
-        if box[0] > box[2] or box[1] > box[3]:
+    def own_box(self, bounds: Sequence[Decimal]) -> Box:
+        if bounds[0] > bounds[2] or bounds[1] > bounds[3]:
             raise bad_query("bad_bbox", "The lower bounds of the box are above the upper ones.")
-        return office_region(self.grid, box)
+        return OfficeBox(self.grid, bounds)
 
 
 class DegreeSystem(System):
@@ -96,10 +97,10 @@ class DegreeSystem(System):
 
     places = DEGREE_PLACES
 
-    def __init__(self, uri: str, second_first: bool, regions: DegreeRegions) -> None:
+    def __init__(self, uri: str, second_first: bool, world: World) -> None:
         super().__init__(uri, second_first)
-        self.regions = regions
-        self.operation = regions.operation
+        self.world = world
+        self.operation = world.operation
 
     def coordinates(self, positions: Sequence[Position]) -> Iterable[tuple[float, float]]:
         if not positions:
@@ -122,20 +123,17 @@ class DegreeSystem(System):
         if not (numpy.isfinite(x).all() and numpy.isfinite(y).all()):
             detail = "A position has no coordinates in the system of the server."
             raise Problem(400, "not_placed", detail)
-        return [
-            (nearest_step(Decimal(a)), nearest_step(Decimal(b)))
-            for a, b in zip(x.tolist(), y.tolist())
-        ]
+        return list(zip(nearest_steps(x), nearest_steps(y)))
 
-    def region(self, box: Sequence[Decimal]) -> Region:
-        first = numpy.array([float(box[0]), float(box[2])])
-        second = numpy.array([float(box[1]), float(box[3])])
+    def own_box(self, bounds: Sequence[Decimal]) -> Box:
+        first = numpy.array([float(bounds[0]), float(bounds[2])])
+        second = numpy.array([float(bounds[1]), float(bounds[3])])
         (west, east), (south, north) = (each.tolist() for each in self.to_degrees(first, second))
         if south > north:
             raise bad_query("bad_bbox", "The lower bounds of the box are above the upper ones.")
         if max(abs(west), abs(east)) > 720:
             raise bad_query("bad_bbox", "The box is beyond the world.")
-        return self.regions.region(DegreeBox(west, south, east, north))
+        return DegreeBox(self.world, west, south, east, north)
 
     def of_degrees(self, longitude: Numbers, latitude: Numbers) -> tuple[Numbers, Numbers]:
         return longitude, latitude
@@ -150,8 +148,8 @@ class MercatorSystem(DegreeSystem):
 
     places = METRE_PLACES
 
-    def __init__(self, uri: str, regions: DegreeRegions) -> None:
-        super().__init__(uri, False, regions)
+    def __init__(self, uri: str, world: World) -> None:
+        super().__init__(uri, False, world)
         self.mercator = Transformer.from_crs("OGC:CRS84", "EPSG:3857", always_xy=True)
 
     def of_degrees(self, longitude: Numbers, latitude: Numbers) -> tuple[Numbers, Numbers]:
@@ -191,13 +189,13 @@ def make_systems(settings: Settings) -> Systems:
     grid = Grid.at(settings.easting, settings.northing)
     operation = Operation(choose(crs, settings.operation), grid)
     reach = reach_of(operation, crs)
-    regions = DegreeRegions(operation, reach)
+    world = World(operation, reach)
     northing_first = crs.axis_info[0].direction == "north"
     office = OfficeSystem(f"{EPSG}{crs.to_epsg()}", northing_first, grid)
     others = [
-        DegreeSystem(CRS84, False, regions),
-        DegreeSystem(f"{EPSG}4326", True, regions),
-        MercatorSystem(f"{EPSG}3857", regions),
+        DegreeSystem(CRS84, False, world),
+        DegreeSystem(f"{EPSG}4326", True, world),
+        MercatorSystem(f"{EPSG}3857", world),
     ]
     by_uri = {system.uri: system for system in [*others, office]}
     return Systems(by_uri, office, operation, reach)
