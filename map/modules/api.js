@@ -60,6 +60,7 @@ async function fetched(target, options, seconds) {
   const give = () => late.abort();
   options.signal?.addEventListener("abort", give);
   try {
+    /** @type {RequestInit} */
     const settings = { cache: "no-store", redirect: "error", credentials: "same-origin" };
     const response = await fetch(target, { ...options, ...settings, signal: late.signal });
     return { status: response.status, json: ownJson(response, await response.text()) };
@@ -158,6 +159,22 @@ export async function readFeature(collection, id) {
     if (fault instanceof Refusal && fault.status === 404) return null;
     throw fault;
   }
+}
+
+/**
+ * Asks whether the server accepted a batch under a key. What is sent for that is refused either
+ * way and changes nothing: a key that was used, before the edit is read; else the edit, since
+ * there is no such collection.
+ * @param {string} key
+ * @returns {Promise<boolean>}
+ */
+export async function knowsKey(key) {
+  const collection = `unknown-${crypto.randomUUID()}`;
+  const edits = [{ op: "delete", collection, id: "unknown" }];
+  const { status, json } = await postBatch(JSON.stringify({ key, edits }));
+  if (json?.code === "key_used") return true;
+  if (json?.code === "no_collection") return false;
+  throw new NoAnswer(`The server did not answer (${status}).`, status);
 }
 
 /**

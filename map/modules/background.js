@@ -10,13 +10,14 @@ import { toPlace } from "./layers.js";
 
 export class BackgroundImage {
   #map;
+  /** @type {L.Layer | null} */
   #layer = null;
   #made = "";
 
   /** @param {L.Map} map */
   constructor(map) {
     this.#map = map;
-    map.createPane("background").style.zIndex = 250;
+    map.createPane("background").style.zIndex = "250";
   }
 
   /**

@@ -10,7 +10,7 @@
  * @property {Feature | null} base the copy that was edited; null where the feature is new
  */
 import { changed } from "./channel.js";
-import { isSame } from "./feature.js";
+import { isSame, textOf } from "./feature.js";
 import { readAll, result, transact } from "./store.js";
 
 /**
@@ -25,6 +25,7 @@ export function joined(first, second) {
   const { feature } = second;
   if (!base && !feature) return null;
   const op = !base ? "insert" : feature ? "replace" : "delete";
+  /** @type {Edit} */
   const edit = { ...second, op, base, feature };
   return isIdle(edit) ? null : edit;
 }
@@ -58,17 +59,47 @@ export async function putInto(basket, edit) {
 }
 
 /**
+ * @param {IDBObjectStore} basket
+ * @param {IDBObjectStore} queue
+ * @param {Edit} edit
+ * @returns {Promise<Edit | undefined>} the last edit of the same feature that is still to come
+ */
+async function pendingEdit(basket, queue, { collection, id }) {
+  const isSameFeature = (it) => it.collection === collection && it.id === id;
+  const batches = await result(queue.getAll());
+  const queued = batches.flatMap(({ edits }) => edits).findLast(isSameFeature);
+  return (await result(basket.get([collection, id]))) ?? queued;
+}
+
+/**
+ * @param {Edit | null | undefined} edit
+ * @returns {string} a text that two edits of a feature share if they do the same
+ */
+export function editKey(edit) {
+  return edit ? `${edit.op} ${textOf(edit.feature)}` : "";
+}
+
+/**
  * Puts an edit into the basket, over one of the same feature that is there.
  * @param {Edit} edit
+ * @param {string} [known] the key of the edit that the user saw there; any one if it is left out
+ * @returns {Promise<Edit | null>} null if it was put in; else the edit that another tab made, and
+ *   nothing was changed
  */
-export async function putInBasket(edit) {
-  await transact(["basket"], "readwrite", (basket) => putInto(basket, edit));
-  changed("basket");
+export async function putInBasket(edit, known) {
+  const other = await transact(["basket", "queue"], "readwrite", async (basket, queue) => {
+    const found = known === undefined ? undefined : await pendingEdit(basket, queue, edit);
+    if (found && editKey(found) !== known) return found;
+    await putInto(basket, edit);
+    return null;
+  });
+  if (!other) changed("basket");
+  return other;
 }
 
 /**
  * Takes an edit out of the basket: the feature is again as it was.
- * @param {Edit} edit
+ * @param {Pick<Edit, "collection" | "id">} edit
  */
 export async function takeOutOfBasket({ collection, id }) {
   await transact(["basket"], "readwrite", (basket) => result(basket.delete([collection, id])));

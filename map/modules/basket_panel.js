@@ -2,33 +2,38 @@
  * @file The panel of the basket: what each edit is, and saving.
  */
 import { takeOutOfBasket } from "./basket.js";
+import { cut, readUser, userOf } from "./batch.js";
 import { announce, askInDialog, button, element, renew } from "./element.js";
 import { differences } from "./feature.js";
-import { cut, saveBasket, userOf } from "./queue.js";
+import { saveBasket } from "./queue.js";
 import { readSetting, writeSetting } from "./store.js";
 import { counted, editText } from "./texts.js";
 
 /**
- * @returns {Promise<string | null>} the name that stands in keys; asked once
+ * @returns {Promise<string | null>} the name that is in keys; asked once
  */
 export async function askUser() {
   const known = await readSetting("user");
   if (known) return known;
-  const field = element("input", { id: "user", autocomplete: "username", maxlength: 60 });
+  const kept = element("p", { class: "note", role: "status" });
+  const show = () => {
+    const user = userOf(field.value);
+    kept.textContent = user && user !== field.value ? `In keys it is ${user}.` : "";
+  };
+  const attributes = { id: "user", autocomplete: "username", maxlength: 60, oninput: show };
+  const field = element("input", attributes);
   const note =
-    "It stands in the key of each batch, so that the office sees who sent it. " +
+    "It is in the key of each batch, so that the office sees who sent it. " +
     "Whether you may send is decided by the server.";
-  const name = await askInDialog(
+  const user = await askInDialog(
     "Your name",
     [
       element("p", {}, note),
-      element("p", { class: "field" }, element("label", { for: "user" }, "Name"), field),
+      element("p", { class: "field" }, element("label", { for: "user" }, "Name"), field), kept,
     ],
-    [{ text: "Save", value: () => field.value }, { text: "Cancel", value: null }],
+    [{ text: "Save", value: () => readUser(field.value) }, { text: "Cancel", value: null }],
   );
-  const user = name === null ? "" : userOf(name);
-  if (!user) return null;
-  await writeSetting("user", user);
+  if (user !== null) await writeSetting("user", user);
   return user;
 }
 

@@ -42,7 +42,8 @@ export class CollectionsPanel {
     const [from, to] = ["from", "to"].map((name) =>
       element("input", { type: "date", id: `filter-${name}` }),
     );
-    [this.from, this.to] = [from, to];
+    this.from = from;
+    this.to = to;
     const filter = () => onFilter(from.value, to.value);
     for (const field of [from, to]) field.addEventListener("change", filter);
     const clear = button("All times", () => {
@@ -94,7 +95,7 @@ export class CollectionsPanel {
   show() {
     const { collections, off, counts } = this.#view;
     this.#list.replaceChildren(
-      ...collections.map(({ id, title }, place) => this.#row(id, title, place, off, counts)),
+      ...collections.map(({ id, title }) => this.#row(id, title, off, counts)),
     );
     if (collections.length > 0) return;
     this.#list.append(element("li", {}, "There is no collection yet."));
@@ -102,7 +103,9 @@ export class CollectionsPanel {
 
   /** Shows the counts of now. */
   showCounts() {
-    for (const row of this.#list.querySelectorAll("li[data-id]")) {
+    /** @type {NodeListOf<HTMLElement>} */
+    const rows = this.#list.querySelectorAll("li[data-id]");
+    for (const row of rows) {
       const count = this.#view.counts.get(row.dataset.id);
       row.querySelector(".count").textContent = countText(
         this.#view.off.has(row.dataset.id) ? undefined : count,
@@ -110,7 +113,7 @@ export class CollectionsPanel {
     }
   }
 
-  #row(id, title, place, off, counts) {
+  #row(id, title, off, counts) {
     const box = element("input", {
       type: "checkbox",
       role: "switch",
@@ -124,15 +127,18 @@ export class CollectionsPanel {
     const count = countText(off.has(id) ? undefined : counts.get(id));
     return element(
       "li", { "data-id": id },
-      element("label", {}, box, element("span", { class: `swatch collection-${place % 8}` }),
-        element("span", { class: "title" }, title)),
+      element(
+        "label", {}, box,
+        element("span", { class: `swatch ${this.#view.palette.nameOf(id)}` }),
+        element("span", { class: "title" }, title),
+      ),
       element("span", { class: "count" }, count),
     );
   }
 }
 
 /**
- * @param {Map<string, import("./loader.js").Count & {problem: string}>} counts
+ * @param {Map<string, import("./loader.js").Count>} counts
  * @param {(moment: number) => string} clock
  * @returns {{text: string, isProblem: boolean}} what is to be known of the view as a whole
  */

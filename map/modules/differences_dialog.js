@@ -10,9 +10,10 @@ import { sides } from "./texts.js";
 /**
  * @param {import("./basket.js").Edit} edit
  * @param {import("./feature.js").Feature | null} theirs
- * @returns {HTMLElement} what was, what is there now and what the edit makes of it
+ * @param {string[]} [names] of what was, of what the edit makes of it, and of what is there now
+ * @returns {HTMLElement}
  */
-function comparison(edit, theirs) {
+function comparison(edit, theirs, names = ["It was", "Mine", "Theirs"]) {
   const whats = new Map();
   const add = (list) => list.forEach(({ what }) => whats.set(what, true));
   add(differences(edit.base, edit.feature));
@@ -31,8 +32,7 @@ function comparison(edit, theirs) {
       ...[edit.base, edit.feature, theirs].map((feature) => element("td", {}, cell(feature, what))),
     ),
   );
-  const titles = ["", "It was", "Mine", "Theirs"];
-  const head = titles.map((text) => element("th", { scope: "col" }, text));
+  const head = ["", ...names].map((text) => element("th", { scope: "col" }, text));
   return element(
     "div", { class: "scrolled", tabindex: 0, role: "group", "aria-label": "Comparison" },
     element(
@@ -69,6 +69,29 @@ function choices(edit, theirs) {
     replace: theirs ? "Keep mine" : "Put mine back",
   };
   return [leave, { text: texts[edit.op], value: "mine" }, drop];
+}
+
+/**
+ * Asks whether an edit replaces the one that another tab made meanwhile.
+ * @param {import("./basket.js").Edit} edit
+ * @param {import("./basket.js").Edit} other
+ * @returns {Promise<"this" | "other" | null>} null if the user goes on editing
+ */
+export function askBetweenTabs(edit, other) {
+  const text = "Another tab of this page has edited it since this form was opened.";
+  const base = edit.base ?? other.base;
+  return askInDialog(
+    edit.id,
+    [
+      element("p", {}, text),
+      comparison({ ...edit, base }, other.feature, ["It was", "This form", "The other tab"]),
+    ],
+    [
+      { text: "Go on editing", value: null },
+      { text: "Take this form", value: "this" },
+      { text: "Take the other tab", value: "other" },
+    ],
+  );
 }
 
 /**

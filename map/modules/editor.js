@@ -4,26 +4,32 @@
  *
  * @typedef {import("./feature.js").Feature} Feature
  * @typedef {import("./basket.js").Edit} Edit
+ * @typedef {import("./geometry.js").Geometry} Geometry
+ * @typedef {"Point" | "LineString" | "Polygon"} Drawn
+ * @typedef {Map<string, string>} Kinds the names of properties in a collection, and their kinds
  */
-import { Shape, Sketch } from "./draw.js";
-import { announce, button, element } from "./element.js";
+import { announce, button, element, takeBack } from "./element.js";
 import { isId, isSame } from "./feature.js";
-import { describe, metres, paths, readMetres } from "./geometry.js";
+import { describe, paths } from "./geometry.js";
+import { positionFields, typedPosition } from "./positions_form.js";
 import { PropertiesEditor } from "./properties.js";
+import { Shape } from "./shape.js";
+import { Sketch } from "./sketch.js";
 import { counted } from "./texts.js";
 
 const STEPS = { 1: "1 mm", 10: "1 cm", 100: "10 cm", 1000: "1 m", 10000: "10 m" };
+/** @type {Record<Drawn, "point" | "line" | "ring">} */
 const KINDS = { Point: "point", LineString: "line", Polygon: "ring" };
 const NAMES = { Point: "point", LineString: "line", Polygon: "polygon" };
-/** How many positions the table shows. */
-const MOST_ROWS = 200;
-/** Up to so many, they are shown at once. */
+/** Up to this number of positions, they are shown at once. */
 const OPEN_ROWS = 16;
+const HOW = "Press on the map, or Enter there for its middle, or type metres.";
 
 export class Editor {
   #view;
   #panel;
-  #listener;
+  #kindsOf;
+  #onCancel;
   /** @type {Sketch | null} */
   sketch = null;
   /** @type {Shape | null} */
@@ -32,12 +38,13 @@ export class Editor {
   /**
    * @param {import("./view.js").View} view
    * @param {HTMLElement} panel where the form is shown
-   * @param {{onDone: (edit: Edit) => void, onCancel: () => void}} listener
+   * @param {{kindsOf: (collection: string) => Kinds, onCancel: () => void}} listener
    */
-  constructor(view, panel, listener) {
+  constructor(view, panel, { kindsOf, onCancel }) {
     this.#view = view;
     this.#panel = panel;
-    this.#listener = listener;
+    this.#kindsOf = kindsOf;
+    this.#onCancel = onCancel;
   }
 
   /** @returns {boolean} whether the form is shown */
@@ -45,38 +52,44 @@ export class Editor {
     return this.#panel.querySelector("form.editor") !== null;
   }
 
+  /** Whether something was typed into the form. */
+  #isTyped = false;
+
   /** @returns {boolean} whether something would be lost if the form were closed */
   get isBegun() {
-    return this.isOpen && !(this.sketch?.positions.length === 0 && !this.shape);
+    const isEmpty = this.sketch?.positions.length === 0 && !this.shape && !this.#isTyped;
+    return this.isOpen && !isEmpty;
   }
 
   /**
    * Makes a new feature.
-   * @param {"Point" | "LineString" | "Polygon"} type
+   * @param {Drawn} type
    * @param {string} collection the one that is offered first
-   * @param {(collection: string) => string[]} namesOf names of properties in a collection
+   * @param {(edit: Edit) => Promise<void>} take closes the form if it takes the edit
    */
-  begin(type, collection, namesOf) {
+  begin(type, collection, take) {
     this.stop();
     const { collections } = this.#view;
     const options = collections.map(({ id, title }) => element("option", { value: id }, title));
-    this.collection = element("select", { id: "edit-collection" }, ...options);
-    this.collection.value = collection;
-    this.id = element(
+    const offer = () => this.properties.offer(this.#kindsOf(chosen.value));
+    const chosen = element("select", { id: "edit-collection", onchange: offer }, ...options);
+    chosen.value = collection;
+    const field = element(
       "input",
       { id: "edit-id", value: crypto.randomUUID(), maxlength: 128, required: true },
     );
     const head = [
-      element("label", { for: "edit-collection" }, "Collection"), this.collection,
-      element("label", { for: "edit-id" }, "Id"), this.id,
+      element("label", { for: "edit-collection" }, "Collection"), chosen,
+      element("label", { for: "edit-id" }, "Id"), field,
     ];
     const finish = (geometry, properties) => {
-      const [chosen, id] = [this.collection.value, this.id.value];
+      const id = field.value;
       if (!isId(id)) throw new Error("An id has 1 to 128 bytes and no control characters.");
+      /** @type {Feature} */
       const feature = { type: "Feature", id, geometry, properties };
-      return { op: "insert", collection: chosen, id, feature, base: null };
+      return take({ op: "insert", collection: chosen.value, id, feature, base: null });
     };
-    this.#open(`New ${NAMES[type]}`, head, null, finish, namesOf(collection));
+    this.#open(`New ${NAMES[type]}`, head, null, finish, this.#kindsOf(collection));
     this.#draw(type);
   }
 
@@ -84,17 +97,21 @@ export class Editor {
    * Changes a feature.
    * @param {string} collection
    * @param {Feature} feature as it is now
-   * @param {string[]} names of properties that others have
-   * @param {(edit: Edit) => Edit | null} [fit] makes of the edit what is wanted
+   * @param {(edit: Edit) => Promise<void>} take closes the form if it takes the edit
    */
-  change(collection, feature, names, fit = (edit) => edit) {
+  change(collection, feature, take) {
     this.stop();
     const { id } = feature;
     const finish = (geometry, properties) => {
+      /** @type {Feature} */
       const edited = { type: "Feature", id, geometry, properties };
-      return fit({ op: "replace", collection, id, feature: edited, base: feature });
+      if (isSame(edited, feature)) {
+        announce("Nothing was changed.");
+        return this.cancel();
+      }
+      return take({ op: "replace", collection, id, feature: edited, base: feature });
     };
-    this.#open(`Edit ${id}`, [], feature, finish, names);
+    this.#open(`Edit ${id}`, [], feature, finish, this.#kindsOf(collection));
     if (feature.geometry) this.#adjust(feature.geometry);
     else this.#offerKinds();
   }
@@ -103,19 +120,22 @@ export class Editor {
    * @param {string} title
    * @param {HTMLElement[]} head
    * @param {Feature | null} feature
-   * @param {(geometry: object | null, properties: object | null) => Edit} finish
-   * @param {string[]} names
+   * @param {(geometry: Geometry | null, properties: object | null) => Promise<void> | void} finish
+   * @param {Kinds} kinds
    */
-  #open(title, head, feature, finish, names) {
+  #open(title, head, feature, finish, kinds) {
     this.geometry = element("div", { class: "geometry" });
-    this.properties = new PropertiesEditor(feature?.properties ?? null, names);
+    this.properties = new PropertiesEditor(feature?.properties ?? null, kinds);
     this.problem = element("p", { class: "problem", role: "alert" });
     const done = (event) => {
       event.preventDefault();
-      this.#done(feature, finish);
+      this.#done(finish);
     };
+    this.#isTyped = false;
+    // Another collection alone is nothing that would be lost.
+    const typed = ({ target }) => (this.#isTyped ||= target.id !== "edit-collection");
     const form = element(
-      "form", { class: "editor", onsubmit: done },
+      "form", { class: "editor", onsubmit: done, oninput: typed },
       element(
         "div", { class: "fields" },
         element("h2", { tabindex: -1 }, title), ...head,
@@ -132,38 +152,45 @@ export class Editor {
   }
 
   /**
-   * @param {Feature | null} feature
-   * @param {(geometry: object | null, properties: object | null) => Edit} finish
+   * Hands the edit on, which closes the form unless it is not taken.
+   * @param {(geometry: Geometry | null, properties: object | null) => Promise<void> | void} finish
    */
-  #done(feature, finish) {
+  async #done(finish) {
     this.problem.textContent = "";
     try {
       if (this.sketch?.isEnough) this.sketch.finish();
       if (this.sketch) throw new Error("The geometry is not finished.");
       const properties = this.properties.value();
-      const edit = finish(this.shape?.geometry ?? null, properties);
-      if (feature && edit && isSame(edit.feature, feature)) announce("Nothing was changed.");
-      this.stop();
-      this.#listener.onDone(edit);
+      await finish(this.shape?.geometry ?? null, properties);
     } catch (fault) {
       this.problem.textContent = fault.message;
     }
   }
 
+  /** Closes the form without an edit. */
   cancel() {
+    this.close();
+    this.#onCancel();
+  }
+
+  /** Takes the form away. */
+  close() {
     this.stop();
-    this.#listener.onCancel();
+    this.#panel.replaceChildren();
   }
 
   /** Ends drawing; the form stays. */
   stop() {
+    takeBack(HOW);
     this.sketch?.stop();
     this.shape?.stop();
     [this.sketch, this.shape] = [null, null];
   }
 
   #offerKinds() {
-    const offers = Object.keys(KINDS).map((type) =>
+    /** @type {Drawn[]} */
+    const types = ["Point", "LineString", "Polygon"];
+    const offers = types.map((type) =>
       button(`Draw a ${NAMES[type]}`, () => this.#draw(type)),
     );
     this.geometry.replaceChildren(
@@ -174,7 +201,7 @@ export class Editor {
 
   /**
    * Lets a geometry be drawn from its first position on.
-   * @param {"Point" | "LineString" | "Polygon"} type
+   * @param {Drawn} type
    */
   #draw(type) {
     this.#sketch(KINDS[type], (positions) => {
@@ -192,17 +219,15 @@ export class Editor {
       onChange: () => show(),
       onDone: (positions) => {
         this.sketch = null;
+        takeBack(HOW);
         onDone(positions);
       },
     });
     const { sketch } = this;
     const count = element("p", { role: "status" });
-    const [x, y] = ["East", "North"].map((name) => this.#metresField(name, ""));
-    const typed = button("Add", () => {
-      const position = [readMetres(x.value), readMetres(y.value)];
-      const isRight = !position.includes(null);
-      this.problem.textContent = isRight ? "" : "East and north are metres of the grid.";
-      if (isRight) sketch.add(position);
+    const typed = typedPosition((position) => {
+      this.problem.textContent = position ? "" : "East and north are metres of the grid.";
+      if (position) sketch.add(position);
     });
     const finish = button("Finish", () => sketch.finish(), { class: "finish" });
     const back = button("Remove last", () => sketch.removeLast());
@@ -213,37 +238,35 @@ export class Editor {
       back.disabled = length === 0;
     };
     show();
-    const how = "Press on the map, or Enter there for its middle, or type metres.";
     this.geometry.replaceChildren(
-      element("p", {}, how),
-      element("p", { class: "typed" }, x, y, typed), count,
+      element("p", {}, HOW),
+      typed, count,
       ...(kind === "point" ? [] : [element("p", { class: "buttons" }, finish, back)]),
     );
-    announce(how);
+    announce(HOW);
   }
 
   /**
    * Lets the positions of a geometry be moved.
-   * @param {object} geometry
+   * @param {Geometry} geometry
    */
   #adjust(geometry) {
     this.shape?.stop();
-    this.shape = new Shape(this.#view.map, geometry, () => show());
+    const handles = element("p", { class: "note", role: "status" });
+    this.shape = new Shape(this.#view.map, geometry, {
+      onChange: () => show(),
+      onHandles: (inView, shown) => {
+        const text = `${counted(inView, "position", "positions")} in view: zoom in to move one.`;
+        handles.textContent = shown < inView ? text : "";
+      },
+    });
     const { shape } = this;
     const count = paths(geometry).reduce((sum, { positions }) => sum + positions.length, 0);
     const words = element("p", { class: "described" });
-    const steps = Object.entries(STEPS);
-    const options = steps.map(([value, text]) => element("option", { value }, text));
-    const step = element(
-      "select",
-      { id: "step", onchange: () => (shape.step = Number(step.value)) },
-      ...options,
-    );
-    step.value = String(shape.step);
     const table = element("div", { class: "positions" });
     const show = () => {
       words.textContent = describe(shape.geometry);
-      if (!table.contains(document.activeElement)) table.replaceChildren(...this.#positions(shape));
+      if (!table.contains(document.activeElement)) table.replaceChildren(...positionFields(shape));
     };
     show();
     const hole = () => this.#sketch("ring", (positions) => {
@@ -251,13 +274,7 @@ export class Editor {
       this.#adjust(shape.geometry);
     });
     this.geometry.replaceChildren(
-      words,
-      element(
-        "p",
-        { class: "field" },
-        element("label", { for: "step" }, "Arrow keys move by"),
-        step,
-      ),
+      words, handles, stepField(shape),
       shape.geometry.type === "Polygon"
         ? element("p", { class: "buttons" }, button("Add a hole", hole))
         : "",
@@ -265,76 +282,18 @@ export class Editor {
         element("summary", {}, "Positions in metres"), table),
     );
   }
+}
 
-  /**
-   * @param {string} name
-   * @param {string} value
-   * @returns {HTMLInputElement}
-   */
-  #metresField(name, value) {
-    return element(
-      "input",
-      {
-        value,
-        inputmode: "decimal",
-        placeholder: name,
-        "aria-label": `${name} in metres`,
-        class: "metres",
-      },
-    );
-  }
-
-  /**
-   * @param {Shape} shape
-   * @returns {HTMLElement[]} the positions in fields, path by path
-   */
-  #positions(shape) {
-    const all = paths(shape.geometry);
-    const total = all.reduce((sum, { positions }) => sum + positions.length, 0);
-    if (total > MOST_ROWS) return [element("p", {}, `${total} positions: move them on the map.`)];
-    return all.map((path, place) => {
-      const last = path.kind === "ring" ? path.positions.length - 1 : path.positions.length;
-      const shown = path.positions.slice(0, last);
-      const rows = shown.map((_, index) => this.#position(shape, path, index));
-      const title = path.kind === "ring" ? `Ring ${place + 1}` : `Part ${place + 1}`;
-      return element(
-        "fieldset",
-        {},
-        element("legend", { class: all.length > 1 ? null : "hidden" }, title),
-        ...rows,
-      );
-    });
-  }
-
-  /**
-   * @param {Shape} shape
-   * @param {import("./geometry.js").Path} path
-   * @param {number} index
-   */
-  #position(shape, path, index) {
-    const fields = ["East", "North"].map((name, axis) =>
-      this.#metresField(`${name} ${index + 1}`, metres(path.positions[index][axis])),
-    );
-    const set = () => {
-      const position = fields.map(({ value }) => readMetres(value));
-      for (const [axis, field] of fields.entries()) {
-        field.setAttribute("aria-invalid", String(position[axis] === null));
-      }
-      if (position.includes(null)) return;
-      shape.set(path, index, position);
-      shape.changed();
-    };
-    for (const field of fields) field.addEventListener("change", set);
-    const remove = button(
-      "×",
-      () => shape.remove(path, index),
-      { class: "small", "aria-label": `Remove position ${index + 1}` },
-    );
-    return element(
-      "p",
-      { class: "typed" },
-      ...fields,
-      path.positions.length > path.least ? remove : null,
-    );
-  }
+/**
+ * @param {Shape} shape
+ * @returns {HTMLElement} by how much arrow keys move its positions
+ */
+function stepField(shape) {
+  const steps = Object.entries(STEPS);
+  const options = steps.map(([value, text]) => element("option", { value }, text));
+  const choose = () => (shape.step = Number(step.value));
+  const step = element("select", { id: "step", onchange: choose }, ...options);
+  step.value = String(shape.step);
+  const label = element("label", { for: "step" }, "Arrow keys move by");
+  return element("p", { class: "field" }, label, step);
 }

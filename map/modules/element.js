@@ -8,10 +8,11 @@ const MESSAGE_SECONDS = 12;
 let silence = 0;
 
 /**
- * @param {string} name
+ * @template {keyof HTMLElementTagNameMap} Name
+ * @param {Name} name
  * @param {Record<string, any>} [attributes] a function is a listener, false and null are left out
  * @param {...(Node | string | null | false | undefined)} children
- * @returns {HTMLElement & Record<string, any>}
+ * @returns {HTMLElementTagNameMap[Name]}
  */
 export function element(name, attributes = {}, ...children) {
   const made = document.createElement(name);
@@ -20,9 +21,8 @@ export function element(name, attributes = {}, ...children) {
     else if (value === true) made.setAttribute(attribute, "");
     else if (value !== false && value != null) made.setAttribute(attribute, String(value));
   }
-  made.append(
-    ...children.filter((child) => child !== null && child !== undefined && child !== false),
-  );
+  const isThere = (child) => child !== null && child !== undefined && child !== false;
+  made.append(.../** @type {(Node | string)[]} */ (children.filter(isThere)));
   return made;
 }
 
@@ -30,7 +30,7 @@ export function element(name, attributes = {}, ...children) {
  * @param {string} text
  * @param {() => void} onclick
  * @param {Record<string, any>} [attributes]
- * @returns {HTMLElement}
+ * @returns {HTMLButtonElement}
  */
 export function button(text, onclick, attributes = {}) {
   return element("button", { type: "button", onclick, ...attributes }, text);
@@ -53,7 +53,9 @@ export function byId(id) {
 export function renew(parent, ...children) {
   const nameOf = (it) => `${it.getAttribute("aria-label") ?? ""} ${it.textContent}`;
   const focused = parent.contains(document.activeElement) ? document.activeElement : null;
-  const place = focused && [...parent.querySelectorAll("button")].indexOf(focused);
+  /** @type {Element[]} */
+  const before = [...parent.querySelectorAll("button")];
+  const place = focused && before.indexOf(focused);
   parent.replaceChildren(...children);
   if (!focused || focused === parent) return;
   const buttons = [...parent.querySelectorAll("button")];
@@ -72,23 +74,38 @@ export function announce(text) {
 }
 
 /**
+ * Takes a message away that holds no longer, unless another one came since.
+ * @param {string} text
+ */
+export function takeBack(text) {
+  if (byId("message").textContent === text) announce("");
+}
+
+/**
  * Asks in a dialog.
  * @param {string} title
  * @param {(Node | string)[]} content
- * @param {{text: string, value: any, class?: string}[]} answers the first is the usual one
- * @returns {Promise<any>} the value of the answer, or null where the dialog was left
+ * @param {{text: string, value: any, class?: string}[]} answers the first is the usual one; a value
+ *   that is a function returns the value, or throws what is wrong, and then the dialog stays
+ * @returns {Promise<any>} the value of the answer, or null if the dialog was left
  */
 export function askInDialog(title, content, answers) {
   return new Promise((resolve) => {
     let result = null;
+    const problem = element("p", { class: "problem", role: "alert" });
     const close = (value) => {
-      result = value;
-      dialog.close();
+      try {
+        result = typeof value === "function" ? value() : value;
+        dialog.close();
+      } catch (fault) {
+        problem.textContent = fault.message;
+      }
     };
+    const hasInput = (part) => part instanceof Element && part.querySelector("input") !== null;
     const buttons = answers.map(({ text, value, class: name }, index) =>
-      button(text, () => close(typeof value === "function" ? value() : value), {
+      button(text, () => close(value), {
         class: name ?? (index === 0 ? "main" : null),
-        autofocus: index === 0 && !content.some((part) => part.querySelector?.("input")),
+        autofocus: index === 0 && !content.some(hasInput),
       }),
     );
     const dialog = element(
@@ -96,10 +113,11 @@ export function askInDialog(title, content, answers) {
       { "aria-labelledby": "dialog-title" },
       element("h2", { id: "dialog-title" }, title),
       ...content,
+      problem,
       element("p", { class: "buttons" }, ...buttons),
     );
     dialog.addEventListener("keydown", (event) => {
-      if (event.key === "Enter" && event.target.matches("input")) {
+      if (event.key === "Enter" && event.target instanceof HTMLInputElement) {
         event.preventDefault();
         buttons[0].click();
       }

@@ -95,5 +95,5 @@ function own(properties, name) {
  */
 export function isId(id) {
   const bytes = new TextEncoder().encode(id).length;
-  return bytes >= 1 && bytes <= 128 && !/[\u0000-\u001f\u007f-\u009f]/.test(id);
+  return bytes >= 1 && bytes <= 128 && !/\p{Cc}/u.test(id);
 }

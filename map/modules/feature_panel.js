@@ -50,7 +50,7 @@ async function copy(text) {
  * @param {HTMLElement} panel
  * @param {object} shown
  * @param {string} shown.title of the collection
- * @param {number} shown.place of the collection
+ * @param {string} shown.colour the name of the collection's colour
  * @param {string} shown.collection
  * @param {import("./feature.js").Feature} shown.feature
  * @param {import("./pending.js").Pending} [shown.pending]
@@ -61,7 +61,7 @@ async function copy(text) {
  *   onSelect: (collection: string, id: string) => void}} listener
  */
 export function showFeature(panel, shown, listener) {
-  const { title, place, feature, pending, seen, earth, others } = shown;
+  const { title, colour, feature, pending, seen, earth, others } = shown;
   const { id, geometry, properties } = feature;
   const isGone = pending?.edit.op === "delete";
   const middle = middleOf(geometry);
@@ -75,7 +75,7 @@ export function showFeature(panel, shown, listener) {
     element(
       "p",
       { class: "of" },
-      element("span", { class: `swatch collection-${place % 8}` }),
+      element("span", { class: `swatch ${colour}` }),
       title,
     ),
     pending ? element("p", { class: `mark mark-${pending.mark}` }, pendingText(pending)) : "",

@@ -38,7 +38,7 @@ function inMetres(length) {
  */
 export function addGrid(map) {
   const pane = map.createPane("grid");
-  pane.style.zIndex = 390;
+  pane.style.zIndex = "390";
   pane.style.pointerEvents = "none";
   const renderer = L.canvas({ pane: "grid", padding: 0 });
   const group = L.layerGroup().addTo(map);

@@ -10,7 +10,8 @@
  * @property {Feature} feature
  * @property {import("./geometry.js").Box | null} box
  * @property {{mark: Mark, op: string} | null} pending
- * @property {object[]} drawn the layers of Leaflet
+ * @property {L.Path[]} drawn the layers of Leaflet
+ * @typedef {{line: L.Style, area: L.Style, point: L.Style}} Styles how a feature is drawn
  */
 import * as L from "../leaflet/leaflet.esm.js";
 import { colour } from "./colours.js";
@@ -40,9 +41,11 @@ export class Layers {
   /** @type {Map<string, Shown>} */
   shown = new Map();
   #map;
+  /** @type {Record<string, L.Renderer>} */
   #renderers = {};
   /** @type {(collection: string) => string} */
   #colourOf;
+  /** @type {L.Path[]} */
   #outline = [];
 
   /**
@@ -54,7 +57,7 @@ export class Layers {
     this.#colourOf = colourOf;
     for (const [name, level] of Object.entries(PANES)) {
       const pane = map.createPane(name);
-      pane.style.zIndex = level;
+      pane.style.zIndex = String(level);
       pane.style.pointerEvents = "none";
       this.#renderers[name] = L.canvas({ pane: name, padding: 0.3 });
     }
@@ -77,7 +80,7 @@ export class Layers {
   /**
    * @param {string} collection
    * @param {Shown["pending"]} pending
-   * @returns {{line: object, area: object, point: object}} how it is drawn
+   * @returns {Styles}
    */
   #styles(collection, pending) {
     const own = this.#colourOf(collection);
@@ -117,9 +120,9 @@ export class Layers {
 
   /**
    * @param {import("./geometry.js").Geometry | null} geometry
-   * @param {ReturnType<Layers["#styles"]>} styles
+   * @param {Styles} styles
    * @param {string} [pane] in place of the one of its kind
-   * @returns {object[]} layers of Leaflet, on the map
+   * @returns {L.Path[]} what is on the map now
    */
   #draw(geometry, styles, pane) {
     const { areas, lines, points } = this.#renderers;

@@ -3,7 +3,8 @@
  * what was seen before where the server does not answer.
  *
  * @typedef {import("./geometry.js").Box} Box
- * @typedef {{shown: number, matched: number, oldest: number | null, isFiltered: boolean}} Count
+ * @typedef {{shown: number, matched: number, oldest: number | null, isFiltered: boolean,
+ *   problem: string}} Count of the features of a collection; a problem says why it is not of now
  */
 import { NoAnswer, Refusal, readPages } from "./api.js";
 import { boxOf } from "./geometry.js";
@@ -34,7 +35,7 @@ export class Loader {
    * @param {string[]} collections
    * @param {Box} box
    * @param {string} datetime an interval, or no text
-   * @returns {Promise<Map<string, Count & {ids: Set<string>, problem: string}> | null>} null where
+   * @returns {Promise<Map<string, Count & {ids: Set<string>}> | null>} null where
    *   it was dropped
    */
   async load(collections, box, datetime) {

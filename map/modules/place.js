@@ -84,6 +84,7 @@ export class Place {
    * @returns {Degrees | null} null outside of the table
    */
   toDegrees([x, y]) {
+    /** @param {number[]} box */
     const holds = ([x0, y0, x1, y1]) => x0 <= x && x <= x1 && y0 <= y && y <= y1;
     const patch = this.#patches.find(({ box }) => holds(box));
     if (!patch) return null;

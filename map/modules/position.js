@@ -11,6 +11,8 @@ export class OwnPosition {
   #drawn = [];
   #watch = null;
   #isFirst = true;
+  /** What was announced last: each fix is like the one before. */
+  #announced = "";
 
   /**
    * @param {L.Map} map
@@ -29,10 +31,15 @@ export class OwnPosition {
   /** @param {(text: string) => void} tell */
   start(tell) {
     this.#isFirst = true;
+    this.#announced = "";
+    const announceOnce = (kind, text) => {
+      if (kind !== this.#announced) tell(text);
+      this.#announced = kind;
+    };
     const options = { enableHighAccuracy: true, maximumAge: 2000, timeout: 30_000 };
     this.#watch = navigator.geolocation.watchPosition(
-      ({ coords }) => this.#show(coords, tell),
-      (fault) => tell(`The position is not known: ${fault.message}`),
+      ({ coords }) => this.#show(coords, announceOnce),
+      (fault) => announceOnce(fault.message, `The position is not known: ${fault.message}`),
       options,
     );
   }
@@ -50,12 +57,12 @@ export class OwnPosition {
 
   /**
    * @param {GeolocationCoordinates} coords
-   * @param {(text: string) => void} tell
+   * @param {(kind: string, text: string) => void} announceOnce
    */
-  #show({ longitude, latitude, accuracy }, tell) {
+  #show({ longitude, latitude, accuracy }, announceOnce) {
     this.#clear();
     const position = this.#earth.toGrid({ longitude, latitude });
-    if (!position) return tell("You are outside of the office's map.");
+    if (!position) return announceOnce("outside", "You are outside of the office's map.");
     const place = toPlace(position);
     const own = colour("own");
     const style = { interactive: false, color: own, weight: 1.5 };
@@ -68,6 +75,6 @@ export class OwnPosition {
     ];
     if (this.#isFirst) this.#map.setView(place, Math.max(3, this.#map.getZoom()));
     this.#isFirst = false;
-    return tell(`Your position, good to ${Math.ceil(accuracy)} m.`);
+    return announceOnce("there", `Your position, good to ${Math.ceil(accuracy)} m.`);
   }
 }

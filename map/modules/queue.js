@@ -20,83 +20,20 @@
  * @property {number} tries how often it was sent under this key
  * @property {number} unanswered how many of these tries may have acted without an answer that came
  * @property {string} problem why the last try came to nothing
- * @property {boolean} held it waits for the user, who has to sign in
+ * @property {boolean} held it waits for the user, who has to sign in or to say which town it is for
+ * @property {boolean} [isDoubtful] whether the server may be of another town
  * @property {Refused | null} refusal
  * @property {Difference[]} differences what others changed since the copies were taken
  */
 import { putInto } from "./basket.js";
+import { batchText, cut, newKey } from "./batch.js";
 import { changed } from "./channel.js";
-import { writeJson } from "./json.js";
-import { readAll, result, transact } from "./store.js";
+import { readAll, readSetting, result, transact, writeSetting } from "./store.js";
 
-/** What the server takes: edits and bytes of one batch. */
-const MOST_EDITS = 10_000;
-const MOST_BYTES = 8_388_608;
-/** What is left for the edits of a batch beside its key. */
-const EDIT_BYTES = MOST_BYTES - 128;
-const NAME_LENGTH = 24;
 /** How many records of what became of batches are kept, with their edits. */
 const ANSWERS_KEPT = 200;
-
-/**
- * @param {string} name a person's name
- * @returns {string} what of it may stand in a key
- */
-export function userOf(name) {
-  const plain = name.normalize("NFKD").replace(/\p{M}/gu, "");
-  const kept = plain.replace(/[^A-Za-z0-9._-]+/g, "-").replace(/^-+|-+$/g, "");
-  return kept.slice(0, NAME_LENGTH);
-}
-
-/**
- * @param {string} user
- * @returns {string} a key USER:TIME:RANDOM, at most 24 + 1 + 16 + 1 + 20 of the 64 bytes
- */
-export function newKey(user) {
-  const time = new Date().toISOString().replace(/[-:]|\.\d+/g, "");
-  return `${user}:${time}:${crypto.randomUUID().replaceAll("-", "").slice(0, 20)}`;
-}
-
-/**
- * @param {Edit} edit
- * @returns {object} the edit as the server reads it
- */
-function asSent({ op, collection, id, feature }) {
-  return op === "delete" ? { op, collection, id } : { op, collection, feature };
-}
-
-/**
- * @param {string} key
- * @param {Edit[]} edits
- * @returns {string} the text of the batch
- */
-export function batchText(key, edits) {
-  const texts = edits.map((edit) => writeJson(asSent(edit)));
-  return `{"key":${JSON.stringify(key)},"edits":[${texts.join(",")}]}`;
-}
-
-/**
- * Cuts edits into batches that the server takes, as few as their order allows.
- * @param {Edit[]} edits
- * @returns {Edit[][]}
- */
-export function cut(edits) {
-  const parts = [];
-  let bytes = 0;
-  for (const edit of edits) {
-    const size = new TextEncoder().encode(writeJson(asSent(edit))).length + 1;
-    if (size > EDIT_BYTES) throw new RangeError(`${edit.id} is too large for a batch.`);
-    const last = parts.at(-1);
-    if (!last || last.length === MOST_EDITS || bytes + size > EDIT_BYTES) {
-      parts.push([edit]);
-      bytes = size;
-    } else {
-      last.push(edit);
-      bytes += size;
-    }
-  }
-  return parts;
-}
+/** The setting that has the key of the last batch that was accepted, and when it was. */
+const LAST_ACCEPTED = "last accepted";
 
 /**
  * @param {string} user
@@ -105,8 +42,19 @@ export function cut(edits) {
  */
 function newBatch(user, edits) {
   const key = newKey(user);
-  const untried = { state: "waiting", tries: 0, unanswered: 0, problem: "", held: false };
-  return { key, body: batchText(key, edits), edits, ...untried, refusal: null, differences: [] };
+  return {
+    key,
+    body: batchText(key, edits),
+    edits,
+    state: "waiting",
+    tries: 0,
+    unanswered: 0,
+    problem: "",
+    held: false,
+    isDoubtful: false,
+    refusal: null,
+    differences: [],
+  };
 }
 
 /**
@@ -171,17 +119,18 @@ export async function update(batch, act) {
  * @returns {Promise<boolean>} whether it left
  */
 export async function leave(batch, record, isRight = () => true) {
-  const tables = ["queue", "answers", "features"];
-  const left = await transact(tables, "readwrite", async (queue, answers, features) => {
+  const tables = ["queue", "answers", "features", "settings"];
+  const left = await transact(tables, "readwrite", async (queue, answers, features, settings) => {
     const found = await result(queue.get(batch.number));
     const isThere = found?.key === batch.key;
     // What was dropped while it was being sent, and accepted all the same, is recorded as accepted.
     if (record.outcome !== "accepted" && !(isThere && isRight(found))) return false;
     const { key, edits } = batch;
     const time = Date.now();
-    const number = await result(answers.add({ key, edits, time, ...record }));
+    const number = Number(await result(answers.add({ key, edits, time, ...record })));
     if (number > ANSWERS_KEPT) answers.delete(IDBKeyRange.upperBound(number - ANSWERS_KEPT));
     if (record.outcome === "accepted") {
+      settings.put({ key, time }, LAST_ACCEPTED);
       for (const { collection, id, feature } of edits) {
         if (feature) features.put({ collection, id, feature, seen: time });
         else features.delete([collection, id]);
@@ -247,8 +196,12 @@ export function isBuiltUpon(batch, queue) {
  * @param {Batch} batch as it was read
  */
 export function sendAgain(batch) {
-  const untried = { state: "waiting", held: false, refusal: null, differences: [], problem: "" };
-  return update(batch, (found) => ({ ...untried, tries: mayChange(found) ? 0 : found.tries }));
+  const fresh = { held: false, isDoubtful: false, refusal: null, differences: [], problem: "" };
+  return update(batch, (found) => ({
+    ...fresh,
+    state: "waiting",
+    tries: mayChange(found) ? 0 : found.tries,
+  }));
 }
 
 /**
@@ -260,4 +213,23 @@ export function sendAgain(batch) {
 export function readAnswers(after = 0) {
   const range = IDBKeyRange.lowerBound(after, true);
   return transact(["answers"], "readonly", (table) => result(table.getAll(range)));
+}
+
+/**
+ * @returns {Promise<{key: string, time: number} | null>} the last batch that was accepted, as long
+ *   as the server should know it
+ */
+export async function lastAccepted() {
+  const noted = await readSetting(LAST_ACCEPTED);
+  if (noted !== undefined) return noted;
+  // Earlier versions of the page noted it with the other answers alone.
+  const last = (await readAnswers()).findLast(({ outcome }) => outcome === "accepted");
+  const found = last ? { key: last.key, time: last.time } : null;
+  await writeSetting(LAST_ACCEPTED, found);
+  return found;
+}
+
+/** What was accepted before is not asked for any more: the user knows the town. */
+export function forgetAccepted() {
+  return writeSetting(LAST_ACCEPTED, null);
 }

@@ -16,8 +16,10 @@ import {
   readAnswers,
   sendAgain,
 } from "./queue.js";
+import { trustServer } from "./recognition.js";
 import { counted, editText } from "./texts.js";
 import { clock } from "./time.js";
+import { readOthers, setAside, takeUp } from "./towns.js";
 
 const SHOWN_ANSWERS = 10;
 const SHOWN_EDITS = 50;
@@ -55,18 +57,56 @@ async function takeBack(batch, queue) {
 }
 
 /**
+ * Sends to the server that is there, although it may be of another town.
+ * @param {import("./queue.js").Batch} batch
+ */
+async function sendHere(batch) {
+  await trustServer();
+  await sendAgain(batch);
+  changed("send");
+}
+
+/**
+ * @returns {Promise<HTMLElement[]>} what waits on this device for other towns of this address
+ */
+async function othersList() {
+  const rows = (await readOthers()).map((town) => {
+    const edits = counted(town.waiting, "edit", "edits");
+    const whose = town.name ? ` for ${town.name}` : "";
+    return element(
+      "li", { class: "edit" },
+      element("div", {}, `${edits}${whose}, last shown ${clock(town.used)}`),
+      button("Open here", () => takeUp(town), { class: "small" }),
+    );
+  });
+  if (rows.length === 0) return [];
+  const text =
+    "They wait until their town is served at this address again. Open them if it is this one, " +
+    "under another name or moved.";
+  return [
+    element("h2", {}, "Kept for other towns"),
+    element("p", { class: "note" }, text),
+    element("ul", { class: "others" }, ...rows),
+  ];
+}
+
+/**
  * @param {import("./queue.js").Batch} batch
  * @param {boolean} isFirst
  * @returns {{text: string, problem: string}}
  */
 function statusOf(batch, isFirst) {
-  const { state, refusal, held, problem } = batch;
+  const { state, refusal, held, isDoubtful, problem } = batch;
   if (state === "refused") {
     const place = refusal.place ? ` (edit ${refusal.place})` : "";
     const cause = refusal.cause ? `, ${refusal.cause}` : "";
     return { text: "Refused", problem: `${refusal.description} ${refusal.code}${cause}${place}` };
   }
   if (state === "differs") return { text: "Another has changed the same", problem: "" };
+  if (isDoubtful) {
+    const why = "Another town may be served at this address now, or an older copy of this one.";
+    return { text: "Which town is it for?", problem: `${problem} ${why}` };
+  }
   if (held) return { text: "Waits for you", problem };
   if (!isFirst) return { text: "Waits for the batch before it", problem: "" };
   return { text: problem ? "Waits and is tried again" : "Is being sent", problem };
@@ -104,6 +144,7 @@ export class QueuePanel {
       element("ol", { class: "batches" }, ...batches),
       past.length ? element("h2", {}, "Done") : "",
       past.length ? element("ul", { class: "answers" }, ...past) : "",
+      ...(await othersList()),
     );
   }
 
@@ -134,7 +175,9 @@ export class QueuePanel {
         "p", { class: "buttons" },
         batch.state === "differs" ? button("Decide", decide, { class: "main" }) : null,
         isStuck && !batch.held ? button("Try now", () => changed("send")) : null,
-        batch.held || batch.state === "refused"
+        batch.isDoubtful ? button("Send it here", () => sendHere(batch)) : null,
+        batch.isDoubtful ? button("Keep it for its town", () => setAside()) : null,
+        (batch.held && !batch.isDoubtful) || batch.state === "refused"
           ? button("Send again", () => sendAgain(batch).then(() => changed("send"))) : null,
         isFree ? button("Back to basket", () => takeBack(batch, queue)) : null,
         isFree || batch.tries > 0 ? button("Drop", () => drop(batch)) : null,
@@ -176,9 +219,10 @@ export class QueuePanel {
 export function queueText(queue) {
   if (queue.length === 0) return { text: "", isProblem: false };
   const waits = queue.length === 1 ? "1 batch waits" : `${queue.length} batches wait`;
-  const [{ state, held }] = queue;
+  const [{ state, held, isDoubtful }] = queue;
   if (state === "refused") return { text: `${waits}: one was refused`, isProblem: true };
   if (state === "differs") return { text: `${waits}: decide between two changes`, isProblem: true };
+  if (isDoubtful) return { text: `${waits}: which town is it for?`, isProblem: true };
   if (held) return { text: `${waits} for name and password`, isProblem: true };
   return { text: waits, isProblem: false };
 }

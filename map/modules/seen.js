@@ -126,6 +126,16 @@ export class Seen {
 
   /**
    * @param {string} collection
+   * @param {number} most
+   * @returns {Feature[]} features that were seen, at most that number
+   */
+  some(collection, most) {
+    const sights = [...this.#of(collection).values()].slice(-most);
+    return sights.map(({ feature }) => feature);
+  }
+
+  /**
+   * @param {string} collection
    * @param {string} id
    * @returns {Sight | undefined}
    */
@@ -135,10 +145,27 @@ export class Seen {
 }
 
 /**
- * @param {import("./api.js").Collection[]} collections those that the server told
+ * A server never takes a collection away and never gives it another title.
+ * @param {import("./api.js").Collection[]} known
+ * @param {import("./api.js").Collection[]} now
+ * @returns {import("./api.js").Collection[]} those that the server no longer has as they were
+ */
+export function lostCollections(known, now) {
+  const titles = new Map(now.map(({ id, title }) => [id, title]));
+  return known.filter(({ id, title }) => titles.get(id) !== title);
+}
+
+/**
+ * Keeps what the server says of its collections. If one was lost while edits wait, what was known
+ * before stays: it shows that the edits were made for another town.
+ * @param {import("./api.js").Collection[]} collections
  */
 export function keepCollections(collections) {
-  return transact(["collections"], "readwrite", (table) => {
+  const tables = ["collections", "basket", "queue"];
+  return transact(tables, "readwrite", async (table, basket, queue) => {
+    const waiting = (await result(basket.count())) + (await result(queue.count()));
+    const known = await result(table.getAll());
+    if (waiting > 0 && lostCollections(known, collections).length > 0) return;
     table.clear();
     for (const collection of collections) table.put({ ...collection, seen: Date.now() });
   });

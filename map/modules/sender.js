@@ -12,9 +12,27 @@ import { NoAnswer, Refusal, postBatch } from "./api.js";
 import { onChange } from "./channel.js";
 import { findDifferences } from "./conflicts.js";
 import { leave, readQueue, update } from "./queue.js";
+import { whyNotHere } from "./recognition.js";
+import { currentDatabase } from "./store.js";
 
 const FIRST_PAUSE = 1;
 const LONGEST_PAUSE = 60;
+
+/**
+ * @param {number} status
+ * @returns {boolean} whether the server in front asks for a name and a password
+ */
+function isLocked(status) {
+  return status === 401 || status === 403;
+}
+
+/**
+ * @param {number} status
+ * @returns {string}
+ */
+function lockedText(status) {
+  return `Name and password are needed to send (${status}).`;
+}
 
 /**
  * @param {string} key
@@ -33,9 +51,7 @@ export function meaningOf(key, { status, json }) {
     const problem = `${json.description} (${json.code})`;
     return { kind: "again", problem, mayHaveActed: json.code !== "memory" };
   }
-  if (status === 401 || status === 403) {
-    return { kind: "held", problem: `Name and password are needed to send (${status}).` };
-  }
+  if (isLocked(status)) return { kind: "held", problem: lockedText(status) };
   if (status === 413) {
     const description = "The batch is larger than the server in front takes.";
     return { kind: "refused", refusal: { status, code: "413", description } };
@@ -78,11 +94,31 @@ async function compare(batch) {
 }
 
 /**
+ * Looks whether the town that is served is the one that batches here were made for.
+ * @returns {Promise<Partial<Batch> | null>} why nothing is sent; null if it may be
+ */
+async function obstacle() {
+  try {
+    const why = await whyNotHere();
+    return why && { ...why, held: why.isDoubtful };
+  } catch (fault) {
+    if (!(fault instanceof NoAnswer) && !(fault instanceof Refusal)) throw fault;
+    const isHeld = fault instanceof NoAnswer && isLocked(fault.status);
+    return { problem: isHeld ? lockedText(fault.status) : fault.message, held: isHeld };
+  }
+}
+
+/**
  * Makes one try, and stores what came of it before it goes on.
  * @param {Batch} batch
  * @returns {Promise<boolean>} whether to go on at once
  */
 async function attempt(batch) {
+  const why = await obstacle();
+  if (why) {
+    await update(batch, () => why);
+    return why.held;
+  }
   if (batch.tries === 0) {
     const seen = await compare(batch);
     if (seen === "differs") return true;
@@ -187,11 +223,11 @@ export function startSender() {
   addEventListener("online", () => sendAlarm.ring());
   const send = async () => {
     const [first] = await readQueue();
-    if (first?.held) await update(first, () => ({ held: false }));
+    if (first?.held) await update(first, () => ({ held: false, isDoubtful: false }));
     await sendAll(queueAlarm, sendAlarm);
   };
   const stay = () =>
-    navigator.locks.request("streetmap-sender", send).catch((fault) => {
+    navigator.locks.request(`${currentDatabase()}-sender`, send).catch((fault) => {
       console.error(fault);
       setTimeout(stay, LONGEST_PAUSE * 1000);
     });

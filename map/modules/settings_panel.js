@@ -2,9 +2,9 @@
  * @file The panel of settings: the name in keys, the image in the background, and what the page is.
  */
 import { ownAddress } from "./background.js";
+import { readUser } from "./batch.js";
 import { button, element } from "./element.js";
 import { metres, readMetres } from "./geometry.js";
-import { userOf } from "./queue.js";
 import { readSetting, writeSetting } from "./store.js";
 
 const CORNERS = { x0: "West", y0: "South", x1: "East", y1: "North" };
@@ -30,11 +30,13 @@ async function nameForm() {
   const told = element("p", { class: "note", role: "status" });
   const save = async (event) => {
     event.preventDefault();
-    const user = userOf(field.value);
-    if (!user) return void (told.textContent = "A name needs a letter or a digit.");
-    field.value = user;
-    await writeSetting("user", user);
-    told.textContent = "Kept.";
+    try {
+      field.value = readUser(field.value);
+      await writeSetting("user", field.value);
+      told.textContent = "Kept.";
+    } catch (fault) {
+      told.textContent = fault.message;
+    }
   };
   return element(
     "form", { onsubmit: save }, element("h2", {}, "Your name"),
@@ -66,9 +68,8 @@ async function imageForm(onBackground) {
   const show = async (event) => {
     event.preventDefault();
     told.textContent = "";
-    const box = Object.fromEntries(
-      corners.map(({ name, field }) => [name, readMetres(field.value)]),
-    );
+    const [x0, y0, x1, y1] = corners.map(({ field }) => readMetres(field.value));
+    const box = { x0, y0, x1, y1 };
     if (Object.values(box).includes(null) || box.x0 >= box.x1 || box.y0 >= box.y1) {
       return void (told.textContent = "Corners are metres, west below east and south below north.");
     }

@@ -8,7 +8,9 @@ export class Tabs {
 
   /** @param {HTMLElement} list with the role `tablist` */
   constructor(list) {
-    this.#tabs = [...list.querySelectorAll("[role=tab]")];
+    /** @type {NodeListOf<HTMLElement>} */
+    const tabs = list.querySelectorAll("[role=tab]");
+    this.#tabs = [...tabs];
     for (const tab of this.#tabs) {
       tab.addEventListener("click", () => this.#press(tab));
       tab.addEventListener("keydown", (event) => this.#key(event, tab));

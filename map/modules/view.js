@@ -6,7 +6,7 @@
  * @typedef {import("./geometry.js").Box} Box
  */
 import * as L from "../leaflet/leaflet.esm.js";
-import { collectionColour } from "./colours.js";
+import { Palette, colour } from "./colours.js";
 import { toPosition } from "./draw.js";
 import { nameOf } from "./feature.js";
 import { boxOf, overlaps } from "./geometry.js";
@@ -21,6 +21,7 @@ const PAUSE = 80;
 export class View {
   /** @type {Collection[]} */
   collections = [];
+  palette = new Palette();
   /** @type {Set<string>} the collections that are switched off */
   off = new Set();
   /** @type {string} an interval, or no text */
@@ -54,7 +55,7 @@ export class View {
     L.control.zoom({ position: "topright" }).addTo(this.map);
     this.#drawGrid = addGrid(this.map);
     addScale(this.map);
-    this.layers = new Layers(this.map, (collection) => this.colourOf(collection));
+    this.layers = new Layers(this.map, (id) => colour(this.palette.nameOf(id)));
     this.#seen = seen;
     this.#loader = new Loader(seen, (collection, features) => this.#draw(collection, features));
     this.#listener = listener;
@@ -63,7 +64,24 @@ export class View {
     new ResizeObserver(() => this.map.invalidateSize({ animate: false })).observe(container);
   }
 
+  /**
+   * Notes on the map where it is, and that the features of the view are asked for.
+   * @returns {() => void} notes that they are there, unless they were asked for again since
+   */
+  #asks() {
+    const { dataset } = this.map.getContainer();
+    const { lat, lng } = this.map.getCenter();
+    Object.assign(dataset, { x: lng, y: lat, zoom: this.map.getZoom(), state: "asks" });
+    const turn = (this.#turn += 1);
+    return () => {
+      if (turn === this.#turn) dataset.state = "rests";
+    };
+  }
+
+  #turn = 0;
+
   #moved() {
+    this.#asks();
     this.#listener.onMove();
     this.#loader.drop();
     clearTimeout(this.#timer);
@@ -78,13 +96,10 @@ export class View {
     this.#size = size;
   }
 
-  /**
-   * @param {string} collection
-   * @returns {string}
-   */
-  colourOf(collection) {
-    const place = this.collections.findIndex(({ id }) => id === collection);
-    return collectionColour(Math.max(0, place));
+  /** @param {Collection[]} collections those of now */
+  async setCollections(collections) {
+    await this.palette.add(collections.map(({ id }) => id));
+    this.collections = collections;
   }
 
   /** @returns {Box} the box of the view, in whole millimetres, rounded outward */
@@ -109,6 +124,7 @@ export class View {
   show(box) {
     if (!box) return;
     const corners = [toPlace([box.x0, box.y0]), toPlace([box.x1, box.y1])];
+    this.map.invalidateSize({ animate: false });
     this.map.fitBounds(corners, { padding: [24, 24], maxZoom: 5, animate: false });
   }
 
@@ -171,6 +187,7 @@ export class View {
 
   /** Asks for the features of the view, and takes away those that are not there any more. */
   async refresh() {
+    const rests = this.#asks();
     const wanted = this.collections.map(({ id }) => id).filter((id) => !this.off.has(id));
     const { box } = this;
     const counts = await this.#loader.load(wanted, box, this.datetime);
@@ -182,12 +199,13 @@ export class View {
     this.#drawPending();
     this.counts = counts;
     this.#listener.onCounts();
+    rests();
   }
 
   /**
    * @param {L.LatLng} place
    * @param {number} pixels
-   * @returns {import("./layers.js").Shown[]} the features within so many pixels
+   * @returns {import("./layers.js").Shown[]} the features within that number of pixels
    */
   near(place, pixels) {
     const reach = (pixels / this.map.getZoomScale(this.map.getZoom(), 0)) * 1000;

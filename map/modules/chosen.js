@@ -1,0 +1,159 @@
+/**
+ * @file The feature that is chosen: found, outlined on the map, and shown in the panel.
+ *
+ * @typedef {import("./feature.js").Feature} Feature
+ * @typedef {{collection: string, id: string}} Name
+ */
+import { NoAnswer, Refusal, readFeature } from "./api.js";
+import { putInBasket, takeOutOfBasket } from "./basket.js";
+import { announce, byId, element } from "./element.js";
+import { showFeature } from "./feature_panel.js";
+
+export class Chosen {
+  /** @type {Name | null} */
+  name = null;
+  /** @type {string | null} the collection that was worked on last */
+  collection = null;
+  #others = [];
+  #seen;
+  #view;
+  #editor;
+  #tabs;
+  #ground;
+  #listener;
+
+  /**
+   * @param {{seen: import("./seen.js").Seen, view: import("./view.js").View,
+   *   editor: import("./editor.js").Editor, tabs: import("./tabs.js").Tabs,
+   *   ground: import("./ground.js").Ground}} parts
+   * @param {{onEdit: (collection: string, feature: Feature) => void,
+   *   onChange: () => void}} listener
+   */
+  constructor({ seen, view, editor, tabs, ground }, listener) {
+    this.#seen = seen;
+    this.#view = view;
+    this.#editor = editor;
+    this.#tabs = tabs;
+    this.#ground = ground;
+    this.#listener = listener;
+  }
+
+  /** @returns {boolean} whether an edit is under way, which has to be ended first */
+  isBusy() {
+    if (!this.#editor.isBegun) return false;
+    this.#tabs.open("feature");
+    announce("Put the edit in the basket first, or cancel it.");
+    return true;
+  }
+
+  /**
+   * Shows a feature.
+   * @param {string} collection
+   * @param {string} id
+   * @param {boolean} isFar whether the map goes there
+   * @param {Name[]} [others] features at the same place
+   */
+  async choose(collection, id, isFar, others = []) {
+    if (this.isBusy()) return;
+    this.#editor.close();
+    this.set({ collection, id });
+    this.#others = others;
+    const feature = await this.#find(collection, id);
+    if (!feature) return void this.leave(`${id} is not there.`);
+    this.show();
+    this.#tabs.open("feature");
+    if (isFar) this.#view.goTo(feature);
+  }
+
+  /** @param {Name | null} name of the feature that is chosen from now on */
+  set(name) {
+    this.name = name;
+    if (name) this.collection = name.collection;
+    this.#listener.onChange();
+  }
+
+  /**
+   * Searches all collections for a feature.
+   * @param {string} id
+   */
+  async search(id) {
+    if (this.isBusy()) return undefined;
+    const ids = this.#view.collections.map((collection) => collection.id);
+    const found = await Promise.all(
+      ids.map(async (collection) => ((await this.#find(collection, id)) ? collection : null)),
+    );
+    const collection = found.find((it) => it !== null);
+    if (!collection) return announce(`There is no feature with the id ${id}.`);
+    return this.choose(collection, id, true);
+  }
+
+  /**
+   * @param {string} collection
+   * @param {string} id
+   * @returns {Promise<Feature | null>} as it is to be, or was last seen, or is
+   */
+  async #find(collection, id) {
+    const known = this.#known(collection, id);
+    if (known) return known;
+    try {
+      const feature = await readFeature(collection, id);
+      if (feature) await this.#seen.put(collection, [feature]);
+      return feature;
+    } catch (fault) {
+      if (fault instanceof NoAnswer || fault instanceof Refusal) return null;
+      throw fault;
+    }
+  }
+
+  /**
+   * @param {string} collection
+   * @param {string} id
+   * @returns {Feature | null}
+   */
+  #known(collection, id) {
+    const pending = this.#view.pendingOf(collection, id)?.edit;
+    if (pending) return pending.feature ?? pending.base;
+    return this.#seen.find(collection, id)?.feature ?? null;
+  }
+
+  /** @param {string} [text] what the panel says while no feature is chosen */
+  leave(text = "Press a feature on the map to see what is known of it.") {
+    this.set(null);
+    byId("panel-feature").replaceChildren(element("p", { class: "note" }, text));
+    this.outline();
+  }
+
+  /** Shows on the map which feature is chosen. */
+  outline() {
+    const { collection, id } = this.name ?? {};
+    const isShown = this.name && !this.#view.off.has(collection) && !this.#editor.isOpen;
+    this.#view.layers.outline(isShown ? this.#known(collection, id) : null);
+  }
+
+  /** Shows the feature as it is now, unless an edit is under way. */
+  show() {
+    if (this.#editor.isBegun) return;
+    const { collection, id } = this.name ?? {};
+    const feature = this.name && this.#known(collection, id);
+    if (!feature) return void this.leave();
+    const title = this.#view.collections.find((it) => it.id === collection)?.title ?? collection;
+    const shown = {
+      title,
+      colour: this.#view.palette.nameOf(collection),
+      collection,
+      feature,
+      pending: this.#view.pendingOf(collection, id),
+      seen: this.#seen.find(collection, id)?.seen,
+      earth: this.#ground.earth,
+      others: this.#others,
+    };
+    showFeature(byId("panel-feature"), shown, {
+      onEdit: () => this.#listener.onEdit(collection, feature),
+      onDelete: () => putInBasket({ op: "delete", collection, id, feature: null, base: feature }),
+      onUndo: () => takeOutOfBasket({ collection, id }),
+      onGo: () => this.#view.goTo(feature),
+      onSelect: (other, otherId) => this.choose(other, otherId, false),
+    });
+    this.outline();
+  }
+}

@@ -1,0 +1,96 @@
+/**
+ * @file Edits from the form into the basket, or back into a refused batch.
+ *
+ * @typedef {import("./basket.js").Edit} Edit
+ */
+import { editKey, putInBasket } from "./basket.js";
+import { changed } from "./channel.js";
+import { askBetweenTabs } from "./differences_dialog.js";
+import { announce } from "./element.js";
+import { changeEdits } from "./queue.js";
+
+export class Editing {
+  #view;
+  #editor;
+  #chosen;
+  #tabs;
+
+  /**
+   * @param {{view: import("./view.js").View, editor: import("./editor.js").Editor,
+   *   chosen: import("./chosen.js").Chosen, tabs: import("./tabs.js").Tabs}} parts
+   */
+  constructor({ view, editor, chosen, tabs }) {
+    this.#view = view;
+    this.#editor = editor;
+    this.#chosen = chosen;
+    this.#tabs = tabs;
+  }
+
+  /** @param {"Point" | "LineString" | "Polygon"} type */
+  add(type) {
+    if (this.#chosen.isBusy()) return undefined;
+    const { collections, off } = this.#view;
+    const isThere = collections.some(({ id }) => id === this.#chosen.collection);
+    const on = collections.find(({ id }) => !off.has(id)) ?? collections[0];
+    const first = isThere ? this.#chosen.collection : on?.id;
+    if (!first) return announce("There is no collection to add to.");
+    this.#editor.begin(type, first, (edit) => this.#take(edit, ""));
+    this.#chosen.outline();
+    this.#tabs.open("feature");
+    return this.#view.map.getContainer().focus();
+  }
+
+  /**
+   * @param {string} collection
+   * @param {import("./feature.js").Feature} feature
+   */
+  edit(collection, feature) {
+    const known = editKey(this.#view.pendingOf(collection, feature.id)?.edit);
+    this.#editor.change(collection, feature, (edit) => this.#take(edit, known));
+    this.#chosen.outline();
+    this.#view.goTo(feature);
+  }
+
+  /**
+   * Puts an edit into the basket. If another tab edited the same feature since the form was opened,
+   * the user decides.
+   * @param {Edit} edit
+   * @param {string} known the key of the edit that was pending when the form was opened
+   */
+  async #take(edit, known) {
+    const other = await putInBasket(edit, known);
+    const answer = other ? await askBetweenTabs(edit, other) : "this";
+    if (answer === null) return;
+    if (other && answer === "this") {
+      await putInBasket({ ...edit, base: other.feature ?? edit.base });
+    }
+    this.#editor.close();
+    this.#chosen.set({ collection: edit.collection, id: edit.id });
+    announce(`${edit.id} is in the basket.`);
+    this.#chosen.show();
+    this.#tabs.open("basket");
+  }
+
+  /**
+   * Changes an edit of a refused batch at its place in the queue.
+   * @param {import("./queue.js").Batch} batch
+   * @param {number} index
+   */
+  changeBatch(batch, index) {
+    if (this.#chosen.isBusy()) return;
+    const edit = batch.edits[index];
+    const take = async ({ feature }) => {
+      const edits = batch.edits.map((it, at) => (at === index ? { ...edit, feature } : it));
+      if (!(await changeEdits(batch, edits))) {
+        throw new Error("The batch was changed or sent by another tab meanwhile.");
+      }
+      changed("send");
+      this.#editor.close();
+      this.#chosen.show();
+      this.#tabs.open("queue");
+    };
+    this.#editor.change(edit.collection, edit.feature, take);
+    this.#tabs.open("feature");
+    this.#view.goTo(edit.feature);
+  }
+}

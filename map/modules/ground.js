@@ -1,0 +1,52 @@
+/**
+ * @file The line below the map, which says where the pointer is, and one's own position: both in
+ * degrees too if the office placed the grid on the earth.
+ */
+import { toPosition } from "./draw.js";
+import { announce, byId, element } from "./element.js";
+import { metres } from "./geometry.js";
+import { degreesInWords, readPlace } from "./place.js";
+import { OwnPosition } from "./position.js";
+
+export class Ground {
+  /** @type {import("./place.js").Place | null} */
+  earth = null;
+  #map;
+
+  /** @param {import("../leaflet/leaflet.esm.js").Map} map */
+  constructor(map) {
+    this.#map = map;
+    map.on("mousemove", ({ latlng }) => this.#show(latlng));
+    map.on("move", () => this.#show(map.getCenter()));
+  }
+
+  /** @param {import("../leaflet/leaflet.esm.js").LatLng} place */
+  #show(place) {
+    const [x, y] = toPosition(place);
+    const degrees = this.earth?.toDegrees([x, y]);
+    const inDegrees = degrees ? ` · ${degreesInWords(degrees)}` : "";
+    byId("place").replaceChildren(
+      `${metres(x)} m, ${metres(y)} m`,
+      element("span", { class: "exact" }, ` · ${x}, ${y} mm`),
+      inDegrees,
+    );
+  }
+
+  /** Reads where the grid lies, and offers one's own position on it. */
+  async placeOnEarth() {
+    try {
+      this.earth = await readPlace();
+    } catch (fault) {
+      console.error(fault);
+    }
+    const button = byId("own-position");
+    button.hidden = !this.earth || !navigator.geolocation;
+    if (button.hidden) return;
+    const own = new OwnPosition(this.#map, this.earth);
+    button.addEventListener("click", () => {
+      if (own.isOn) own.stop();
+      else own.start(announce);
+      button.setAttribute("aria-pressed", String(own.isOn));
+    });
+  }
+}

@@ -1,0 +1,309 @@
+/**
+ * @file The page: it puts the map, the panels, the basket and the queue together.
+ */
+import { readAddress, writeAddress } from "./address.js";
+import { NoAnswer, Refusal, readCollections } from "./api.js";
+import { BackgroundImage } from "./background.js";
+import { showBasket } from "./basket_panel.js";
+import { onChange } from "./channel.js";
+import { Chosen } from "./chosen.js";
+import { CollectionsPanel, viewText } from "./collections_panel.js";
+import { onColours } from "./colours.js";
+import { Editing } from "./editing.js";
+import { Editor } from "./editor.js";
+import { announce, byId } from "./element.js";
+import { Ground } from "./ground.js";
+import { writeJson } from "./json.js";
+import { kindsIn } from "./kinds.js";
+import { readPending } from "./pending.js";
+import { QueuePanel, queueText } from "./queue_panel.js";
+import { keepCollections } from "./seen.js";
+import { showSettings } from "./settings_panel.js";
+import { readAll, readSetting } from "./store.js";
+import { Tabs } from "./tabs.js";
+import { clock, interval } from "./time.js";
+import { compareName, isStartingAgain, startAgain } from "./towns.js";
+import { View } from "./view.js";
+
+/** How near a click has to come, in pixels; a finger is wider than a pointer. */
+const REACH = matchMedia("(pointer: coarse)").matches ? 24 : 10;
+/** How many names of properties are offered, and of how many features they are. */
+const MOST_NAMES = 40;
+const MOST_READ = 2000;
+/** How many features at one place are named. */
+const MOST_NEAR = 9;
+const AGAIN_SECONDS = 15;
+/** While the view moves, the town's name is read this often. */
+const COMPARE_SECONDS = 10;
+
+export class Page {
+  #filter = { from: "", to: "" };
+  #isKept = false;
+  /** Whether the view was chosen: until then the address says which one is wanted. */
+  #isPlaced = false;
+  /** Whether the view is to show all that there is, once that is known. */
+  #isSought = false;
+  /** When the town's name was last read. */
+  #compared = 0;
+  #basketSize = 0;
+  #timer = 0;
+
+  /** @param {import("./seen.js").Seen} seen */
+  constructor(seen) {
+    this.seen = seen;
+    this.view = new View(
+      byId("map"),
+      seen,
+      { onCounts: () => this.#showCounts(), onMove: () => this.#keepAddress() },
+    );
+    this.tabs = new Tabs(byId("tabs"));
+    this.background = new BackgroundImage(this.view.map);
+    this.ground = new Ground(this.view.map);
+    this.editor = new Editor(this.view, byId("panel-feature"), {
+      kindsOf: (collection) => kindsIn(seen.some(collection, MOST_READ), MOST_NAMES),
+      onCancel: () => this.chosen.show(),
+    });
+    this.chosen = new Chosen(this, {
+      onEdit: (collection, feature) => this.editing.edit(collection, feature),
+      onChange: () => this.#keepAddress(),
+    });
+    this.editing = new Editing(this);
+    this.collectionsPanel = new CollectionsPanel(byId("panel-collections"), this.view, {
+      onSwitch: () => this.#switched(),
+      onFilter: (from, to) => this.#filtered(from, to),
+      onSearch: (id) => this.chosen.search(id),
+    });
+    this.queuePanel = new QueuePanel(byId("panel-queue"), {
+      onSelect: (collection, id) => this.chosen.choose(collection, id, true),
+      onChange: (batch, index) => this.editing.changeBatch(batch, index),
+    });
+    this.#listen();
+  }
+
+  #listen() {
+    const { map } = this.view;
+    map.on("click", ({ latlng }) => this.#pressed(latlng));
+    map.getContainer().addEventListener("keydown", (event) => this.#key(event));
+    /** @type {NodeListOf<HTMLElement>} */
+    const buttons = document.querySelectorAll("[data-add]");
+    for (const button of buttons) {
+      button.addEventListener("click", () => this.editing.add(button.dataset.add));
+    }
+    onChange("basket", () => this.showPending());
+    onChange("queue", () => this.showPending());
+    onChange("view", () => this.#caughtUp());
+    onColours(() => this.#recolour());
+    addEventListener("hashchange", () => this.#goToAddress());
+    addEventListener("online", () => this.refresh());
+    addEventListener("beforeunload", (event) => {
+      const isUnsaved = this.editor.isBegun || this.#basketSize > 0;
+      if (!isUnsaved || isStartingAgain()) return;
+      event.preventDefault();
+      // Earlier browsers ask for a text instead.
+      event.returnValue = "unsaved";
+    });
+    document.addEventListener("visibilitychange", () => document.hidden || this.refresh());
+  }
+
+  /** Shows what is known on this device, then asks the server. */
+  async start() {
+    const address = this.#readAddress();
+    await this.view.setCollections(await readAll("collections"));
+    this.collectionsPanel.show();
+    await this.showPending();
+    if (!address.view) this.view.showAll();
+    this.#isPlaced = address.view !== null;
+    this.#isSought = !this.#isPlaced;
+    const asked = this.refresh();
+    this.background.show((await readSetting("background")) ?? null, announce);
+    this.#isKept = (await navigator.storage?.persist?.()) ?? false;
+    await this.ground.placeOnEarth();
+    await this.#showSettings();
+    await asked;
+    this.#isPlaced = true;
+    this.#keepAddress();
+    const { feature } = address;
+    if (feature) await this.chosen.choose(feature.collection, feature.id, !address.view);
+  }
+
+  /** @returns {import("./address.js").Address} that of now, its switches and filter taken in */
+  #readAddress() {
+    const address = readAddress(location.hash);
+    this.view.off = new Set(address.off);
+    this.#filter = { from: address.from, to: address.to };
+    [this.collectionsPanel.from.value, this.collectionsPanel.to.value] = [address.from, address.to];
+    this.view.datetime = interval(address.from, address.to);
+    if (address.view) {
+      const { x, y, zoom } = address.view;
+      this.view.map.setView([y, x], zoom, { reset: true });
+    }
+    return address;
+  }
+
+  async #goToAddress() {
+    const { feature } = this.#readAddress();
+    this.collectionsPanel.show();
+    await this.view.refresh();
+    if (feature) await this.chosen.choose(feature.collection, feature.id, false);
+  }
+
+  #keepAddress() {
+    if (!this.#isPlaced) return;
+    const { lat, lng } = this.view.map.getCenter();
+    const view = { x: lng, y: lat, zoom: this.view.map.getZoom() };
+    const address = { view, off: [...this.view.off], ...this.#filter, feature: this.chosen.name };
+    history.replaceState(null, "", writeAddress(address));
+  }
+
+  /** Asks for the collections and for the features of the view. */
+  async refresh() {
+    clearTimeout(this.#timer);
+    if (!(await this.#isHere())) return;
+    try {
+      const title = (collection) => [collection.id, collection.title];
+      const titles = () => JSON.stringify(this.view.collections.map(title));
+      const before = titles();
+      const collections = await readCollections();
+      await this.view.setCollections(collections);
+      if (titles() !== before) this.#recolour();
+      this.collectionsPanel.show();
+      await keepCollections(collections);
+      if (this.#isSought) this.view.showAll();
+      this.#isSought = false;
+    } catch (fault) {
+      if (!(fault instanceof NoAnswer) && !(fault instanceof Refusal)) throw fault;
+    }
+    await this.view.refresh();
+  }
+
+  /**
+   * Goes to the town that is served, unless an edit is under way.
+   * @returns {Promise<boolean>} whether this page's town is served, as far as is known
+   */
+  async #isHere() {
+    this.#compared = Date.now();
+    if ((await compareName()) !== "other") return true;
+    const text = "Another town is served here now. Cancel the edit, and reload.";
+    if (this.editor.isBegun) announce(text);
+    else startAgain();
+    return false;
+  }
+
+  #recolour() {
+    this.view.redraw();
+    this.chosen.outline();
+  }
+
+  #switched() {
+    this.#keepAddress();
+    this.view.refresh();
+  }
+
+  #filtered(from, to) {
+    this.#filter = { from, to };
+    this.view.datetime = interval(from, to);
+    this.#keepAddress();
+    this.view.refresh();
+  }
+
+  #showCounts() {
+    this.collectionsPanel.showCounts();
+    const { text, isProblem } = viewText(this.view.counts, clock);
+    const shown = byId("view-state");
+    if (shown.textContent !== text) shown.textContent = text;
+    shown.classList.toggle("problem", isProblem);
+    clearTimeout(this.#timer);
+    if (isProblem) this.#timer = setTimeout(() => this.refresh(), AGAIN_SECONDS * 1000);
+    this.chosen.outline();
+    if (Date.now() - this.#compared > COMPARE_SECONDS * 1000) this.#isHere();
+  }
+
+  /** @param {import("../leaflet/leaflet.esm.js").LatLng} place where the map was pressed */
+  #pressed(place) {
+    if (this.editor.isOpen) return;
+    const near = this.view.near(place, REACH).slice(0, MOST_NEAR);
+    const [first, ...others] = near.map(({ collection, feature: { id } }) => ({ collection, id }));
+    if (first) this.chosen.choose(first.collection, first.id, false, others);
+    else this.chosen.leave();
+  }
+
+  /** @param {KeyboardEvent} event on the map itself */
+  #key(event) {
+    if (event.target !== this.view.map.getContainer()) return;
+    const { sketch } = this.editor;
+    if (event.key === "Enter" || event.key === " ") {
+      if (sketch) sketch.addMiddle();
+      else this.#pressed(this.view.map.getCenter());
+    } else if (event.key === "Backspace" && sketch) sketch.removeLast();
+    else if (event.key === "Escape" && this.editor.isOpen) this.editor.cancel();
+    else return;
+    event.preventDefault();
+  }
+
+  #showing = Promise.resolve();
+  /** @type {Promise<void> | null} */
+  #next = null;
+
+  /**
+   * Shows the basket, the queue and what is still to come on the map. One showing ends before the
+   * next one reads, so that none puts older lists over newer ones.
+   * @returns {Promise<void>}
+   */
+  showPending() {
+    this.#next ??= this.#showing.catch(() => {}).then(() => {
+      this.#next = null;
+      this.#showing = this.#showNow();
+      return this.#showing;
+    });
+    return this.#next;
+  }
+
+  async #showNow() {
+    const { pending, basket, queue } = await readPending();
+    // What was accepted meanwhile is no longer pending, and is what was last seen.
+    await this.seen.catchUp();
+    this.view.setPending(pending);
+    this.#basketSize = basket.length;
+    const options = {
+      onSelect: (collection, id) => this.chosen.choose(collection, id, true),
+      canSave: isSecureContext,
+    };
+    if (this.#isNew("basket", basket)) showBasket(byId("panel-basket"), basket, options);
+    if (this.#isNew("queue", queue)) await this.queuePanel.show(queue);
+    const { text, isProblem } = queueText(queue);
+    const shown = byId("queue-state");
+    if (shown.textContent !== text) shown.textContent = text;
+    shown.classList.toggle("problem", isProblem);
+    byId("basket-count").textContent = basket.length ? String(basket.length) : "";
+    byId("queue-count").textContent = queue.length ? String(queue.length) : "";
+    if (!this.editor.isOpen && this.chosen.name) this.chosen.show();
+  }
+
+  #shownTexts = new Map();
+
+  /**
+   * @param {string} name of a list
+   * @param {object[]} list
+   * @returns {boolean} whether it is another than the one that was shown
+   */
+  #isNew(name, list) {
+    const text = writeJson(list);
+    const isNew = this.#shownTexts.get(name) !== text;
+    this.#shownTexts.set(name, text);
+    return isNew;
+  }
+
+  /** A batch was accepted: what it made is what was last seen. */
+  async #caughtUp() {
+    await this.showPending();
+    await this.refresh();
+  }
+
+  #showSettings() {
+    const onBackground = (background) => this.background.show(background, announce);
+    return showSettings(
+      byId("panel-settings"),
+      { earth: this.ground.earth, isKept: this.#isKept, onBackground },
+    );
+  }
+}

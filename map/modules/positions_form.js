@@ -1,0 +1,96 @@
+/**
+ * @file The positions of a geometry as fields of metres.
+ *
+ * @typedef {import("./shape.js").Shape} Shape
+ */
+import { button, element } from "./element.js";
+import { metres, paths, readMetres } from "./geometry.js";
+
+/** How many positions the table shows. */
+const MOST_ROWS = 200;
+
+/**
+ * @param {string} name
+ * @param {string} value
+ * @returns {HTMLInputElement}
+ */
+function metresField(name, value) {
+  return element(
+    "input",
+    {
+      value,
+      inputmode: "decimal",
+      placeholder: name,
+      "aria-label": `${name} in metres`,
+      class: "metres",
+    },
+  );
+}
+
+/**
+ * @param {(position: import("./geometry.js").Position | null) => void} onPosition gets what was
+ *   typed; null if it is no position of the grid
+ * @returns {HTMLElement} two fields, and a button that adds what they have
+ */
+export function typedPosition(onPosition) {
+  const [x, y] = ["East", "North"].map((name) => metresField(name, ""));
+  const add = button("Add", () => {
+    const position = [readMetres(x.value), readMetres(y.value)];
+    onPosition(position.includes(null) ? null : position);
+  });
+  return element("p", { class: "typed" }, x, y, add);
+}
+
+/**
+ * @param {Shape} shape
+ * @returns {HTMLElement[]} the positions in fields, path by path
+ */
+export function positionFields(shape) {
+  const all = paths(shape.geometry);
+  const total = all.reduce((sum, { positions }) => sum + positions.length, 0);
+  if (total > MOST_ROWS) return [element("p", {}, `${total} positions: move them on the map.`)];
+  return all.map((path, place) => {
+    const last = path.kind === "ring" ? path.positions.length - 1 : path.positions.length;
+    const shown = path.positions.slice(0, last);
+    const rows = shown.map((_, index) => positionRow(shape, path, index));
+    const title = path.kind === "ring" ? `Ring ${place + 1}` : `Part ${place + 1}`;
+    return element(
+      "fieldset",
+      {},
+      element("legend", { class: all.length > 1 ? null : "hidden" }, title),
+      ...rows,
+    );
+  });
+}
+
+/**
+ * @param {Shape} shape
+ * @param {import("./geometry.js").Path} path
+ * @param {number} index
+ */
+function positionRow(shape, path, index) {
+  const fields = ["East", "North"].map((name, axis) =>
+    metresField(`${name} ${index + 1}`, metres(path.positions[index][axis])),
+  );
+  const set = () => {
+    const position = fields.map(({ value }) => readMetres(value));
+    for (const [axis, field] of fields.entries()) {
+      field.setAttribute("aria-invalid", String(position[axis] === null));
+    }
+    if (position.includes(null)) return;
+    shape.set(path, index, position);
+    shape.changed();
+  };
+  for (const field of fields) field.addEventListener("change", set);
+  const remove = button(
+    "×",
+    () => shape.remove(path, index),
+    { class: "small", "aria-label": `Remove position ${index + 1}` },
+  );
+  return element(
+    "p",
+    { class: "typed" },
+    ...fields,
+    path.positions.length > path.least ? remove : null,
+  );
+}
