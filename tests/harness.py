@@ -17,6 +17,8 @@ from messages import Answer, answers_in, read_all
 TESTS = Path(__file__).resolve().parent
 # A word of a command line.
 Word = str | Path
+# A command that has ended.
+Ended = subprocess.CompletedProcess[bytes]
 # What `serve` says first on standard error.
 OPENING = re.compile(rb"streetmap: opening .+, [0-9]+ bytes")
 # What is shown of a value that is not the one wanted.
@@ -120,13 +122,14 @@ class Context:
             self.failures.append(what)
             print(f"  {what[:SHOWN]}: {got!r:.{SHOWN}} is not {wanted!r:.{SHOWN}}", flush=True)
 
-    def start(self, *words: Word, sent: bytes = b"", **options: Any) -> Any:
+    def start(self, *words: Word, sent: bytes = b"", **options: Any) -> Ended:
         """Runs a command of the program to its end, and checks nothing."""
         given = [str(self.program), *map(str, words)]
         options = {"stdout": subprocess.PIPE, "stderr": subprocess.PIPE} | options
         if "stdin" not in options:
             options["input"] = sent
-        return subprocess.run(given, timeout=self.seconds, check=False, **options)
+        ended: Ended = subprocess.run(given, timeout=self.seconds, check=False, **options)
+        return ended
 
     def run(
         self, *words: Word, sent: bytes = b"", status: int = 0, code: str | None = None
@@ -143,7 +146,7 @@ class Context:
     def takes(self, *words: Word) -> bool:
         """Whether the program takes these words, which is one check: a group ends there where the
         program lacks a command."""
-        taken: bool = self.start(*words).stderr != b"streetmap: usage\n"
+        taken = self.start(*words).stderr != b"streetmap: usage\n"
         self.check(f"the words {' '.join(map(str, words))}", "taken" if taken else "usage", "taken")
         return taken
 

@@ -1,5 +1,6 @@
 """`serve --journal`: journals that are completed, cut, of another file, and whose writes fail."""
 
+import gzip
 import os
 from collections.abc import Iterator
 from contextlib import contextmanager
@@ -111,16 +112,12 @@ def check_rotated(served: Served) -> None:
 
 
 def check_zeros(served: Served) -> None:
-    """What a power cut leaves as zeros is cut off, from the first such line on."""
+    """A prefix of the next line and then zeros alone, as a crash leaves them, are taken off."""
     whole, lines = served.whole, served.lines
-    middle = bytes(len(lines[4]) - 1) + b"\n"
-    served.completed("zeros behind the last line", whole + bytes(4096))
+    served.completed("zeros after the last line", whole + bytes(4096))
     served.completed("zeros in the last line", whole[:-9] + bytes(9))
-    served.completed("one zero in the last line", whole[:-9] + b"\0" + whole[-8:])
-    served.completed("a middle line of zeros", b"".join([*lines[:4], middle, *lines[5:]]))
+    served.completed("zeros for the last three lines", b"".join(lines[:-3]) + bytes(9_000))
     served.completed("zeros alone", bytes(len(whole)))
-    other = with_serial(9, b'{"edits":[],"key":"other"}')
-    served.completed("zeros, and a line behind the last", b"".join([*lines[:4], middle, other]))
 
 
 def with_serial(serial: int, text: bytes) -> bytes:
@@ -149,10 +146,65 @@ def check_refused(served: Served) -> None:
     ):
         served.begin(b"".join(text))
         served.refused(what, fault)
-    served.begin(served.whole + more[:-1])
-    with served.serving("a line ahead that is cut"):
-        kept = served.journal.read_bytes()
-    served.context.check("a line ahead that is cut", kept == served.whole, True)
+    zeros = bytes(len(lines[4]) - 1) + b"\n"
+    for what, fault, journal in (
+        ("a line ahead that is cut", "journal_ahead", served.whole + more[:-1]),
+        ("the serial of one, cut", f"not_its_journal {last + 1}", served.whole + more[:1]),
+        (
+            "a zero in the last line",
+            f"not_its_journal {last}",
+            served.whole[:-9] + b"\0" + b"x" * 8,
+        ),
+        ("a line of zeros", "not_its_journal 5", b"".join([*lines[:4], zeros, *lines[5:]])),
+        ("zeros, and a line ahead", "not_its_journal 5", b"".join([*lines[:4], zeros, more])),
+        ("zeros, and a byte", "not_its_journal 1", bytes(4096) + b"1"),
+    ):
+        served.begin(journal)
+        served.refused(what, fault)
+
+
+def no_journals(served: Served) -> dict[str, bytes]:
+    """Files that somebody names as a journal by mistake."""
+    whole = served.whole
+    picture = Path(__file__).parent.parent / "docs" / "map.png"
+    return {
+        "another town's file": served.source.read_bytes(),
+        "a picture": picture.read_bytes(),
+        "a text": b"Lamps of the town\nTrees of the town\n",
+        "a text without its last line feed": b"Lamps of the town",
+        "one byte": b"x",
+        "an empty line": b"\n",
+        "an export": b'{"type":"FeatureCollection","features":[]}',
+        "a journal in a gzip file": gzip.compress(whole),
+        "a journal with a byte order mark": b"\xef\xbb\xbf" + whole,
+        "a journal in UTF-16": whole.decode().encode("utf-16"),
+        "a journal with carriage returns": whole.replace(b"\n", b"\r\n"),
+        "batches without serials": whole.split(b"\t", 1)[1],
+        "a log with zeros in it": b"lamp\0tree\0" * 500,
+    }
+
+
+def check_no_journals(served: Served) -> None:
+    """What is no journal of the file is refused and stays as it is, byte for byte; so does the file
+    of a town that another process serves."""
+    empty = served.context.new_file("no_batches")
+    for what, found in no_journals(served).items():
+        served.begin(found)
+        served.refused(what, "not_its_journal 1")
+        copy_file(empty, served.file)
+        fault = "journal_ahead" if found.startswith(b"1\t") else "not_its_journal 1"
+        served.refused(f"{what}, and a file without batches", fault)
+    harbour = served.context.folder / "harbour"
+    copy_file(served.source, harbour)
+    served.begin(None)
+    with served.context.serve(harbour) as server:
+        served.refused("a file that is served", "not_its_journal 1", harbour)
+        (answer,) = server.ask(post('{"key":"still","edits":[]}'))
+        served.context.check("it is served on", answer.status, 200)
+    served.begin(None)
+    served.journal.mkdir()
+    served.refused("a folder", "read_failed")
+    served.journal.rmdir()
 
 
 def check_same_file(served: Served) -> None:
@@ -220,6 +272,7 @@ def check_serving(context: Context, town: Path) -> None:
     check_rotated(served)
     check_zeros(served)
     check_refused(served)
+    check_no_journals(served)
     check_same_file(served)
     check_growing(served, added_lines(served))
 

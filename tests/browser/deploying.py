@@ -16,7 +16,7 @@ from urllib.error import HTTPError
 
 from harness import Context, free_port
 
-from browser.page import browser
+from browser.browsers import browser
 from browser.site import ROOT, Site, serve_map, site
 from browser.towns import town
 
@@ -154,7 +154,7 @@ def check_answers(context: Context, base: str) -> None:
 
 def signed_in(context: Context, made: Site, base: str) -> None:
     """The page over TLS, with the name and password that a browser asks for at the first 401."""
-    with browser(secure=False) as page:
+    with browser() as page:
         signed = "Basic " + base64.b64encode(PASSWORD.encode()).decode()
         page.driver.execute_cdp_cmd("Network.enable", {})
         headers = {"headers": {"Authorization": signed}}
@@ -170,6 +170,4 @@ def signed_in(context: Context, made: Site, base: str) -> None:
         context.check("sent with them", made.ask("/collections/lamps/items/TLS")["id"], "TLS")
 
 
-def run(context: Context) -> None:
-    configurations(context)
-    secured(context)
+PARTS = (configurations, secured)

@@ -1,12 +1,14 @@
-"""Adding, moving, changing and deleting, found in `export` each time; others who write too."""
+"""Adding, moving, changing and deleting, as the server has it then; others who write too."""
 
+from collections.abc import Sequence
 from typing import Any
 
 from harness import Context
 from selenium.webdriver.common.by import By
-from selenium.webdriver.support.ui import Select
+from selenium.webdriver.support.select import Select
 
-from browser.page import Page, browser
+from browser.browsers import browser
+from browser.page import Page
 from browser.site import Site, site
 from browser.towns import delete, feature, insert, opened, point, replace, town
 
@@ -44,7 +46,7 @@ def property_row(page: Page, kind: str, value: str, name: str | None = None) -> 
     field.send_keys(value)
 
 
-def near(got: list[float], wanted: list[float]) -> bool:
+def near(got: Sequence[float], wanted: Sequence[float]) -> bool:
     return len(got) == len(wanted) and all(
         abs(one - other) * 1000 <= 2 * PIXEL for one, other in zip(got, wanted)
     )
@@ -67,14 +69,14 @@ def points(context: Context) -> None:
         page.save()
         page.wait_sent()
         context.check("the name in the key", made.relay.keys()[-1][:11], "Anna-Wei:20")
-        added = made.exported("lamps")["N1"]
+        added = made.features("lamps")["N1"]
         context.check("a point that was added", added, point("N1", 60_001, 39_900, kind="lamp"))
         move_point(page, made)
         page.choose("N1")
         page.press("Delete", "#panel-feature")
         page.save()
         page.wait_sent()
-        context.check("a point that was deleted", "N1" in made.exported("lamps"), False)
+        context.check("a point that was deleted", "N1" in made.features("lamps"), False)
 
 
 def move_point(page: Page, made: Site) -> None:
@@ -104,7 +106,7 @@ def move_point(page: Page, made: Site) -> None:
     page.wait_sent()
     x, y = (round(value * 1000) for value in dragged)
     wanted = point("N1", x, y, kind="lamp", no=big, on=[True, {"a": None}])
-    check("a point that was moved", made.exported("lamps")["N1"], wanted)
+    check("a point that was moved", made.features("lamps")["N1"], wanted)
 
 
 def shapes(context: Context) -> None:
@@ -129,7 +131,7 @@ def shapes(context: Context) -> None:
         page.wait_sent()
         rings = [[[x * 1000, y * 1000] for x, y in ring] for ring in (OUTER, HOLE)]
         wanted = feature("park", {"type": "Polygon", "coordinates": rings})
-        context.check("a polygon with a hole", made.exported("lamps")["park"], wanted)
+        context.check("a polygon with a hole", made.features("lamps")["park"], wanted)
         line(page, made)
 
 
@@ -173,7 +175,7 @@ def others(context: Context) -> None:
             )
         conflict(page, made, "L03", delete("lamps", "L03"), "Put mine back")
         conflict(page, made, "L04", delete("lamps", "L04"), "Leave it deleted")
-        lamps = made.exported("lamps")
+        lamps = made.features("lamps")
         coordinates = {
             name: lamps[name]["geometry"]["coordinates"] for name in ("L01", "L02", "L03")
         }
@@ -215,7 +217,7 @@ def same_batch(page: Page, made: Site) -> None:
     page.press("Decide")
     page.press("Leave it deleted", "dialog")
     page.wait_sent()
-    lamps = made.exported("lamps")
+    lamps = made.features("lamps")
     made.context.check("the rest of the batch", ["L05" in lamps, "L06" in lamps], [False, False])
 
 
@@ -283,8 +285,4 @@ def drop(page: Page, made: Site) -> None:
     )
 
 
-def run(context: Context) -> None:
-    points(context)
-    shapes(context)
-    others(context)
-    refusals(context)
+PARTS = (others, points, refusals, shapes)

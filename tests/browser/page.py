@@ -3,29 +3,49 @@
 import contextlib
 import io
 import json
+import threading
 import time
-from collections.abc import Callable, Iterator
-from typing import Any
+from collections.abc import Callable
+from typing import Any, TypeVar
 from urllib.parse import parse_qs, urlsplit
 
 from PIL import Image
 from selenium import webdriver
 from selenium.common.exceptions import (
+    ElementClickInterceptedException,
     ElementNotInteractableException,
     StaleElementReferenceException,
-    WebDriverException,
 )
-from selenium.webdriver.chrome.options import Options
-from selenium.webdriver.chrome.service import Service
 from selenium.webdriver.common.action_chains import ActionChains
 from selenium.webdriver.common.by import By
 from selenium.webdriver.common.keys import Keys
 from selenium.webdriver.remote.webelement import WebElement
 
+Value = TypeVar("Value")
 # The page does within so many seconds what is asked of it, however busy the machine is.
 SECONDS = 180
-# What an element is that is drawn again, or not shown yet.
-NOT_YET = (StaleElementReferenceException, ElementNotInteractableException)
+# What an element is that is drawn again, not shown yet, or covered while the page moves.
+NOT_YET = (
+    StaleElementReferenceException,
+    ElementNotInteractableException,
+    ElementClickInterceptedException,
+)
+# Set once the group takes too long: nothing is waited for any more.
+GIVEN_UP = threading.Event()
+# Whether the map shows a place, to a pixel, with all features of its view.
+RESTS = """
+const [x, y, zoom] = arguments;
+const { dataset } = document.getElementById("map");
+const miss = Math.max(Math.abs(dataset.x - x), Math.abs(dataset.y - y));
+return dataset.state === "rests" && Number(dataset.zoom) === zoom && miss <= 2 ** -zoom;
+"""
+# The corner that is dragged lies at a place of the window, to a few pixels.
+DRAGGED = """
+const [x, y] = arguments;
+const box = document.querySelector(".leaflet-drag-target")?.getBoundingClientRect();
+const near = (from, to, at) => from - 4 <= at && at <= to + 4;
+return Boolean(box) && near(box.left, box.right, x) && near(box.top, box.bottom, y);
+"""
 MAP_BOX = """
 const { x, y, width, height } = document.getElementById("map").getBoundingClientRect();
 return [x, y, width, height];
@@ -39,6 +59,8 @@ class Page:
 
     def __init__(self, driver: webdriver.Chrome) -> None:
         self.driver = driver
+        # The origins that may have kept something in this browser.
+        self.origins: set[str] = set()
 
     # What is there.
 
@@ -52,18 +74,35 @@ class Page:
             with contextlib.suppress(*NOT_YET):
                 if value := found():
                     return value
-            if time.monotonic() > end:
+            if GIVEN_UP.is_set() or time.monotonic() > end:
                 raise TimeoutError(f"{what} did not come: {self.text('body')[:600]!r}")
+            time.sleep(0.05)
+
+    def until(self, wanted: Value, found: Callable[[], Value], seconds: float = 60) -> Value:
+        """What is found once it is what is wanted, or at last."""
+        end = time.monotonic() + seconds
+        while True:
+            value = found()
+            if value == wanted or GIVEN_UP.is_set() or time.monotonic() > end:
+                return value
             time.sleep(0.05)
 
     def all(self, selector: str) -> list[WebElement]:
         return self.driver.find_elements(By.CSS_SELECTOR, selector)
 
     def one(self, selector: str) -> WebElement:
-        return self.wait(selector, lambda: next(iter(self.all(selector)), None))
+        found: WebElement = self.wait(selector, lambda: next(iter(self.all(selector)), None))
+        return found
 
     def text(self, selector: str) -> str:
-        return self.script("return document.querySelector(arguments[0])?.innerText ?? ''", selector)
+        text = "return document.querySelector(arguments[0])?.innerText ?? ''"
+        return str(self.script(text, selector))
+
+    def texts(self, selector: str) -> list[str]:
+        """The texts of all such elements as they are now."""
+        text = "return [...document.querySelectorAll(arguments[0])].map((it) => it.innerText)"
+        found: list[str] = self.script(text, selector)
+        return found
 
     def wait_text(self, selector: str, part: str, seconds: float = SECONDS) -> None:
         self.wait(f"{part!r} in {selector}", lambda: part in self.text(selector), seconds)
@@ -74,8 +113,14 @@ class Page:
 
     # The page and its tabs.
 
-    def open(self, address: str) -> None:
+    def go(self, address: str) -> None:
+        """Opens an address, which need not be the map's."""
+        if address.startswith("http"):
+            self.origins.add("{0.scheme}://{0.netloc}".format(urlsplit(address)))
         self.driver.get(address)
+
+    def open(self, address: str) -> None:
+        self.go(address)
         self.wait_ready()
 
     def reload(self) -> None:
@@ -105,7 +150,14 @@ class Page:
             "return [...document.querySelectorAll(`${arguments[0]} button`)].find(it =>"
             " it.innerText.trim() === arguments[1] && it.checkVisibility()) ?? null"
         )
-        self.wait(f"the button {text!r}", lambda: self.script(match, within, text)).click()
+
+        def pressed() -> bool:
+            button = self.script(match, within, text)
+            if button is not None:
+                button.click()
+            return button is not None
+
+        self.wait(f"the button {text!r}", pressed)
 
     def click(self, selector: str) -> None:
         """Presses an element, also where it is drawn again meanwhile or not shown yet."""
@@ -135,10 +187,9 @@ class Page:
         return float(words["x"][0]), float(words["y"][0]), float(words["z"][0])
 
     def look_at(self, x: float, y: float, zoom: float = 4) -> None:
-        """Moves the view, in metres."""
+        """Moves the view, in metres, and waits until its features are there."""
         self.script(f"location.hash = '#x={x:.3f}&y={y:.3f}&z={zoom}'")
-        self.wait("the view", lambda: self.view() == (x, y, zoom))
-        time.sleep(0.3)
+        self.wait("the view", lambda: self.script(RESTS, x, y, zoom))
 
     def at(self, x: float, y: float) -> tuple[float, float]:
         """Where a place in metres stands in the window."""
@@ -150,40 +201,48 @@ class Page:
             box[1] + box[3] / 2 - (y - middle_y) * scale,
         )
 
+    def mouse(self, kind: str, left: float, top: float, count: int = 0) -> None:
+        """An event of the mouse, in pixels of the window; its button is pressed so often."""
+        event = {"type": kind, "x": left, "y": top, "clickCount": count}
+        button = {"button": "left" if count else "none"}
+        self.driver.execute_cdp_cmd("Input.dispatchMouseEvent", event | button)
+
     def click_at(self, x: float, y: float, times: int = 1) -> None:
         """Presses a place of the map, in metres."""
         left, top = (round(value) for value in self.at(x, y))
-        actions = ActionChains(self.driver, duration=20)
-        actions.w3c_actions.pointer_action.move_to_location(left, top)
-        for _ in range(times):
-            actions.w3c_actions.pointer_action.click()
-        actions.perform()
-        time.sleep(0.05)
+        self.mouse("mouseMoved", left, top)
+        for count in range(times):
+            self.mouse("mousePressed", left, top, count + 1)
+            self.mouse("mouseReleased", left, top, count + 1)
 
     def drag(self, start: tuple[float, float], end: tuple[float, float]) -> None:
-        """Drags from one place of the map to another, in metres."""
+        """Drags a corner from one place of the map to another, in metres."""
         pointer = ActionChains(self.driver, duration=100)
         action = pointer.w3c_actions.pointer_action
         (x0, y0), (x1, y1) = self.at(*start), self.at(*end)
-        # Leaflet takes the first few pixels for a start, and moves by what comes behind them.
+        # Leaflet takes the first few pixels for a start, and moves by what comes after them.
         action.move_to_location(round(x0), round(y0)).pointer_down()
-        action.move_to_location(round(x0) + 5, round(y0))
-        action.move_to_location(round(x1) + 5, round(y1))
+        action.move_to_location(round(x0) + 4, round(y0))
+        action.move_to_location(round(x1) + 4, round(y1))
         pointer.perform()
         # It follows the pointer a frame later.
-        time.sleep(0.3)
+        self.wait("the corner", lambda: self.script(DRAGGED, x1, y1))
         ActionChains(self.driver).release().perform()
-        time.sleep(0.1)
 
     def picture(self) -> Image.Image:
         return Image.open(io.BytesIO(self.driver.get_screenshot_as_png())).convert("RGB")
 
     def colour_at(self, x: float, y: float) -> str:
         """The colour of the picture at a place of the map, as #rrggbb."""
-        left, top = self.at(x, y)
+        return self.colours_at((x, y))[0]
+
+    def colours_at(self, *places: tuple[float, float]) -> list[str]:
+        """The colours of one picture at places of the map, as #rrggbb."""
         ratio = self.script("return devicePixelRatio")
-        pixel = self.picture().getpixel((round(left * ratio), round(top * ratio)))
-        return "#{:02x}{:02x}{:02x}".format(*pixel)
+        at = [self.at(*place) for place in places]
+        picture = self.picture()
+        pixels = [picture.getpixel((round(left * ratio), round(top * ratio))) for left, top in at]
+        return ["#{:02x}{:02x}{:02x}".format(*pixel) for pixel in pixels]
 
     def wait_shown(self, collection: str, count: str) -> None:
         """Waits until so many features of a collection are shown."""
@@ -228,7 +287,8 @@ class Page:
                 all.onsuccess = () => { request.result.close(); done(JSON.stringify(all.result)); };
             };
         """
-        return json.loads(self.driver.execute_async_script(text, table))
+        rows: list[Any] = json.loads(self.driver.execute_async_script(text, table))
+        return rows
 
     def module(self, name: str, expression: str, *arguments: Any) -> Any:
         """What an expression over the exports `it` of a module comes to."""
@@ -243,35 +303,3 @@ class Page:
         if "fault" in answer:
             raise AssertionError(answer["fault"])
         return answer["value"]
-
-
-@contextlib.contextmanager
-def browser(
-    width: int = 1280,
-    height: int = 800,
-    dark: bool = False,
-    phone: bool = False,
-    secure: bool = True,
-) -> Iterator[Page]:
-    """A new browser, without anything that another kept."""
-    options = Options()
-    options.binary_location = "/usr/bin/chromium"
-    words = ("--headless=new", "--no-sandbox", "--disable-dev-shm-usage", "--hide-scrollbars")
-    for word in (*words, f"--window-size={width},{height}"):
-        options.add_argument(word)
-    options.accept_insecure_certs = not secure
-    options.set_capability("goog:loggingPrefs", {"browser": "ALL"})
-    driver = webdriver.Chrome(service=Service("/usr/bin/chromedriver"), options=options)
-    driver.set_script_timeout(SECONDS)
-    try:
-        if dark:
-            feature = {"name": "prefers-color-scheme", "value": "dark"}
-            driver.execute_cdp_cmd("Emulation.setEmulatedMedia", {"features": [feature]})
-        if phone:
-            metrics = {"width": width, "height": height, "deviceScaleFactor": 2, "mobile": True}
-            driver.execute_cdp_cmd("Emulation.setDeviceMetricsOverride", metrics)
-            driver.execute_cdp_cmd("Emulation.setTouchEmulationEnabled", {"enabled": True})
-        yield Page(driver)
-    finally:
-        with contextlib.suppress(WebDriverException):
-            driver.quit()

@@ -10,7 +10,7 @@ from pathlib import Path
 
 sys.path.insert(0, str(Path(__file__).resolve().parents[1]))
 
-from browser.page import browser  # noqa: E402
+from browser.browsers import browser  # noqa: E402
 from browser.site import site  # noqa: E402
 from browser.towns import quarter  # noqa: E402
 from harness import Context  # noqa: E402

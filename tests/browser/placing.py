@@ -10,7 +10,8 @@ from numpy.polynomial import chebyshev, polynomial
 from PIL import Image
 from pyproj import Geod, Transformer
 
-from browser.page import Page, browser
+from browser.browsers import browser
+from browser.page import Page
 from browser.site import ROOT, Site, site
 from browser.towns import quarter
 
@@ -111,7 +112,8 @@ def background(context: Context, page: Page, made: Site) -> None:
     page.wait("the image again", lambda: page.all("img.leaflet-image-layer"))
 
 
-def run(context: Context) -> None:
+def placed(context: Context) -> None:
+    """A town whose office placed its grid."""
     place = context.folder / "map.json"
     place.write_text(json.dumps(table()))
     with site(context, "placed", quarter(), place=place) as made, browser() as page:
@@ -119,13 +121,14 @@ def run(context: Context) -> None:
         reader(context, page)
         own_position(context, page)
         background(context, page, made)
-    kept = page_files()
-    context.check("the service worker keeps all files", kept[0], kept[1])
 
 
-def page_files() -> tuple[list[str], list[str]]:
-    """The modules that the service worker keeps, and those that are there."""
-    text = (ROOT / "map" / "service-worker.js").read_text()
-    listed = text.partition("const MODULES = [")[2].partition("]")[0]
-    names = [name.strip().strip('"') for name in listed.split(",") if name.strip()]
-    return sorted(names), sorted(path.stem for path in Path(ROOT / "map" / "modules").glob("*.js"))
+def kept_files(context: Context) -> None:
+    """The service worker keeps all modules that are there."""
+    listed = json.loads((ROOT / "map" / "files.json").read_text())
+    modules = sorted(file for file in listed if file.startswith("modules/"))
+    there = sorted(f"modules/{path.name}" for path in (ROOT / "map/modules").glob("*.js"))
+    context.check("the service worker keeps all files", modules, there)
+
+
+PARTS = (placed, kept_files)

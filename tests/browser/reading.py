@@ -1,5 +1,6 @@
 """Who reads it: names, roles, focus order, contrast, keyboard alone, a finger at 360 pixels."""
 
+from collections.abc import Callable
 from pathlib import Path
 from typing import Any
 
@@ -7,7 +8,8 @@ from harness import Context
 from selenium.webdriver.common.action_chains import ActionChains
 from selenium.webdriver.common.keys import Keys
 
-from browser.page import Page, browser
+from browser.browsers import browser
+from browser.page import Page
 from browser.site import Site, site
 from browser.towns import quarter
 
@@ -17,6 +19,8 @@ ROLES = (
     "heading link option searchbox spinbutton switch tab tabpanel textbox"
 ).split()
 
+# So long a tap is waited for.
+TAP_SECONDS = 10
 ASKED = Path(__file__).with_suffix(".js").read_text()
 
 
@@ -70,17 +74,23 @@ def focus_order(context: Context, page: Page) -> None:
     context.check("focus order", (places == sorted(places) and -1 not in places) or seen, True)
 
 
-def contrasts(context: Context, address: str, dark: bool) -> None:
+def light_and_dark(context: Context) -> None:
+    with site(context, "contrasts", quarter()) as made:
+        for is_dark in (False, True):
+            contrasts(context, made.address, is_dark)
+
+
+def contrasts(context: Context, address: str, is_dark: bool) -> None:
     """Contrast is 4.5 to 1 for texts, 3 to 1 for symbols; names and roles in each tab."""
-    theme = "dark" if dark else "light"
-    with browser(dark=dark) as page:
+    theme = "dark" if is_dark else "light"
+    with browser(dark=is_dark) as page:
         page.open(address)
         page.wait_shown("trees", "72")
         page.choose("P1")
         for tab in TABS:
             page.tab(tab)
             context.check(f"contrast, {theme}, {tab}", asked(page, "faintTexts"), [])
-            if not dark:
+            if not is_dark:
                 named(context, page, tab)
         page.tab("feature")
         page.press("Edit", "#panel-feature")
@@ -95,13 +105,19 @@ def contrasts(context: Context, address: str, dark: bool) -> None:
         named(context, page, "dialog")
         page.press("Cancel", "dialog")
         context.check(f"contrast of symbols, {theme}", asked(page, "faintSymbols"), [])
-        if not dark:
+        if not is_dark:
             focus_order(context, page)
 
 
 def keys(page: Page, *pressed: str) -> None:
     for key in pressed:
         ActionChains(page.driver).send_keys(key).perform()
+
+
+def keyboard_and_finger(context: Context) -> None:
+    with site(context, "pointers", quarter()) as made:
+        keyboard(context, made)
+        finger(context, made)
 
 
 def keyboard(context: Context, made: Site) -> None:
@@ -136,11 +152,17 @@ def keyboard(context: Context, made: Site) -> None:
         page.wait_text("#panel-feature h2", "keys")
 
 
-def touch(page: Page, x: float, y: float) -> None:
-    """A tap of a finger, in pixels of the window."""
-    send = page.driver.execute_cdp_cmd
-    send("Input.dispatchTouchEvent", {"type": "touchStart", "touchPoints": [{"x": x, "y": y}]})
-    send("Input.dispatchTouchEvent", {"type": "touchEnd", "touchPoints": []})
+def touch(page: Page, x: float, y: float, what: str, came: Callable[[], Any]) -> None:
+    """A tap of a finger, in pixels of the window, and what comes of it. On a busy machine it may
+    last too long for a tap: then there is another."""
+
+    def touched() -> Any:
+        send = page.driver.execute_cdp_cmd
+        send("Input.dispatchTouchEvent", {"type": "touchStart", "touchPoints": [{"x": x, "y": y}]})
+        send("Input.dispatchTouchEvent", {"type": "touchEnd", "touchPoints": []})
+        return page.until(True, lambda: bool(came()), TAP_SECONDS)
+
+    page.wait(what, touched)
 
 
 def finger(context: Context, made: Site) -> None:
@@ -160,8 +182,7 @@ def finger(context: Context, made: Site) -> None:
             context.check(f"as large as a finger asks, {tab}", asked(page, "smallTargets"), [])
         page.look_at(50, 100, 4)
         page.press("Point", "#tools")
-        touch(page, *page.at(51, 101))
-        page.wait("the vertex", lambda: page.all(".handle.vertex"))
+        touch(page, *page.at(51, 101), "the vertex", lambda: page.all(".handle.vertex"))
         page.fill("#edit-id", "finger")
         page.press("Put in basket")
         page.save("Kim")
@@ -170,13 +191,8 @@ def finger(context: Context, made: Site) -> None:
         context.check("where it is", (abs(x - 51_000) < 200, abs(y - 101_000) < 200), (True, True))
         page.look_at(50, 100, 4)
         left, top = page.at(x / 1000, y / 1000)
-        touch(page, left + 12, top)
-        page.wait_text("#panel-feature h2", "finger")
+        chosen = lambda: "finger" in page.text("#panel-feature h2")
+        touch(page, left + 12, top, "the choice", chosen)
 
 
-def run(context: Context) -> None:
-    with site(context, "reading", quarter()) as made:
-        for dark in (False, True):
-            contrasts(context, made.address, dark)
-        keyboard(context, made)
-        finger(context, made)
+PARTS = (light_and_dark, keyboard_and_finger)

@@ -6,12 +6,13 @@ nginx sends one request over each connection and closes it, so the relay handles
 import json
 import socket
 import threading
-import time
 from collections import deque
 from collections.abc import Callable
 from typing import Any
 
 SECONDS = 60
+# A batch that is refused in any case: by it the page asks whether a key was used.
+QUESTION = b'"op":"delete","collection":"unknown-'
 
 
 def read_request(stream: socket.socket) -> bytes:
@@ -52,12 +53,21 @@ class Relay:
         self.canned: deque[bytes] = deque()
         # Called with each batch that the server answered; the answer is lost where it returns True.
         self.loses: Callable[[], bool] = lambda: False
-        # So many seconds each other request waits.
-        self.pause = 0.0
+        # Whether other requests go on, and how many had to wait for that.
+        self.open = threading.Event()
+        self.open.set()
+        self.held = 0
         threading.Thread(target=self._listen, daemon=True).start()
 
     def close(self) -> None:
         self.listener.close()
+
+    def hold(self) -> None:
+        """Has all requests but batches wait."""
+        self.open.clear()
+
+    def let_go(self) -> None:
+        self.open.set()
 
     def keys(self) -> list[str]:
         """The keys of the batches that came, in order."""
@@ -87,13 +97,14 @@ class Relay:
                 return
 
     def _answer(self, request: bytes) -> bytes:
-        is_batch = request.startswith(b"POST ")
         body = request.partition(b"\r\n\r\n")[2]
+        is_batch = request.startswith(b"POST ") and QUESTION not in body
         if is_batch and self.canned:
             self.batches.append((body, b""))
             return self.canned.popleft()
-        if not is_batch:
-            time.sleep(self.pause)
+        if not is_batch and not self.open.is_set():
+            self.held += 1
+            self.open.wait(SECONDS)
         answer = self._pass_on(request)
         if is_batch:
             self.batches.append((body, answer))

@@ -20,7 +20,7 @@ SECONDS = 600
 ROOT = Path(__file__).resolve().parents[2]
 sys.path.insert(0, str(ROOT / "deploy"))
 
-import serve_map  # noqa: E402
+import serve_map as serve_map  # noqa: E402
 
 
 @dataclass
@@ -32,6 +32,7 @@ class Site:
     port: int
     relay: Relay
     place: Path | None = None
+    root: Path = ROOT
     server: Server | None = None
     _running: contextlib.ExitStack | None = None
     _nginx: contextlib.ExitStack | None = None
@@ -61,13 +62,19 @@ class Site:
     def start_nginx(self) -> None:
         self._nginx = contextlib.ExitStack()
         folder = self._nginx.enter_context(tempfile.TemporaryDirectory(dir=self.context.folder))
-        front = serve_map.front(Path(folder), self.port, self.relay.port, self.place)
+        front = serve_map.front(Path(folder), self.port, self.relay.port, self.place, self.root)
         self._nginx.enter_context(front)
 
     def stop_nginx(self) -> None:
         if self._nginx is not None:
             self._nginx.close()
         self._nginx = None
+
+    def serve_other(self, file: Path) -> None:
+        """Serves another file at the same address."""
+        self.stop()
+        self.file = file
+        self.start()
 
     def ask(self, target: str, body: Any = None) -> Any:
         """What another client gets: JSON, of an error too."""
@@ -84,19 +91,21 @@ class Site:
         """Another client's batch."""
         return self.ask("/batches", {"key": key, "edits": edits})
 
-    def exported(self, collection: str) -> dict[str, Any]:
-        """The features that `export` writes, by id; the server is stopped for it."""
-        self.stop()
-        text = self.context.run("export", self.file, "--collection", collection)
-        self.start()
-        return {feature["id"]: feature for feature in json.loads(text)["features"]}
+    def features(self, collection: str) -> dict[str, Any]:
+        """The features of a collection, by id; as another client gets them."""
+        page = self.ask(f"/collections/{collection}/items?limit=1000")
+        names = ("type", "id", "geometry", "properties")
+        bare = [{name: it[name] for name in names} for it in page["features"]]
+        return {feature["id"]: feature for feature in bare}
 
 
 @contextlib.contextmanager
-def site(context: Context, name: str, *batches: Any, place: Path | None = None) -> Iterator[Site]:
+def site(
+    context: Context, name: str, *batches: Any, place: Path | None = None, root: Path = ROOT
+) -> Iterator[Site]:
     """A new file with batches, served."""
     file = context.new_file(f"{name}.streetmap")
-    made = Site(context, file, free_port(), Relay(), place)
+    made = Site(context, file, free_port(), Relay(), place, root)
     try:
         made.start()
         for batch in batches:

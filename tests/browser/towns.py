@@ -42,4 +42,5 @@ def town() -> dict[str, Any]:
 
 def quarter() -> dict[str, Any]:
     """The sample quarter."""
-    return json.loads((EXAMPLES / "quarter.json").read_text())
+    batch: dict[str, Any] = json.loads((EXAMPLES / "quarter.json").read_text())
+    return batch

@@ -1,13 +1,12 @@
 """nginx in front of a first server and its followers: which server each request comes to."""
 
 import base64
-import ssl
 import subprocess
-import urllib.error
-import urllib.request
 from pathlib import Path
 
+from followers_tests import origins
 from followers_tests.load import Client, batch_text
+from followers_tests.origins import asked
 from followers_tests.processes import DEPLOY, ROOT, Process, running, wait_until
 from followers_tests.site import BASE, Served, Site, serve_map
 from harness import free_port
@@ -87,19 +86,6 @@ def check_batch(site: Site) -> None:
     client.close()
 
 
-def asked(port: int, path: str, body: bytes | None = None, **fields: str) -> int:
-    """The status of a request over TLS."""
-    request = urllib.request.Request(f"https://localhost:{port}{path}", body, fields)
-    trusting = ssl.create_default_context()
-    trusting.check_hostname, trusting.verify_mode = False, ssl.CERT_NONE
-    try:
-        with urllib.request.urlopen(request, timeout=60, context=trusting) as answer:
-            status: int = answer.status
-            return status
-    except urllib.error.HTTPError as error:
-        return error.code
-
-
 def office(site: Site, folder: Path, port: int) -> Process:
     """nginx with the office's configuration, and followers in the place of one server, as
     docs/OPERATING.md says."""
@@ -112,7 +98,7 @@ def office(site: Site, folder: Path, port: int) -> Process:
     (kept / "locations.conf").write_text((DEPLOY / "locations.conf").read_text())
     followers = (DEPLOY / "nginx-followers.conf").read_text()
     for old, served in zip((8080, 8081, 8082), site.all_served(), strict=True):
-        followers = followers.replace(f":{old};", f":{served.port};")
+        followers = followers.replace(f"server 127.0.0.1:{old}", f"server 127.0.0.1:{served.port}")
     (kept / "nginx-followers.conf").write_text(followers)
     text = (DEPLOY / "nginx.conf").read_text()
     begin, end = text.index("# One server."), text.index("\nserver {")
@@ -129,18 +115,20 @@ def office(site: Site, folder: Path, port: int) -> Process:
 
 
 def check_office(site: Site) -> None:
-    """Behind TLS reading needs no password, and goes to followers; a batch needs one."""
-    port = free_port()
-    signed = "Basic " + base64.b64encode(b"anna:street").decode()
-    batch = batch_text("office").encode()
+    """Behind TLS reading needs no password, and goes to followers; a batch needs one. With one it is
+    refused too if a page of another origin sends it."""
+    port, check = free_port(), site.context.check
+    url = f"https://localhost:{port}"
+    signed = {"Authorization": "Basic " + base64.b64encode(b"anna:street").decode()}
+    batch = batch_text("office")
     with running(office(site, site.context.folder / "office", port)):
-        check = site.context.check
-        check("a page", asked(port, "/collections"), 200)
-        check("the map", asked(port, "/map/"), 200)
-        check("a batch", asked(port, "/batches", batch), 401)
-        check("a signed batch", asked(port, "/batches", batch, Authorization=signed), 200)
-        check("a marked page", asked(port, "/collections?mark=office"), 400)
+        check("a page", asked(f"{url}/collections"), 200)
+        check("the map", asked(f"{url}/map/"), 200)
+        check("a batch", asked(f"{url}/batches", batch), 401)
+        check("a signed batch", asked(f"{url}/batches", batch, **signed), 200)
+        check("a marked page", asked(f"{url}/collections?mark=office"), 400)
         check("a follower has it", found(site, "office")[0], 0)
+        origins.check_origins(site, url, **signed)
 
 
 def check_fronts(site: Site) -> None:
@@ -148,3 +136,4 @@ def check_fronts(site: Site) -> None:
     check_pins(site)
     check_batch(site)
     check_office(site)
+    origins.check_map_origins(site)

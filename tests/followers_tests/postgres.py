@@ -47,7 +47,8 @@ class Database:
         try:
             with connection, connection.cursor() as cursor:
                 cursor.execute(query, values)
-                return cursor.fetchall() if cursor.description else []
+                found: list[tuple[object, ...]] = cursor.fetchall() if cursor.description else []
+                return found
         finally:
             connection.close()
 
@@ -103,7 +104,7 @@ def database(context: Context, name: str, folder: Path, port: int) -> Database:
 def primary(context: Context) -> Database:
     """A new cluster, which is not started yet."""
     folder, port = own_folder(context, "primary"), free_port()
-    words = ["-U", USER, "-A", "trust", "-E", "UTF8", "--locale=C", "--no-sync", "-D", folder]
+    words = ["-U", USER, "-A", "trust", "-E", "UTF8", "--locale=C", "--no-sync", "-D", str(folder)]
     run(context, BIN / "initdb", *words)
     with (folder / "postgresql.conf").open("a") as settings:
         settings.write(SETTINGS.format(port=port))
@@ -113,6 +114,6 @@ def primary(context: Context) -> Database:
 def standby(context: Context, first: Database) -> Database:
     """A streaming standby of a cluster that runs, which is not started yet."""
     folder, port = own_folder(context, "standby"), free_port()
-    words = ["-R", "-X", "stream", "-c", "fast", "--no-sync", "-d", first.dsn, "-D", folder]
+    words = ["-R", "-X", "stream", "-c", "fast", "--no-sync", "-d", first.dsn, "-D", str(folder)]
     run(context, BIN / "pg_basebackup", *words)
     return database(context, "standby", folder, port)

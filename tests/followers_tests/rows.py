@@ -123,7 +123,9 @@ def check_faults(rows: Rows) -> None:
     row("a line that is none", [*LINES[:6], b"7 x\n"], "6 b6\n", "bad_line 7", 6)
     row("a line without a key", [*LINES[:6], b"7\t{}\n"], "6 b6\n", "bad_line 7", 6)
     row("a gap", [*LINES[:6], LINES[7]], "6 b6\n", "bad_line 7", 6)
-    for words in (["x"], [rows.journal, "x"], [rows.journal, "http://x:0"], ["", rows.server.url]):
+    journal, given = rows.journal, rows.server.url
+    wrong: list[list[str | Path]] = [["x"], [journal, "x"], [journal, "http://x:0"], ["", given]]
+    for words in wrong:
         script = Script(rows.context, "follow.py")
         rows.context.check(f"the words {words[1:]}", script.ends(*words)[0], 2)
 

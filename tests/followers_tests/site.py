@@ -13,7 +13,7 @@ from harness import Context, free_port
 
 sys.path.insert(0, str(DEPLOY))
 
-import serve_map  # noqa: E402
+import serve_map as serve_map  # noqa: E402
 
 # The address that clients would see.
 BASE = "https://maps.example/"
@@ -50,8 +50,8 @@ def front(context: Context, first: int, followers: tuple[int, int], port: int) -
     folder.mkdir()
     text = (DEPLOY / "nginx-followers.conf").read_text()
     for old, new in zip((8080, 8081, 8082), (first, *followers), strict=True):
-        assert text.count(f"127.0.0.1:{old};") == 1, old
-        text = text.replace(f"127.0.0.1:{old};", f"127.0.0.1:{new};")
+        assert text.count(f"server 127.0.0.1:{old}") == 1, old
+        text = text.replace(f"server 127.0.0.1:{old}", f"server 127.0.0.1:{new}")
     whole = serve_map.configuration(folder, port, first, folder / "map.json")
     begin, end = whole.index("    upstream streetmap {"), whole.index("    server {\n")
     file = folder / "nginx.conf"
@@ -119,9 +119,9 @@ def site(context: Context) -> Iterator[Site]:
         position = context.folder / "left.position"
         copying = Script(context, "journal_to_postgres.py").command(first.journal, primary.dsn)
         copier = Process(context, "copier", copying)
-        words = [primary.dsn, left.url, "--position", position]
+        words = [primary.dsn, left.url, "--position", str(position)]
         follow_left = follower_script(context, "follow-left", *words)
-        words = [standby.dsn, right.url, "--journal", right.journal]
+        words = [standby.dsn, right.url, "--journal", str(right.journal)]
         follow_right = follower_script(context, "follow-right", *words)
         nginx = front(context, first.port, (left.port, right.port), port)
         servers = [it.process for it in (first, left, right)]

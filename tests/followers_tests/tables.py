@@ -42,6 +42,8 @@ def check_tables(context: Context, database: Database) -> None:
     row("an older journal", LINES[:2], None, LINES[:3])
     row("a cut line", [*LINES[:4], LINES[4][:-1]], None, LINES[:4])
     row("more lines", LINES[:6], None, LINES[:6])
+    zeroed = [*LINES[:6], LINES[6].replace(b"b7", b"b\0"), LINES[7]]
+    row("a zero byte amid lines", zeroed, f"bad_line {tables.journal}", LINES[:6])
     row("a journal from the end on", LINES[5:7], None, LINES[:7])
     row("a journal behind the end", LINES[7:], None, LINES)
     row("a journal far behind the end", lines_of([OTHER], 11), "lines_missing 9 10", LINES)
@@ -53,9 +55,34 @@ def check_tables(context: Context, database: Database) -> None:
     row("a line that is no UTF-8", [*LINES, bad], "bad_line 9", LINES)
     more = lines_of([ODD, *(b'{"edits":[],"key":"m%d"}' % at for at in range(250))], 9)
     row("many lines, and odd bytes", [*LINES, *more], None, [*LINES, *more])
-    for given in ((), ("", own.dsn), (tables.journal, "")):
+    wrong: list[tuple[str | Path, ...]] = [(), ("", own.dsn), (tables.journal, "")]
+    for given in wrong:
         context.check(f"the words {given}", Script(context, SCRIPT).ends(*given)[0], 2)
     check_words(tables)
+    database.ask_alone("CREATE DATABASE parts")
+    check_parts(context, replace(database, name="parts"))
+
+
+def check_parts(context: Context, database: Database) -> None:
+    """A journal of several files, by the path of one of them. A line that lies in none is a fault,
+    and so is one that is missing in the middle of a transaction."""
+    journal, script = context.folder / "table-parts.journal", Script(context, SCRIPT)
+
+    def row(what: str, files: dict[int, list[bytes]], ends: str | None, count: int) -> None:
+        for path in context.folder.glob(f"{journal.name}.*"):
+            path.unlink()
+        for number, lines in files.items():
+            journal.with_name(f"{journal.name}.{number:012}").write_bytes(b"".join(lines))
+        first = journal.with_name(f"{journal.name}.{1:012}")
+        got = script.ends(first, database.dsn, "--once")
+        context.check(what, got, (1, [ends]) if ends else ENDED)
+        context.check(f"{what}: the table", database.journal(), b"".join(LINES[:count]))
+
+    row("a missing file", {1: LINES[:2], 4: LINES[3:]}, "lines_missing 3 3", 0)
+    row("two files", {1: LINES[:2], 3: LINES[2:4]}, None, 4)
+    row("a third", {1: LINES[:2], 3: LINES[2:4], 5: LINES[4:6]}, None, 6)
+    row("an empty last file", {3: LINES[2:4], 5: LINES[4:7], 8: []}, None, 7)
+    row("the last file alone", {8: LINES[7:]}, None, 8)
 
 
 def check_words(tables: Tables) -> None:

@@ -3,14 +3,17 @@
 import math
 import random
 from collections import Counter
+from collections.abc import Iterator
 from concurrent.futures import ThreadPoolExecutor
 from dataclasses import dataclass, field
 from decimal import Decimal
+from operator import itemgetter
 from pathlib import Path
 from typing import Any
 
 import numpy
 import pyproj
+from gateway_tests.answers import positions
 from gateway_tests.data import KILOMETRE, batches, collections, feature, shape
 from gateway_tests.plain import Box, Plain, Shape
 from gateway_tests.service import EPSG, OFFICE, Gateway, gateway
@@ -23,6 +26,8 @@ SURE, EDGE = 3e-10, 3e-9
 FEW, MANY = 400, 10_000
 # Of so many boxes one goes over the bounds of the office's system, and one is turned on its grid.
 FAR_EACH, TURNED_EACH = 20, 10
+# For each so many random boxes of a collection there is one through vertices of its features.
+TOUCHING_EACH = 20
 # An office far from the middle of EPSG:3035 (LAEA Europe): parallels are turned by 20 degrees.
 TURNED = 'name = "EPSG:3035"\neasting = 5600000\nnorthing = 4400000'
 FIJI = 'name = "EPSG:3460"\neasting = 2000000\nnorthing = 4000000'
@@ -33,6 +38,19 @@ def random_box(source: random.Random, longitude: float = 9.98, latitude: float =
     west, south = source.gauss(longitude, 0.5), source.gauss(latitude, 0.3)
     wide, high = (10 ** source.uniform(-4, 0.5) for _ in range(2))
     return Box(west, south, west + wide, south + high)
+
+
+def touching_boxes(source: random.Random, shown: list[dict[str, Any]], count: int) -> Iterator[Box]:
+    """Boxes whose sides go through vertices of features, and nearly through them. Among them are
+    those at the sides of the extent."""
+    spots = [place[:2] for each in shown for place in positions(each)]
+    ends = [choose(spots, key=itemgetter(axis)) for choose in (min, max) for axis in (0, 1)]
+    for number in range(count):
+        one, other = (source.choice(ends if number % 2 else spots) for _ in range(2))
+        (west, east), (south, north) = (sorted(pair) for pair in zip(one, other))
+        by = source.choice((0, 1e-8, -1e-8, source.uniform(-1e-3, 1e-3)))
+        if west - by <= east + by and south - by <= north + by:
+            yield Box(west, south, east, north).grown(by)
 
 
 def far_box(source: random.Random) -> Box:
@@ -95,6 +113,9 @@ def check_random_boxes(context: Context, asked: Gateway) -> None:
     for number, (name, made) in enumerate(collections().items()):
         judge.check(name, made, boxes[number :: len(collections())])
     judge.end("in CRS84")
+    for name, made in collections().items():
+        shown = asked.all_items(name, limit=1000)
+        judge.check(name, made, list(touching_boxes(source, shown, count // TOUCHING_EACH)))
 
 
 def check_turned_boxes(context: Context, server: str) -> None:
@@ -232,7 +253,8 @@ def check_antimeridian(context: Context) -> None:
             }
             extent = asked.ask("/collections/islands").json()["extent"]["spatial"]["bbox"][0]
             context.check("the extent goes over the meridian", extent[0] > extent[2], True)
-            for box in ([179, -18, -179, -16], [-180, -20, -179.5, -10], [178, -18, 180, -16]):
+            boxes = (179, -18, -179, -16), (-180, -20, -179.5, -10), (178, -18, 180, -16)
+            for box in boxes:
                 wanted = [key for key, value in degrees.items() if in_turned(value, box)]
                 found = asked.ids("islands", bbox=",".join(map(str, box)), limit=1000)
                 found = [key for key in found if key != "line"]
@@ -241,12 +263,12 @@ def check_antimeridian(context: Context) -> None:
             context.check("a line across it", "line" in both, True)
 
 
-def in_turned(place: list[Any], box: list[float]) -> bool:
+def in_turned(place: list[Any], box: tuple[float, float, float, float]) -> bool:
     """Whether a point is in a box, which may go over the meridian; a line is left out."""
     if isinstance(place[0], list):
         return False
     west, south, east, north = box
     is_across = west > east
-    x, y = place[:2]
+    x, y = map(float, place[:2])
     along = (x >= west or x <= east) if is_across else west <= x <= east
     return along and south <= y <= north

@@ -50,5 +50,5 @@ def check_doubles(context: Context) -> None:
             f"{len(given)} numbers at {places} places", (wrong, "-0.0" in texts), ([], False)
         )
     units = [source.randint(-GREATEST_UNITS, GREATEST_UNITS) for _ in range(MANY)]
-    wrong = [each for each in units if Fraction(json.dumps(double_of(each, PLACES))) * 1000 != each]
-    context.check("millimetres", wrong, [])
+    off = [each for each in units if Fraction(json.dumps(double_of(each, PLACES))) * 1000 != each]
+    context.check("millimetres", off, [])

@@ -3,12 +3,15 @@
 import base64
 import hashlib
 import json
+import os
 import re
+import signal
 import sqlite3
 from decimal import ROUND_HALF_UP, Decimal
 from pathlib import Path
 from typing import Any
 
+from gateway_tests import costs, writing
 from gateway_tests.answers import check_problem
 from gateway_tests.data import batches, feature, shape
 from gateway_tests.service import CRS84, EPSG, OFFICE, WRITER, Gateway, gateway
@@ -39,6 +42,12 @@ def check_edits(context: Context) -> None:
             check_other_systems(context, asked)
             check_faults(context, asked)
             check_access(context, asked)
+            writing.check_types(context, asked)
+            writing.check_conditions(context, asked)
+        with gateway(context, server.url, address=writing.ADDRESS) as asked:
+            writing.check_origins(context, asked)
+            costs.check_edits(context, asked)
+            check_ended_worker(context, asked)
         with gateway(context, server.url, more='[edits]\nfractions = "text"\n' + WRITER) as asked:
             check_fractions(context, asked)
         with gateway(context, server.url, more="") as asked:
@@ -109,6 +118,8 @@ def check_nested(context: Context, asked: Gateway) -> None:
     shown = {each["id"]: each for each in asked.all_items("lamps", limit=1000)}
     del alone["links"]
     context.check("nested: on a page", shown["nested"], alone)
+    deep = b'{"type":"Feature","geometry":null,"properties":{"a":%b%b}}' % (b"[" * 62, b"]" * 62)
+    context.check("64 levels", asked.send("POST", ITEMS, deep).status_code, 201)
 
 
 def check_keys(context: Context, asked: Gateway) -> None:
@@ -121,14 +132,34 @@ def check_keys(context: Context, asked: Gateway) -> None:
     loose = [asked.send("POST", ITEMS, lamp(None, no=6)) for _ in range(2)]
     context.check("two places", len({each.headers["location"] for each in loose}), 2)
     path = places[0].headers["location"].removeprefix(asked.url)
-    for method, body in (("PUT", lamp(None, no=7)), ("DELETE", None)):
+    for method, sent in (("PUT", lamp(None, no=7)), ("DELETE", None)):
         answers = [
-            asked.send(method, path, body, Idempotency_Key=f"key {method}") for _ in range(2)
+            asked.send(method, path, sent, Idempotency_Key=f"key {method}") for _ in range(2)
         ]
         context.check(f"{method} twice", [each.status_code for each in answers], [204, 204])
+    check_writers(context, asked)
     for key in ("", "x" * 256):
         answer = asked.send("POST", ITEMS, lamp(None), Idempotency_Key=key)
         check_problem(context, answer, 400, "bad_idempotency_key")
+
+
+def check_writers(context: Context, asked: Gateway) -> None:
+    """Two writers have the same Idempotency-Key, each for a request of its own."""
+    office = basic("office", PASSWORD)
+    one = asked.send("POST", ITEMS, lamp(None, no=8), Idempotency_Key="shared")
+    for _ in range(2):
+        other = asked.send(
+            "POST", ITEMS, lamp(None, no=9), Idempotency_Key="shared", Authorization=office
+        )
+        context.check("another writer's", other.status_code, 201)
+        place = other.headers["location"].removeprefix(asked.url)
+        context.check("its feature", asked.ask(place).json()["properties"], {"no": 9})
+    again = asked.send("POST", ITEMS, lamp(None, no=8), Idempotency_Key="shared")
+    context.check("the same again", again.headers["location"], one.headers["location"])
+
+
+def basic(name: str, password: str) -> str:
+    return "Basic " + base64.b64encode(f"{name}:{password}".encode()).decode()
 
 
 NUMBERS = (
@@ -183,6 +214,7 @@ def point_text(coordinates: str) -> bytes:
     return f'{{"type":"Feature","id":"bad","geometry":{point},"properties":null}}'.encode()
 
 
+DEEP = b'{"type":"Feature","id":"bad","geometry":null,"properties":{"a":%b1%b}}'
 FAULTS: list[tuple[bytes, int, str, str | None]] = [
     (b"", 400, "not_json", None),
     (b"{", 400, "not_json", None),
@@ -190,6 +222,10 @@ FAULTS: list[tuple[bytes, int, str, str | None]] = [
     (b"\xff", 400, "not_json", None),
     (b"[" * 100_000, 400, "not_json", None),
     (b'{"type":"Feature","id":"\\ud800","geometry":null}', 400, "bad_feature", None),
+    (DEEP % (b'{"a":' * 600, b"}" * 600), 400, "bad_feature", "too_deep"),
+    (DEEP % (b"[" * 600, b"]" * 600), 400, "bad_feature", "too_deep"),
+    (DEEP % (b"[" * 63, b"]" * 63), 400, "bad_feature", "too_deep"),
+    (DEEP % (b"[" * 9_000, b"]" * 9_000), 400, "not_json", None),
     (b"[]", 400, "bad_feature", "wrong_type"),
     (b"7", 400, "bad_feature", "wrong_type"),
     (b'{"type":"Feature","id":null,"geometry":null}', 400, "bad_feature", "bad_id"),
@@ -231,10 +267,6 @@ def check_faults(context: Context, asked: Gateway) -> None:
 
 def check_access(context: Context, asked: Gateway) -> None:
     """A wrong or missing token or password is refused, a right password is not."""
-
-    def basic(name: str, password: str) -> str:
-        return "Basic " + base64.b64encode(f"{name}:{password}".encode()).decode()
-
     wrong = ["", "Bearer", "Bearer x", "Basic x", "Basic ü".encode().decode("latin-1"), "Digest a"]
     wrong += [
         basic("office", "other"),
@@ -244,7 +276,7 @@ def check_access(context: Context, asked: Gateway) -> None:
     ]
     for field in wrong:
         for method, path in (("POST", ITEMS), ("PUT", f"{ITEMS}/7"), ("DELETE", f"{ITEMS}/7")):
-            headers = {"Authorization": field.encode("latin-1")}
+            headers = {b"Authorization": field.encode("latin-1")}
             answer = asked.client.request(method, asked.url + path, headers=headers)
             check_problem(context, answer, 401, "no_access")
             context.check("a challenge", "Bearer" in answer.headers["www-authenticate"], True)
@@ -260,16 +292,44 @@ def check_fractions(context: Context, asked: Gateway) -> None:
     wanted = {"a": "0.50", "b": ["1e3", "-0.5E-7"], "c": 2, "d": 7, "e": "0.5"}
     wanted |= {"f": "99999999999999999999", "g": None}
     context.check("as text", asked.ask(f"{ITEMS}/text").json()["properties"], wanted)
+    for open_text, close_text in ((b'{"a":', b"}"), (b"[", b"]")):
+        for levels in (600, 900):
+            deep = DEEP % (open_text * levels, close_text * levels)
+            answer = asked.send("POST", ITEMS, deep)
+            check_problem(context, answer, 400, "bad_feature")
+            context.check(f"{levels} levels", answer.json().get("cause"), "too_deep")
+
+
+def digest(key: str) -> str:
+    made = hashlib.sha256(key.encode()).digest()
+    return base64.urlsafe_b64encode(made).rstrip(b"=").decode()
+
+
+def check_ended_worker(context: Context, asked: Gateway) -> None:
+    """A process that reads large bodies and is stopped is started again for a later one."""
+    body = json.dumps(lamp("by-worker", text="x" * 10_000)).encode()
+    check_problem(context, asked.send("PUT", f"{ITEMS}/by-worker", body), 404, "no_feature")
+    statuses = []
+    for path in (ITEMS, f"{ITEMS}/by-worker"):
+        method = "POST" if path == ITEMS else "PUT"
+        for children in Path(f"/proc/{asked.process.pid}/task").glob("*/children"):
+            for worker in children.read_text().split():
+                os.kill(int(worker), signal.SIGKILL)
+        answers = [asked.send(method, path, body) for _ in range(2)]
+        statuses.append([each.status_code for each in answers])
+        context.check("asked again", answers[0].headers.get("retry-after", "").isdigit(), True)
+    context.check("a stopped worker", statuses, [[503, 201], [503, 204]])
 
 
 def check_batches(context: Context, file: Path) -> None:
-    """The kept batches: one edit each, and keys that say who and when."""
+    """The kept batches: one edit each, and keys that say who, and when or what the client said."""
     with sqlite3.connect(file) as tables:
         rows = tables.execute("SELECT key, body FROM streetmap_batches ORDER BY serial").fetchall()
     made = [(key, json.loads(body)["edits"]) for key, body in rows if not key.startswith("data-")]
     context.check("one edit each", {len(edits) for _, edits in made}, {1})
-    hashed = [key for key, _ in made if re.fullmatch("[0-9a-f]{64}", key)]
-    wanted = {hashlib.sha256(f"key {end}".encode()).hexdigest() for end in ("1", "PUT", "DELETE")}
+    hashed = [key for key, _ in made if re.fullmatch("[^:]+:[A-Za-z0-9_-]{43}", key)]
+    wanted = {f"crew-7:{digest(f'key {end}')}" for end in ("1", "PUT", "DELETE")}
+    wanted |= {f"{name}:{digest('shared')}" for name in ("crew-7", "office")}
     context.check("keys by Idempotency-Key", set(hashed), wanted)
     rest = [key for key, _ in made if key not in hashed]
     form = r"(crew-7|office):\d{8}T\d{6}Z:[0-9a-f]{20}"

@@ -71,7 +71,7 @@ def check_degrees(context: Context, asked: Gateway, code: int, wanted: list[Any]
         warnings.simplefilter("ignore")
         best = TransformerGroup(f"EPSG:{code}", "OGC:CRS84", always_xy=True).transformers[0]
     for got, place in zip(coordinates(asked, CRS84), wanted):
-        exact = best.transform(*map(float, place))
+        exact = best.transform(float(place[0]), float(place[1]))
         off = max(abs(Decimal(value) - each) for value, each in zip(exact, got))
         context.check(f"EPSG:{code} in degrees", off <= Decimal("0.5000001e-9"), True)
 

@@ -9,7 +9,7 @@ from typing import Any
 
 from gateway_tests.answers import check_problem
 from gateway_tests.data import KILOMETRE, collections, feature, shape
-from gateway_tests.service import OFFICE, WRITER, Gateway, gateway, next_link
+from gateway_tests.service import CRS84, EPSG, OFFICE, WRITER, Gateway, gateway, next_link
 from harness import Context
 
 KERBS = "/collections/kerbs/items"
@@ -34,9 +34,29 @@ def check_pages(context: Context, asked: Gateway) -> None:
     context.check("counts without a box", shown, (60, 5, 5))
     boxed = asked.ask(KERBS, limit=5, bbox="9.5,53.3,10.5,53.8").json()
     context.check("counts with a box", "numberMatched" in boxed, False)
+    check_matched(context, asked)
     default = asked.ask(KERBS).json()["numberReturned"]
     most = asked.ask("/collections/lamps/items", limit=99999).json()["numberReturned"]
     context.check("limits", (default, most), (10, 300))
+
+
+def check_matched(context: Context, asked: Gateway) -> None:
+    """A box that covers the extent of a collection needs no test, and one beyond it has nothing:
+    both say how many features match, in each system."""
+    boxes = {
+        CRS84: ("-180,-90,180,90", "170,50,-170,60"),
+        f"{EPSG}4326": ("50,0,58,20", "0,100,20,120"),
+        f"{EPSG}3857": ("-20000000,-20000000,20000000,20000000", "0,0,1,1"),
+        OFFICE: ("1.0001,1.0001,1000000.0001,9000000.0001", "1.0001,1.0001,2.0001,2.0001"),
+    }
+    for name, made in collections().items():
+        count = sum(each["geometry"] is not None for each in made)
+        for system, (wide, beyond) in boxes.items():
+            path = f"/collections/{name}/items"
+            for box, wanted in ((wide, count), (beyond, 0)):
+                page = asked.ask(path, limit=5, bbox=box, bbox_crs=system).json()
+                shown = (page.get("numberMatched"), page["numberReturned"])
+                context.check(f"{name} in {box}", shown, (wanted, min(5, wanted)))
 
 
 def check_times(context: Context, asked: Gateway) -> None:
@@ -93,24 +113,30 @@ def check_secret(context: Context, server: str) -> None:
 
 
 class StandIn(http.server.BaseHTTPRequestHandler):
-    """Answers pages as the server would over `COUNT` lines of 100 km, and a point behind them."""
+    """Answers as the server would over `COUNT` lines of 100 km, and a point behind them."""
 
     COUNT = 18_000
     asked = 0
 
     def do_GET(self) -> None:
-        query = dict(urllib.parse.parse_qsl(urllib.parse.urlsplit(self.path).query))
+        path, _, query = self.path.partition("?")
+        self.answer(self.page(query) if path.endswith("/items") else COLLECTION)
+
+    def page(self, text: str) -> dict[str, Any]:
+        query = dict(urllib.parse.parse_qsl(text))
         begin, limit = int(query.get("after", "0")), int(query["limit"])
         ends = range(begin + 1, min(begin + limit, self.COUNT) + 1)
         made = [feature(f"{number:05}", LONG if number < self.COUNT else NEAR) for number in ends]
         links = [{"rel": "next"}] if ends.stop <= self.COUNT else []
-        page = {"features": made, "links": links, "numberMatched": self.COUNT}
-        body = json.dumps(page).encode()
+        StandIn.asked += 1
+        return {"features": made, "links": links, "numberMatched": self.COUNT}
+
+    def answer(self, members: dict[str, Any]) -> None:
+        body = json.dumps(members).encode()
         self.send_response(200)
         self.send_header("Content-Length", str(len(body)))
         self.end_headers()
         self.wfile.write(body)
-        StandIn.asked += 1
 
     def log_message(self, *_words: Any) -> None:
         """Nothing is logged."""
@@ -118,6 +144,8 @@ class StandIn(http.server.BaseHTTPRequestHandler):
 
 LONG = shape("LineString", [[-50 * KILOMETRE, 0], [50 * KILOMETRE, 50 * KILOMETRE]])
 NEAR = shape("Point", [-49 * KILOMETRE, 49 * KILOMETRE])
+BOUNDS = [-50 * KILOMETRE, 0, 50 * KILOMETRE, 50 * KILOMETRE]
+COLLECTION = {"id": "lines", "title": "lines", "extent": {"spatial": {"bbox": [BOUNDS]}}}
 
 
 def check_short_pages(context: Context) -> None:

@@ -80,7 +80,7 @@ def draw(url: str, names: list[str], ground: str, picture: str) -> int:
     layers = [layer_of(url, name) for name in names]
     for layer in layers:
         style(layer)
-    layers.sort(key=lambda layer: layer.geometryType())
+    layers.sort(key=lambda layer: int(layer.geometryType()))
     settings = QgsMapSettings()
     settings.setLayers(layers)
     settings.setDestinationCrs(QgsCoordinateReferenceSystem("EPSG:25832"))

@@ -45,11 +45,13 @@ class Gateway:
     def send(self, method: str, path: str, body: Any = None, **fields: str) -> httpx.Response:
         """An edit by the writer of the tests; in the names of fields `_` stands for `-`."""
         headers = {"Authorization": f"Bearer {TOKEN}"}
+        if isinstance(body, bytes):
+            headers["Content-Type"] = "application/geo+json"
         headers |= {name.replace("_", "-"): value for name, value in fields.items()}
-        sent = {"content": body} if isinstance(body, bytes) else {"json": body}
-        if body is None:
-            sent = {}
-        return self.client.request(method, self.url + path, headers=headers, **sent)
+        url = self.url + path
+        if isinstance(body, bytes):
+            return self.client.request(method, url, headers=headers, content=body)
+        return self.client.request(method, url, headers=headers, json=body)
 
     def all_items(self, collection: str, **parameters: Any) -> list[dict[str, Any]]:
         """All features of a query, page behind page."""
@@ -74,23 +76,29 @@ def next_link(page: dict[str, Any]) -> str | None:
     return next((link["href"] for link in page["links"] if link["rel"] == "next"), None)
 
 
-def settings_text(server: str, port: int, system: str = SYSTEM, more: str = WRITER) -> str:
+def settings_text(
+    server: str, port: int, system: str = SYSTEM, more: str = WRITER, address: str | None = None
+) -> str:
     """The text of a settings file."""
-    address = f"http://127.0.0.1:{port}"
     return (
-        f'address = "{address}/"\n[listen]\nport = {port}\n'
+        f'address = "{address or f"http://127.0.0.1:{port}"}/"\n[listen]\nport = {port}\n'
         f'[server]\naddress = "{server}/"\nconnections = 24\n[system]\n{system}\n{more}'
     )
 
 
 @contextlib.contextmanager
 def gateway(
-    context: Context, server: str, system: str = SYSTEM, more: str = WRITER
+    context: Context,
+    server: str,
+    system: str = SYSTEM,
+    more: str = WRITER,
+    address: str | None = None,
 ) -> Iterator[Gateway]:
-    """A gateway in front of a server's URL, until the block ends."""
+    """A gateway in front of a server's URL, until the block ends. Its links stand under `address`,
+    or where it is."""
     port = free_port()
     file = context.folder / f"gateway-{port}.toml"
-    file.write_text(settings_text(server, port, system, more))
+    file.write_text(settings_text(server, port, system, more, address))
     log = file.with_suffix(".log")
     with log.open("wb") as errors:
         given = [PYTHON, "-m", "gateway", str(file)]

@@ -1,4 +1,4 @@
-"""Settings that are refused, the table of the map page, and the style and types of the sources."""
+"""Settings that are refused, and the table of the map page."""
 
 import json
 import math
@@ -15,27 +15,10 @@ from gateway_tests.service import PYTHON, ROOT, SYSTEM, Gateway, environment, se
 from harness import Context
 
 SECONDS = 240
-# Types are checked once from nothing, and then from what is kept.
-TYPES_SECONDS = 600
-TYPES = ROOT / "tests" / "out" / "mypy"
 # What `systemd-analyze security` may say of the unit: 0 is the best, 10 the worst.
 MOST_EXPOSURE = 2.0
 OSGB = "Inverse of British National Grid + OSGB36 to WGS 84 (6) + axis order change (2D)"
 BRITAIN = 'name = "EPSG:27700"\neasting = 400000\nnorthing = 300000'
-
-
-def check_style(context: Context) -> None:
-    """The sources pass Debian's `black` and `mypy --strict`."""
-    file = str(ROOT / "gateway" / "pyproject.toml")
-    sources = [str(ROOT / "gateway"), str(ROOT / "tests" / "gateway_tests")]
-    types = ["--strict", "--config-file", file, "--cache-dir", str(TYPES), "-p", "gateway"]
-    checks = (["/usr/bin/black", "--config", file, "--check", *sources], ["/usr/bin/mypy", *types])
-    for words in checks:
-        ended = subprocess.run(
-            words, cwd=ROOT, capture_output=True, text=True, timeout=TYPES_SECONDS
-        )
-        said = (ended.stdout + ended.stderr) if ended.returncode else ""
-        context.check(words[0], (ended.returncode, said), (0, ""))
 
 
 REFUSED = {
@@ -137,15 +120,18 @@ def placed_by_page(folder: Path, reader: Path, table: str, spots: list[list[int]
     return json.loads(ended.stdout)
 
 
+def analysed(*words: str) -> subprocess.CompletedProcess[str]:
+    given = ["systemd-analyze", *words]
+    return subprocess.run(given, capture_output=True, text=True, timeout=SECONDS)
+
+
 def check_unit(context: Context, unit: Path) -> None:
     """The unit of the package is one, starts the gateway, and gives it little to reach."""
     started = "ExecStart=/usr/bin/python3 -m gateway %d/gateway.toml" in unit.read_text()
     context.check("its unit", started, True)
-    analyse = ["systemd-analyze"]
-    options = {"capture_output": True, "text": True, "timeout": SECONDS}
-    ended = subprocess.run([*analyse, "verify", str(unit)], **options)
+    ended = analysed("verify", str(unit))
     context.check("systemd-analyze verify", (ended.returncode, ended.stderr), (0, ""))
-    ended = subprocess.run([*analyse, "security", "--offline=true", str(unit)], **options)
+    ended = analysed("security", "--offline=true", str(unit))
     exposure = re.search(r"exposure level for \S+: ([0-9.]+)", ended.stdout)
     found = float(exposure[1]) if exposure else math.inf
     context.check(f"its exposure is {found}", found <= MOST_EXPOSURE, True)

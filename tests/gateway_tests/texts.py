@@ -15,7 +15,7 @@ from harness import Context
 
 sys.path.append(str(ROOT))
 
-from gateway.boxes import Region  # noqa: E402
+from gateway.boxes import Box  # noqa: E402
 from gateway.features import placed_texts, read_page  # noqa: E402
 from gateway.systems import Position, System  # noqa: E402
 
@@ -35,7 +35,7 @@ class Shifted(System):
     def nearest(self, coordinates: Sequence[tuple[Decimal, Decimal]]) -> list[tuple[int, int]]:
         raise NotImplementedError
 
-    def region(self, box: Sequence[Decimal]) -> Region:
+    def own_box(self, bounds: Sequence[Decimal]) -> Box:
         raise NotImplementedError
 
 

@@ -1,6 +1,7 @@
 """Faults of the server: a damaged row, a failed device, a shut store, refused memory."""
 
 import contextlib
+import json
 import re
 import resource
 import socket
@@ -8,8 +9,8 @@ import subprocess
 from collections.abc import Callable, Iterator
 from pathlib import Path
 
-from harness import Context, Server
-from messages import feature, get, open_collection, point, put, read_all
+from harness import Context, Server, free_port
+from messages import answers_in, feature, get, open_collection, point, post, put, read_all
 from model import PHRASES, Ledger, Refused, Request, compact
 from sqlite_file import Rows, change, make_format_1, rows
 
@@ -67,7 +68,7 @@ def a_damaged_row(context: Context) -> None:
     """It shuts the store, which then refuses all that asks for its state, and nothing else."""
     file = context.new_file("damaged", FIRST.sent)
     change(file, DAMAGES[0])
-    for words in ((), ("--clients", "4")):
+    for words in (("--count", "99"), ("--count", "99", "--clients", "4")):
         with context.serve(file, *words) as server:
             looked = asked(server, get(f"{ITEMS}?bbox=0,0,9,9") + get("/"))
             context.check("a damaged row", looked, fault("damaged"))
@@ -77,6 +78,8 @@ def a_damaged_row(context: Context) -> None:
             context.check("a batch to a shut store", asked(server, sent), fault("reopen"))
             (answer,) = server.ask(get("/conformance"))
             context.check("what asks for no state", answer.status, 200)
+            said = server.log.read_bytes().splitlines()[1:]
+            context.check("its line, once", said, [b"streetmap: damaged"])
     export = ("export", file, "--collection")
     context.run(*export, "works", status=3, code="damaged")
     ledger = Ledger()
@@ -120,6 +123,53 @@ def a_failed_device(context: Context) -> None:
         context.check("the batch once there is room", answer.status, 200)
 
 
+def large_town(context: Context) -> Path:
+    """A file with a page of 12 MB, which no socket holds, and with a damaged row beside it."""
+    file = context.new_file("large", FIRST.sent)
+    for part in range(2):
+        edits = [
+            put("insert", "lamps", feature(f"N{part}{at:03}", None, {"text": "x" * 30_000}))
+            for at in range(200)
+        ]
+        (answer,) = context.pipe(file, post(compact({"key": f"n{part}", "edits": edits})))
+        context.check("a large batch", answer.status, 200)
+    change(file, DAMAGES[0])
+    return file
+
+
+def a_server_whose_store_failed(context: Context) -> None:
+    """It prints the fault once, sends the answers that it has begun, and ends with status 3."""
+    file = large_town(context)
+    with context.serve(file) as server, server.connect() as reader, server.connect() as idle:
+        reader.sendall(get("/collections/lamps/items?limit=1000"))
+        begun = reader.recv(1)
+        context.check("the row", asked(server, get(f"{ITEMS}/K1")), fault("damaged"))
+        idle.sendall(get("/conformance")[:9])
+        (answer,) = answers_in(begun + read_all(reader))
+        context.check("a page that was begun", len(json.loads(answer.body)["features"]), 402)
+        server.ends(3, b"streetmap: damaged\n")
+    limited = limits_file_size(60_000)
+    file, port = context.new_file("full", FIRST.sent), free_port()
+    given = [str(context.program), "serve", str(file), "--port", str(port)]
+    lamps = [put("insert", "lamps", feature(f"M{at}", point(at, at))) for at in range(900)]
+    with subprocess.Popen(
+        given,
+        preexec_fn=limited,
+        restore_signals=False,
+        stdout=subprocess.PIPE,
+        stderr=subprocess.PIPE,
+    ) as process:
+        assert process.stdout is not None and process.stderr is not None
+        process.stdout.readline()
+        server = Server(context, port, process, context.folder / "none")
+        sent = Request("POST", "/batches", {"key": "b2", "edits": lamps}).sent
+        context.check("a batch on a full device", asked(server, sent), fault("device"))
+        context.check("its status", process.wait(context.seconds), 3)
+        said = process.stderr.read().splitlines()[1:]
+        context.check("its line", said, [b"streetmap: device"])
+    context.check("what is left", context.run("check", file), b"ok 2 3 1\n")
+
+
 @contextlib.contextmanager
 def short_of_memory(process: subprocess.Popen[bytes]) -> Iterator[None]:
     """A process has no more than half a megabyte beyond what it has."""
@@ -134,7 +184,8 @@ def short_of_memory(process: subprocess.Popen[bytes]) -> Iterator[None]:
 
 
 def refused_memory(context: Context) -> None:
-    """A client for whose body there is no memory is let go; over a stream it is told so."""
+    """A client for whose body there is no memory is told so, over a stream and over sockets, also
+    while it still sends."""
     edits = [open_collection("large", title="x" * 200)]
     batch = Request("POST", "/batches", {"key": "large", "edits": edits})
     body = batch.text.encode().ljust(2_000_000)
@@ -155,9 +206,18 @@ def refused_memory(context: Context) -> None:
         context.check("a body without memory", told, fault("memory"))
     with context.serve(file, *words) as server:
         with short_of_memory(server.process):
-            context.check("a client whose body has none", asked(server, head), b"")
+            context.check("a client whose body has none", asked(server, head), fault("memory"))
+            context.check("while it sends", answer_while_sent(server, head + body), fault("memory"))
         context.check("nothing was applied", asked_once(server, look.sent), ledger.answer(look))
         context.check("the body again", asked_once(server, head + body), ledger.answer(batch))
+
+
+def answer_while_sent(server: Server, sent: bytes) -> bytes:
+    """What a client is sent that reads once it sent as much as the server takes."""
+    with server.connect() as client:
+        with contextlib.suppress(ConnectionError):
+            client.sendall(sent)
+        return read_all(client)
 
 
 def asked_once(server: Server, sent: bytes) -> bytes:
@@ -172,4 +232,5 @@ def run(context: Context) -> None:
     a_damaged_row(context)
     a_row_of_format_1(context)
     a_failed_device(context)
+    a_server_whose_store_failed(context)
     refused_memory(context)

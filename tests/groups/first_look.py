@@ -1,4 +1,4 @@
-"""The first look of `make try`: its town, over its program in memory and over a file."""
+"""The first look of `make try`: its quarter, over its program in memory and over a file."""
 
 import contextlib
 import importlib.util
@@ -16,9 +16,9 @@ TOOL = TESTS.parent / "tools" / "try_town.py"
 BUILT = TESTS.parent / "crates" / "streetmap_try" / "out" / "streetmap_try"
 ITEMS = "/collections/lamps/items"
 LOOKS = (
-    f"{ITEMS}?bbox=0,0,100000,20000&limit=2",
-    f"{ITEMS}?datetime=2024-01-01T00:00:00Z/..",
-    f"{ITEMS}/L01",
+    f"{ITEMS}?bbox=0,0,50000,70000&limit=1",
+    f"{ITEMS}?datetime=2018-01-01T00:00:00Z/..",
+    f"{ITEMS}/L001",
     "/collections",
     "/conformance",
 )
@@ -66,25 +66,29 @@ def check_words(context: Context) -> None:
 
 
 def check_tool(context: Context) -> None:
-    """`make try` itself, from its compiling to its end."""
-    words = [sys.executable, str(TOOL), str(free_port()), "5"]
+    """`make try` itself, from its compiling to its end. The addresses come first."""
+    port = free_port()
+    words = [sys.executable, str(TOOL), str(port), "5"]
     printed = subprocess.run(words, capture_output=True, text=True, check=False).stdout
-    for text in ("It listens after", '"inserted":', "Nothing of this is proved", "make serve"):
+    first = f"The server: http://localhost:{port}/\n"
+    context.check("what make try prints first", printed[: len(first)], first)
+    for text in ("It listens after", '"inserted":145', "Nothing of this is proved", "make serve"):
         context.check(f"make try prints {text!r}", text in printed, True)
 
 
 def run(context: Context) -> None:
-    town = post(load_tool().town_batch())
-    gone = batch("crew-7", [delete("lamps", "L03")])
+    quarter = post(load_tool().QUARTER.read_bytes())
+    gone = batch("crew-7", [delete("lamps", "L003")])
     looks = b"".join(map(get, LOOKS))
-    sent = town + looks + gone + looks + get(f"{ITEMS}/L03")
+    sent = quarter + looks + gone + looks + get(f"{ITEMS}/L003")
     with context.serve(context.new_file("town")) as server:
         wanted = answers_at(server.port, sent)
     statuses = [200] * (2 + 2 * len(LOOKS)) + [404]
-    context.check("the statuses of the town", [status for status, _ in wanted], statuses)
+    context.check("the statuses of the quarter", [status for status, _ in wanted], statuses)
+    context.check("the page that README shows", b'"numberMatched":2' in wanted[1][1], True)
     if BUILT.exists():
         check_words(context)
         with in_memory(context) as port:
-            context.check("the town in memory and in a file", answers_at(port, sent), wanted)
+            context.check("the quarter in memory and in a file", answers_at(port, sent), wanted)
     if context.slow:
         check_tool(context)

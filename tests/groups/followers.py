@@ -9,16 +9,14 @@ end each collection's export is the same bytes on all, and each journal that of 
 import random
 import time
 
-from followers_tests import fronts, rows, style, tables
+from followers_tests import fronts, parts, reading, rows, tables
 from followers_tests.load import Load, delays, tell_delays
 from followers_tests.processes import wait_until
 from followers_tests.site import Site, site
 from harness import Context
 
 PACKAGES = (
-    "black",
     "libjs-leaflet",
-    "mypy",
     "nginx",
     "openssl",
     "postgresql",
@@ -67,9 +65,9 @@ def check_killed(site: Site, rounds: int) -> dict[str, int]:
                 process.start()
                 time.sleep(chance.uniform(0, BETWEEN_SECONDS))
     for reader in load.pages():
-        # A follower that has not come so far lacks the collection. Where both are away: no answer.
-        # One that is killed within its answer cuts it, which is status 0.
-        others = reader.others <= {0, 404, 502, 504}
+        # A follower that has not come so far lacks the collection. One that is killed within its
+        # answer cuts it, which is status 0. As one is away at a time, another answers.
+        others = reader.others <= {0, 404}
         site.context.check(f"other answers under kills: {reader.others}", others, True)
     return load.serials()
 
@@ -97,9 +95,9 @@ def check_end(site: Site, acknowledged: dict[str, int]) -> None:
 
 
 def run(context: Context) -> None:
-    style.check_style(context)
     rows.check_rows(context)
     rows.check_large(context)
+    parts.check_parts(context)
     words = ("--port", "1", "--journal", context.folder / "none.journal")
     if not context.takes("serve", context.folder / "none", *words):
         return
@@ -107,6 +105,7 @@ def run(context: Context) -> None:
         tables.check_tables(context, made.primary)
         check_quiet(made)
         fronts.check_fronts(made)
+        reading.check_reading(made)
         acknowledged = check_killed(made, SLOW_ROUNDS if context.slow else ROUNDS)
         made.catch_up()
         check_end(made, acknowledged)

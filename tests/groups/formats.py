@@ -54,7 +54,7 @@ def check_commands_on_format_1(context: Context, file: Path) -> None:
     context.check("an export of format 1", again, exported)
     make_format_1(file)
     none = text_path(context, "none", '{"type":"FeatureCollection","features":[{}]}')
-    words = ["import", file, none, "--key", "i1", "--collection", "lamps"]
+    words = ("import", file, none, "--key", "i1", "--collection", "lamps")
     context.run(*words, status=1, code="bad_feature 1 wrong_type")
     context.check("a refused text opens no file", rows(file, FORMAT_OF), [("format", 1)])
     one = text_path(context, "one", '{"type":"FeatureCollection","features":[{"type":"Feature"}]}')

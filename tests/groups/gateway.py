@@ -1,7 +1,7 @@
 """The gateway in real reference systems: boxes, edits, faults, and QGIS, GDAL and OWSLib."""
 
-from gateway_tests import answers, boxes, clients, doubles, edits, faults, orders
-from gateway_tests import pages, round_trip, settings, texts
+from gateway_tests import answers, boxes, clients, costs, doubles, edits, faults, orders
+from gateway_tests import pages, round_trip, settings, texts, writing
 from gateway_tests.data import batches, collections
 from gateway_tests.service import gateway
 from harness import Context
@@ -14,27 +14,25 @@ PACKAGES = (
     "python3-uvloop",
     "python3-httpx",
     "python3-pyproj",
-    "python3-shapely",
     "python3-qgis",
     "python3-gdal",
     "gdal-bin",
     "python3-owslib",
-    "mypy",
-    "black",
     "lintian",
     "systemd",
 )
 
 
 def run(context: Context) -> None:
-    settings.check_style(context)
     settings.check_settings(context)
     settings.check_package(context)
+    writing.check_token(context)
     doubles.check_doubles(context)
     texts.check_texts(context)
     file = context.new_file("town.streetmap", *map(post, batches(collections())))
     with context.serve(file, "--clients", "48") as server:
         with gateway(context, server.url) as asked:
+            costs.check_boxes(context, asked)
             answers.check_resources(context, asked)
             answers.check_systems(context, asked)
             answers.check_refusals(context, asked)

@@ -1,8 +1,12 @@
 """Many clients at once: idle, slow, silent and deaf ones, some that vanish, too many.
 
+One sends a large batch for longer than any may be silent, and one sends a byte a second.
+
 Some have a collection of their own, and are answered what they would be answered alone.
 """
 
+import contextlib
+import json
 import re
 import socket
 import threading
@@ -19,6 +23,7 @@ from messages import (
     get,
     insert_lamp,
     open_collection,
+    post,
     read_all,
     read_answer,
     replace_lamp,
@@ -31,6 +36,10 @@ SERIAL = re.compile(rb'"serial":(\d+)')
 CLIENTS, OWN_CLIENTS = 16, 24
 # In seconds: how long a client may be silent, and what a busy machine may take beyond it.
 PATIENCE, SLACK = 30, 60
+# In seconds: how long a large batch is sent, and after how many a piece of it follows.
+LONG, PAUSE = 36, 1.5
+# In bytes: the body of a batch that is sent slowly, in the short form and in the long one.
+LARGE, LARGEST = 2_000_000, 7_300_000
 # In KiB: what a client that never reads may cost.
 DEAF_MEMORY = 4096
 
@@ -228,6 +237,64 @@ class SilentClient(threading.Thread):
         context.check(f"a silent client after {waited:.0f} s", waited >= PATIENCE - 1, True)
 
 
+class SlowClient(threading.Thread):
+    """A client that sends a large batch for longer than any may be silent. A piece of it that
+    renews the server's patience comes every few seconds."""
+
+    def __init__(self, server: Server, size: int) -> None:
+        super().__init__(daemon=True)
+        self.stream = server.connect(PATIENCE + SLACK)
+        body = json.dumps({"key": "slow", "edits": [open_collection("slow")]})
+        self.sent = post(body.ljust(size))
+        self.status: int | None = None
+        self.start()
+
+    def run(self) -> None:
+        turns = int(LONG / PAUSE)
+        size = -(-len(self.sent) // turns)
+        with contextlib.suppress(OSError):
+            for turn in range(turns):
+                self.stream.sendall(self.sent[turn * size : (turn + 1) * size])
+                time.sleep(PAUSE)
+            self.status = read_answer(self.stream).status
+
+    def check(self, context: Context) -> None:
+        self.join()
+        self.stream.close()
+        context.check("a large batch that comes slowly", self.status, 200)
+
+
+class DrippingClient(threading.Thread):
+    """A client that sends a byte of a batch each second. It notes when it is let go."""
+
+    def __init__(self, server: Server) -> None:
+        super().__init__(daemon=True)
+        self.stream = server.connect()
+        self.sent = batch("dripping", [insert_lamp(0)])
+        self.begun = time.monotonic()
+        self.waited: float | None = None
+        self.start()
+
+    def run(self) -> None:
+        self.stream.settimeout(1)
+        with contextlib.suppress(OSError):
+            for at in range(PATIENCE + SLACK):
+                self.stream.sendall(self.sent[at : at + 1])
+                if is_closed(self.stream):
+                    break
+            else:
+                return
+        self.waited = time.monotonic() - self.begun
+
+    def check(self, context: Context) -> None:
+        """Single bytes did not renew the server's patience."""
+        self.join()
+        self.stream.close()
+        waited = self.waited or 0
+        what = f"a client of a byte a second after {waited:.0f} s"
+        context.check(what, PATIENCE - 1 <= waited < PATIENCE + SLACK, True)
+
+
 def opened_file(context: Context, name: str) -> Path:
     return context.new_file(name, batch("b1", [OPEN_LAMPS]))
 
@@ -235,7 +302,8 @@ def opened_file(context: Context, name: str) -> Path:
 def run(context: Context) -> None:
     many, few = opened_file(context, "many.streetmap"), opened_file(context, "few.streetmap")
     with context.serve(many, "--clients", "256") as server:
-        silent = SilentClient(server)
+        silent, dripping = SilentClient(server), DrippingClient(server)
+        slow = SlowClient(server, LARGEST if context.slow else LARGE)
         check_idle_and_slow_clients(context, server)
         check_own_collections(context, server)
         check_requests_cut_at_every_byte(context, server)
@@ -244,4 +312,6 @@ def run(context: Context) -> None:
         check_connections_in_a_row(context, server)
         with context.serve(few, "--clients", str(CLIENTS)) as small:
             check_too_many_clients(context, small)
-        silent.check(context)
+        clients: tuple[SilentClient | DrippingClient | SlowClient, ...] = (silent, dripping, slow)
+        for client in clients:
+            client.check(context)

@@ -19,7 +19,7 @@ from pathlib import Path
 from typing import Any
 
 from examples import Row, rows_of, text_path
-from harness import Context, Word, first_line
+from harness import Context, Ended, Word, first_line
 from loading import (
     MOST_BYTES,
     MOST_OF_EDIT,
@@ -38,7 +38,6 @@ from messages import OPEN_LAMPS, batch, feature, insert_lamp, point, post, put
 from model import Ledger, compact, edit_text
 from sqlite_file import Rows, copy_file, forget, kept_rows, rows
 
-Ended = subprocess.CompletedProcess[bytes]
 OPENING = {"key": "o", "edits": [OPEN_LAMPS]}
 BATCHES = "SELECT key, body FROM streetmap_batches WHERE serial > {} ORDER BY serial"
 NO_SEQUENCE = b"streetmap: not_a_sequence\n"

@@ -1,6 +1,8 @@
 """The map page in a headless browser, over the program and nginx: seeing, editing, no network."""
 
-from browser import deploying, editing, looking, placing, reading, sending
+from browser import deploying, editing, foreign, forms, keeping, looking, phone, placing
+from browser import reading, sending
+from browser.parts import run_parts
 from harness import Context
 
 PACKAGES = (
@@ -17,5 +19,7 @@ PACKAGES = (
 
 
 def run(context: Context) -> None:
-    for part in (deploying, looking, editing, sending, placing, reading):
-        part.run(context)
+    # Those with the longest parts first.
+    longest = (looking, keeping, sending, editing, reading)
+    modules = (*longest, forms, phone, placing, deploying, foreign)
+    run_parts(context, [part for module in modules for part in module.PARTS])

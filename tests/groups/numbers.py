@@ -29,7 +29,8 @@ SHIFTS = ("0,0", "412000,5712000", "-500000.125,0.5", "1e17,-1e17", "0.000000000
 # What GDAL and PostGIS write near zero, halves, and numbers at the limits of what is kept.
 EDGES = (
     *("-1.1368683772161603e-13", "0.5", "-0.5", "1.5", "-2.5", "0.49999999999999999", "-0", "-0.0"),
-    *("0e5", "1e18", "999999999999999999", "1e-18", "1e-19", "5e-19", "1000000.0005", "1E+2"),
+    *("0e5", "999999999999999999", "1e-18", "1e-19", "5e-19", "1000000.0005", "1E+2"),
+    *("1e18", "-1e18", "1000000000499999999.9", "1000000000500000000", "1e19", "1e20"),
     *("-1000000.0004", "0.4999999999999999999", "0.5000000000000000001", "412345.678", "1e30"),
     *("1.000000000000000000000000000000000000", "1.0000000000000000000000000000000000000"),
     *("123456789012345678901234567890.5", "1000000000", "1000000001", "999999999.5", "1e-400"),
@@ -74,8 +75,6 @@ def placed(text: str, placing: Placing, axis: int) -> int | str:
     near, far = int(count), int(count) + (count.denominator != 1)
     if not placing.rounds and near != far:
         return "too_many_digits"
-    if near >= 10 ** (2 * PLACES):
-        return "out_of_grid"
     sides = [(Fraction(sign * side, 10**PLACES) - shift) * scale for side in (near, far)]
     first, second = map(in_grid, sides)
     if first != second:
@@ -161,6 +160,12 @@ WRITTEN = (
     ("1", "0,0", False, 0, "-0.5", "fraction"),
     ("1", "-1e17,0", False, 0, "-1e17", 0),
     ("0.000000001", "0,0", True, 0, "4.99999999e8", 0),
+    ("1e-9", "0,0", True, 0, "1e18", 1000000000),
+    ("1e-9", "0,0", False, 0, "-1e18", -1000000000),
+    ("1e-9", "0,0", True, 0, "1000000000499999999.9", 1000000000),
+    ("1e-9", "0,0", True, 0, "1000000000500000000", "out_of_grid"),
+    ("1e-9", "9e17,0", False, 0, "19e17", 1000000000),
+    ("1e-9", "9e17,0", False, 0, "1900000001e9", "out_of_grid"),
     ("10", "100,7", False, 1, "8.5", 15),
     ("10", "100,7", False, 2, "8.5", 85),
 )
@@ -265,7 +270,7 @@ def check_layers(context: Context) -> None:
         (chance.randrange(10**7), chance.randrange(10**7), chance.randrange(10**5))
         for _ in range(300)
     ]
-    metres = [[f"{412000 + x / 1000:.3f}", f"{5712000 + y / 1000:.3f}", z] for x, y, z in positions]
+    metres = [(f"{412000 + x / 1000:.3f}", f"{5712000 + y / 1000:.3f}", z) for x, y, z in positions]
     features = [
         f'{{"type":"Feature","properties":{{"lamp":"L{at}"}},"geometry":{{"type":"Point",'
         f'"coordinates":[{x},{y},{z / 1000:.3f}]}}}}'

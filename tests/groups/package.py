@@ -4,7 +4,6 @@ import contextlib
 import dataclasses
 import os
 import re
-import shlex
 import shutil
 import socket
 import ssl
@@ -17,6 +16,8 @@ from pathlib import Path
 
 from harness import Context, Word, first_line, free_port
 from messages import OPEN_LAMPS, batch, get
+from operating_tests.document import commands_of
+from units import started, unit_lines
 
 PACKAGES = (
     "bash-completion",
@@ -47,25 +48,31 @@ share/bash-completion/completions/streetmap
 share/doc/streetmap/README.md
 share/doc/streetmap/docs/API.md
 share/doc/streetmap/examples/town.json
+sbin/streetmap-rotate-journal
 share/streetmap/deploy/follow.py
+share/streetmap/deploy/journal_files.py
 share/streetmap/deploy/journal_lines.py
 share/streetmap/deploy/journal_table.py
 share/streetmap/deploy/journal_to_postgres.py
 """.split()
+MANUALS = ["streetmap", "streetmap-rotate-journal"]
+# A purge as a machine does it that nobody sits at.
+PURGE = ("env", "DEBIAN_FRONTEND=noninteractive", "dpkg", "--purge", "streetmap")
 # Words before the cursor, and what completes them.
 COMPLETIONS = {
-    "": "create pipe serve import export load batches apply check lines",
+    "": "create pipe serve import export load batches apply check lines help",
     "ex": "export",
-    "--": "--version",
+    "--": "--help --version",
+    "help ch": "check",
     "serve town --c": "--count --clients",
     "serve town --clients ": "1 64 1024",
-    "import town lamps.json --": "--key --collection --replace --progress",
+    "import town lamps.json --": "--key --collection --replace --progress --help",
     "load town --s": "--scale --shift --skip",
     "load town --fractions ": "text",
     "load town --each ": "100 1000 10000",
-    "batches town --": "--after",
-    "apply town --": "",
-    "check town --": "--replay",
+    "batches town --": "--after --help",
+    "apply town --": "--help",
+    "check town --": "--replay --help",
 }
 COMPLETE = """
 . /usr/share/bash-completion/bash_completion
@@ -88,16 +95,6 @@ def output_of(*words: Word) -> str:
     return ended.stdout
 
 
-def unit_lines(unit: Path) -> dict[str, list[str]]:
-    """The settings of a unit, with the values of each in order."""
-    settings: dict[str, list[str]] = {}
-    for line in unit.read_text().replace("\\\n", " ").splitlines():
-        name, equals, value = line.partition("=")
-        if equals and not line.startswith("#"):
-            settings.setdefault(name, []).append(value)
-    return settings
-
-
 def texts_that_name(text: str, folder: Path) -> list[Path]:
     """The files below a folder, beside programs, that contain a text."""
     files = [path for path in folder.rglob("*") if path.is_file() and path.parent.name != "bin"]
@@ -110,7 +107,7 @@ def check_make_install(context: Context) -> None:
     words.append(f"PROGRAM={context.program}")
     output_of(*words)
     prefix = folder / "usr" / "local"
-    manual = prefix / "share" / "man" / "man1" / "streetmap.1"
+    manuals = sorted((prefix / "share" / "man").rglob("*.[18]"))
     missing = [name for name in INSTALLED if not (prefix / name).is_file()]
     context.check("make install leaves all files", missing, [])
     context.check("the program", (prefix / "bin" / "streetmap").stat().st_mode & 0o777, 0o755)
@@ -123,7 +120,11 @@ def check_make_install(context: Context) -> None:
         context.check(
             f"the script of {path.name}", (folder / script.relative_to("/")).is_file(), True
         )
-    context.check("the manual page", output_of("mandoc", "-T", "lint", "-W", "warning", manual), "")
+    context.check("the manual pages", [path.stem for path in manuals], MANUALS)
+    linted = output_of("mandoc", "-T", "lint", "-W", "warning", *manuals)
+    context.check("their form", linted, "")
+    rotated = output_of(prefix / "sbin" / "streetmap-rotate-journal", "--help")
+    context.check("a script of sbin", rotated[:36], "usage: streetmap-rotate-journal [-h]")
     settings = folder / "etc" / "streetmap" / "town.conf"
     settings.write_text("PORT=1\n")
     output_of(*words)
@@ -163,33 +164,30 @@ def check_exposure(context: Context) -> None:
         context.check(f"exposure of {unit.name}", float(exposure[1]) <= MOST_EXPOSURE, True)
 
 
-def started(unit: Path, settings: str) -> list[str]:
-    """The words that a unit starts for the file `town`, as systemd reads its line: values of
-    settings in the place of their names, and one dollar for two."""
-    (line,) = unit_lines(unit)["ExecStart"]
-    given = dict(re.findall(r"(?m)^([A-Z_]+)=(.*)$", settings))
-    filled = re.compile(r"(?<!\$)\$\{([A-Z_]+)\}")
-    words = [filled.sub(lambda it: given[it[1]], word) for word in shlex.split(line)]
-    words = [word.replace("%i", "town").replace("$$", "$") for word in words]
-    return ["env", *(f"{name}={value}" for name, value in given.items()), *words]
-
-
 def check_words(context: Context) -> None:
     """The words of the program, with a journal and with an empty or a missing one."""
     settings = (REPOSITORY / "deploy" / "town.conf").read_text()
     without = "serve /var/lib/streetmap/town --port 8080 --clients 64 --base http://localhost:8080/"
     path = "/var/lib/streetmap/town journal"
-    for what, old, new, wanted in (
+    rows: tuple[tuple[str, str, str, list[str]], ...] = (
         ("an empty journal", "", "", []),
         ("a missing journal", "JOURNAL=\n", "\n", []),
         ("a journal", "JOURNAL=\n", f"JOURNAL={path}\n", ["--journal", path]),
         (
             "words of a journal",
-            "JOURNAL=\nJOURNAL_WORDS=\n",
-            f"JOURNAL={path}\nJOURNAL_WORDS=--journal-sync --journal-after 7\n",
-            ["--journal", path, "--journal-sync", "--journal-after", "7"],
+            "JOURNAL=\nJOURNAL_AFTER=\nJOURNAL_WORDS=\n",
+            f"JOURNAL={path}\nJOURNAL_AFTER=7\nJOURNAL_WORDS=--journal-sync\n",
+            ["--journal", path, "--journal-after", "7", "--journal-sync"],
         ),
-    ):
+        (
+            "older settings of a journal",
+            "JOURNAL=\nJOURNAL_AFTER=\n",
+            f"JOURNAL={path}\n",
+            ["--journal", path],
+        ),
+    )
+    for what, old, new, wanted in rows:
+        context.check(f"{what}: the settings", old in settings, True)
         words = started(UNIT, settings.replace(old, new))
         words = [word.replace("exec /usr/bin/streetmap", "printf '%s\\n'") for word in words]
         context.check(what, output_of(*words).splitlines(), [*without.split(), *wanted])
@@ -353,10 +351,23 @@ def check_removal(root: FreshRoot) -> None:
     root.run("dpkg", "--remove", "streetmap")
     there = [path.exists() for path in (program, data, settings)]
     root.context.check("program, data, settings after removal", there, [False, True, True])
-    root.run("dpkg", "--purge", "streetmap")
-    enabled = root.path(ENABLED)
-    there = [os.path.lexists(path) for path in (data.parent, settings.parent, enabled)]
-    root.context.check("data, settings, unit after purging", there, [False, False, False])
+
+
+def check_purge(root: FreshRoot, package: Path) -> None:
+    """A purge that can ask nobody keeps the towns, which the next installation serves. It deletes
+    them if that was answered beforehand, by the documented command."""
+    data = root.path("/var/lib/streetmap/town")
+    folder, enabled = root.path("/etc/streetmap"), root.path(ENABLED)
+    root.run(*PURGE)
+    there = [os.path.lexists(path) for path in (data, folder, enabled)]
+    root.context.check("data, settings, unit after purging", there, [True, False, False])
+    root.install(package)
+    root.context.check("what is kept", '"id":"' in exported(root), True)
+    (answer,) = commands_of("Upgrade, removal")
+    root.run("sh", "-c", answer.replace("sudo ", ""))
+    root.run(*PURGE)
+    there = [os.path.lexists(path) for path in (data.parent, folder)]
+    root.context.check("data, settings after deleting both", there, [False, False])
 
 
 def wait_for(port: int, process: subprocess.Popen[bytes], seconds: float) -> None:
@@ -426,6 +437,7 @@ def check_fresh_root(context: Context, package: Path) -> None:
     check_upgrade(root, package)
     check_map(root, port)
     check_removal(root)
+    check_purge(root, package)
 
 
 def run(context: Context) -> None:

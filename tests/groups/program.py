@@ -11,8 +11,8 @@ from messages import OPEN_LAMPS, batch, get, insert_lamp, open_collection
 
 MOST_BYTES = 8_388_608
 ITEMS = "/collections/lamps/items"
-# Command lines that are refused, the first of them empty.
-WRONG_COMMANDS = """
+# Command lines that are refused.
+WRONG_COMMANDS = """\
 lines x
 create
 create a b
@@ -41,13 +41,46 @@ check
 check a b
 check a --base http://localhost/
 check a --progress
---help
+--
+help x
+help create pipe
+create a --prot --help
 """
+# Command lines that print help, and the first words of its line on usage.
+HELPS = {
+    "": "streetmap [COMMAND]",
+    "help": "streetmap [COMMAND]",
+    "--help": "streetmap [COMMAND]",
+    "-h": "streetmap [COMMAND]",
+    "--help serve": "streetmap [COMMAND]",
+    "help serve": "streetmap serve [OPTIONS] --port <port> <file>",
+    "serve --help": "streetmap serve [OPTIONS] --port <port> <file>",
+    "serve a --port 80 -h": "streetmap serve [OPTIONS] --port <port> <file>",
+    "create --help": "streetmap create <file>",
+    "help import": "streetmap import [OPTIONS] --key <key> --collection <collection> <file> <text>",
+    "lines -h": "streetmap lines",
+}
+COMMANDS = "lines create pipe serve import export check load batches apply".split()
 
 
 def check_wrong_commands(context: Context) -> None:
     for line in WRONG_COMMANDS.split("\n")[:-1]:
         context.run(*line.split(), status=2, code="usage")
+
+
+def check_help(context: Context) -> None:
+    """Help is on standard output; that of the program names each command, which has its own."""
+    for words, usage in HELPS.items():
+        lines = context.run(*words.split()).decode().splitlines()
+        context.check(f"usage in help by {words!r}", f"Usage: {usage}" in lines, True)
+    listed = context.run("--help").decode().split("Commands:\n")[1].split("\n\n")[0]
+    names = [line.split()[0] for line in listed.splitlines()]
+    context.check("the commands in help", names, [*COMMANDS, "help"])
+    for name in COMMANDS:
+        printed = context.run(name, "--help")
+        context.check(f"help {name}", context.run("help", name), printed)
+        begins = f"\nUsage: streetmap {name}".encode()
+        context.check(f"usage of {name}", begins in printed, True)
 
 
 def check_version(context: Context) -> None:
@@ -225,6 +258,7 @@ def check_progress(context: Context) -> None:
 def run(context: Context) -> None:
     check_wrong_commands(context)
     check_version(context)
+    check_help(context)
     check_faults_of_files(context)
     check_pipe(context)
     check_imports(context)

@@ -21,12 +21,11 @@ from dataclasses import dataclass
 from pathlib import Path
 
 from examples import EXAMPLES, text_path
-from harness import TESTS, Context, Word, first_line, free_port
+from harness import TESTS, Context, Ended, Word, first_line, free_port
 from messages import Edit, batch, delete, feature, get, open_collection, point, put, read_all
 from sqlite_file import copy_file, forget
 
 PACKAGES = ("gcc", "libc6-dev")
-Ended = subprocess.CompletedProcess[bytes]
 # The short form refuses one of so many allocations.
 STRIDE = 131
 # What a command that ends for want of memory says last; `apply` names its line.

@@ -112,18 +112,20 @@ def check_warm(context: Context) -> None:
 
 LOGGED = (
     b'"GET /conformance HTTP/1.1" 200 64\n'
+    b'"GET /conformance HTTP/1.1" 200 64\n'
     b'"GET /nothing?a=%22 HTTP/1.1" 404 67\n'
     b'"-" 400 71\n'
 )
 
 
 def check_log(context: Context) -> None:
-    """A line on standard error for each answer."""
+    """A line on standard error for each answer, also after empty lines."""
     file = context.new_file("logged.db")
     unreadable = b'GET /"\x1b HTTP/1.1\r\nHost: a\r\n\r\n'
     for words in ((), ("--clients", "4")):
         with context.serve(file, "--log", "--count", "1", *words) as server:
-            server.ask(get("/conformance") + get("/nothing?a=%22") + unreadable)
+            asked = get("/conformance")
+            server.ask(asked + b"\r\n\n" + asked + get("/nothing?a=%22") + unreadable)
             server.ends(written=LOGGED)
 
 

@@ -9,14 +9,13 @@ of the calls, the long one at each.
 """
 
 import os
-import subprocess
 from collections import Counter
 from collections.abc import Callable, Iterator
 from dataclasses import dataclass
 from pathlib import Path
 from typing import Any
 
-from harness import Context, Word
+from harness import Context, Ended, Word
 from messages import (
     batch,
     delete,
@@ -30,7 +29,6 @@ from messages import (
 from sqlite_file import Rows, copy_file, forget, kept_rows, make_format_1, rows
 
 PACKAGES = ("gcc", "libc6-dev")
-Ended = subprocess.CompletedProcess[bytes]
 STOPPED = 86
 WAYS = ("before", "within", "lost")
 # In the short form, of so many calls one is stopped: in all, and in opening what a stop left.

@@ -1,0 +1,86 @@
+"""systemctl of a machine of a test: starts and stops streetmap@town by the line of its unit.
+
+It is called as `systemctl.py MACHINE PROGRAM start|stop|restart|is-active .. streetmap@town`.
+The server goes on when this has ended; its process is named in a file of the machine. A file
+`kill-at` names a command at which the caller is killed: after a stop, and before a start. While
+there is a file `is-restarting`, the unit waits to be started again after a crash.
+"""
+
+import contextlib
+import os
+import signal
+import subprocess
+import sys
+import time
+from pathlib import Path
+
+sys.path.insert(0, str(Path(__file__).resolve().parents[1]))
+
+from units import started  # noqa: E402
+
+UNIT = Path(__file__).resolve().parents[2] / "deploy" / "streetmap@.service"
+
+
+def is_running(process: int) -> bool:
+    """Whether a process is there, and has not ended."""
+    with contextlib.suppress(OSError):
+        return Path(f"/proc/{process}/stat").read_text().rpartition(")")[2].split()[0] != "Z"
+    return False
+
+
+def active(machine: Path) -> int | None:
+    """The process of the unit, if it runs."""
+    with contextlib.suppress(OSError, ValueError):
+        process = int((machine / "unit.pid").read_text())
+        return process if is_running(process) else None
+    return None
+
+
+def start(machine: Path, program: str) -> None:
+    settings = (machine / "etc" / "streetmap" / "town.conf").read_text()
+    places = {"/usr/bin/streetmap": program, "/var/lib/": f"{machine}/var/lib/"}
+    words = started(UNIT, settings)
+    for old, new in places.items():
+        words = [word if word.startswith("JOURNAL=") else word.replace(old, new) for word in words]
+    with (machine / "unit.log").open("ab") as log:
+        process = subprocess.Popen(words, stdout=log, stderr=log, start_new_session=True)
+    (machine / "unit.pid").write_text(str(process.pid))
+
+
+def stop(machine: Path) -> None:
+    process = active(machine)
+    if process is None:
+        return
+    os.kill(process, signal.SIGTERM)
+    while is_running(process):
+        time.sleep(0.005)
+
+
+def kill_caller(machine: Path, command: str) -> None:
+    """Kills the process that has called this, once, if that is asked for at this command."""
+    asked = machine / "kill-at"
+    if asked.exists() and asked.read_text() == command:
+        asked.unlink()
+        os.kill(os.getppid(), signal.SIGKILL)
+        sys.exit(1)
+
+
+def main() -> int:
+    machine, program, command, *_ = sys.argv[1:]
+    folder = Path(machine)
+    with (folder / "systemctl.log").open("a") as log:
+        log.write(f"{command}\n")
+    if command == "is-active":
+        waits = (folder / "is-restarting").exists()
+        print("activating" if waits else "active" if active(folder) else "inactive")
+        return 0 if active(folder) else 3
+    if command in ("stop", "restart"):
+        stop(folder)
+    kill_caller(folder, command)
+    if command in ("start", "restart") and active(folder) is None:
+        start(folder, program)
+    return 0
+
+
+if __name__ == "__main__":
+    sys.exit(main())
