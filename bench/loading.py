@@ -185,7 +185,7 @@ def texts(program: Path, folder: Path, file: Path) -> Path:
 
 def lines_of(program: Path, file: Path, most: int) -> list[bytes]:
     """The first lines of the journal of a file."""
-    words = [program, "batches", file]
+    words = [str(program), "batches", str(file)]
     with subprocess.Popen(words, stdout=subprocess.PIPE) as process:
         assert process.stdout is not None
         found = [line for line, _ in zip(process.stdout, range(most))]

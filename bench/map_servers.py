@@ -16,14 +16,16 @@ import subprocess
 import time
 from collections.abc import Iterable, Iterator
 from pathlib import Path
+from typing import Any
 
 from gateway import EASTING, MAPSERVER, NORTHING, QGIS_SERVER, Service, mapserver, qgis_server
 
 Box = tuple[int, int, int, int]
+Feature = dict[str, Any]
 METRES, DEGREES = "EPSG:25832", "EPSG:4326"
 
 
-def in_metres(feature: dict) -> dict:
+def in_metres(feature: Feature) -> Feature:
     """A line of a town as GDAL reads it, its id in a field."""
     points = feature["geometry"]["coordinates"]
     moved = [[EASTING + x / 1000, NORTHING + y / 1000] for x, y in points]
@@ -34,7 +36,7 @@ def in_metres(feature: dict) -> dict:
     }
 
 
-def geopackage(features: Iterable[dict], folder: Path) -> Path:
+def geopackage(features: Iterable[Feature], folder: Path) -> Path:
     """The features of a town as the layer `lamps`, which is what the servers are asked for."""
     text, made = folder / "town.geojsonl", folder / "town.gpkg"
     with text.open("w") as lines:
@@ -57,7 +59,7 @@ def in_degrees(areas: list[Box]) -> list[str]:
 
 
 @contextlib.contextmanager
-def beside(features: Iterable[dict], width: int, folder: Path) -> Iterator[list[Service]]:
+def beside(features: Iterable[Feature], width: int, folder: Path) -> Iterator[list[Service]]:
     """The servers that are installed, over a town of such a width in millimetres."""
     installed = [it for it in (QGIS_SERVER, MAPSERVER) if it.exists()]
     if not installed or not all(shutil.which(it) for it in ("nginx", "ogr2ogr", "gdaltransform")):

@@ -4,18 +4,20 @@ It reads and answers as `streetmap lines` does, with json and dicts, and proves 
 """
 import json
 import sys
+from collections.abc import Sequence
 from datetime import datetime, timedelta, timezone
 from typing import Any
 
 Position = list[int]
-Box = Any
+Box = Sequence[int]
 Interval = tuple[datetime | None, datetime | None]
 Collections = dict[str, tuple[str | None, dict[str, Any]]]
 Keys = dict[str, tuple[str, Any]]
 
 
 def positions(geometry: Any) -> list[Position]:
-    kind, coordinates = geometry["type"], geometry.get("coordinates")
+    kind = geometry["type"]
+    coordinates: list[Any] = geometry.get("coordinates")
     if kind == "Point":
         return [coordinates]
     if kind in ("LineString", "MultiPoint"):
@@ -174,7 +176,7 @@ def page(collections: Collections, name: str, query: str) -> Any:
         and times_meet(time, asked)
         and meets(feature["geometry"], box)
     ]
-    found.sort(key=lambda feature: feature["id"].encode())
+    found.sort(key=lambda feature: str(feature["id"]).encode())
     shown = found[:limit]
     answer = {"features": shown, "numberMatched": len(found), "numberReturned": len(shown)}
     if len(found) > limit:

@@ -35,7 +35,7 @@ stop() {
 
 # Sends a request by curl, or by Python where that is missing: a path, and a batch if one is given.
 ask() {
-    echo "\$ curl ${2:+-d '$2' }'localhost:$port$1'"
+    echo "\$ curl ${2:+-d "'$2'" }'localhost:$port$1'"
     if command -v curl > /dev/null; then
         curl -s ${2:+-d "$2"} "localhost:$port$1"
     else

@@ -9,6 +9,8 @@ points, and works that last for a time. Coordinates are whole millimetres.
 import json
 import math
 import random
+from collections.abc import Sequence
+from typing import Any
 
 METRE = 1000
 STREETS = [
@@ -21,6 +23,7 @@ STREETS = [
 PARK = [(134, 78), (250, 74), (260, 120), (259, 186), (196, 188), (130, 182), (126, 120)]
 POND = [(178, 112), (200, 104), (222, 116), (226, 140), (204, 152), (182, 142)]
 Point = tuple[float, float]
+Edit = dict[str, Any]
 
 
 def position(point: Point) -> list[int]:
@@ -28,12 +31,12 @@ def position(point: Point) -> list[int]:
     return [round(point[0] * METRE), round(point[1] * METRE)]
 
 
-def ring(points: list[Point]) -> list[list[int]]:
+def ring(points: Sequence[Point]) -> list[list[int]]:
     """A closed ring."""
     return [position(point) for point in [*points, points[0]]]
 
 
-def along(line: list[Point], spacing: float, offset: float) -> list[Point]:
+def along(line: Sequence[Point], spacing: float, offset: float) -> list[Point]:
     """Points beside a line, each so many metres behind the one before."""
     found, left = [], spacing / 2
     for (x0, y0), (x1, y1) in zip(line, line[1:]):
@@ -46,7 +49,7 @@ def along(line: list[Point], spacing: float, offset: float) -> list[Point]:
     return found
 
 
-def beside(line: list[Point], offset: float) -> list[Point]:
+def beside(line: Sequence[Point], offset: float) -> list[Point]:
     """A line beside a line."""
     found = []
     for index, (x, y) in enumerate(line):
@@ -56,14 +59,14 @@ def beside(line: list[Point], offset: float) -> list[Point]:
     return found
 
 
-def insert(collection: str, key: str, kind: str, coordinates: list, **properties) -> dict:
+def insert(collection: str, key: str, kind: str, coordinates: list[Any], **properties: Any) -> Edit:
     """An edit that inserts a feature."""
     geometry = {"type": kind, "coordinates": coordinates}
     feature = {"type": "Feature", "id": key, "geometry": geometry, "properties": properties}
     return {"op": "insert", "collection": collection, "feature": feature}
 
 
-def streets() -> list[dict]:
+def streets() -> list[Edit]:
     """The streets, and a kerb on each side."""
     edits = []
     for number, (name, line, width) in enumerate(STREETS, 1):
@@ -86,7 +89,7 @@ def streets() -> list[dict]:
     return edits
 
 
-def lamps(chance: random.Random) -> list[dict]:
+def lamps(chance: random.Random) -> list[Edit]:
     """Lamps along the streets, left and right in turn."""
     places = []
     for name, line, width in STREETS:
@@ -108,7 +111,7 @@ def lamps(chance: random.Random) -> list[dict]:
     ]
 
 
-def trees(chance: random.Random) -> list[dict]:
+def trees(chance: random.Random) -> list[Edit]:
     """Trees in the park and along one street."""
     spots = [
         (192 + 58 * r * math.cos(a), 129 + 48 * r * math.sin(a))
@@ -131,7 +134,7 @@ def trees(chance: random.Random) -> list[dict]:
     ]
 
 
-def batch() -> dict:
+def batch() -> dict[str, Any]:
     """The whole quarter."""
     chance = random.Random(7)
     opened = [

@@ -75,6 +75,24 @@ def is_built(crate: Any) -> bool:
     return bool(is_there) and mark.read_text() == sum_of(crate)
 
 
+def are_built(rt: ModuleType, crates: list[Any]) -> bool:
+    """Whether all crates are built. A stamp is made of those of all crates below, so each is taken
+    once here: of the program it would be thousands."""
+    stamp = rt.Crate.stamp
+    stamps: dict[str, str] = {}
+
+    def stamp_once(crate: Any) -> str:
+        if crate.folder not in stamps:
+            stamps[crate.folder] = stamp(crate)
+        return stamps[crate.folder]
+
+    rt.Crate.stamp = stamp_once
+    try:
+        return all(is_built(it) for it in crates)
+    finally:
+        rt.Crate.stamp = stamp
+
+
 def build(crate: Any, jobs: int) -> bool:
     """Proves a crate, by so many processes, and keeps what was made of it; returns whether it
     did."""
@@ -190,7 +208,7 @@ def main() -> int:
             words = ["rt", "run", "--", "lines"]
             return subprocess.run(words, cwd=OUT.parent, stdin=given, check=False).returncode
     crates = crates_to_build(rt)
-    if all(is_built(it) for it in crates):
+    if are_built(rt, crates):
         return 0
     rt.rtlib.guarded()
     held = rt.rtlib.lock(crates)

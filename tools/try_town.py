@@ -1,12 +1,14 @@
-"""Serves the sample town from memory, with no proof: python3 tools/try_town.py [PORT] [SECONDS]
+"""Serves the sample quarter from memory, with no proof: python3 tools/try_town.py [PORT] [SECONDS]
 
 `rt try` compiles `streetmap_try`, which serves a keeper in memory, with a check at each access in
-place of the proofs, and runs it. The town is sent as a batch over HTTP. Both end after SECONDS, an
-hour if left out, or at Ctrl-C.
+place of the proofs, and runs it. The quarter is sent as a batch over HTTP. If nginx and Leaflet are
+installed, the map page is served too, on the next free port. All ends after SECONDS, an hour if
+left out, or at Ctrl-C.
 """
 
 import contextlib
-import json
+import importlib.util
+import itertools
 import signal
 import socket
 import subprocess
@@ -14,19 +16,21 @@ import sys
 import tempfile
 import time
 import urllib.request
+from collections.abc import Iterator
 from pathlib import Path
+from types import ModuleType
 
 ROOT = Path(__file__).resolve().parent.parent
-EXAMPLES = ROOT / "examples"
+QUARTER = ROOT / "examples" / "quarter.json"
 PROGRAM = ROOT / "crates" / "streetmap_try"
 HELP = """\
 Nothing of this is proved: the program is compiled with a check at each access in place of the
-proofs, and it is slower. The town is in memory, and gone at the end. make serve proves the program
-first, and keeps a file. Ask in another shell, for example:
+proofs, and it is slower. The quarter is in memory, and gone at the end. make serve proves the
+program first, and keeps a file. Ask in another shell, for example:
 
-curl 'localhost:{port}/collections/lamps/items?bbox=0,0,100000,20000&limit=2'
-curl 'localhost:{port}/collections/lamps/items?datetime=2024-01-01T00:00:00Z/..'
-curl -d '{{"key":"crew-7","edits":[{{"op":"delete","collection":"lamps","id":"L03"}}]}}' \
+curl 'localhost:{port}/collections/lamps/items?bbox=0,0,50000,70000&limit=1'
+curl 'localhost:{port}/collections/lamps/items?datetime=2018-01-01T00:00:00Z/..'
+curl -d '{{"key":"crew-7","edits":[{{"op":"delete","collection":"lamps","id":"L003"}}]}}' \
 localhost:{port}/batches
 
 Ctrl-C ends it."""
@@ -38,12 +42,17 @@ def is_taken(port: int) -> bool:
         return probe.connect_ex(("127.0.0.1", port)) == 0
 
 
-def town_batch() -> bytes:
-    """The batch that opens a collection and inserts the features of the sample town."""
-    features = json.loads((EXAMPLES / "town.json").read_text())["features"]
-    edits = [{"op": "open", "collection": "lamps", "title": "Lamps", "time": "set"}]
-    edits += [{"op": "insert", "collection": "lamps", "feature": it} for it in features]
-    return json.dumps({"key": "town", "edits": edits}).encode()
+def map_server() -> ModuleType | None:
+    """deploy/serve_map.py as a module; nothing if nginx or Leaflet is not installed."""
+    spec = importlib.util.spec_from_file_location("serve_map", ROOT / "deploy" / "serve_map.py")
+    assert spec is not None and spec.loader is not None
+    module = importlib.util.module_from_spec(spec)
+    spec.loader.exec_module(module)
+    try:
+        module.nginx_command(ROOT, ROOT)
+    except SystemExit:
+        return None
+    return module
 
 
 def send(port: int, batch: bytes) -> str:
@@ -66,9 +75,10 @@ def wait_for(port: int, running: subprocess.Popen[bytes]) -> bool:
     return True
 
 
-def serve(folder: Path, port: int, seconds: int) -> int:
+@contextlib.contextmanager
+def compiled(folder: Path, port: int, seconds: int) -> Iterator[subprocess.Popen[bytes]]:
+    """The program as `rt try` compiles and runs it; it is ended behind the block."""
     words = ["rt", "try", "--steps", "1", "--seconds", str(seconds), "--", str(port)]
-    print("Compiling a first look with no proof, which takes a minute or two.", flush=True)
     with (
         (folder / "log").open("wb") as log,
         subprocess.Popen(
@@ -76,15 +86,29 @@ def serve(folder: Path, port: int, seconds: int) -> int:
         ) as running,
     ):
         try:
-            if wait_for(port, running):
-                print(f"The sample town is imported: {send(port, town_batch())}\n")
-                print(HELP.format(port=port), flush=True)
-                running.wait()
-                return 0
-            print((folder / "log").read_text(errors="replace"), end="")
-            return 1
+            yield running
         finally:
             running.terminate()
+
+
+def serve(folder: Path, port: int, seconds: int) -> int:
+    serve_map = map_server()
+    map_port = next(it for it in itertools.count(port + 1) if not is_taken(it))
+    print(f"The server: http://localhost:{port}/")
+    if serve_map is not None:
+        print(f"The map:    http://localhost:{map_port}/map/")
+    print("Both are there once it listens. Compiling takes two minutes or three.", flush=True)
+    with contextlib.ExitStack() as stack:
+        running = stack.enter_context(compiled(folder, port, seconds))
+        if not wait_for(port, running):
+            print((folder / "log").read_text(errors="replace"), end="")
+            return 1
+        print(f"The sample quarter is there: {send(port, QUARTER.read_bytes())}\n")
+        if serve_map is not None:
+            stack.enter_context(serve_map.front(folder, map_port, port))
+        print(HELP.format(port=port), flush=True)
+        running.wait()
+    return 0
 
 
 def main() -> int:
