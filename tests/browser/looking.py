@@ -24,7 +24,8 @@ DRAWN = """
 return performance.getEntriesByName("page drawn").map((entry) => entry.duration / 1000);
 """
 DROPPED = """
-const asked = performance.getEntriesByType("resource").filter(({ name }) => name.includes("/items"));
+const loaded = performance.getEntriesByType("resource");
+const asked = loaded.filter(({ name }) => name.includes("/items"));
 return asked.filter((entry) => entry.responseStatus === 0).length;
 """
 # In the short form and in the long one.

@@ -50,7 +50,8 @@ pub struct Client<S> {
 
 impl<S: Stream> Client<S> {
     ghost use Rattle.streetmap_connections.specs.History.{new_history};
-    ghost use Rattle.streetmap_connections.specs.Clients.{place_of, exchanges_of, woken, IsIdle, IsQuiet};
+    ghost use Rattle.streetmap_connections.specs.Clients.{place_of, exchanges_of, woken, IsIdle};
+    ghost use Rattle.streetmap_connections.specs.Clients.{IsQuiet};
     ghost use Rattle.streetmap_connections.specs.Clients.{refusals_of};
     ghost use Rattle.streetmap_connections.specs.Clients.{IsLate, HasLeft};
     ghost use Rattle.streetmap_connections.specs.Refusing.{AddsRefusals};

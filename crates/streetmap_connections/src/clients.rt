@@ -4,7 +4,8 @@ ghost use Rattle.std.specs.Bool.{OnFalse};
 ghost use Rattle.std.specs.Prelude.{slice_get, All, IfOk, IfSome, IfNone};
 ghost use Rattle.std.specs.List.{AllZip};
 ghost use Rattle.streetmap_connections.specs.Counts.{count_of, CountsOn};
-ghost use Rattle.streetmap_connections.specs.Slots.{clients_in, past_of, ended_in, EndsLate, EndsOnly};
+ghost use Rattle.streetmap_connections.specs.Slots.{clients_in, past_of, ended_in, EndsLate};
+ghost use Rattle.streetmap_connections.specs.Slots.{EndsOnly};
 
 use crate::client::{Client, Work};
 use crate::limits::Limits;
@@ -83,7 +84,8 @@ impl Round {
 
 impl<S: Stream + Drop> Clients<S> {
     ghost use Rattle.streetmap_connections.specs.Serving.{EachMoves, Serves};
-    ghost use Rattle.streetmap_connections.specs.Served.{all_refusals, clients_of, ended_of, slots_of};
+    ghost use Rattle.streetmap_connections.specs.Served.{all_refusals, clients_of, ended_of};
+    ghost use Rattle.streetmap_connections.specs.Served.{slots_of};
     ghost use Rattle.streetmap_connections.specs.Slots.{exchanges_in, histories_in, woken_in};
     ghost use Rattle.streetmap_connections.specs.Slots.{CameAt, GivesWayAt};
     ghost use Rattle.streetmap_connections.specs.Slots.{IsFreeAt, IsLongestIdleAt, IsTaken};

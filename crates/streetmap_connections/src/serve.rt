@@ -66,7 +66,8 @@ impl ServeFault {
 impl From<io::Error> for ServeFault {
     ghost use Rattle.std.specs.IoError.{error_kind};
     ghost use Rattle.std.specs.declared.io.ErrorKind.TheVariants.{OutOfMemory};
-    ghost use Rattle.streetmap_connections.specs.declared.serve.ServeFault.TheVariants.{Memory, Over};
+    ghost use Rattle.streetmap_connections.specs.declared.serve.ServeFault.TheVariants.{Memory};
+    ghost use Rattle.streetmap_connections.specs.declared.serve.ServeFault.TheVariants.{Over};
 
     ghost from_gives = { λ given fault. ((fault ≡ Memory) ↔ (error_kind given ≡ OutOfMemory))
         × (fault ≢ Over) };
@@ -113,11 +114,7 @@ enum Accepted {
 
 impl Acceptor {
     /// Has `listener` be waited for. From here on a call of `accept` on it does not wait.
-    fn new<R: Net>(
-        rt: &R,
-        listener: &TcpListener,
-        token: usize,
-    ) -> Result<Acceptor, ServeFault>
+    fn new<R: Net>(rt: &R, listener: &TcpListener, token: usize) -> Result<Acceptor, ServeFault>
         ensures { IfErr result (λ fault. fault ≢ ServeFault.Over) }
     {
         let poll = Poll::new(rt)?;

@@ -42,10 +42,12 @@ step_failed root e x y (seq.answered s was is now) at =
 step_failed root e x y (seq.out_of_memory is now) at =
     subst (λ (z : Server). FailedAt z) (sym now) at
 step_failed root e x y (seq.store_failed s was asks is now) at = λ before after there.
-    let same = sym now ∙ there in
-    (e.request.ask, sym (same_after s (state_in s e.request.ask) before after same)
-    ∙ ap (λ (t : State). state_in t e.request.ask)
-    (same_before s (state_in s e.request.ask) before after same))
+    let same = sym now ∙ there in (
+      e.request.ask,
+      sym (same_after s (state_in s e.request.ask) before after same)
+          ∙ ap (λ (t : State). state_in t e.request.ask)
+          (same_before s (state_in s e.request.ask) before after same),
+    )
 step_failed root e x y (seq.still_failed before after was is now) at =
     subst (λ (z : Server). FailedAt z) (sym now) at
 
@@ -108,9 +110,9 @@ runs_lead holds root first last (more {left = left} run runs) s held =
     let g = run.guarantee s held in
     let found = g.survives left run.crashed in
     let at = history_failed root (serving s) g.server g.history g.sequential
-        (serving_failed_nowhere (serving s) s refl) in
+    (serving_failed_nowhere (serving s) s refl) in
     let one = kept_by s found.0 (acknowledged g.history) g.server g.acts at found.2 in
     let from = after_all s (acknowledged g.history ++ one.extra) in
     let went = runs_lead holds root left last runs from
-        (subst (λ (t : State). holds left t) one.is found.1) in
+    (subst (λ (t : State). holds left t) one.is found.1) in
     (went.0, went.1, (held, one.extra, one.few, went.2))

@@ -1,6 +1,7 @@
 //! What is next of a reader, beside the bytes that are expected.
 ghost use Rattle.std.specs.Prelude.{◌≡◌, ◌≢◌, ◌≤◌, ◌<◌, length, take, slice_index, IfOk, IfSome};
-ghost use Rattle.streetmap_journal.specs.Front.{are_zeros, TakesFront, SeesFront, SeesZeros, IsLeft};
+ghost use Rattle.streetmap_journal.specs.Front.{are_zeros, TakesFront, SeesFront, SeesZeros};
+ghost use Rattle.streetmap_journal.specs.Front.{IsLeft};
 
 use std::io::{BufRead, ErrorKind};
 use streetmap_text_lines::LineFault;

@@ -4,7 +4,8 @@ ghost use Rattle.std.specs.Io.KnownBytes.{Consumes};
 ghost use Rattle.streetmap_ledger.specs.Keep.{AsBefore, LeavesOnly};
 ghost use Rattle.streetmap_ledger.specs.State.{State};
 ghost use Rattle.streetmap_journal.specs.Matching.{ends_of, EndsWithin, EndsAfterLast, IsOwn};
-ghost use Rattle.streetmap_journal.specs.Matching.{IsUnread, MatchesLine, Matches, LineShuts, EndShuts};
+ghost use Rattle.streetmap_journal.specs.Matching.{IsUnread, MatchesLine, Matches, LineShuts};
+ghost use Rattle.streetmap_journal.specs.Matching.{EndShuts};
 
 use crate::front::{Left, left_of, take_front};
 use crate::journal::{line_with, whole_line};

@@ -1,5 +1,4 @@
 use Rattle.std.proofs.Common.{◌≡◌, List, length, get_or, subst, ap, arith}
-use Rattle.std.proofs.lemmas.List.Elements.{AllWithin-more, at_read}
 use Rattle.streetmap_connections.specs.declared.slot.Slot.{Slot}
 use Rattle.streetmap_connections.specs.Slots.{AreQuiet}
 use Rattle.streetmap_connections.proofs.clients.Clients.is_busy.Goals as goal

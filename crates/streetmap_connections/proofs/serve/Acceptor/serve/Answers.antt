@@ -31,8 +31,8 @@ returns-in_err-goes-clause-serves g c =
 pub loop-round-preserved : goal.loop-round-preserved
 loop-round-preserved g c = record {
   serves =
-    serves_then g.V.Service.answers g.V.Service.refuses _ _ _ _ _ _ c.loop-round.invariant.serves
-    (serves_then g.V.Service.answers g.V.Service.refuses _ _ _ _ _ _ (serves_same g.V.Service.answers g.V.Service.refuses c.loop-round.service (slots_of c.loop-round.clients) (slots_of c.wait.new.clients) c.wait.ensures.same c.wait.ensures.kept c.wait.ensures.unrefused) c.round.ensures.serves);
+      serves_then g.V.Service.answers g.V.Service.refuses _ _ _ _ _ _ c.loop-round.invariant.serves
+      (serves_then g.V.Service.answers g.V.Service.refuses _ _ _ _ _ _ (serves_same g.V.Service.answers g.V.Service.refuses c.loop-round.service (slots_of c.loop-round.clients) (slots_of c.wait.new.clients) c.wait.ensures.same c.wait.ensures.kept c.wait.ensures.unrefused) c.round.ensures.serves);
   few = λ before. c.round.ensures.few
       (as_few_by client_history (clients_of c.wait.new.clients) (clients_of c.loop-round.clients)
       c.args.count c.wait.ensures.same (c.loop-round.invariant.few before));
