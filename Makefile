@@ -59,7 +59,7 @@ CHECK ?=
 check:
 	python3 tests/run.py $(PROGRAM) $(CHECK)
 
-## lint      black, mypy, shellcheck, ESLint and tsc over the sources
+## lint      black, mypy, shellcheck, ESLint, tsc and the layout of Rattle over the sources
 lint:
 	@python3 tools/lint.py
 

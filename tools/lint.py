@@ -2,10 +2,12 @@
 
 All checks run if none is named, and the exit status is 1 if one of them found something: `black`
 and `mypy` read all Python, `shellcheck` all shell scripts, `eslint` and `tsc` the map page's
-modules and its service worker. `pyproject.toml` and `tools/javascript/` have their settings.
+modules and its service worker, and `layout` is Rattle's own formatter, without which `rt ci`
+refuses a crate. `pyproject.toml` and `tools/javascript/` have their settings.
 """
 
 import os
+import shutil
 import subprocess
 import sys
 from collections.abc import Iterator
@@ -63,6 +65,12 @@ def is_shell(path: Path) -> bool:
         return file.read(32).startswith(SHELLS)
 
 
+def rattle() -> str:
+    """Rattle's compiler, which stands beside the command `rt`."""
+    found = shutil.which("rt")
+    return str(Path(found).resolve().with_name("rattle")) if found else "rattle"
+
+
 def all_checks() -> dict[str, Check]:
     files = list(all_files())
     python = [str(path) for path in files if path.suffix == ".py"]
@@ -71,6 +79,7 @@ def all_checks() -> dict[str, Check]:
     others = [path for path in python if path not in bench]
     mypy = ["mypy", "--no-error-summary", "--cache-dir"]
     shell = [str(path) for path in files if is_shell(path)]
+    proved = [str(path) for path in files if path.suffix in (".rt", ".antt")]
     eslint = ["eslint", "--no-eslintrc", "--config", str(PAGE / "eslintrc.json")]
     eslint += ["--format", "unix", "map"]
     return {
@@ -81,6 +90,7 @@ def all_checks() -> dict[str, Check]:
         "eslint": Check(eslint),
         "tsc": Check(["tsc", "--project", str(PAGE)]),
         "tsc-worker": Check(["tsc", "--project", str(PAGE / "worker.json")]),
+        "layout": Check([rattle(), "fmt", "--check", *proved]),
     }
 
 

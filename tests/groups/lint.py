@@ -1,4 +1,4 @@
-"""The sources: black, mypy, shellcheck, ESLint and tsc find nothing in them."""
+"""The sources: black, mypy, shellcheck, ESLint, tsc and Rattle's formatter find nothing in them."""
 
 import sys
 
