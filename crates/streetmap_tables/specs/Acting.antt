@@ -1,4 +1,4 @@
--- What becomes of a batch, on a connection whose database is that of a state.
+-- The effect of a batch, on a connection whose database is that of a state.
 use Rattle.std.specs.Prelude.{◌≡◌, ℕ, ◌<◌, ◌-◌, ◌^◌, None, Result, Ok, Err, MatchResult, IsTrue}
 use Rattle.std.specs.Prelude.{nat_eq, if◌then◌else◌}
 use Rattle.std.specs.FinMap.{get, len}
@@ -21,7 +21,7 @@ use Rattle.streetmap_rows.specs.declared.failing.Stop.{Stop}
 use Rattle.streetmap_rows.specs.declared.failing.Stop.TheVariants.{Memory, Closed}
 use Rattle.streetmap_rows.specs.declared.failing.Shut.TheVariants.{Device, Damaged}
 
--- what is asked of a state, where the key is new and there is room for a batch
+-- what a state must satisfy, if the key is new and there is room for a batch
 pub record Awaits (s : State) (b : BatchValue) (count : ℕ) : Type 0 where
   pub absent : get s.keys b.key ≡ None
   pub counted : len s.keys ≡ count
@@ -42,7 +42,7 @@ ActsInside b count old new r =
     → MatchResult r (λ reply. (reply ≡ (act s b).reply) × LeavesInside s b new reply
     × KeepsRest old new) (λ e. IsOfStore e × KeepsCommit old new)
 
--- after a reply that changed nothing the connection may have been shut
+-- after a reply that changed nothing the connection may have been closed
 abbrev pub IfOpen : Reply → Seen → Type 0 → Type 0
 IfOpen (Accepted counts serial) new P = P
 IfOpen (Repeated counts serial) new P = IsTrue new.is_open → P
@@ -53,29 +53,29 @@ abbrev pub Ended : State → BatchValue → Seen → Result Reply Error → Type
 Ended s b new (Ok reply) = (reply ≡ (act s b).reply) × IfOpen reply new (Rests new (act s b).state)
 Ended s b new (Err e) = IsOfStore e × (IsTrue new.is_open → Rests new s)
 
--- what is answered to a batch whose key is there: the old reply where the texts are one
+-- the answer to a batch whose key is known: the old reply if the texts are equal
 abbrev pub kept_answer : Text → AcceptedBatch → Reply
 kept_answer text kept = if pointwise nat_eq kept.text text then Repeated kept.counts kept.serial
     else Refused KeyUsed None
 
--- a look outside of a transaction, which leaves the database
+-- a read outside of a transaction, which leaves the database
 abbrev pub Rested : {A : Type 0} → (State → A) → Seen → Seen → Result A Error → Type 0
 Rested f old new r = (s : State) → Rests old s
     → MatchResult r (λ a. (a ≡ f s) × Rests new s) (λ e. IsOfStore e
     × (IsTrue new.is_open → Rests new s))
 
--- where the connection is open, every other table is as it was
+-- if the connection is open, every other table is as it was
 abbrev pub LeavesOtherTables : Seen → Seen → Type 0
 LeavesOtherTables old new = IsTrue new.is_open → IsSameElsewhere old.now new.now
 
--- what a batch in a transaction of its own comes to
+-- the result of a batch in a transaction of its own
 abbrev pub Applied : State → BatchValue → Seen → Result Reply Stop → Type 0
 Applied s b new (Ok reply) = (reply ≡ (act s b).reply) × Rests new (act s b).state
 Applied s b new (Err Memory) = Rests new s
 Applied s b new (Err (Closed (Device e))) = IsOfStore e
 Applied s b new (Err (Closed Damaged)) = ⊥
 
--- where the store is told to have failed, by an error that is the store's
+-- if the store is reported to have failed, it is by an error of the store
 abbrev pub IsToldByStore : Stop → Type 0
 IsToldByStore Memory = Unit {0}
 IsToldByStore (Closed (Device e)) = IsOfStore e

@@ -1,4 +1,4 @@
--- Opening tables that are there.
+-- Opening existing tables.
 use Rattle.std.specs.Prelude.{◌≡◌, ℕ, List, [], ◌∷◌, pos, codes, length, None, Some, Ok, Err}
 use Rattle.std.specs.Prelude.{Result, Vec, MatchResult, IsTrue}
 use Rattle.std.specs.FinMap.{len}
@@ -35,7 +35,7 @@ abbrev pub FindsSerials : Seen → Result (Vec Row Global) Error → Type 0
 FindsSerials old result = (s : State) → old.step_limit ≡ None → Keeps s old.now
     → MatchResult result (λ (rows : Vec Row Global). length rows.items ≡ len s.keys) IsOfStore
 
--- on the tables of a state so many keys are found as it has, or the store fails
+-- on the tables of a state as many keys are found as it has, or the store fails
 abbrev pub FindsKeys : Seen → Result Found Error → Type 0
 FindsKeys old result = (s : State) → old.step_limit ≡ None → Keeps s old.now
     → MatchResult result (λ found. found ≡ Keys (len s.keys)) IsOfStore
@@ -44,7 +44,7 @@ FindsKeys old result = (s : State) → old.step_limit ≡ None → Keeps s old.n
 abbrev pub IsAsItWas : Seen → Seen → Type 0
 IsAsItWas old new = old.now ≡ old.committed → IsTrue new.is_open → HasSame old new
 
--- it is open after the batches or format 1 are told, and after memory was refused
+-- it is open after the number of batches or format 1 is returned, and after memory ran out
 abbrev pub StaysOpen : Seen → Result ℕ AdoptFault → Type 0
 StaysOpen new (Ok count) = IsTrue new.is_open
 StaysOpen new (Err OldFormat) = IsTrue new.is_open
@@ -54,17 +54,17 @@ StaysOpen new (Err NewFormat) = Unit {0}
 StaysOpen new (Err Damaged) = Unit {0}
 StaysOpen new (Err (Device e)) = Unit {0}
 
--- a stop may leave no more than before
+-- a crash can leave no more than before
 abbrev pub LeavesNoMore : Seen → Seen → Type 0
 LeavesNoMore old new = (trees : Trees) → new.may_leave trees → old.may_leave trees
 
--- a stop may leave the same
+-- a crash can leave the same
 abbrev pub LeavesTheSame : Seen → Seen → Type 0
 LeavesTheSame old new = ((trees : Trees) → new.may_leave trees → old.may_leave trees)
     × ((trees : Trees) → old.may_leave trees → new.may_leave trees)
 
--- Tables of a state are opened as that state, with the number of its keys; a stop may leave it, and
--- no other. But the store may fail, or memory be refused, which changes nothing.
+-- Tables of a state are opened as that state, with the number of its keys; a crash can leave it,
+-- and no other. But the store may fail, or memory may run out, which changes nothing.
 abbrev pub Adopts : State → Seen → Seen → Result ℕ AdoptFault → Type 0
 Adopts s old new (Ok count) = (count ≡ len s.keys) × Rests new s × MayLeave new (Some s)
     × LeavesOnly (MayLeave new) (Some s)

@@ -1,4 +1,4 @@
--- Format 1 is carried over to format 2.
+-- Format 1 is migrated to format 2.
 use Rattle.std.specs.Prelude.{◌≡◌, ◌⊎◌, ℕ, [], ◌∷◌, pos, None, Some, Result, Ok, Err, MatchResult}
 use Rattle.std.specs.Prelude.{IsTrue}
 use Rattle.std.specs.FinMap.{len}
@@ -29,17 +29,17 @@ use Rattle.streetmap_tables.specs.declared.opening.TablesFault.TheVariants.{NotO
 use Rattle.streetmap_tables.specs.declared.opening.TablesFault.TheVariants.{Damaged, Device}
 use Rattle.streetmap_tables.specs.declared.opening.TablesFault.TheVariants.{Memory}
 
--- ---- why tables are not carried over
+-- ---- why tables are not migrated
 
--- the store failed, or the schema less the two tables of format 1 has no place for those of format
--- 2
+-- the store failed, or the schema without the two tables of format 1 has no place for those of
+-- format 2
 abbrev pub IsToldOld : Schema → Error → Type 0
 IsToldOld schema e = IsOfStore e
     ⊎ ((roots : Roots) × WereOurs roots schema
     × IsFullFor (meta 0 ∷ features 0 ∷ [])
     (without_table (without_table schema roots.features) roots.meta) e)
 
--- it is for that, or memory was refused, and for no row that cannot be read
+-- it is for that, or memory ran out, and for no row that cannot be read
 abbrev pub CarryingRefusedFor : Schema → ReadFault → Type 0
 CarryingRefusedFor schema read.Memory = Unit {0}
 CarryingRefusedFor schema (read.Store e) = IsToldOld schema e
@@ -47,13 +47,13 @@ CarryingRefusedFor schema read.Unread = ⊥
 
 -- ---- inside the transaction
 
--- the features and the format are made anew: the tables are of format 2, and have every row of the
--- state but those of its features
+-- the tables of the features and of the format are made again: they are of format 2, and have every
+-- row of the state but those of its features
 abbrev pub Remakes : Seen → Seen → Type 0
 Remakes old new = (s : State) → KeepsOld s old.now → StandsFor (emptied s) new.now
     × KeepsOtherTables old.now new.now
 
--- the tables are those of the state in format 2, with so many batches
+-- the tables are those of the state in format 2, with this number of batches
 abbrev pub CarriesInside : Seen → Seen → Result ℕ ReadFault → Type 0
 CarriesInside old new result =
     old.step_limit ≡ None → IsTrue old.in_transaction → (s : State) → KeepsOld s old.now
@@ -62,21 +62,21 @@ CarriesInside old new result =
 
 -- ---- the transaction
 
--- it was committed, or undone
+-- it was committed, or rolled back
 abbrev pub CarriesAlone : State → Seen → Seen → Result ℕ ReadFault → Type 0
 CarriesAlone s old new (Ok count) = (count ≡ len s.keys) × Rests new s
     × KeepsOtherTables old.now new.now
 CarriesAlone s old new (Err fault) = CarryingRefusedFor old.now.schema fault
     × (IsTrue new.is_open → HasSame old new)
 
--- a stop leaves what it left before, or the same state in format 2
+-- a crash leaves what it could leave before, or the same state in format 2
 abbrev pub MayCarry : State → Seen → Seen → Type 0
 MayCarry s old new = (trees : Trees) → new.may_leave trees → old.may_leave trees
     ⊎ ((db : Database) × Keeps s db × (trees ≡ db.trees))
 
 -- Tables of a state in format 1 are opened as that state in format 2, with the number of its keys;
--- a stop may then leave it, and no other. But the store may fail, or its schema have no place for
--- the tables of format 2, or memory be refused, which changes nothing.
+-- a crash can then leave it, and no other. But the store may fail, or its schema may have no place
+-- for the tables of format 2, or memory may run out, which changes nothing.
 abbrev pub Carries : State → Seen → Seen → Result ℕ TablesFault → Type 0
 Carries s old new (Ok count) = (count ≡ len s.keys) × Rests new s × MayLeave new (Some s)
     × LeavesOnly (MayLeave new) (Some s)
@@ -87,7 +87,7 @@ Carries s old new (Err Damaged) = ⊥
 Carries s old new (Err NotOurs) = ⊥
 Carries s old new (Err NewFormat) = ⊥
 
--- what a carrying over may be refused for
+-- the causes for which a migration may be refused
 abbrev pub IsNamedFault : TablesFault → Type 0
 IsNamedFault Damaged = Unit {0}
 IsNamedFault (Device e) = Unit {0}
@@ -95,8 +95,8 @@ IsNamedFault Memory = Unit {0}
 IsNamedFault NotOurs = ⊥
 IsNamedFault NewFormat = ⊥
 
--- A refusal that blames the tables leaves no more to a stop than before. After a failure of the
--- store that may be so only while the connection is open: a commit may have failed.
+-- After a refusal that blames the tables a crash can leave no more than before. After a failure of
+-- the store that may hold only while the connection is open: a commit may have failed.
 abbrev pub KeepsNoMore : TablesFault → Seen → Seen → Type 0
 KeepsNoMore NotOurs old new = LeavesNoMore old new
 KeepsNoMore NewFormat old new = LeavesNoMore old new
@@ -104,7 +104,7 @@ KeepsNoMore Damaged old new = LeavesNoMore old new
 KeepsNoMore (Device e) old new = Unit {0}
 KeepsNoMore Memory old new = Unit {0}
 
--- it tells why tables of this schema, which are those of a state in format 1, are not carried over
+-- why tables of this schema, which are those of a state in format 1, are not migrated
 abbrev pub IsRefusedOld : Schema → TablesFault → Type 0
 IsRefusedOld schema (Device e) = IsToldOld schema e
 IsRefusedOld schema Memory = Unit {0}
@@ -114,17 +114,17 @@ IsRefusedOld schema NewFormat = ⊥
 
 -- ---- tables of either format
 
--- the look at the format row tells format 1
+-- the query for the format row shows format 1
 abbrev pub IsOld : Seen → Type 0
 IsOld seen = TellsFormat seen (Some (pos 1))
 
--- where the format is not 1 the connection holds what it held, and a stop leaves no more than
+-- if the format is not 1 the connection holds what it held, and a crash can leave no more than
 -- before
 abbrev pub UntouchedUnlessFormat1 : Seen → Seen → Type 0
 UntouchedUnlessFormat1 old new = ¬ (IsOld old) → IsAsItWas old new × Survives old new (λ _. ⊥)
 
--- Tables of a state in format 2 are opened as that state, with the number of its keys; a stop may
--- leave it, and no other. But the store may fail, or memory be refused, which changes nothing.
+-- Tables of a state in format 2 are opened as that state, with the number of its keys; a crash can
+-- leave it, and no other. But the store may fail, or memory may run out, which changes nothing.
 abbrev pub Opens : State → Seen → Seen → Result ℕ TablesFault → Type 0
 Opens s old new (Ok count) = (count ≡ len s.keys) × Rests new s × MayLeave new (Some s)
     × LeavesOnly (MayLeave new) (Some s)
@@ -134,8 +134,8 @@ Opens s old new (Err Damaged) = ⊥
 Opens s old new (Err NotOurs) = ⊥
 Opens s old new (Err NewFormat) = ⊥
 
--- What is answered is what the looks tell, whatever the tables are; those of format 1 may be
--- carried over, or be damaged, or a statement that carries them over be refused.
+-- The result is what the queries show, whatever the tables are; those of format 1 may be migrated,
+-- or be damaged, or a statement of their migration may be refused.
 abbrev pub OpensBy : Seen → Result ℕ TablesFault → Type 0
 OpensBy seen (Ok count) = TellsKeys seen count ⊎ IsOld seen
 OpensBy seen (Err NotOurs) = TellsFault seen adopting.NotOurs ⊎ TellsNothing seen

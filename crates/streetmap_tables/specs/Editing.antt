@@ -1,4 +1,4 @@
--- What edits do, inside a transaction on a connection whose database is that of a state.
+-- The effect of edits, inside a transaction on a connection whose database is that of a state.
 use Rattle.std.specs.Prelude.{◌≡◌, ℕ, List, Option, None, Some, Ok, Err, Result, MatchResult}
 use Rattle.std.specs.Prelude.{IsTrue}
 use Rattle.sqlite.specs.State.{State as Seen, KeepsCommit}

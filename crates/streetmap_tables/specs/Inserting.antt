@@ -19,7 +19,7 @@ use Rattle.streetmap_rows.specs.declared.feature_rows.FeatureRow.{FeatureRow}
 use Rattle.streetmap_tables.specs.Editing.{AnsweredAll, KeepsRest}
 use Rattle.streetmap_tables.specs.declared.inserting.KnownCollection.{KnownCollection}
 
--- the row is that of the feature with the time that the property tells
+-- the row is that of the feature with the time that the property gives
 pub record IsRowUnder (property : Option Text) (f : FeatureValue) (row : FeatureRow) : Type 0 where
   pub kept : FeatureValue
   pub is : timed property f ≡ Ok kept
@@ -36,24 +36,24 @@ pub record IsInsertion (name : Text) (property : Option Text) (e : EditValue)
 abbrev pub AreInsertions : Text → Option Text → List EditValue → List FeatureRow → Type 0
 AreInsertions name property = AllZip (IsInsertion name property)
 
--- all edits are made, or the state stays and they are left to be made in turn
+-- all edits are made, or the state stays and they remain to be made in turn
 abbrev pub MadeOrLeft : State → List EditValue → Seen → Bool → Type 0
 MadeOrLeft s es new made = MatchBool made ((t : State) × (edited 1 s es ≡ Ok t)
     × StandsFor t new.now) (StandsFor s new.now)
 
 -- ---- what is known of a collection
 
--- the collection is there, with this time property
+-- the collection exists, with this time property
 abbrev pub HasCollection : Text → Option Text → State → Type 0
 HasCollection name property s =
     (c : Collection) × (get s.collections name ≡ Some c) × (c.time ≡ property)
 
--- what is known is so in the state
+-- what is known holds in the state
 abbrev pub IsKnown : Option KnownCollection → State → Type 0
 IsKnown known s = IfSome known (λ it.
     HasCollection (string_bytes it.id) (option_map string_bytes it.property) s)
 
--- what is known afterwards is so in the state before, where what was known is; edits leave it so
+-- what is known afterwards holds in the state before, if what was known does; edits keep it true
 abbrev pub KeepsKnown : {A : Type 0} → Option KnownCollection → Option KnownCollection → Seen
     → Result A Error → Type 0
 KeepsKnown was known old r =
@@ -77,7 +77,7 @@ ComesToKnow name was known old new r =
     × StandsFor s new.now × IsTrue new.in_transaction × KeepsRest old new) (λ e. IsOfStore e
     × KeepsCommit old new)
 
--- ---- edits inside a transaction, where this is so before
+-- ---- edits inside a transaction, if this holds before
 
 -- all or none of them
 abbrev pub EditsAllOrNone : (State → Type 0) → List EditValue → Seen → Seen → Result Bool Error

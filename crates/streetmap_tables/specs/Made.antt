@@ -1,4 +1,4 @@
--- What making a table does.
+-- The effect of making a table.
 use Rattle.std.specs.Prelude.{◌≡◌, ℕ, List, [], false, None, Ok}
 use Rattle.sqlite.specs.Table.{Table}
 use Rattle.sqlite.specs.Effect.{Database, IsDatabase}
@@ -11,7 +11,7 @@ use Rattle.sqlite_resolve.specs.declared.compiled.Compiled.{Compiled}
 use Rattle.sqlite_resolve.specs.Compile.{first, table_defined_by}
 use Rattle.sqlite_catalog.specs.Change.{next_tree, created, is_used, KeepsRows}
 
--- what is run of a text that makes a table
+-- the statement that a text which makes a table compiles to
 abbrev pub creating : Parsed → Compiled
 creating p = record {
   command = CreateTable;

@@ -31,9 +31,8 @@ is_taken schema = is_used schema meta_name
     || (is_used schema collections_name
     || (is_used schema batches_name || is_used schema features_name))
 
--- What is asked of the tables that are there: each has a tree of its own, none refers to the
--- features, and where one counts its rowids the table of counts is there, which SQLite makes beside
--- it.
+-- What is required of the existing tables: each has a tree of its own, none refers to the features,
+-- and if one counts its rowids the table of counts exists, which SQLite makes beside it.
 pub record HasRoom (schema : Schema) : Type 0 where
   pub apart : IsAscending (λ a b. a.tree ≡ b.tree → ⊥) schema.tables
   pub alone : AllByRecursion (λ t.
@@ -60,7 +59,7 @@ pub record AreMade (db : Database) : Type 0 where
   pub batches_empty : db.trees roots.batches ≡ []
   pub features_empty : db.trees roots.features ≡ []
 
--- the tables are ours, and have all rows of a state but that of the format
+-- the tables are ours, and have all rows of a state but the format row
 pub record LacksFormat (s : State) (db : Database) : Type 0 where
   pub roots : Roots
   pub ours : IsOurs roots db.schema
@@ -77,24 +76,24 @@ pub record LacksFormat (s : State) (db : Database) : Type 0 where
 abbrev pub HasSame : Seen → Seen → Type 0
 HasSame old new = (new.now ≡ old.now) × (new.committed ≡ old.committed)
 
--- every table that was there under another name than our four is there, with the same definition
+-- every table that existed under another name than our four still exists, with the same definition
 -- and the same rows
 abbrev pub KeepsOtherTables : Database → Database → Type 0
 KeepsOtherTables old new = (t : Table) → Has old.schema.tables t → is_our_name t.name ≡ false
     → Has new.schema.tables t × (new.trees t.tree ≡ old.trees t.tree)
 
--- a stop leaves what it left before, or the opening state
+-- a crash leaves what it could leave before, or the opening state
 abbrev pub MayOpen : Seen → Seen → Type 0
 MayOpen old new = (trees : Trees) → new.may_leave trees → old.may_leave trees
     ⊎ ((db : Database) × Keeps opening_state db × (trees ≡ db.trees))
 
--- the tables were made in one transaction, or that was undone
+-- the tables were made in one transaction, or it was rolled back
 abbrev pub MakesAlone : Seen → Seen → Result (Unit {0}) Error → Type 0
 MakesAlone old new (Ok _) = Rests new opening_state × KeepsOtherTables old.now new.now
 MakesAlone old new (Err e) = IsTrue new.is_open → HasSame old new
 
--- The connection rests at the opening state, and a stop may leave it and no other; a refusal leaves
--- the database as it was.
+-- The connection rests at the opening state, and a crash can leave it and no other; a refusal
+-- leaves the database as it was.
 abbrev pub Makes : Seen → Seen → Result (Unit {0}) MakeFault → Type 0
 Makes old new (Ok _) = Rests new opening_state × MayLeave new (Some opening_state)
     × LeavesOnly (MayLeave new) (Some opening_state)

@@ -36,7 +36,7 @@ old_features tree = plain_table features_name tree (text_column (codes "collecti
     ∷ text_column (codes "id") true ∷ text_column (codes "body") true ∷ []) (1 ∷ 2 ∷ [])
     (to_collections ∷ [])
 
--- The four names find the tables of format 1, wherever they stand; the tables leave room for new
+-- The four names find the tables of format 1, anywhere in the schema; the tables leave room for new
 -- ones, no index but their own is on the collections and on the batches, and no table refers to the
 -- features or to the format.
 pub record WereOurs (roots : Roots) (schema : Schema) : Type 0 where
@@ -53,7 +53,7 @@ pub record WereOurs (roots : Roots) (schema : Schema) : Type 0 where
   pub free : AllByRecursion (λ t.
       list_all (λ ref. not (same_name meta_name ref.parent)) t.references ≡ true) schema.tables
 
--- ---- the rows, behind their rowids
+-- ---- the rows, after their rowids
 
 -- the one row of the table of the format
 abbrev pub old_meta_cells : Text → Option Row

@@ -1,4 +1,4 @@
--- A state whose features are put in one after the other.
+-- A state whose features are inserted one after the other.
 use Rattle.std.specs.Prelude.{◌≡◌, ◌≢◌, ◌⊎◌, ℕ, codes, List, [], ◌∷◌, map, Option, None, Some}
 use Rattle.std.specs.Prelude.{option_map, Result, Ok, Vec, String, string_bytes, MatchResult}
 use Rattle.std.specs.Prelude.{IsTrue}
@@ -56,7 +56,7 @@ pub record AreRowsOf (s : State) (rows : List Row) : Type 0 where
   pub apart : IsAscending (λ a b. pair_in a ≢ pair_in b) rows
   pub all : (p : KeyPair) (f : FeatureValue) → feature_at s p ≡ Some f → Has rows (old_cells p f)
 
--- a state that lacks of another the features of these rows, and nothing else
+-- a state that lacks only the features of these rows, compared with another
 pub record Lacks (rows : List Row) (s t : State) : Type 0 where
   pub keys : t.keys ≡ s.keys
   pub heads : (name : Text) → option_map bare (get t.collections name)
@@ -68,8 +68,8 @@ pub record Lacks (rows : List Row) (s t : State) : Type 0 where
   pub all : (p : KeyPair) (f : FeatureValue) → feature_at s p ≡ Some f → (feature_at t p ≡ Some f)
       ⊎ Has rows (old_cells p f)
 
--- a look or a write gave up for want of memory or since the store failed, and met no row that
--- cannot be read
+-- a read or a write gave up because memory ran out or the store failed, and met no row that cannot
+-- be read
 abbrev pub IsSpared : ReadFault → Type 0
 IsSpared Memory = Unit {0}
 IsSpared (Store e) = IsOfStore e
@@ -81,7 +81,7 @@ TakesRows old new result = (s : State) → old.step_limit ≡ None → KeepsOld 
     → MatchResult result (λ (rows : Vec Row Global). AreRowsOf s rows.items
     × IsUnchanged old new) IsSpared
 
--- the time property of a collection that is there, which stays
+-- the time property of an existing collection, which stays
 abbrev pub FindsTime : Text → Seen → Seen → Result (Option (String Global)) ReadFault → Type 0
 FindsTime name old new result =
     old.step_limit ≡ None → (t : State) (c : Collection) → StandsFor t old.now
@@ -89,7 +89,7 @@ FindsTime name old new result =
     → MatchResult result (λ time. (option_map string_bytes time ≡ c.time)
     × IsUnchanged old new) IsSpared
 
--- the feature of the first row is put in
+-- the feature of the first row is inserted
 abbrev pub PutsRow : Row → Seen → Seen → Result (Unit {0}) ReadFault → Type 0
 PutsRow row old new result =
     old.step_limit ≡ None → IsTrue old.in_transaction → (s t : State) (more : List Row) → IsState s
@@ -97,14 +97,14 @@ PutsRow row old new result =
     → MatchResult result (λ _. ((u : State) × StandsFor u new.now × Lacks more s u)
     × IsSameElsewhere old.now new.now) IsSpared
 
--- the features of all rows are put in
+-- the features of all rows are inserted
 abbrev pub PutsRows : List Row → Seen → Seen → Result (Unit {0}) ReadFault → Type 0
 PutsRows rows old new result =
     old.step_limit ≡ None → IsTrue old.in_transaction → (s t : State) → IsState s
     → StandsFor t old.now → Lacks rows s t
     → MatchResult result (λ _. StandsFor s new.now × IsSameElsewhere old.now new.now) IsSpared
 
--- the features and the format are dropped, made as format 2 has them, and its number put in
+-- the features and the format are dropped, made in format 2, and its number is inserted
 abbrev pub remaking_texts : List (List ℕ)
 remaking_texts = codes "DROP TABLE streetmap_features" ∷ codes "DROP TABLE streetmap_meta"
     ∷ codes
@@ -136,12 +136,12 @@ module _ {S : Type 0} (g : Ghosts S) where
       × ((mid : Held S) × ((state g mid).now ≡ (state g old).now)
       × RanInsert (pair_in r) (feature_text f) (state g mid) (state g new))
 
-  -- so it was for each of these rows of format 1, one after the other
+  -- the same holds for each of these rows of format 1, one after the other
   abbrev pub PutsEach : List Row → Held S → Held S → Type 0
   PutsEach [] old new = (state g new).now ≡ (state g old).now
   PutsEach (r ∷ rows) old new = (mid : Held S) × PutsOne r old mid × PutsEach rows mid new
 
-  -- the tables of the features and of the format were made anew, and then of each row that the
+  -- the tables of the features and of the format were made again, and then for each row that the
   -- query of the old features showed a row was inserted into the new ones, with its text
   abbrev pub HasCarried : Held S → Held S → Type 0
   HasCarried old new =

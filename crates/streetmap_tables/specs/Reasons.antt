@@ -1,4 +1,4 @@
--- Errors of the store that came about for a reason.
+-- Errors of the store that have a reason.
 use Rattle.std.specs.Prelude.{◌≡◌, ◌⊎◌}
 use Rattle.sqlite.specs.State.{State as Seen}
 use Rattle.streetmap_rows.specs.Failing.{HasReason}
@@ -9,19 +9,19 @@ use Rattle.streetmap_tables.specs.declared.adopting.AdoptFault.TheVariants as ad
 use Rattle.streetmap_tables.specs.declared.opening.TablesFault.{TablesFault}
 use Rattle.streetmap_tables.specs.declared.opening.TablesFault.TheVariants as opening
 
--- it is of no statement
+-- it comes from no statement
 abbrev pub IsOwn : ReadFault → Type 0
 IsOwn read.Memory = Unit {0}
 IsOwn (read.Store e) = ⊥
 IsOwn read.Unread = Unit {0}
 
--- the error of a statement that is handed on came about between these two for a reason
+-- the error of a statement that is passed on arose between these two for a reason
 abbrev pub HasReasonIn : Seen → Seen → ReadFault → Type 0
 HasReasonIn old new read.Memory = Unit {0}
 HasReasonIn old new (read.Store e) = HasReason old new e
 HasReasonIn old new read.Unread = Unit {0}
 
--- the error that is told is the one that was met, or came about since
+-- the error that is returned is the one that was met, or arose since
 abbrev pub TellsFor : Seen → Seen → ReadFault → TablesFault → Type 0
 TellsFor old new fault opening.NotOurs = Unit {0}
 TellsFor old new fault opening.NewFormat = Unit {0}
@@ -29,7 +29,7 @@ TellsFor old new fault opening.Damaged = Unit {0}
 TellsFor old new fault (opening.Device e) = (fault ≡ read.Store e) ⊎ HasReason old new e
 TellsFor old new fault opening.Memory = Unit {0}
 
--- the error of the store that is told came about between these two for a reason
+-- the error of the store that is returned arose between these two for a reason
 abbrev pub AdoptsFor : Seen → Seen → AdoptFault → Type 0
 AdoptsFor old new adopting.NotOurs = Unit {0}
 AdoptsFor old new adopting.OldFormat = Unit {0}

@@ -30,7 +30,7 @@ our_tables = meta 0 ∷ collections 0 ∷ batches 0 ∷ features 0 ∷ []
 abbrev pub key_indexes : Table → List Index
 key_indexes table = automatics table 0 0 table.uniques
 
--- how many trees tables take, with those indexes
+-- the number of trees that tables take, with those indexes
 abbrev pub trees_for : List Table → ℕ
 trees_for [] = 0
 trees_for (t ∷ tables) = 1 + length t.uniques + trees_for tables
@@ -47,13 +47,13 @@ IsFullFor tables schema e =
 abbrev pub IsToldFor : List Table → Schema → Error → Type 0
 IsToldFor tables schema e = IsOfStore e ⊎ IsFullFor tables schema e
 
--- what is told of tables that were not made
+-- what is returned if the tables were not made
 abbrev pub IsTold : Schema → MakeFault → Type 0
 IsTold schema Taken = Unit {0}
 IsTold schema (Device e) = IsToldFor our_tables schema e
 IsTold schema Memory = Unit {0}
 
--- an error of the store that is told came about between these two for a reason
+-- an error of the store that is returned arose between these two for a reason
 abbrev pub IsReasoned : Seen → Seen → MakeFault → Type 0
 IsReasoned old new Taken = Unit {0}
 IsReasoned old new (Device e) = HasReason old new e

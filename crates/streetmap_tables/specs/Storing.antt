@@ -16,7 +16,7 @@ use Rattle.streetmap_rows.specs.Stands.{StandsFor}
 use Rattle.streetmap_rows.specs.Rows.{feature_text, extent_in, seconds_in}
 use Rattle.streetmap_tables.specs.Editing.{KeepsRest}
 
--- the time property of a collection, where it is there: the database stays
+-- the time property of a collection, if the collection exists: the database stays
 abbrev pub FindsTime : Text → Seen → Seen → Result (Option (Option (String Global))) Error → Type 0
 FindsTime name old new r =
     old.step_limit ≡ None → (s : State) → StandsFor s old.now
@@ -24,7 +24,7 @@ FindsTime name old new r =
     ≡ option_map (λ (c : Collection). c.time) (get s.collections name))
     × IsUnchanged old new) (λ e. IsOfStore e × KeepsCommit old new)
 
--- these are the seconds of the time that the property tells of the feature; with it the feature is
+-- these are the seconds of the time that the property gives for the feature; with it the feature is
 -- kept, under its id, with its text and its extent
 pub record IsTimed (property : Option Text) (f : FeatureValue) (seconds : Option (ℤ
     × ℤ)) : Type 0 where
@@ -36,13 +36,13 @@ pub record IsTimed (property : Option Text) (f : FeatureValue) (seconds : Option
   pub extent_is : extent_in f ≡ extent_in kept
   pub seconds_are : seconds ≡ seconds_in kept
 
--- the feature stands in its collection with its time, or its time cannot be read
+-- the feature is in its collection with its time, or its time cannot be read
 abbrev pub WasPut : State → Text → Collection → FeatureValue → Seen → Option Refusal → Type 0
 WasPut s name c f new None = (g : FeatureValue) × (timed c.time f ≡ Ok g)
     × StandsFor (with_feature s name c g) new.now
 WasPut s name c f new (Some why) = timed c.time f ≡ Err why
 
--- a feature that is not there is put into a collection that is, inside a transaction
+-- a new feature is inserted into an existing collection, inside a transaction
 abbrev pub Puts : Text → Option Text → FeatureValue → Seen → Seen → Result (Option Refusal) Error
     → Type 0
 Puts name property f old new r =

@@ -1,4 +1,4 @@
--- What the looks at the format row and at the batches tell of any tables.
+-- What the queries for the format row and for the batches show, of any tables.
 use Rattle.std.specs.Prelude.{◌≡◌, ◌≢◌, ◌⊎◌, ℕ, ℤ, pos, ◌<ℤ◌, List, [], length, Option, Some, None}
 use Rattle.std.specs.Prelude.{Result, Ok, Err, Vec, slice_get, option_and_then}
 use Rattle.std.specs.declared.alloc.Global.{Global}
@@ -17,12 +17,12 @@ use Rattle.streetmap_tables.specs.declared.adopting.AdoptFault.TheVariants.{NotO
 use Rattle.streetmap_tables.specs.declared.adopting.AdoptFault.TheVariants.{NewFormat, Damaged}
 use Rattle.streetmap_tables.specs.declared.adopting.AdoptFault.TheVariants.{Device, Memory}
 
--- the number in a cell, where it is one
+-- the number in a cell, if it is one
 abbrev pub number : Value → Option ℤ
 number (Int n) = Some n
 number _ = None
 
--- the format that rows tell: the first value of the first, where that is a number
+-- the format in these rows: the first value of the first row, if that is a number
 abbrev pub format_in : List Row → Option ℤ
 format_in rows = option_and_then (λ row. number (column row 0)) (slice_get rows 0)
 
@@ -30,34 +30,34 @@ format_in rows = option_and_then (λ row. number (column row 0)) (slice_get rows
 abbrev pub Sees : List ℕ → Seen → List Row → Type 0
 Sees sql seen rows = Shown sql [] seen seen rows
 
--- a query is refused, and not since the store failed
+-- a query is refused, and not because the store failed
 abbrev pub IsUnseen : List ℕ → Seen → Type 0
 IsUnseen sql seen = (e : Error) × (¬ (IsOfStore e)) × FailsToQuery sql [] seen seen e
 
--- what a query told, of any tables
+-- what a query showed, of any tables
 abbrev pub LooksAt : List ℕ → Seen → Seen → Result (Vec Row Global) Error → Type 0
 LooksAt sql old new (Ok rows) = Sees sql old rows.items × IsUnchanged old new
 LooksAt sql old new (Err e) = (¬ (IsOfStore e)) → IsUnseen sql old
 
--- the look at the format row tells this format
+-- the query for the format row shows this format
 abbrev pub TellsFormat : Seen → Option ℤ → Type 0
 TellsFormat seen format = (rows : List Row) × Sees select_format seen rows
     × (format_in rows ≡ format)
 
--- the tables are of format 2, and so many batches are shown
+-- the tables are of format 2, and this number of batches is shown
 abbrev pub TellsKeys : Seen → ℕ → Type 0
 TellsKeys seen count = TellsFormat seen (Some (pos 2))
     × ((rows : List Row) × Sees serials_text seen rows × (count ≡ length rows))
 
--- the look at the format row is refused
+-- the query for the format row is refused
 abbrev pub TellsNothing : Seen → Type 0
 TellsNothing seen = IsUnseen select_format seen
 
--- the tables are of format 2, and the look at the batches is refused
+-- the tables are of format 2, and the query for the batches is refused
 abbrev pub LosesKeys : Seen → Type 0
 LosesKeys seen = TellsFormat seen (Some (pos 2)) × IsUnseen serials_text seen
 
--- what was found is what the looks tell
+-- what was found is what the queries show
 abbrev pub IsFoundIn : Seen → Result Found Error → Type 0
 IsFoundIn seen (Ok (Keys count)) = TellsKeys seen count
 IsFoundIn seen (Ok Unread) = LosesKeys seen
@@ -74,12 +74,12 @@ IsRefusedFor format Damaged = ⊥
 IsRefusedFor format (Device e) = ⊥
 IsRefusedFor format Memory = ⊥
 
--- tables are refused for a format that the look tells
+-- tables are refused for a format that the query shows
 abbrev pub TellsFault : Seen → AdoptFault → Type 0
 TellsFault seen fault = (format : Option ℤ) × IsRefusedFor format fault × TellsFormat seen format
 
--- What is answered is what the looks tell, whatever the tables are; but the store may fail, or
--- memory be refused.
+-- The result is what the queries show, whatever the tables are; but the store may fail, or memory
+-- may run out.
 abbrev pub AdoptsBy : Seen → Result ℕ AdoptFault → Type 0
 AdoptsBy seen (Ok count) = TellsKeys seen count
 AdoptsBy seen (Err NotOurs) = TellsFault seen NotOurs ⊎ TellsNothing seen

@@ -1,4 +1,4 @@
-//! Opening tables that are there: the format row is read, and a row for each accepted batch.
+//! Opening existing tables: the format row is read, and one row for each accepted batch.
 ghost use Rattle.std.specs.Prelude.{◌≡◌, ◌≢◌, IfErr, MatchResult, Some, pos, false, IsTrue, OnOk};
 ghost use Rattle.sqlite.specs.Held.{state};
 ghost use Rattle.sqlite.specs.State.{HasCleanDisk, KeepsCommit, Survives};
@@ -25,11 +25,11 @@ pub enum AdoptFault {
     OldFormat,
     /// `new_format`: the format is above 2.
     NewFormat,
-    /// `damaged`: the format is 2, and the look at the batches is refused.
+    /// `damaged`: the format is 2, and the query for the batches is refused.
     Damaged,
-    /// `device`: the store failed, or has no room: the error that told it.
+    /// `device`: the store failed, or has no room; the error that reported it.
     Device(Error),
-    /// `memory`: memory was refused.
+    /// `memory`: out of memory.
     Memory,
 }
 
@@ -51,7 +51,7 @@ impl AdoptFault {
         }
     }
 
-    /// A sentence on it.
+    /// A sentence that describes it.
     #[tactic(auto, unfolding(crate::specs::Faults::adopt_description))]
     pub fn description(&self) -> &'static str
         ensures { result.now ≡ adopt_description self.now }
@@ -67,12 +67,12 @@ impl AdoptFault {
     }
 }
 
-/// What is found in a connection.
+/// What was found in a connection.
 #[derive(Drop)]
 enum Found {
-    /// Format 2, with so many keys.
+    /// Format 2, with this number of keys.
     Keys(u64),
-    /// Format 2, but the look at the batches is refused.
+    /// Format 2, but the query for the batches is refused.
     Unread,
     /// Another format, or no format row.
     Other(Option<i64>),
@@ -127,7 +127,7 @@ pub fn read_serials<S: Alter>(tx: &mut Transaction<'_, S>) -> Result<Vec<Row>, E
     tx.query_all("SELECT serial FROM streetmap_batches", &[])
 }
 
-/// The format that the format row tells.
+/// The format in the format row.
 fn format_of(rows: &[Row]) -> Option<i64>
     ensures { result ≡ format_in rows.now }
 {
@@ -140,8 +140,8 @@ fn format_of(rows: &[Row]) -> Option<i64>
     }
 }
 
-/// What is found where the look at the batches met an error: nothing, where the store failed, and
-/// else that it is refused.
+/// What was found if the query for the batches met an error: nothing if the store failed, and
+/// otherwise that the query is refused.
 fn unread_by(error: Error) -> Result<Found, Error>
     ensures { MatchResult result
         (λ found. (found ≡ Found.Unread) × ¬ (IsOfStore error))
@@ -154,7 +154,7 @@ fn unread_by(error: Error) -> Result<Found, Error>
     }
 }
 
-/// The format and, where it is 2, the number of keys.
+/// The format and, if it is 2, the number of keys.
 fn look_inside<S: Alter>(tx: &mut Transaction<'_, S>) -> Result<Found, Error>
     ensures reason { HasCleanDisk (state S.Store tx.new.conn.now) →
         IfErr result (HasReason (state S.Store tx.old.conn.now) (state S.Store tx.new.conn.now)) }
@@ -180,7 +180,7 @@ fn look_inside<S: Alter>(tx: &mut Transaction<'_, S>) -> Result<Found, Error>
     }
 }
 
-/// The same, in a transaction that is undone: whatever the connection holds, it is as it was.
+/// The same, in a transaction that is rolled back, so the connection holds what it held.
 fn look_alone<S: Alter>(conn: &mut Connection<S>) -> Result<Found, Error>
     requires { conn.old.in_transaction ≡ false }
     ensures reason { HasCleanDisk (state S.Store conn.new) →
@@ -211,19 +211,19 @@ fn refusal_of(format: Option<i64>) -> AdoptFault
     }
 }
 
-/// Opens the tables that a connection has, and tells how many batches they have accepted.
+/// Opens the tables that a connection has, and returns how many batches they have accepted.
 ///
-/// It writes nothing: in every case the connection holds what it held, and a stop may leave no more
-/// than before. The connection is to have no step limit.
+/// It writes nothing: in every case the connection holds what it held, and a crash can leave no
+/// more than before. The connection must have no step limit.
 ///
 /// # Errors
 ///
-/// `OldFormat` for format 1 and `NewFormat` for a format above 2; `NotOurs` for any other, where
-/// there is no format row, and where the look at it is refused; `Damaged` where the format is 2 and
-/// the look at the batches is refused; `Memory` where memory was refused and the connection is
-/// open; `Device` where the store fails, by its error. That the connection is open is found out by
-/// `probe`, before the batches or format 1 are told and after memory was refused: where memory is
-/// refused to that look too, it is `Device`, by that error.
+/// `OldFormat` for format 1 and `NewFormat` for a format above 2; `NotOurs` for any other format,
+/// if there is no format row, and if the query for it is refused; `Damaged` if the format is 2 and
+/// the query for the batches is refused; `Memory` if memory runs out and the connection is open;
+/// `Device` if the store fails, with its error. `probe` checks that the connection is open before
+/// the number of batches or `OldFormat` is returned, and after memory ran out. If `probe` runs out
+/// of memory too, the result is `Device` with that error.
 pub fn adopt_tables<S: Alter>(conn: &mut Connection<S>) -> Result<u64, AdoptFault>
     requires { conn.old.in_transaction ≡ false }
     ensures reason { HasCleanDisk (state S.Store conn.new) →

@@ -20,7 +20,7 @@ use std::alloc::Global;
 use streetmap_ledger::{Batch, Refusal, Reply};
 use streetmap_rows::{Stop, cause_of, probe, settle};
 
-/// How many batches may be accepted.
+/// The most batches that can be accepted.
 const MOST_BATCHES: u64 = 9_223_372_036_854_775_807;
 
 /// Acts on a batch whose key is new, in a transaction of its own.
@@ -71,7 +71,7 @@ fn act_alone<S: Alter>(
     }
 }
 
-/// Acts on a batch by what is kept for its key.
+/// Acts on a batch, given what is kept for its key.
 fn act_by_key<S: Alter>(
     alloc: Global,
     conn: &mut Connection<S>,
@@ -110,11 +110,10 @@ fn act_by_key<S: Alter>(
 ///
 /// # Errors
 ///
-/// `Memory` where memory was refused, nothing changed and the connection is open;
-/// `Closed(Device(error))` where the store failed or has no room, by its error. After memory was
-/// refused, and before a reply that changed nothing is told, the connection is looked at by
-/// `probe`: where that look fails it is `Closed(Device(error))` by the error of the look, which may
-/// be that memory was refused to it.
+/// `Memory` if memory runs out, nothing changed and the connection is open; `Closed(Device(error))`
+/// if the store failed or has no room, with its error. `probe` checks the connection after memory
+/// ran out, and before a reply that changed nothing is returned. If `probe` fails the result is
+/// `Closed(Device(error))` with its error, which may be that memory ran out in `probe`.
 #[tactic(auto, using(crate::proofs::StoreErrors::of_cause, crate::proofs::StoreErrors::of_stop))]
 pub fn apply_batch<S: Alter>(
     alloc: Global,

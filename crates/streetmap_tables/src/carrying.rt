@@ -1,4 +1,4 @@
-//! Format 1 is carried over, in one transaction.
+//! Format 1 is migrated, in one transaction.
 ghost use Rattle.std.specs.Prelude.{◌≡◌, ◌≤◌, IsTrue, OnOk, IfErr, false};
 ghost use Rattle.sqlite.specs.Held.{state};
 ghost use Rattle.sqlite.specs.State.{HasCleanDisk, KeepsCommit, Survives};
@@ -21,7 +21,7 @@ use sqlite::{Alter, Connection, Transaction};
 use std::alloc::Global;
 use streetmap_rows::{ReadFault, is_memory, probe};
 
-/// Carries the tables over, inside a transaction, and tells how many batches they have accepted.
+/// Migrates the tables, inside a transaction, and returns how many batches they have accepted.
 fn carry_inside<S: Alter>(tx: &mut Transaction<'_, S>, alloc: Global) -> Result<u64, ReadFault>
     ensures reason { HasCleanDisk (state S.Store tx.new.conn.now) →
         IfErr result (HasReasonIn (state S.Store tx.old.conn.now) (state S.Store tx.new.conn.now)) }
@@ -52,7 +52,7 @@ fn carry_inside<S: Alter>(tx: &mut Transaction<'_, S>, alloc: Global) -> Result<
     }
 }
 
-/// Carries the tables over in a transaction of its own, which is undone where it fails.
+/// Migrates the tables in a transaction of its own, which is rolled back if it fails.
 fn carry_alone<S: Alter>(alloc: Global, conn: &mut Connection<S>) -> Result<u64, ReadFault>
     requires idle { conn.old.in_transaction ≡ false }
     ensures reason { HasCleanDisk (state S.Store conn.new) →
@@ -89,7 +89,7 @@ fn carry_alone<S: Alter>(alloc: Global, conn: &mut Connection<S>) -> Result<u64,
     }
 }
 
-/// Tells why tables were not carried over, after their transaction was undone.
+/// Returns why tables were not migrated, after their transaction was rolled back.
 fn tell<S: Alter>(conn: &mut Connection<S>, fault: ReadFault) -> TablesFault
     requires { conn.old.in_transaction ≡ false }
     ensures reason { HasCleanDisk (state S.Store conn.new) →
@@ -107,7 +107,7 @@ fn tell<S: Alter>(conn: &mut Connection<S>, fault: ReadFault) -> TablesFault
     ensures live { HasCleanDisk (state S.Store conn.new) → result ≡ TablesFault.Memory
         → IsTrue (state S.Store conn.new).is_open }
 {
-    // Between two transactions it holds what was committed.
+    // Between two transactions the connection holds what was committed.
     let _idle = conn.is_autocommit();
     match fault {
         ReadFault::Unread => TablesFault::Damaged,
@@ -119,21 +119,21 @@ fn tell<S: Alter>(conn: &mut Connection<S>, fault: ReadFault) -> TablesFault
     }
 }
 
-/// Carries tables of format 1 over to format 2, in one transaction, and tells how many batches they
+/// Migrates tables of format 1 to format 2, in one transaction, and returns how many batches they
 /// have accepted.
 ///
-/// The connection is to have no step limit. A stop within leaves the rows of format 1 or those of
-/// format 2, whole. After a refusal an open connection holds what it held, and every other table
-/// stays in each case.
+/// The connection must have no step limit. A crash during the migration leaves the rows of format 1
+/// or those of format 2, whole. After a refusal an open connection holds what it held, and every
+/// other table stays in each case.
 ///
 /// # Errors
 ///
-/// `Damaged` at a row that is none that this product writes; `Memory` where memory was refused and
-/// the connection is open; `Device` where the store fails or has no room, or a statement that makes
-/// the tables anew is refused, by its error. After memory was refused the connection is looked at
-/// by `probe`: where memory is refused to that look too, it is `Device`, by that error. On the
-/// tables of a state it is `Memory`, or `Device` by an error of the store, or by `SchemaTooBig` or
-/// `NameTaken` where their schema has no place for the tables of format 2 (`make_tables`).
+/// `Damaged` at a row that this product does not write; `Memory` if memory runs out and the
+/// connection is open; `Device` if the store fails or has no room, or if a statement that makes the
+/// new tables is refused, with its error. After memory ran out `probe` checks the connection: if
+/// memory runs out there too, it is `Device` with that error. On the tables of a state it is
+/// `Memory`, or `Device` with an error of the store, or with `SchemaTooBig` or `NameTaken` if their
+/// schema has no place for the tables of format 2 (`make_tables`).
 #[tactic(auto, using(crate::proofs::Reasons::opens_for))]
 pub fn carry_tables<S: Alter>(alloc: Global, conn: &mut Connection<S>) -> Result<u64, TablesFault>
     requires { conn.old.in_transaction ≡ false }

@@ -20,7 +20,7 @@ use streetmap_feature_text::WrittenFeature;
 use streetmap_ledger::{Edit, Refusal, TimeProperty};
 use streetmap_rows::{ROWS, collection_rows, delete_feature, has_feature, insert_collection};
 
-/// Whether there is a collection with this id.
+/// Whether a collection with this id exists.
 fn has_collection<S: Alter>(tx: &mut Transaction<'_, S>, collection: &str) -> Result<bool, Error>
     ensures same_reference { tx.new.conn.ghost_name ≡ tx.old.conn.ghost_name }
     ensures looks { HasCleanDisk (state S.Store tx.new.conn.now)
@@ -35,7 +35,7 @@ fn has_collection<S: Alter>(tx: &mut Transaction<'_, S>, collection: &str) -> Re
     Ok(!rows.is_empty())
 }
 
-/// Opens a collection, or tells that it is there.
+/// Opens a collection, or reports that it already exists.
 #[tactic(auto, using(crate::proofs::Deciding::is_open))]
 fn open_in<S: Alter>(
     tx: &mut Transaction<'_, S>,
@@ -59,7 +59,7 @@ fn open_in<S: Alter>(
     Ok(None)
 }
 
-/// Inserts a feature, or tells why not.
+/// Inserts a feature, or returns why not.
 fn insert_in<S: Alter>(
     tx: &mut Transaction<'_, S>,
     alloc: Global,
@@ -84,7 +84,7 @@ fn insert_in<S: Alter>(
     put_feature(tx, alloc, collection, property.as_deref(), feature)
 }
 
-/// Replaces a feature by another with its id, or tells why not.
+/// Replaces a feature by another with its id, or returns why not.
 fn replace_in<S: Alter>(
     tx: &mut Transaction<'_, S>,
     alloc: Global,
@@ -110,7 +110,7 @@ fn replace_in<S: Alter>(
     put_feature(tx, alloc, collection, property.as_deref(), feature)
 }
 
-/// Deletes a feature, or tells why not.
+/// Deletes a feature, or returns why not.
 #[tactic(auto, using(crate::proofs::Deciding::no_collection, crate::proofs::Deciding::no_feature))]
 fn delete_in<S: Alter>(
     tx: &mut Transaction<'_, S>,
@@ -136,7 +136,7 @@ fn delete_in<S: Alter>(
     Ok(None)
 }
 
-/// The name of a time property, where one is given.
+/// The name of a time property, if one is given.
 fn name_of(time: &Option<TimeProperty>) -> Option<&str>
     ensures { option_copied result ≡ time.now }
 {
@@ -146,7 +146,7 @@ fn name_of(time: &Option<TimeProperty>) -> Option<&str>
     }
 }
 
-/// Makes an edit, or tells why not.
+/// Makes an edit, or returns why not.
 fn edit_in<S: Alter>(
     tx: &mut Transaction<'_, S>,
     alloc: Global,
@@ -179,7 +179,7 @@ fn edit_in<S: Alter>(
     }
 }
 
-/// Makes edits one after the other, up to the first that is refused, whose place from 1 it tells.
+/// Makes edits one after the other, up to the first that is refused, whose place from 1 it returns.
 fn edit_in_turn<S: Alter>(
     tx: &mut Transaction<'_, S>,
     alloc: Global,
@@ -206,8 +206,8 @@ fn edit_in_turn<S: Alter>(
     Ok(None)
 }
 
-/// Makes edits in order, all by one statement where they can be, up to the first that is refused,
-/// whose place from 1 it tells. What is known of a collection is used, and more may be known after.
+/// Makes edits in order, all by one statement if they can be, up to the first that is refused,
+/// whose place from 1 it returns. It uses what is known of a collection, and may add to it.
 fn edit_run<S: Alter>(
     tx: &mut Transaction<'_, S>,
     alloc: Global,
@@ -233,7 +233,7 @@ fn edit_run<S: Alter>(
     edit_in_turn(tx, alloc, edits)
 }
 
-/// Makes edits in order, up to the first that is refused, whose place from 1 it tells.
+/// Makes edits in order, up to the first that is refused, whose place from 1 it returns.
 pub fn edit_each<S: Alter>(
     tx: &mut Transaction<'_, S>,
     alloc: Global,

@@ -1,4 +1,4 @@
-//! The features of format 1: their rows are taken, and put in as format 2 has them.
+//! The features of format 1: their rows are read, and inserted in the form of format 2.
 ghost use Rattle.std.specs.Prelude.{◌≡◌, IfErr, IsTrue, IsUtf8, OnOk, MatchResult, string_bytes};
 ghost use Rattle.std.specs.Prelude.{IfOk};
 ghost use Rattle.std.specs.Option.{option_copied};
@@ -26,8 +26,8 @@ use streetmap_feature_text::WrittenFeature;
 use streetmap_geojson::JsonFault;
 use streetmap_rows::{ReadFault, is_of_store, read_body, time_in, unread};
 
-/// Why a look or a write of a feature gave up: the store failed, or the statement was refused, as
-/// one over a row that is none that this product writes.
+/// Why a read or a write of a feature gave up: the store failed, or the statement was refused, as
+/// it is at a row that this product does not write.
 pub fn fault_of(error: Error) -> ReadFault
     ensures only { (e : Error) → result ≡ ReadFault.Store e → e ≡ error }
     ensures store { IsOfStore error → result ≡ ReadFault.Store error }
@@ -91,7 +91,7 @@ fn head_rows<S: Alter>(tx: &mut Transaction<'_, S>, collection: &str) -> Result<
     )
 }
 
-/// The time property of a collection, where it has one.
+/// The time property of a collection, if it has one.
 fn find_time<S: Alter>(
     tx: &mut Transaction<'_, S>,
     collection: &str,
@@ -168,7 +168,7 @@ fn feature_in(alloc: Global, row: &Row, property: Option<&str>) -> Result<Writte
     }
 }
 
-/// Puts the feature of a row in, with its extent and its seconds.
+/// Inserts the feature of a row, with its extent and its seconds.
 fn put_row<S: Alter>(tx: &mut Transaction<'_, S>, alloc: Global, row: &Row) -> Result<(), ReadFault>
     ensures reason { HasCleanDisk (state S.Store tx.new.conn.now) →
         IfErr result (HasReasonIn (state S.Store tx.old.conn.now) (state S.Store tx.new.conn.now)) }
@@ -197,7 +197,7 @@ fn put_row<S: Alter>(tx: &mut Transaction<'_, S>, alloc: Global, row: &Row) -> R
     }
 }
 
-/// Puts the features of all rows in.
+/// Inserts the features of all rows.
 pub fn put_rows<S: Alter>(
     tx: &mut Transaction<'_, S>,
     alloc: Global,

@@ -21,17 +21,17 @@ use streetmap_feature_text::WrittenFeature;
 use streetmap_ledger::Edit;
 use streetmap_rows::{FeatureRow, ROWS, insert_features};
 
-/// A collection that is there, and its time property.
+/// An existing collection, and its time property.
 #[derive(Drop)]
 pub struct KnownCollection {
     /// The id of the collection.
     pub id: String,
-    /// The property that the times of its features are read from, where it has one.
+    /// The property that the times of its features are read from, if it has one.
     pub property: Option<String>,
 }
 
-/// The row of a feature, with the time that the property tells; none where it tells one that cannot
-/// be read.
+/// The row of a feature, with the time that the property gives; none if the property gives one that
+/// cannot be read.
 fn row_under<'a>(
     alloc: Global,
     property: Option<&str>,
@@ -70,7 +70,7 @@ fn row_of<'a>(
     }
 }
 
-/// The rows of edits that each insert a feature into the collection; none where one does not.
+/// The rows of edits that each insert a feature into the collection; none if one of them does not.
 fn rows_of<'a>(
     alloc: Global,
     collection: &str,
@@ -91,8 +91,8 @@ fn rows_of<'a>(
     Ok(Some(rows))
 }
 
-/// Makes edits that each insert a feature into a collection that is there and has this time
-/// property; returns whether it did.
+/// Makes edits that each insert a feature into an existing collection with this time property;
+/// returns whether it did.
 fn insert_under<S: Alter>(
     tx: &mut Transaction<'_, S>,
     alloc: Global,
@@ -131,7 +131,7 @@ fn first_collection(edits: &[Edit]) -> Option<&str>
     }
 }
 
-/// Whether this collection is the one that is known.
+/// Whether this collection is the known one.
 fn is_known(known: &Option<KnownCollection>, collection: &str) -> bool
     ensures { IsTrue result ↔ IsSomeAnd known.now (λ it. string_bytes it.id ≡ collection.now) }
 {
@@ -141,7 +141,7 @@ fn is_known(known: &Option<KnownCollection>, collection: &str) -> bool
     }
 }
 
-/// The collection with its time property, as the database has it; none where it is not there.
+/// The collection with its time property, as the database has it; none if it does not exist.
 fn find_collection<S: Alter>(
     tx: &mut Transaction<'_, S>,
     alloc: Global,
@@ -165,8 +165,8 @@ fn find_collection<S: Alter>(
     Ok(Some(KnownCollection { id, property }))
 }
 
-/// Comes to know the collection, where it is there. The database is asked only where another one
-/// is known, or none.
+/// Finds the collection, if it exists. It queries the database only if another collection is known,
+/// or none.
 fn come_to_know<S: Alter>(
     tx: &mut Transaction<'_, S>,
     alloc: Global,
@@ -189,16 +189,16 @@ fn come_to_know<S: Alter>(
     Ok(())
 }
 
-/// Makes [`ROWS`] edits by one statement, where each inserts a feature into one collection; returns
-/// whether it did. It does not where another number of edits or another edit is given, or where one
-/// of them is refused: then nothing has changed, and they are to be made in turn.
+/// Makes [`ROWS`] edits by one statement, if each inserts a feature into the same collection;
+/// returns whether it did. It does not if another number of edits or another kind of edit is given,
+/// or if one of them is refused: then nothing has changed, and the caller must make them in turn.
 ///
-/// The time property of the collection is asked for only where it is not known from edits before;
-/// it is known to those after, since no edit changes it.
+/// The time property of the collection is queried only if it is not known from earlier edits. It
+/// stays known for later ones, since no edit changes it.
 ///
 /// # Errors
 ///
-/// The error of the store, or that memory was refused.
+/// The error of the store, or that memory ran out.
 pub fn insert_all<S: Alter>(
     tx: &mut Transaction<'_, S>,
     alloc: Global,

@@ -45,8 +45,8 @@ fn counts_in(row: &Row) -> Result<Counts, Error>
     })
 }
 
-/// The answer to a batch with this text, by the row that is kept for its key: what was answered
-/// before where the texts are one, and else that the key was used.
+/// The answer to a batch with this text, by the row that is kept for its key: the earlier answer if
+/// the texts are equal, and otherwise that the key was used.
 fn reply_in(row: &Row, text: &str) -> Result<Reply, Error>
     ensures spared { IfErr result SparesDisk }
     ensures reads { (kept : AcceptedBatch) → row.now ≡ kept_view kept →
@@ -62,7 +62,7 @@ fn reply_in(row: &Row, text: &str) -> Result<Reply, Error>
     Ok(Reply::Repeated(counts, number_at(row, 5)?))
 }
 
-/// The answer to a batch whose key is there; none where it is new.
+/// The answer to a batch whose key is known; none if it is new.
 pub fn kept_reply<S: Alter>(
     conn: &mut Connection<S>,
     key: &str,
@@ -88,7 +88,7 @@ pub fn kept_reply<S: Alter>(
     let rows = match kept_rows(conn, key) {
         Ok(rows) => rows,
         Err(error) => {
-            // Between two transactions it holds what was committed.
+            // Between two transactions the connection holds what was committed.
             let _idle = conn.is_autocommit();
             return Err(error);
         }

@@ -2,17 +2,17 @@
 //! them.
 //!
 //! `make_tables` makes the four tables with the opening state, in one transaction: after `Ok` the
-//! connection rests at that state and a stop may leave no other, and after a refusal it holds what
-//! it held. `adopt_tables` opens tables of format 2 whose rows are a state's as that state, and
-//! tells how many batches it has accepted; it writes nothing. `carry_tables` makes tables of format
-//! 1 those of format 2, with the same state, in one transaction; `open_tables` opens tables of
+//! connection rests at that state and a crash can leave no other, and after a refusal it holds what
+//! it held. `adopt_tables` opens tables of format 2 that have the rows of a state as that state,
+//! and returns how many batches it has accepted; it writes nothing. `carry_tables` migrates tables
+//! of format 1 to format 2, with the same state, in one transaction; `open_tables` opens tables of
 //! either format.
 //!
-//! `apply_batch` answers what the batch comes to in the state whose rows the tables hold, and the
+//! `apply_batch` returns the result of the batch in the state whose rows the tables hold, and the
 //! tables then hold the rows of the state after it. A batch acts whole or not at all: it commits
-//! once, with the row of its key beside its edits, and a stop leaves what it left before, or the
-//! state after the batch. Where it gives up, memory was refused and nothing changed, or the store
-//! failed, and it tells the error that named the cause.
+//! once, with the row of its key beside its edits, and a crash leaves what it could leave before,
+//! or the state after the batch. If it gives up, memory ran out and nothing changed, or the store
+//! failed, and it returns the error that named the cause.
 //!
 //! In the order of reading: `kept` (what is kept for a key), `timing` and `storing` (what is
 //! written of a feature), `inserting` (several features by one statement), `edits`, `acting` (a

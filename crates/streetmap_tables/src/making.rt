@@ -30,9 +30,9 @@ use streetmap_rows::{is_memory, probe};
 pub enum MakeFault {
     /// `taken`: a table, an index or a view has one of the four names.
     Taken,
-    /// `device`: the store failed, or has no room for the tables: the error that told it.
+    /// `device`: the store failed, or has no room for the tables; the error that reported it.
     Device(Error),
-    /// `memory`: memory was refused.
+    /// `memory`: out of memory.
     Memory,
 }
 
@@ -51,7 +51,7 @@ impl MakeFault {
         }
     }
 
-    /// A sentence on it.
+    /// A sentence that describes it.
     #[tactic(auto, unfolding(crate::specs::Faults::make_description))]
     pub fn description(&self) -> &'static str
         ensures { result.now ≡ make_description self.now }
@@ -84,8 +84,8 @@ fn is_one_used(schema: &Schema) -> bool
         || is_name_used(schema, "streetmap_features")
 }
 
-/// Makes a table by its text, which is one CREATE TABLE. That of one of our tables, whose name is
-/// free, is refused only where the store fails or the schema has no place for the table.
+/// Makes a table by its text, which is one CREATE TABLE. The text of one of our tables, whose name
+/// is free, is refused only if the store fails or the schema has no place for the table.
 pub fn create_table<S: Alter>(tx: &mut Transaction<'_, S>, sql: &str) -> Result<(), Error>
     ensures same_reference { tx.new.conn.ghost_name ≡ tx.old.conn.ghost_name }
     ensures ran { HasCleanDisk (state S.Store tx.new.conn.now)
@@ -199,7 +199,7 @@ fn make_inside<S: Alter>(tx: &mut Transaction<'_, S>) -> Result<(), Error>
     insert_format(tx)
 }
 
-/// Makes the four tables in a transaction of its own, which is undone where it fails.
+/// Makes the four tables in a transaction of its own, which is rolled back if it fails.
 fn make_alone<S: Alter>(conn: &mut Connection<S>) -> Result<(), Error>
     requires idle { conn.old.in_transaction ≡ false }
     ensures idle { conn.new.in_transaction ≡ false }
@@ -233,20 +233,19 @@ fn make_alone<S: Alter>(conn: &mut Connection<S>) -> Result<(), Error>
 
 /// Makes the four tables with the opening state, in one transaction.
 ///
-/// `Taken` is answered exactly where a table, an index or a view of the connection has one of the
-/// four names. The other answers hold for an open connection with no step limit, and where its
-/// tables leave room: each has a tree of its own, none refers to the features, and where one counts
-/// its rowids the table of those counts is there. After `Device` it may be shut; where it is open
-/// its tables are as they were.
+/// `Taken` is returned exactly if a table, an index or a view of the connection has one of the four
+/// names. The other results hold for an open connection with no step limit whose tables leave room:
+/// each has a tree of its own, none refers to the features, and if one counts its rowids the table
+/// of those counts exists. After `Device` the connection may be closed; if it is open its tables
+/// are as they were.
 ///
 /// # Errors
 ///
-/// `Taken`; `Memory` where memory was refused and the connection is open and as it was; `Device`
-/// where the store fails, by its error, or where the schema has no place for the tables: by
-/// `SchemaTooBig` where too few numbers of trees are left, and by `NameTaken` where the name of an
-/// index that SQLite makes for one of their keys is used. After memory was refused the connection
-/// is looked at by `probe`: where memory is refused to that look too, it is `Device`, by that
-/// error.
+/// `Taken`; `Memory` if memory runs out and the connection is open and as it was; `Device` if the
+/// store fails, with its error, or if the schema has no place for the tables: with `SchemaTooBig`
+/// if too few numbers of trees are left, and with `NameTaken` if the name of an index that SQLite
+/// makes for one of their keys is used. After memory ran out `probe` checks the connection: if
+/// memory runs out there too, it is `Device` with that error.
 pub fn make_tables<S: Alter>(conn: &mut Connection<S>) -> Result<(), MakeFault>
     requires { conn.old.in_transaction ≡ false }
     ensures idle { conn.new.in_transaction ≡ false }

@@ -26,13 +26,13 @@ pub enum TablesFault {
     NotOurs,
     /// `new_format`: the format is above 2.
     NewFormat,
-    /// `damaged`: the format is 1, and a row is none that this product writes; or it is 2, and the
-    /// look at the batches is refused.
+    /// `damaged`: the format is 1, and a row is not one that this product writes; or it is 2, and
+    /// the query for the batches is refused.
     Damaged,
-    /// `device`: the store failed, or has no room: the error that told it. In format 1 also that a
-    /// statement which makes its tables anew was refused.
+    /// `device`: the store failed, or has no room; the error that reported it. In format 1 also
+    /// that a statement which makes its new tables was refused.
     Device(Error),
-    /// `memory`: memory was refused.
+    /// `memory`: out of memory.
     Memory,
 }
 
@@ -53,7 +53,7 @@ impl TablesFault {
         }
     }
 
-    /// A sentence on it.
+    /// A sentence that describes it.
     #[tactic(auto, unfolding(crate::specs::Faults::tables_description))]
     pub fn description(&self) -> &'static str
         ensures { result.now ≡ tables_description self.now }
@@ -68,21 +68,21 @@ impl TablesFault {
     }
 }
 
-/// Opens the tables that a connection has, and tells how many batches they have accepted. Those of
-/// format 1 are carried over (`carry_tables`); where the format is not 1 it writes nothing.
+/// Opens the tables that a connection has, and returns how many batches they have accepted. It
+/// migrates those of format 1 (`carry_tables`); if the format is not 1 it writes nothing.
 ///
-/// Whatever the tables are, it answers `Ok` only where their format is 2 and the looks tell that
-/// number, or where a row was put into the new features for each row of the old ones.
+/// Whatever the tables are, it returns `Ok` only if their format is 2 and the queries show that
+/// number, or if a row was inserted into the new features for each row of the old ones.
 ///
-/// The connection is to have no step limit. After a refusal an open connection holds what it held.
+/// The connection must have no step limit. After a refusal an open connection holds what it held.
 ///
 /// # Errors
 ///
-/// `NewFormat` for a format above 2; `NotOurs` for any other than 1 and 2, where there is no format
-/// row, and where the look at it is refused; `Damaged` where the format is 1 and a row is none that
-/// this product writes, or it is 2 and the look at the batches is refused; `Memory` where memory
-/// was refused and the connection is open; `Device` where the store fails, by its error, as
-/// `adopt_tables` and `carry_tables` tell it. On the tables of a state it is `Device` or `Memory`.
+/// `NewFormat` for a format above 2; `NotOurs` for any other than 1 and 2, if there is no format
+/// row, and if the query for it is refused; `Damaged` if the format is 1 and this product does not
+/// write one of the rows, or it is 2 and the query for the batches is refused; `Memory` if memory
+/// runs out and the connection is open; `Device` if the store fails, with its error, as in
+/// `adopt_tables` and `carry_tables`. On the tables of a state it is `Device` or `Memory`.
 #[tactic(auto, using(crate::proofs::Reasons::opens_later))]
 pub fn open_tables<S: Alter>(alloc: Global, conn: &mut Connection<S>) -> Result<u64, TablesFault>
     requires { conn.old.in_transaction ≡ false }
@@ -117,7 +117,7 @@ pub fn open_tables<S: Alter>(alloc: Global, conn: &mut Connection<S>) -> Result<
         → RestsOld (state S.Store conn.old) s
         → MayCarry s (state S.Store conn.old) (state S.Store conn.new) }
 {
-    // Between two transactions it holds what was committed.
+    // Between two transactions the connection holds what was committed.
     let _idle = conn.is_autocommit();
     match adopt_tables(conn) {
         Ok(count) => Ok(count),

@@ -1,4 +1,4 @@
-//! The tables of the features and of the format are made anew.
+//! The tables of the features and of the format are dropped and made again.
 ghost use Rattle.std.specs.Prelude.{◌≡◌, ℕ, List, None, IsTrue, IfErr, OnOk};
 ghost use Rattle.sqlite.specs.Held.{state};
 ghost use Rattle.sqlite.specs.State.{HasCleanDisk, KeepsCommit, Survives};

@@ -1,4 +1,4 @@
-//! A feature that is put into its collection, inside a transaction.
+//! A feature is inserted into its collection, inside a transaction.
 ghost use Rattle.std.specs.Prelude.{◌≡◌, IfErr, IfOk, IsTrue, OnOk, None};
 ghost use Rattle.std.specs.Option.{option_copied};
 ghost use Rattle.sqlite.specs.Held.{state};
@@ -23,13 +23,13 @@ pub fn text_of(feature: &WrittenFeature) -> &str
     feature.text()
 }
 
-/// Puts a feature that is not there into a collection that is, with the time that the collection's
-/// property tells; or tells that it tells none that can be read.
+/// Inserts a new feature into an existing collection, with the time that the collection's property
+/// gives; or returns that this time cannot be read.
 ///
 /// # Errors
 ///
-/// The error of the store, or that memory was refused; or, where the tables are not those of a
-/// state, that the statement was refused.
+/// The error of the store, or that memory ran out; or, if the tables are not those of a state, that
+/// the statement was refused.
 pub fn put_feature<S: Alter>(
     tx: &mut Transaction<'_, S>,
     alloc: Global,

@@ -1,4 +1,4 @@
-//! The time property of a collection, and what it tells of a feature.
+//! The time property of a collection, and the time that it gives for a feature.
 ghost use Rattle.std.specs.Prelude.{◌≡◌, IfErr, Err, IfOk, OnErr};
 ghost use Rattle.std.specs.Option.{option_copied};
 ghost use Rattle.sqlite.specs.Held.{state};
@@ -14,7 +14,7 @@ use streetmap_feature_text::WrittenFeature;
 use streetmap_moment::TimeFault;
 use streetmap_rows::{collection_rows, time_in};
 
-/// The time property of a collection, where it has one; none where the collection is not there.
+/// The time property of a collection, if it has one; none if the collection does not exist.
 pub fn time_property<S: Alter>(
     tx: &mut Transaction<'_, S>,
     collection: &str,
@@ -36,12 +36,12 @@ pub fn time_property<S: Alter>(
     Ok(Some(time))
 }
 
-/// The seconds of the time that the property tells of a feature, where it tells one; or why what it
-/// tells cannot be read.
+/// The seconds of the time that the property gives for a feature, if it gives one; or why it cannot
+/// be read.
 ///
 /// # Errors
 ///
-/// `AllocError` where memory was refused.
+/// `AllocError` if memory runs out.
 pub fn seconds_under(
     alloc: Global,
     feature: &WrittenFeature,
