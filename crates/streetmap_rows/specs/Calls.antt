@@ -1,4 +1,4 @@
--- What a statement does, on a connection whose database is that of a state.
+-- The effect of a statement, on a connection whose database is that of a state.
 use Rattle.std.specs.Prelude.{◌≡◌, ℕ, ℤ, ◌+◌, ◌≤◌, List, ◌∷◌, Ok, Vec, Option, None, Some, Result}
 use Rattle.std.specs.Prelude.{MatchResult, IfSome, IsUtf8}
 use Rattle.std.specs.FinMap.{get, insert, remove, len}
@@ -19,19 +19,19 @@ use Rattle.streetmap_rows.specs.Elsewhere.{IsSameElsewhere}
 use Rattle.streetmap_rows.specs.Failing.{IsOfStore}
 use Rattle.streetmap_rows.specs.Holds.{KeyPair}
 
--- the rows of a look, which leaves the database
+-- the rows of a read, which leaves the database
 abbrev pub LooksAll : (State → List Row) → Seen → Seen → Result (Vec Row Global) Error → Type 0
 LooksAll f old new r = old.step_limit ≡ None → (s : State) → StandsFor s old.now
     → MatchResult r (λ rows. (rows.items ≡ f s) × IsUnchanged old new) (λ e. IsOfStore e
     × KeepsCommit old new)
 
--- a write that leads from a state to another: the database becomes the other's and is the same
--- beside our tables, or the store has no room or fails
+-- a write that leads from one state to another: the database becomes the other's and is the same
+-- outside our tables, or the store has no room or fails
 abbrev pub Writes : (State → State → Type 0) → Seen → Seen → Result (Unit {0}) Error → Type 0
 Writes Leads old new r = old.step_limit ≡ None → (s t : State) → StandsFor s old.now → Leads s t
     → MatchResult r (λ _. StandsFor t new.now × IsSameElsewhere old.now new.now) IsOfStore
 
--- a collection that is not there is opened
+-- a new collection is opened
 pub record OpensCollection (name title : Text) (time : Option Text) (s t : State) : Type 0 where
   pub absent : get s.collections name ≡ None
   pub id : IsUtf8 name
@@ -46,7 +46,7 @@ pub record IsWritten (f : FeatureValue) (text : Text) (extent : Option BoxValue)
   pub extent_is : extent ≡ extent_in f
   pub seconds_are : seconds ≡ seconds_in f
 
--- a feature that is not there is put into its collection
+-- a new feature is inserted into its collection
 pub record PutsFeature (p : KeyPair) (f : FeatureValue) (s t : State) : Type 0 where
   pub collection : Collection
   pub there : get s.collections p.0 ≡ Some collection
@@ -54,7 +54,7 @@ pub record PutsFeature (p : KeyPair) (f : FeatureValue) (s t : State) : Type 0 w
   pub fine : IsFeature f
   pub is : t ≡ with_features s p.0 collection (insert collection.features p.1 f)
 
--- a feature that is there is taken out
+-- an existing feature is deleted
 pub record CutsFeature (p : KeyPair) (s t : State) : Type 0 where
   pub collection : Collection
   pub there : get s.collections p.0 ≡ Some collection
@@ -62,7 +62,7 @@ pub record CutsFeature (p : KeyPair) (s t : State) : Type 0 where
   pub found : get collection.features p.1 ≡ Some feature
   pub is : t ≡ with_features s p.0 collection (remove collection.features p.1)
 
--- a batch is kept under a key that is not there, with the next serial
+-- a batch is kept under a new key, with the next serial
 pub record KeepsBatch (key : Text) (kept : AcceptedBatch) (s t : State) : Type 0 where
   pub absent : get s.keys key ≡ None
   pub next : kept.serial ≡ len s.keys + 1

@@ -1,4 +1,4 @@
--- What stands in a database beside our four tables.
+-- What a database has besides our four tables.
 use Rattle.std.specs.Prelude.{◌≡◌, ◌≢◌, ℕ, Bool, false, List, [], ◌∷◌}
 use Rattle.std.specs.List.{AllByRecursion, list_any}
 use Rattle.sqlite.specs.Effect.{Database}

@@ -1,4 +1,4 @@
--- Why a statement that no rule stands against may fail.
+-- Why a statement that no rule forbids may fail.
 use Rattle.std.specs.Prelude.{◌≡◌, Bool, true, false, IsTrue}
 use Rattle.sqlite_disk.specs.Disk.{MoreFaults}
 use Rattle.sqlite.specs.State.{State as Seen}
@@ -8,7 +8,7 @@ use Rattle.sqlite.specs.declared.error.ErrorCode.TheVariants.{NoRowid, OutOfMemo
 use Rattle.sqlite.specs.declared.error.ErrorCode.TheVariants.{SystemIoFailure, DatabaseCorrupt}
 use Rattle.sqlite.specs.declared.error.ErrorCode.TheVariants.{DiskFull, Closed, TooBig}
 
--- there is no rowid left, or the store failed or had no room or memory
+-- no rowid is left, or the store failed or had no room or memory
 abbrev pub is_of_store : Error → Bool
 is_of_store (SqliteFailure NoRowid) = true
 is_of_store (SqliteFailure OutOfMemory) = true
@@ -22,7 +22,7 @@ is_of_store _ = false
 abbrev pub IsOfStore : Error → Type 0
 IsOfStore e = IsTrue (is_of_store e)
 
--- memory was refused
+-- memory ran out
 abbrev pub is_memory : Error → Bool
 is_memory (SqliteFailure OutOfMemory) = true
 is_memory _ = false
@@ -30,7 +30,7 @@ is_memory _ = false
 abbrev pub IsMemory : Error → Type 0
 IsMemory e = e ≡ SqliteFailure OutOfMemory
 
--- it tells that the disk failed or is full, or that the connection is shut
+-- it reports that the disk failed or is full, or that the connection is closed
 abbrev pub tells_disk : Error → Bool
 tells_disk (SqliteFailure SystemIoFailure) = true
 tells_disk (SqliteFailure DatabaseCorrupt) = true
@@ -38,11 +38,11 @@ tells_disk (SqliteFailure DiskFull) = true
 tells_disk (SqliteFailure Closed) = true
 tells_disk _ = false
 
--- it tells nothing of it
+-- it reports nothing of the disk
 abbrev pub SparesDisk : Error → Type 0
 SparesDisk e = tells_disk e ≡ false
 
--- where the connection was open, an error that tells of the disk came of a fault that the disk has
--- met since
+-- if the connection was open, an error that reports a failure of the disk has its cause in a fault
+-- that the disk has met since
 abbrev pub HasReason : Seen → Seen → Error → Type 0
 HasReason old new e = IsTrue old.is_open → IsTrue (tells_disk e) → MoreFaults old.faults new.faults

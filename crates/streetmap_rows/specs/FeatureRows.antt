@@ -1,4 +1,4 @@
--- Rows of features that one statement puts in.
+-- Rows of features that one statement inserts.
 use Rattle.std.specs.Prelude.{◌≡◌, ℤ, Bool, List, [], ◌∷◌, ◌++◌, None, Some, option_map, Result}
 use Rattle.std.specs.Prelude.{MatchResult, MatchBool}
 use Rattle.std.specs.List.{AllZip}
@@ -20,7 +20,7 @@ use Rattle.streetmap_rows.specs.Elsewhere.{IsSameElsewhere}
 use Rattle.streetmap_rows.specs.Failing.{IsOfStore}
 use Rattle.streetmap_rows.specs.declared.feature_rows.FeatureRow.{FeatureRow}
 
--- the values of a row in the collection of this name, and of rows, one behind the other
+-- the values of a row in the collection of this name, and of rows, one after the other
 abbrev pub values_of : Text → FeatureRow → Row
 values_of name row =
     Words name ∷ Words row.id.now ∷ Words row.text.now
@@ -35,7 +35,7 @@ abbrev pub values_in : Text → List FeatureRow → Row
 values_in name [] = []
 values_in name (row ∷ more) = values_of name row ++ values_in name more
 
--- a feature and the id that it stands under
+-- a feature and the id that it is kept under
 abbrev pub Entry : Type 0
 Entry = Text × FeatureValue
 
@@ -48,14 +48,14 @@ pub record IsRowOf (e : Entry) (row : FeatureRow) : Type 0 where
 abbrev pub AreRowsOf : List Entry → List FeatureRow → Type 0
 AreRowsOf = AllZip IsRowOf
 
--- features that are not there are put into their collection, one after the other
+-- new features are inserted into their collection, one after the other
 abbrev pub PutsEach : Text → List Entry → State → State → Type 0
 PutsEach name [] s t = t ≡ s
 PutsEach name (e ∷ more) s t =
     (m : State) × PutsFeature (name, e.0) e.1 s m × PutsEach name more m t
 
--- a write of features into a collection that is there: each was new and is put in, one after the
--- other, and the database is the same beside our tables; or the statement was refused, and nothing
+-- a write of features into an existing collection: each was new and is inserted, one after the
+-- other, and the database is the same outside our tables; or the statement was refused, and nothing
 -- changed; or the store has no room or fails
 abbrev pub PutsAllOrNone : Text → List Entry → Seen → Seen → Result Bool Error → Type 0
 PutsAllOrNone name es old new r =

@@ -1,4 +1,4 @@
--- A table by what is found in it at each key.
+-- A table described by what is found in it at each key.
 use Rattle.std.specs.Prelude.{◌≡◌, ◌≢◌, Bool, ◌&&◌, List, find, drop, Option, option_map, IsTrue}
 use Rattle.std.specs.List.{AllByRecursion}
 use Rattle.std.specs.Ordering.{eq_by_cmp}
@@ -7,8 +7,8 @@ use Rattle.sqlite_trees.specs.Tree.{IsTable, IsAscending, rowid}
 use Rattle.sqlite_trees.specs.View.{is_int}
 use Rattle.streetmap_batch.specs.Text.{Text, text_cmp}
 
--- Each row stands at another key, and what follows the rowid of the row at a key is what this
--- function has there.
+-- Each row has another key, and what follows the rowid of the row at a key is what this function
+-- has there.
 pub record HoldsByKey {K : Type 0} (key : Row → K) (is_at : K → Row → Bool) (cells : K
     → Option Row) (rows : List Row) : Type 0 where
   pub table : IsTable rows
@@ -16,7 +16,7 @@ pub record HoldsByKey {K : Type 0} (key : Row → K) (is_at : K → Row → Bool
   pub apart : IsAscending (λ a b. key a ≢ key b) rows
   pub found : (k : K) → option_map (drop 1) (find (is_at k) rows) ≡ cells k
 
--- two texts are one
+-- two texts are equal
 abbrev pub same_text : Text → Text → Bool
 same_text = eq_by_cmp text_cmp
 

@@ -33,7 +33,7 @@ extent_in f = option_map extent_of f.geometry
 unfoldable pub seconds_in : FeatureValue → Option (ℤ × ℤ)
 seconds_in f = option_map seconds_of f.time
 
--- ---- the rows, behind their rowids
+-- ---- the rows, after their rowids
 
 -- a collection: id, title, time property or NULL
 abbrev pub collection_cells : Text → Collection → Row

@@ -1,4 +1,4 @@
--- A database that stands for a state, and a look into its rows.
+-- A database that represents a state, and a read of its rows.
 use Rattle.std.specs.Prelude.{◌≡◌, None, Some, Result, MatchResult, IfSome, IsUtf8}
 use Rattle.std.specs.FinMap.{get}
 use Rattle.sqlite.specs.Effect.{Database, IsDatabase}
@@ -33,7 +33,7 @@ pub record StandsFor (s : State) (db : Database) : Type 0 where
   pub readable : CanBeRead s
   pub sound : IsDatabase db
 
--- a look into the rows of a state, which leaves them
+-- a read of the rows of a state, which leaves them
 abbrev pub LooksIntoRows : {A : Type 0} → (State → A) → Seen → Seen → Result A Error → Type 0
 LooksIntoRows f old new r = old.step_limit ≡ None → (s : State) → StandsFor s old.now
     → MatchResult r (λ a. (a ≡ f s) × IsUnchanged old new) (λ e. IsOfStore e × KeepsCommit old new)

@@ -1,4 +1,4 @@
--- The text that is kept of a feature, and what it reads as.
+-- The text that is kept of a feature, and the feature that it reads as.
 use Rattle.std.specs.Prelude.{◌≡◌, Option, Ok}
 use Rattle.serde_json.specs.Data.{Data}
 use Rattle.streetmap_geojson.specs.FeatureValue.{FeatureValue}

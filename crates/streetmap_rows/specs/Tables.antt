@@ -62,7 +62,7 @@ batches tree =
     [])
     { uniques = (1 ∷ []) ∷ (7 ∷ []) ∷ []; orders = plain ∷ plain ∷ [] }
 
--- a feature's collection is one that is there
+-- the collection of a feature is an existing one
 abbrev pub to_collections : Reference
 to_collections = record {
   columns = 1 ∷ [];
@@ -104,7 +104,7 @@ to_key roots = (roots.collections, 1 ∷ [], plain)
 abbrev pub IsKey : Index → List ℕ → Type 0
 IsKey i columns = (i.columns ≡ columns) × (i.order ≡ plain)
 
--- The four names find our tables, wherever they stand; no index but their own is on them, and no
+-- The four names find our tables, anywhere in the schema; no index but their own is on them, and no
 -- table refers to the features.
 pub record IsOurs (roots : Roots) (schema : Schema) : Type 0 where
   pub meta_is : IsNamed schema meta_name (meta roots.meta)

@@ -1,4 +1,4 @@
--- What looks show.
+-- The rows that reads show.
 use Rattle.std.specs.Prelude.{pos, List, [], ◌∷◌}
 use Rattle.std.specs.Option.{option_map, option_to_list}
 use Rattle.std.specs.FinMap.{get}

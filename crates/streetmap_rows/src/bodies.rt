@@ -1,4 +1,4 @@
-//! The text that is kept of a feature, read again.
+//! The text that is kept of a feature, parsed again.
 ghost use Rattle.std.specs.Prelude.{◌≡◌, IfOk, Ok};
 ghost use Rattle.std.specs.Option.{option_copied};
 ghost use Rattle.streetmap_geojson.specs.FeatureValue.{FeatureValue};
@@ -12,15 +12,15 @@ use std::alloc::Global;
 use streetmap_feature_reader::read_feature_text;
 use streetmap_geojson::{Feature, JsonFault};
 
-/// The feature of a text that is kept of it, under a collection's time property. One `scratch`
+/// Parses the text that is kept of a feature, under a collection's time property. One `scratch`
 /// serves any number of reads, one after the other.
 ///
 /// The text is JSON (RFC 8259) of a GeoJSON Feature (RFC 7946), as `push_feature` writes it.
 ///
 /// # Errors
 ///
-/// `Memory` where memory was refused; `Fault` where the text reads as no feature, which never comes
-/// of a text that is kept.
+/// `Memory` if memory runs out; `Fault` if the text does not read as a feature, which never happens
+/// with a text that is kept.
 pub fn read_body(
     alloc: Global,
     scratch: &mut Scratch,

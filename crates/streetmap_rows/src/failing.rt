@@ -1,4 +1,4 @@
-//! What an error of a statement tells, and how a call that met it ends.
+//! What an error of a statement means, and how a call that met it ends.
 ghost use Rattle.std.specs.Prelude.{◌≡◌, ◌↔◌, IsTrue, false};
 ghost use Rattle.sqlite.specs.Held.{state};
 ghost use Rattle.sqlite.specs.State.{HasCleanDisk, KeepsCommit, Survives};
@@ -9,32 +9,32 @@ ghost use Rattle.streetmap_rows.specs.Settling.{IsCause, Settles};
 use crate::openness::probe;
 use sqlite::{Alter, Connection, Error, ErrorCode};
 
-/// What shut a keeper.
+/// Why a keeper was closed.
 #[derive(Clone, Copy, PartialEq, Eq, Drop)]
 pub enum Shut {
-    /// The store failed, or has no room: the error that told it.
+    /// The store failed, or has no room; the error that reported it.
     Device(Error),
-    /// A row is none that this product writes, or a statement was refused.
+    /// A row is not one that this product writes, or a statement was refused.
     Damaged,
 }
 
 /// Why a call gives up.
 #[derive(Clone, Copy, PartialEq, Eq, Drop)]
 pub enum Stop {
-    /// Memory was refused, and nothing changed.
+    /// Out of memory, and nothing changed.
     Memory,
-    /// The keeper is to be shut.
+    /// The keeper must be closed.
     Closed(Shut),
 }
 
-/// Whether memory was refused.
+/// Whether memory ran out.
 pub fn is_memory(error: Error) -> bool
     ensures { result ≡ failing.is_memory error }
 {
     matches!(error, Error::SqliteFailure(ErrorCode::OutOfMemory))
 }
 
-/// Whether there is no rowid left, or the store failed or had no room or memory.
+/// Whether no rowid is left, or the store failed or had no room or memory.
 pub fn is_of_store(error: Error) -> bool
     ensures { IsTrue result ↔ IsOfStore error }
 {
@@ -52,7 +52,7 @@ pub fn is_of_store(error: Error) -> bool
     )
 }
 
-/// Tells the cause that an error shuts a keeper for.
+/// The cause for which an error closes a keeper.
 pub fn cause_of(error: Error) -> Shut
     ensures of_store { IsOfStore error → result ≡ Shut.Device error }
     ensures cause { IsCause error result }
@@ -64,14 +64,14 @@ pub fn cause_of(error: Error) -> Shut
     }
 }
 
-/// Tells how a call ends that met an error, between two transactions.
+/// How a call that met an error between two transactions ends.
 ///
-/// Where memory was refused the connection is looked at by `probe`. Where that look goes well the
-/// connection is open and as it was, and the call ends with `Memory`. Where it fails, the keeper is
-/// to be shut for the error of the look, which may again be that memory was refused: so
-/// `Closed(Device(SqliteFailure(OutOfMemory)))` tells that it was refused twice, to the call and to
-/// the look, and that nothing is known of the connection. Another error is itself the cause:
-/// `Device` where it is of the store, and else `Damaged`.
+/// If memory ran out, `probe` checks the connection. If `probe` succeeds the connection is open and
+/// as it was, and the call ends with `Memory`. If it fails, the keeper must be closed for the error
+/// of `probe`, which may again be that memory ran out: `Closed(Device(SqliteFailure(OutOfMemory)))`
+/// means that memory ran out twice, in the call and in `probe`, and that nothing is known of the
+/// connection. Any other error is itself the cause: `Device` if it is of the store, and otherwise
+/// `Damaged`.
 pub fn settle<S: Alter>(conn: &mut Connection<S>, error: Error) -> Stop
     requires { conn.old.in_transaction ≡ false }
     ensures idle { conn.new.in_transaction ≡ false }
@@ -85,7 +85,7 @@ pub fn settle<S: Alter>(conn: &mut Connection<S>, error: Error) -> Stop
         → KeepsCommit (state S.Store conn.old) (state S.Store conn.new) }
 {
     if !is_memory(error) {
-        // Between two transactions it holds what was committed.
+        // Between two transactions the connection holds what was committed.
         let _idle = conn.is_autocommit();
         return Stop::Closed(cause_of(error));
     }

@@ -1,4 +1,4 @@
-//! Why a look into the tables gave up.
+//! Why a read of the tables gave up.
 ghost use Rattle.std.specs.Prelude.{◌≡◌, if◌then◌else◌};
 ghost use Rattle.streetmap_rows.specs.Failing as failing;
 
@@ -6,14 +6,14 @@ use crate::failing::is_memory;
 use sqlite::Error;
 use std::alloc::{AllocError, AllocFailed};
 
-/// Why a look into the tables gave up.
+/// Why a read of the tables gave up.
 #[derive(Drop)]
 pub enum ReadFault {
-    /// Memory was refused while a row was read, or a count of rows had no number left.
+    /// Memory ran out while a row was read, or a count of rows had no number left.
     Memory,
     /// A statement failed.
     Store(Error),
-    /// A row is none that this product writes.
+    /// A row is not one that this product writes.
     Unread,
 }
 
@@ -37,7 +37,7 @@ impl<T: Drop> From<AllocFailed<T>> for ReadFault {
     }
 }
 
-/// Why a cell of a row was not read: memory was refused, or it is none that this product writes.
+/// Why a cell of a row was not read: memory ran out, or this product does not write such a cell.
 pub fn unread(error: Error) -> ReadFault
     ensures { result ≡ (if failing.is_memory error then ReadFault.Memory else ReadFault.Unread) }
 {

@@ -1,4 +1,4 @@
-//! Rows of several features, put in by one statement, inside a transaction.
+//! Rows of several features, inserted by one statement, inside a transaction.
 ghost use Rattle.std.specs.Prelude.{◌≡◌, ◌++◌, IfErr, IfOk, OnOk, List, IsTrue, length};
 ghost use Rattle.sqlite.specs.Held.{state};
 ghost use Rattle.sqlite.specs.State.{HasCleanDisk, KeepsCommit, Survives};
@@ -13,13 +13,13 @@ use sqlite_value::value::ValueRef;
 use std::alloc::{AllocError, Global};
 use streetmap_grid::GridBox;
 
-/// How many features one statement puts in.
+/// How many features one statement inserts.
 pub const ROWS: usize = 25;
 
 /// How many columns a row has.
 const COLUMNS: usize = 9;
 
-/// What is written of a feature.
+/// The columns that are written of a feature.
 #[derive(Clone, Copy)]
 pub struct FeatureRow<'a> {
     pub id: &'a str,
@@ -53,7 +53,7 @@ fn push_row<'a>(
     ])
 }
 
-/// The values of rows, one behind the other.
+/// The values of rows, one after the other.
 fn values_of<'a>(
     alloc: Global,
     collection: &'a str,
@@ -68,9 +68,9 @@ fn values_of<'a>(
     Ok(values)
 }
 
-/// Puts features into a collection that is there, [`ROWS`] of them by one statement; returns
-/// whether it did. It does not where a feature is there already, or two have one id: then nothing
-/// has changed.
+/// Inserts features into an existing collection, [`ROWS`] of them by one statement; returns whether
+/// it did. It does not if a feature already exists, or if two have the same id: then nothing has
+/// changed.
 ///
 /// # Errors
 ///

@@ -1,18 +1,18 @@
 //! The rows of a state, and the statements that read and write them.
 //!
-//! `specs/Rows` says which rows are a state's, `specs/Stands` when a database stands for a state:
-//! four tables of ours, wherever they stand in its schema, have those rows. Each function here runs
-//! one statement; its clause says what it does on a database of a state, and why it may fail there:
-//! for want of memory or room, or because the store fails, and for no other cause.
+//! `specs/Rows` says which rows are a state's, `specs/Stands` when a database represents a state:
+//! four tables of ours, anywhere in its schema, have those rows. Each function here runs one
+//! statement; its clause says what it does on a database of a state, and why it may fail there:
+//! because memory or room runs out, or because the store fails, and for no other cause.
 //!
-//! What is true of any plain table of a `sqlite` connection, wherever it stands in its schema, is
-//! in proofs: what a statement over one table means (`proofs/Resolving`), what an INSERT of rows
+//! What is true of any plain table of a `sqlite` connection, anywhere in its schema, is in proofs:
+//! what a statement over one table means (`proofs/Resolving`), what an INSERT of rows
 //! (`proofs/InsertRuns`) and a DELETE (`proofs/DeleteRuns`) do and why they may fail, and what a
 //! query shows (`proofs/OneRowChosen`, `proofs/OrderedRows`, `proofs/AnyOrder`).
 //!
 //! In the order of reading: `openness` (whether a connection is open), `failing` (how a call ends
-//! that met an error), `fault` (why a look gives up), `bodies` (a feature's text, read again),
-//! `looks` (by a key), `writes` (of one row), `feature_rows` (of several).
+//! that met an error), `fault` (why a read gives up), `bodies` (a feature's text, parsed again),
+//! `looks` (reads by a key), `writes` (of one row), `feature_rows` (of several).
 #![tactic(auto)]
 
 mod bodies;

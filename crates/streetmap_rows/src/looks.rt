@@ -1,4 +1,4 @@
-//! Looks by a key.
+//! Reads by a key.
 ghost use Rattle.std.specs.Prelude.{◌≡◌, ◌≤◌, IfErr, MatchResult, false, is_some, option_map};
 ghost use Rattle.std.specs.Prelude.{string_bytes};
 ghost use Rattle.sqlite.specs.View.{doubt};
@@ -62,7 +62,7 @@ pub fn collection_rows<S: Alter>(
     )
 }
 
-/// The time property in the row of a collection. The error is that memory was refused.
+/// The time property in the row of a collection. The error is that memory ran out.
 #[tactic(auto, using(crate::proofs::ErrorReasons::read_spared))]
 pub fn time_in(row: &Row) -> Result<Option<String>, Error>
     ensures spared { IfErr result SparesDisk }

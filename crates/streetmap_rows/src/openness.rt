@@ -6,13 +6,12 @@ ghost use Rattle.streetmap_rows.specs.Failing.{IsOfStore, HasReason};
 
 use sqlite::{Alter, Connection, Error};
 
-/// Tells whether the connection is still open: a text that is only prepared shows it, and nothing
-/// changes.
+/// Checks that the connection is still open: it only prepares a text, and nothing changes.
 ///
 /// # Errors
 ///
-/// The error of the store by which the connection is not open; or that memory was refused to the
-/// look itself, which may be tried again while the connection is open.
+/// The error of the store that means that the connection is not open; or that memory ran out in
+/// `probe` itself, which the caller may call again while the connection is open.
 pub fn probe<S: Alter>(conn: &mut Connection<S>) -> Result<(), Error>
     requires { conn.old.in_transaction ≡ false }
     ensures idle { conn.new.in_transaction ≡ false }
@@ -28,7 +27,7 @@ pub fn probe<S: Alter>(conn: &mut Connection<S>) -> Result<(), Error>
         → KeepsCommit (state S.Store conn.old) (state S.Store conn.new) }
 {
     let probed = conn.prepare("COMMIT").map(|_| ());
-    // Between two transactions it holds what was committed.
+    // Between two transactions the connection holds what was committed.
     let _idle = conn.is_autocommit();
     probed
 }
