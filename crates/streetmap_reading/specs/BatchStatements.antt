@@ -6,7 +6,7 @@ abbrev pub select_serial : List ℕ
 select_serial =
     codes "SELECT key, body, opened, inserted, replaced, deleted, serial FROM streetmap_batches WHERE serial = ?1"
 
--- all columns of the batches behind a serial, in order of their serials
+-- all columns of the batches after a serial, in order of their serials
 abbrev pub select_behind : List ℕ
 select_behind =
     codes "SELECT key, body, opened, inserted, replaced, deleted, serial FROM streetmap_batches WHERE serial > ?1 ORDER BY serial"

@@ -25,13 +25,12 @@ abbrev pub dated_row : FeatureValue → Row
 dated_row f = Words (feature_text f)
     ∷ or_null Int (option_map (λ (s : ℤ × ℤ). s.0) (seconds_in f)) ∷ []
 
--- the text is one statement, and has so many parameters
+-- the text is one statement, and has this number of parameters
 abbrev pub IsOneStatement : List ℕ → Row → Result Compiled CompileError → Type 0
 IsOneStatement sql params (Ok c) = (length sql ≤ c.tail) × (length params ≡ length c.names)
 IsOneStatement sql params (Err e) = ⊥
 
--- the text is a query of this database that shows rows of which this holds, and that no rule
--- refuses
+-- the text is a query of this database that shows rows that satisfy `Are`, and that no rule refuses
 pub record ShowsSuch (sql : List ℕ) (params : Row) (db : Database) (Are : List Row → Type 0)
     : Type 0 where
   pub plain : IsPlain (understood db.schema sql)

@@ -18,7 +18,8 @@ use Rattle.streetmap_rows.specs.declared.fault.ReadFault.{ReadFault}
 use Rattle.streetmap_reading.specs.declared.candidates.PageRows.{PageRows}
 use Rattle.streetmap_reading.specs.Taking.{Stopped}
 
--- the extent overlaps the box, and the seconds those of the interval, as far as they are asked
+-- the extent overlaps the box, and the seconds those of the interval, if a box or an interval is
+-- given
 abbrev pub is_chosen : Option BoxValue → Option IntervalValue → FeatureValue → Bool
 is_chosen box interval f = passes extent_overlaps f.geometry box
     && passes seconds_overlap f.time interval
@@ -31,8 +32,8 @@ chosen_of box interval c = filter (is_chosen box interval) (values c.features)
 abbrev pub candidates_of : QueryValue → Collection → List FeatureValue
 candidates_of q = chosen_of q.bbox (interval_asked q)
 
--- of a collection that is there, with the page's time property, the chosen features were taken into
--- the page, in order of ids
+-- the chosen features of an existing collection, with the page's time property, were taken into the
+-- page, in order of ids
 abbrev pub TakesChosen : (Collection → List FeatureValue) → Text → Seen → Seen → PageRows
     → PageRows → Result (Unit {0}) ReadFault → Type 0
 TakesChosen chosen name old new before after result =

@@ -1,4 +1,4 @@
--- What taking the rows of a query one after the other does, whatever they are.
+-- The effect of taking the rows of a query one after the other, whatever they are.
 use Rattle.std.specs.Prelude.{◌≡◌, ◌⊎◌, ℕ, List, [], ◌∷◌, ◌++◌, Bool, true}
 use Rattle.std.specs.Prelude.{false, Result, MatchResult}
 use Rattle.sqlite.specs.Order.{Row}
@@ -11,17 +11,18 @@ use Rattle.streetmap_rows.specs.declared.fault.ReadFault.{ReadFault}
 use Rattle.streetmap_rows.specs.declared.fault.ReadFault.TheVariants.{Memory, Store, Unread}
 use Rattle.streetmap_reading.specs.Seeing.{IsSimpleIn, QueryShows, QueryBegins, QueryIsRefused}
 
--- it gave up for memory
+-- it gave up because memory ran out
 abbrev pub IsForMemory : ReadFault → Type 0
 IsForMemory fault = fault ≡ Memory
 
--- a row that was given is refused for memory, or for this reason, and never for the store
+-- a row that was given is refused because memory ran out, or for this reason, and never because the
+-- store failed
 abbrev pub Refuses : Type 0 → ReadFault → Type 0
 Refuses why Memory = Unit {0}
 Refuses why Unread = why
 Refuses why (Store e) = ⊥
 
--- nothing changed, or the transaction was undone
+-- nothing changed, or the transaction was rolled back
 abbrev pub IsSameOrUndone : Seen → Seen → Type 0
 IsSameOrUndone old new = IsUnchanged old new ⊎ IsRolledBack old new
 
@@ -36,7 +37,7 @@ module _ {F : Type 0} (Holds : F → F → List Row → Type 0)
   abbrev pub AreWrong : F → List Row → Type 0
   AreWrong start rows = (later : List Row) → IsGood start (rows ++ later) → ⊥
 
-  -- a row is taken behind those that were, or no good rows begin with them and it
+  -- a row is taken after the earlier ones, or no good rows begin with them and it
   abbrev pub TakesRow : Row → F → F → Result (Unit {0}) ReadFault → Type 0
   TakesRow row before after result =
       (start : F) (rows : List Row) → Holds start before rows
@@ -60,7 +61,7 @@ module _ {F : Type 0} (Holds : F → F → List Row → Type 0)
       → MatchResult result (λ _. ((rows : List Row) × QueryShows sql params old rows
       × Holds before after rows) × IsUnchanged old new) (StopsQuery sql params before old new)
 
-  -- rows that the query shows were taken, the first ones or all, as is answered
+  -- rows that the query shows were taken, the first ones or all, as the result says
   abbrev pub TakesSome : List ℕ → Row → Seen → Seen → F → F → Result Bool ReadFault → Type 0
   TakesSome sql params old new before after result =
       IsSimpleIn old.now.schema sql → Holds before before []
@@ -68,7 +69,7 @@ module _ {F : Type 0} (Holds : F → F → List Row → Type 0)
       × Holds before after rows) × IsUnchanged old new) (StopsQuery sql params before old new)
 
   module _ {S : Type 0} (g : Ghosts S) where
-    -- one row more was taken, or there was none
+    -- one more row was taken, or there was none
     abbrev pub TookNext : List ℕ → Row → F → List Row → Held S → Held S → F → Bool
         → Type 0
     TookNext sql params start done old new fold true = (row : Row)

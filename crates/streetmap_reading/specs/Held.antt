@@ -1,4 +1,4 @@
--- What folds hold of the rows that they took.
+-- What folds hold of the rows that they have taken.
 use Rattle.std.specs.Prelude.{◌≡◌, List, [], map, Option, None, Some, Vec}
 use Rattle.std.specs.List.{AllByRecursion}
 use Rattle.std.specs.Option.{option_copied}
@@ -39,11 +39,11 @@ HoldsBounds bounds rows = (fs : List FeatureValue)
     → rows ≡ map (λ f. extent_row (feature_extent f)) fs
     → AllByRecursion (λ f. IsGeometryIf f.geometry) fs → AreBounds (all_vertices fs) bounds
 
--- what is told of a collection before its extent is known
+-- the summary of a collection before its extent is known
 abbrev pub head_of : Text → Collection → SummaryValue
 head_of id c = record { id = id; title = c.title; time = c.time; extent = None }
 
--- what is told of the collections that the rows are of, before their extents are known
+-- the summaries of the collections that the rows are of, before their extents are known
 abbrev pub HoldsHeads : Vec Summary Global → List Row → Type 0
 HoldsHeads ss rows = (es : List (Text × Collection)) → rows ≡ map (λ e. collection_cells e.0 e.1) es
     → AllByRecursion (λ e. HasTextNames e.0 e.1) es
@@ -55,14 +55,14 @@ pub record IsCandidate (property : Option Text) (row : Row) : Type 0 where
   pub fine : IsStored property feature
   pub is : row ≡ candidate_row feature
 
--- the page, where it held none as it was begun, of the features whose texts the rows show
+-- the page of the features whose texts the rows show, if it held none at the start
 pub record HoldsPage (start now : PageRows) (rows : List Row) : Type 0 where
   pub property : now.property ≡ start.property
   pub page : (q : QueryValue) (fs : List FeatureValue) → IsFoldOf q start.fold []
       → rows ≡ map candidate_row fs → AllByRecursion (IsStored (option_copied start.property)) fs
       → IsFoldOf q now.fold fs
 
--- the features whose texts the rows show, where it held none as it was begun
+-- the features whose texts the rows show, if it held none at the start
 pub record HoldsRun (start now : FeatureRows) (rows : List Row) : Type 0 where
   pub property : now.property ≡ start.property
   pub features : (fs : List FeatureValue) → start.features.items ≡ []

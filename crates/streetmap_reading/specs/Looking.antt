@@ -1,4 +1,4 @@
--- What looks into the tables answer.
+-- The results of reads of the tables.
 use Rattle.std.specs.Prelude.{◌≡◌, ℕ, List, Option, None, Some, option_map, IfSome, Result}
 use Rattle.std.specs.Prelude.{MatchResult, IsTrue, Vec}
 use Rattle.std.specs.Option.{option_to_list}
@@ -20,14 +20,14 @@ use Rattle.streetmap_rows.specs.declared.fault.ReadFault.{ReadFault}
 use Rattle.streetmap_reading.specs.Candidates.{dated_row, ShowsOf}
 use Rattle.streetmap_reading.specs.Taking.{Stopped}
 
--- a look at the database of a state: the answer is as it is in the state, and nothing changes
+-- a read of the database of a state: the result is as it is in the state, and nothing changes
 abbrev pub LooksInto : {A : Type 0} → (State → A → Type 0) → Seen → Seen → Result A ReadFault
     → Type 0
 LooksInto Is old new result =
     (s : State) → old.step_limit ≡ None → Keeps s old.now
     → MatchResult result (λ a. Is s a × IsUnchanged old new) (Stopped old new)
 
--- a crash leaves of a state's database what it left before
+-- a crash leaves of a state's database what it could leave before
 abbrev pub Stays : Seen → Seen → Type 0
 Stays old new = HasCleanDisk new → (s : State) → old.step_limit ≡ None → Keeps s old.now
     → (trees : Trees) → new.may_leave trees → old.may_leave trees
@@ -39,7 +39,7 @@ IsCollectionRow name s o = o ≡ option_map collection_view (get s.collections n
 abbrev pub IsPageOf : Text → QueryValue → State → Option Page → Type 0
 IsPageOf name q s page = option_map page_value page ≡ page_in s name q
 
--- the page of a collection that is there, whose time property is this
+-- the page of an existing collection, whose time property is this
 abbrev pub IsPageUnder : Text → QueryValue → Option Text → Seen → Seen → Result Page ReadFault
     → Type 0
 IsPageUnder name q property old new result =
@@ -48,8 +48,7 @@ IsPageUnder name q property old new result =
     → MatchResult result (λ page. (page_value page ≡ page_over q (values c.features))
     × IsUnchanged old new) (Stopped old new)
 
--- the features whose ids stand between two, of a collection that is there, whose time property is
--- this
+-- the features of an existing collection whose ids lie between two, whose time property is this
 abbrev pub IsRunUnder : Text → Text → Text → Option Text → Seen → Seen
     → Result (Vec FeatureValue Global) ReadFault → Type 0
 IsRunUnder name first last property old new result =
@@ -58,21 +57,21 @@ IsRunUnder name first last property old new result =
     → MatchResult result (λ fs. (fs.items ≡ run_of first last c) × IsUnchanged old new)
     (Stopped old new)
 
--- the row that a query shows, which shows one at most
+-- the row that a query shows, which shows at most one
 abbrev pub IsOnlyRow : List ℕ → Row → Seen → Seen → Result (Option Row) ReadFault → Type 0
 IsOnlyRow sql params old new result =
     (o : Option Row) → old.step_limit ≡ None → ShowsOf sql params old.now (option_to_list o)
     → MatchResult result (λ row. (row ≡ o) × IsUnchanged old new) (Stopped old new)
 
--- the row of a feature, where the feature is there
+-- the row of a feature, if the feature exists
 abbrev pub IsTextRow : Text → Text → State → Option Row → Type 0
 IsTextRow name id s o = o ≡ option_map dated_row (feature_in s name id)
 
--- a row that is found is that of the feature; where none is found, nothing is said
+-- a row that is found is that of the feature; if none is found, nothing is claimed
 abbrev pub IsTextRowIfFound : Text → Text → State → Option Row → Type 0
 IsTextRowIfFound name id s o = IfSome o (λ row. IsTextRow name id s (Some row))
 
--- the feature of this collection with this id; none where the collection is not there, or the
+-- the feature of this collection with this id; none if the collection does not exist, or the
 -- feature is not in it
 abbrev pub IsFeatureOf : Text → Text → State → Option FeatureValue → Type 0
 IsFeatureOf name id s found = found ≡ feature_in s name id
@@ -84,7 +83,7 @@ IsFeatureIn name row old new result =
     → Keeps s old.now → feature_in s name id ≡ Some f → row ≡ dated_row f
     → MatchResult result (λ found. (found ≡ f) × IsUnchanged old new) (Stopped old new)
 
--- the feature of this collection whose row was looked for; none where no row was found
+-- the feature of this collection whose row a query looked for; none if no row was found
 abbrev pub IsFeatureFound : Text → Option Row → Seen → Seen
     → Result (Option FeatureValue) ReadFault → Type 0
 IsFeatureFound name row old new result =

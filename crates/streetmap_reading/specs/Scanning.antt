@@ -1,4 +1,4 @@
--- What taking batches off the rows of a query does.
+-- The effect of taking batches from the rows of a query.
 use Rattle.std.specs.Prelude.{◌≡◌, ◌≤◌, ◌-◌, ℕ, List, [], ◌∷◌, ◌++◌, map, length, take, Option}
 use Rattle.std.specs.Prelude.{None, Some, Vec, Result, MatchResult, IsUtf8}
 use Rattle.std.specs.List.{AllByRecursion}
@@ -20,7 +20,7 @@ use Rattle.streetmap_reading.specs.Serials.{row_of}
 abbrev pub HaveKeys : List KeyedBatch → Type 0
 HaveKeys bs = AllByRecursion (λ b. IsUtf8 b.0) bs
 
--- the first of these batches: one at least, where there is one; and without the last of them their
+-- the first of these batches: at least one, if there is one; and without the last of them their
 -- texts have no more bytes than there is room for
 pub record AreFirst (room : ℕ) (all found : List KeyedBatch) : Type 0 where
   pub rest : List KeyedBatch
@@ -29,7 +29,7 @@ pub record AreFirst (room : ℕ) (all found : List KeyedBatch) : Type 0 where
   pub few : text_bytes (take (length found - 1) found) ≤ room
 
 module _ {S : Type 0} (g : Ghosts S) where
-  -- one batch more was taken, or there was none
+  -- one more batch was taken, or there was none
   abbrev pub TookBatch : List ℕ → Row → List KeyedBatch → List KeyedBatch → Held S
       → Option KeptBatch → Type 0
   TookBatch sql params done rest new None = rest ≡ []

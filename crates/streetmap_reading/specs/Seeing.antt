@@ -1,4 +1,4 @@
--- What a query tells of a connection, whatever its tables are.
+-- What a query shows of a connection, whatever its tables are.
 use Rattle.std.specs.Prelude.{◌≡◌, ℕ, List, [], None, Ok}
 use Rattle.sqlite.specs.Order.{Row}
 use Rattle.sqlite.specs.Schema.{Schema}
@@ -21,7 +21,7 @@ QueryShows sql params seen rows = Shown sql params seen seen rows
 abbrev pub QueryBegins : List ℕ → Row → Seen → List Row → Type 0
 QueryBegins sql params seen rows = Begins sql params seen rows
 
--- a query is refused, and not since the store failed
+-- a query is refused, and not because the store failed
 abbrev pub QueryIsRefused : List ℕ → Row → Seen → Type 0
 QueryIsRefused sql params seen =
     (e : Error) × (¬ (IsOfStore e)) × FailsToQuery sql params seen seen e

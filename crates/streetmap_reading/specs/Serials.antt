@@ -1,4 +1,4 @@
--- What looks by a serial answer.
+-- The results of reads by a serial.
 use Rattle.std.specs.Prelude.{◌≡◌, ℕ, ◌-◌, ◌^◌, min, Option, Vec, nat_lt, if◌then◌else◌}
 use Rattle.std.specs.Option.{option_map}
 use Rattle.std.specs.declared.alloc.Global.{Global}
@@ -21,7 +21,7 @@ IsBatchRow n s row = row ≡ option_map row_of (batch_in s n)
 abbrev pub IsBatchOf : ℕ → State → Option KeptBatch → Type 0
 IsBatchOf n s batch = option_map keyed_batch batch ≡ batch_in s n
 
--- the batches with the next serials behind one
+-- the batches with the next serials after one
 abbrev pub AreNextOf : ℕ → ℕ → State → Vec KeptBatch Global → Type 0
 AreNextOf after room s found = AreNext s after room (keyed_batches found.items)
 

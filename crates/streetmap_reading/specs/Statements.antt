@@ -6,7 +6,7 @@ abbrev pub select_outlines : List ℕ
 select_outlines = codes
     "SELECT id, x0, y0, x1, y1, s0, s1, rowid FROM streetmap_features WHERE collection = ?1 ORDER BY id"
 
--- the same in any order, where the rows of the table are gone over and none is looked for
+-- the same in any order, by a pass over the rows of the table, without looking up any
 abbrev pub select_outlines_in_turn : List ℕ
 select_outlines_in_turn = codes
     "SELECT id, x0, y0, x1, y1, s0, s1, rowid FROM streetmap_features WHERE +collection = ?1"
@@ -16,12 +16,12 @@ abbrev pub select_extents : List ℕ
 select_extents = codes
     "SELECT x0, y0, x1, y1 FROM streetmap_features WHERE collection = ?1 ORDER BY id"
 
--- the same in any order, where the rows of the table are gone over and none is looked for
+-- the same in any order, by a pass over the rows of the table, without looking up any
 abbrev pub select_extents_in_turn : List ℕ
 select_extents_in_turn = codes
     "SELECT x0, y0, x1, y1 FROM streetmap_features WHERE +collection = ?1"
 
--- the texts of the features whose ids stand between two
+-- the texts of the features whose ids lie between two
 abbrev pub select_run : List ℕ
 select_run = codes
     "SELECT body FROM streetmap_features WHERE collection = ?1 AND id >= ?2 AND id <= ?3 ORDER BY id"
@@ -31,7 +31,7 @@ abbrev pub select_text : List ℕ
 select_text = codes
     "SELECT body, s0 FROM streetmap_features WHERE collection = ?1 AND id = ?2"
 
--- the same, where the feature's row has this rowid
+-- the same, if the feature's row has this rowid
 abbrev pub select_text_at : List ℕ
 select_text_at = codes
     "SELECT body, s0 FROM streetmap_features WHERE rowid = ?3 AND collection = ?1 AND id = ?2"

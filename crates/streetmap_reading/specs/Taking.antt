@@ -4,7 +4,7 @@ use Rattle.streetmap_rows.specs.declared.fault.ReadFault.{ReadFault}
 use Rattle.streetmap_rows.specs.declared.fault.ReadFault.TheVariants.{Memory, Store, Unread}
 use Rattle.streetmap_rows.specs.Failing.{IsOfStore, HasReason}
 
--- a look that stopped left the connection as it was, or the store failed for a reason; it met no
+-- a read that stopped left the connection as it was, or the store failed for a reason; it met no
 -- row that cannot be read
 abbrev pub Stopped : Seen → Seen → ReadFault → Type 0
 Stopped old new Memory = IsUnchanged old new

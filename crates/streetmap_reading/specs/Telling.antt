@@ -1,4 +1,4 @@
--- What looks over all features of a collection, or all collections, answer.
+-- The results of passes over all features of a collection, or over all collections.
 use Rattle.std.specs.Prelude.{◌≡◌, map, Option, option_map, Some, Vec, Result, IsTrue, IfSome}
 use Rattle.std.specs.Prelude.{Bool, string_bytes}
 use Rattle.std.specs.Ordering.{is_lt}
@@ -21,23 +21,23 @@ use Rattle.streetmap_rows.specs.declared.fault.ReadFault.{ReadFault}
 use Rattle.streetmap_reading.specs.Looking.{LooksInto}
 use Rattle.streetmap_reading.specs.Held.{head_of}
 
--- what is told of the collection with this id; none where it is not there
+-- the summary of the collection with this id; none if it does not exist
 abbrev pub IsSummaryOf : Text → State → Option Summary → Type 0
 IsSummaryOf id s found = option_map summary_value found ≡ summary_in s id
 
--- what is told of all collections, in byte order of ids
+-- the summaries of all collections, in byte order of ids
 abbrev pub AreSummaries : State → Vec Summary Global → Type 0
 AreSummaries s found = summary_values found.items ≡ summaries_in s
 
--- the outlines of a collection's features, in byte order of ids; none where the collection is not
--- there
+-- the outlines of a collection's features, in byte order of ids; none if the collection does not
+-- exist
 abbrev pub AreOutlinesOf : Text → State → Option (Vec FeatureOutline Global) → Type 0
 AreOutlinesOf name s found = option_map (λ (os : Vec FeatureOutline Global).
     feature_outline_values os.items) found ≡ outlines_in s name
 
 -- ---- of one collection
 
--- the features of a collection; none of one that is not there
+-- the features of a collection; none if it does not exist
 abbrev pub features_in : State → Text → Features
 features_in s name = option_map_or (λ (c : Collection). c.features) (get s.collections name) empty
 
@@ -46,7 +46,7 @@ abbrev pub AreOutlinesIn : Text → State → Vec FeatureOutline Global → Type
 AreOutlinesIn name s os = feature_outline_values os.items
     ≡ map (λ e. feature_outline_of e.0 e.1) (entries (features_in s name))
 
--- the same, where they are told
+-- the same, if they are returned
 abbrev pub AreOutlinesIfIn : Text → State → Option (Vec FeatureOutline Global) → Type 0
 AreOutlinesIfIn name s found = IfSome found (AreOutlinesIn name s)
 
@@ -59,18 +59,18 @@ abbrev pub IsExtentIn : Text → State → Option GridBox → Type 0
 IsExtentIn name s extent = option_map box_value extent
     ≡ extent_if (all_vertices (values (features_in s name)))
 
--- the same, where it is told
+-- the same, if it is returned
 abbrev pub IsExtentIfIn : Text → State → Option (Option GridBox) → Type 0
 IsExtentIfIn name s found = IfSome found (IsExtentIn name s)
 
--- what is told of it, from what is told before its extent is known
+-- its summary, completed from the summary before its extent is known
 abbrev pub CompletesHead : Summary → State → Summary → Type 0
 CompletesHead head s summary = (name : Text) (c : Collection) → get s.collections name ≡ Some c
     → summary_value head ≡ head_of name c → summary_value summary ≡ summary_of name c
 
 -- ---- of all collections
 
--- what is told of them before their extents are known
+-- their summaries before their extents are known
 abbrev pub AreHeads : State → Vec Summary Global → Type 0
 AreHeads s heads = summary_values heads.items ≡ map (λ e. head_of e.0 e.1) (entries s.collections)
 

@@ -40,7 +40,7 @@ outline_row o =
 abbrev pub PlacedOutline : Type 0
 PlacedOutline = FeatureOutlineValue × ℤ
 
--- the row that shows both: the outline, and behind it the rowid
+-- the row that shows both: the outline, and after it the rowid
 abbrev pub placed_row : PlacedOutline → Row
 placed_row p = outline_row p.0 ++ Int p.1 ∷ []
 

@@ -51,7 +51,7 @@ fn counts_in(row: &Row) -> Result<Counts, ReadFault>
     })
 }
 
-/// The batch of a row. It gives up for memory alone, where the row is a batch's.
+/// The batch of a row. If the row is a batch's, it gives up only if memory runs out.
 pub fn batch_in(alloc: Global, row: &Row) -> Result<KeptBatch, ReadFault>
     ensures { (key : Text) (kept : AcceptedBatch) → row.now ≡ batch_cells key kept
         → IsUtf8 key →

@@ -1,4 +1,4 @@
-//! Looks by a serial.
+//! Reads by a serial.
 ghost use Rattle.std.specs.Prelude.{◌≡◌, ℕ, pos, false};
 ghost use Rattle.sqlite.specs.Held.{state};
 ghost use Rattle.sqlite.specs.State.{HasCleanDisk, Survives};
@@ -13,7 +13,7 @@ use std::alloc::Global;
 use streetmap_ledger::KeptBatch;
 use streetmap_rows::ReadFault;
 
-/// A serial as a column has it; one that no column can have is 0, which no batch has either.
+/// A serial as a column has it; 0 if no column can have it, which no batch has either.
 fn number_of(serial: u64) -> i64
     ensures { result ≡ pos (column_serial serial) }
 {
@@ -23,7 +23,7 @@ fn number_of(serial: u64) -> i64
     }
 }
 
-/// A serial as a column has it; one that no column can have is the greatest that one can.
+/// A serial as a column has it; the greatest that a column can have if no column can have it.
 fn most_of(serial: u64) -> i64
     ensures { result ≡ pos (most_serial serial) }
 {
@@ -33,7 +33,7 @@ fn most_of(serial: u64) -> i64
     }
 }
 
-/// The row of the batch that is kept with a serial; none where there is none.
+/// The row of the batch that is kept with a serial; none if there is none.
 fn batch_row<S: Alter>(conn: &mut Connection<S>, serial: i64) -> Result<Option<Row>, ReadFault>
     ensures finds { (n : ℕ) → serial ≡ pos n → HasCleanDisk (state S.Store conn.new) →
         LooksInto (IsBatchRow n) (state S.Store conn.old) (state S.Store conn.new) result }
@@ -50,13 +50,13 @@ fn batch_row<S: Alter>(conn: &mut Connection<S>, serial: i64) -> Result<Option<R
     }
 }
 
-/// The batch that was accepted with a serial; `None` where there is none.
+/// The batch that was accepted with a serial; `None` if there is none.
 ///
 /// # Errors
 ///
-/// `Memory` where memory was refused while its row was read, `Store` where the statement failed, by
-/// its error, which may be that memory was refused to it, and `Unread` at a row that is none that
-/// this product writes.
+/// `Memory` if memory runs out while its row is read; `Store` if the statement failed, with its
+/// error, which may be that memory ran out in it; and `Unread` at a row that this product does not
+/// write.
 pub fn batch_of<S: Alter>(
     alloc: Global,
     conn: &mut Connection<S>,
@@ -75,8 +75,8 @@ pub fn batch_of<S: Alter>(
     Ok(Some(batch))
 }
 
-/// The batches with the next serials behind one, in order: one at least, where one is kept, and
-/// further ones while the texts of those before have at most `room` bytes.
+/// The batches with the next serials after one, in order: at least one, if one is kept, and further
+/// ones while the texts of those before have at most `room` bytes.
 ///
 /// # Errors
 ///

@@ -1,4 +1,4 @@
-//! What stands in the cells of a row.
+//! The values in the cells of a row.
 ghost use Rattle.std.specs.Prelude.{◌≡◌, ℤ, ◌+◌, ◌^◌, ◌<◌, Option, Ok, length};
 ghost use Rattle.std.specs.Prelude.{MatchResult, IfSome, IsUtf8, IfErr, option_map};
 ghost use Rattle.std.specs.Prelude.{string_bytes};
@@ -20,8 +20,8 @@ use streetmap_rows::{ReadFault, unread};
 ///
 /// # Errors
 ///
-/// `Memory` where memory was refused, and `Unread` where there is no such cell, or no text in UTF-8
-/// stands in it.
+/// `Memory` if memory runs out, and `Unread` if the row has no such cell, or the cell has no text
+/// in UTF-8.
 pub fn text_at(row: &Row, at: usize) -> Result<String, ReadFault>
     ensures reads { (t : Text) → at < length row.now → column row.now at ≡ Words t
         → IsUtf8 t → MatchResult result (λ text. string_bytes text ≡ t) IsForMemory }
@@ -33,12 +33,12 @@ pub fn text_at(row: &Row, at: usize) -> Result<String, ReadFault>
     row.get::<String>(at).map_err(|error| unread(error))
 }
 
-/// The text in a cell of a row, or none where it is NULL.
+/// The text in a cell of a row, or none if it is NULL.
 ///
 /// # Errors
 ///
-/// `Memory` where memory was refused, and `Unread` where there is no such cell, or neither a text
-/// in UTF-8 nor NULL stands in it.
+/// `Memory` if memory runs out, and `Unread` if the row has no such cell, or the cell has neither a
+/// text in UTF-8 nor NULL.
 pub fn text_if_at(row: &Row, at: usize) -> Result<Option<String>, ReadFault>
     ensures reads { (t : Option Text) → at < length row.now
         → column row.now at ≡ or_null Words t → IfSome t IsUtf8
@@ -76,7 +76,7 @@ pub fn integer_at(row: &Row, at: usize) -> Result<i64, ReadFault>
     }
 }
 
-/// The box of four bounds, in millimetres; none where there are none.
+/// The box of four bounds, in millimetres; none if the bounds are missing.
 fn box_of(
     west: Option<i64>,
     south: Option<i64>,
@@ -114,8 +114,8 @@ fn seconds_of(first: Option<i64>, last: Option<i64>) -> Result<Option<(i64, i64)
     }
 }
 
-/// The box whose four bounds stand in the cells from this one on, in millimetres; none where there
-/// are none.
+/// The box whose four bounds are in the cells from this one on, in millimetres; none if the bounds
+/// are missing.
 pub fn box_at(row: &Row, from: usize) -> Result<Option<GridBox>, ReadFault>
     requires { from + 3 < 2 ^ 64 }
     ensures reads { (b : Option BoxValue) → IfSome b IsBox → from + 3 < length row.now
@@ -133,7 +133,7 @@ pub fn box_at(row: &Row, from: usize) -> Result<Option<GridBox>, ReadFault>
     box_of(west, south, east, north)
 }
 
-/// The first and the last second, which stand in this cell and the next one, or none.
+/// The first and the last second, which are in this cell and the next one, or none.
 pub fn seconds_at(row: &Row, from: usize) -> Result<Option<(i64, i64)>, ReadFault>
     requires { from + 1 < 2 ^ 64 }
     ensures reads { (s : Option (ℤ × ℤ)) → from + 1 < length row.now

@@ -56,7 +56,7 @@ impl RowFold for Option<GridBox> {
     }
 }
 
-/// The extent of the features of a collection, where they are fewer than `most`; else none.
+/// The extent of the features of a collection, if they are fewer than `most`; otherwise none.
 fn extent_by_ids<S: Alter>(
     conn: &mut Connection<S>,
     collection: &str,
@@ -83,7 +83,7 @@ fn extent_by_ids<S: Alter>(
     Ok(Some(extent))
 }
 
-/// The extent of the features of a collection, by going over all rows of the table.
+/// The extent of the features of a collection, by a pass over all rows of the table.
 fn extent_by_rows<S: Alter>(
     conn: &mut Connection<S>,
     collection: &str,
@@ -105,8 +105,8 @@ fn extent_by_rows<S: Alter>(
     Ok(extent)
 }
 
-/// The extent of the features of a collection, in millimetres; none where no feature has a
-/// geometry, or the collection is not there.
+/// The extent of the features of a collection, in millimetres; none if no feature has a geometry,
+/// or the collection does not exist.
 pub fn extent_of<S: Alter>(
     conn: &mut Connection<S>,
     collection: &str,

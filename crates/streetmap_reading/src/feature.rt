@@ -19,7 +19,7 @@ use streetmap_geojson::Feature;
 use streetmap_ledger::FeatureOutline;
 use streetmap_rows::ReadFault;
 
-/// The row that a query shows, which shows one at most; none where it shows none.
+/// The row that a query shows, which shows at most one; none if it shows none.
 fn only_row<S: Alter>(
     conn: &mut Connection<S>,
     sql: &str,
@@ -38,8 +38,8 @@ fn only_row<S: Alter>(
     }
 }
 
-/// The row that shows the text of a feature and the first second of its time; none where it is not
-/// there.
+/// The row that shows the text of a feature and the first second of its time; none if it does not
+/// exist.
 fn text_row<S: Alter>(
     conn: &mut Connection<S>,
     collection: &str,
@@ -59,7 +59,7 @@ fn text_row<S: Alter>(
     )
 }
 
-/// The same row, where it has this rowid; none where it has another one or is not there.
+/// The same row, if it has this rowid; none if it has another one or does not exist.
 fn text_row_at<S: Alter>(
     conn: &mut Connection<S>,
     collection: &str,
@@ -80,8 +80,8 @@ fn text_row_at<S: Alter>(
     )
 }
 
-/// The row of the feature that an outline is of, looked for first where its rowid says; none where
-/// the feature is not there.
+/// The row of the feature that an outline is of, read first by the outline's rowid; none if the
+/// feature does not exist.
 fn outlined_row<S: Alter>(
     conn: &mut Connection<S>,
     collection: &str,
@@ -111,7 +111,7 @@ fn is_timeless(row: &Row) -> bool
     matches!(row.get_ref(1), Ok(ValueRef::Null))
 }
 
-/// The feature of a row, whose time its collection's time property says.
+/// The feature of a row, whose time is given by its collection's time property.
 fn timed_feature<S: Alter>(
     alloc: Global,
     scratch: &mut Scratch,
@@ -134,7 +134,7 @@ fn timed_feature<S: Alter>(
 }
 
 /// The feature of a row. A feature without a time is the same under any time property, so its
-/// collection is not asked.
+/// collection is not read.
 fn feature_in<S: Alter>(
     alloc: Global,
     scratch: &mut Scratch,
@@ -156,7 +156,7 @@ fn feature_in<S: Alter>(
     }
 }
 
-/// The feature of a row that was looked for; `None` where none was found.
+/// The feature of a row that a query looked for; `None` if it found none.
 fn found_feature<S: Alter>(
     alloc: Global,
     scratch: &mut Scratch,
@@ -178,7 +178,7 @@ fn found_feature<S: Alter>(
     Ok(Some(feature))
 }
 
-/// A feature of a collection; `None` where the collection or the feature is not there.
+/// A feature of a collection; `None` if the collection or the feature does not exist.
 ///
 /// # Errors
 ///
@@ -201,9 +201,9 @@ pub fn feature_of<S: Alter>(
     found_feature(alloc, scratch, conn, collection, found)
 }
 
-/// The feature of a collection that an outline is of, by the outline's id; `None` where the
-/// collection or the feature is not there. Its row is looked for first where the outline's rowid
-/// says, and by its id where that is no row or another feature's.
+/// The feature of a collection that an outline is of, by the outline's id; `None` if the collection
+/// or the feature does not exist. It reads the row with the outline's rowid first, and reads by the
+/// id if there is no such row or the row is another feature's.
 ///
 /// # Errors
 ///

@@ -13,14 +13,14 @@ use streetmap_rows::ReadFault;
 
 /// What takes rows one after the other, up to the first with which no good rows begin.
 pub trait RowFold {
-    /// Begun as the first, it holds what these rows say.
+    /// What a value holds of these rows, if the first value is the one it began as.
     ghost holds: { Self → Self → List Cells → Type 0 };
 
-    /// Rows that are good for one that begins so.
+    /// Rows that are good for a value that begins in this way.
     ghost is_good: { Self → List Cells → Type 0 };
 
-    /// Takes the row that comes next; `Unread` where no good rows begin with it behind those
-    /// before, and `Memory` where memory was refused or a count had no number left.
+    /// Takes the next row; `Unread` if no good rows begin with the earlier ones and this one, and
+    /// `Memory` if memory runs out or a count has no number left.
     fn take(&mut self, row: &Row) -> Result<(), ReadFault>
         ensures { TakesRow holds is_good row.now self.old self.new result };
 }
@@ -47,8 +47,8 @@ fn take_next<S: Alter, F: RowFold>(rows: &mut Rows<'_, S>, fold: &mut F) -> Resu
     Ok(true)
 }
 
-/// Takes the first rows of a query that has begun, as many as `most`, and answers whether it saw
-/// that these are all.
+/// Takes the first rows of a query that has begun, at most `most`, and returns whether it saw that
+/// these are all.
 fn take_first<S: Alter, F: RowFold>(
     rows: &mut Rows<'_, S>,
     fold: &mut F,
@@ -72,8 +72,7 @@ fn take_first<S: Alter, F: RowFold>(
     Ok(false)
 }
 
-/// Takes the first rows of a query, as many as `most`, and answers whether it saw that these are
-/// all.
+/// Takes the first rows of a query, at most `most`, and returns whether it saw that these are all.
 ///
 /// # Errors
 ///
@@ -102,9 +101,8 @@ pub fn fold_first<S: Alter, F: RowFold>(
 ///
 /// # Errors
 ///
-/// `Unread` at the first row with which no good rows begin, `Memory` where memory was refused while
-/// a row was taken or a count had no number left, and `Store` where the statement failed, by its
-/// error.
+/// `Unread` at the first row with which no good rows begin, `Memory` if memory runs out while a row
+/// is taken or a count has no number left, and `Store` if the statement failed, with its error.
 pub fn fold_rows<S: Alter, F: RowFold>(
     conn: &mut Connection<S>,
     sql: &str,

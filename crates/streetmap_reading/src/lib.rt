@@ -1,32 +1,32 @@
-//! Pages, features, and what is told of collections, read from the tables of a state, row by row.
+//! Pages, features, and summaries of collections, read from the tables of a state, row by row.
 //!
-//! `page_of` answers the page of a collection as the state has it: it reads the rows whose stored
-//! extent and seconds overlap what is asked, by one of four statements, one row at a time and in
-//! order of ids, and hands each feature to `PageFold`. `feature_of` answers one feature as the
+//! `page_of` returns the page of a collection as the state has it: it reads the rows whose stored
+//! extent and seconds overlap those of the query, by one of four statements, one row at a time and
+//! in order of ids, and hands each feature to `PageFold`. `feature_of` returns one feature as the
 //! state has it, by its collection and its id, with the time that the collection's time property
-//! tells; `feature_outlined_of` does so by an outline of it, and looks first at the row with the
-//! outline's rowid, which it takes for the feature's where the row says so. `run_of` answers the
-//! features of a collection whose ids stand between two, by one statement. Nothing changes, and a
-//! stop may leave no more than before. Where one gives up it says why: for memory, because a
-//! statement failed, or at a row that is none that this product writes; the last never on the
-//! tables of a state (`streetmap_rows`' `ReadFault`).
+//! gives; `feature_outlined_of` does so by an outline of it, and first reads the row with the
+//! outline's rowid, which it takes for the feature's if the row has its id. `run_of` returns the
+//! features of a collection whose ids lie between two, by one statement. Nothing changes, and a
+//! crash can leave no more than before. If one of them gives up it says why: memory ran out, a
+//! statement failed, or a row is not one that this product writes; the last never on the tables of
+//! a state (`streetmap_rows`' `ReadFault`).
 //!
-//! `summary_of` and `summaries_of` tell of one collection and of all, and `outlines_of` lists a
-//! collection's features by what is stored beside their bodies, with their rowids, in one pass;
-//! none of them reads a body.
+//! `summary_of` and `summaries_of` return the summaries of one collection and of all, and
+//! `outlines_of` lists a collection's features by what is stored beside their bodies, with their
+//! rowids, in one pass; none of them reads a body.
 //!
-//! `batch_of` answers the batch that was accepted with a serial, and `batches_of` those behind one,
-//! in order and as many as there is room for: each by one statement over the index of the column
-//! `serial`, the second in one scan that stops where the room is full.
+//! `batch_of` returns the batch that was accepted with a serial, and `batches_of` those after one,
+//! in order and as many as fit: each by one statement over the index of the column `serial`, the
+//! second in one scan that stops when the room is full.
 //!
 //! `fold_rows` hands the rows of any query of any tables, one after the other, to a `RowFold`: a
 //! type that says what it holds of rows, and which rows are good. `text_at` and `text_if_at` read a
 //! text of any such row.
 //!
 //! In the order of reading: `candidates` (rows of a query, one after the other), `page`, `feature`,
-//! `run`; `cells` (a value of a row), `fold` (rows taken one by one), `ordering` (by ids or as the
-//! table has them), `extents`, `summaries`, `outlines`; `batch_cells` (a batch from its row),
-//! `scanning`, `batches` (looks by a serial).
+//! `run`; `cells` (a value of a row), `fold` (rows taken one by one), `ordering` (by ids or in the
+//! order of the table), `extents`, `summaries`, `outlines`; `batch_cells` (a batch from its row),
+//! `scanning`, `batches` (reads by a serial).
 #![tactic(auto)]
 
 mod batch_cells;

@@ -1,4 +1,4 @@
-//! In which order the rows of a whole collection are read.
+//! The order in which the rows of a whole collection are read.
 ghost use Rattle.std.specs.Prelude.{◌≡◌, false};
 ghost use Rattle.sqlite.specs.Held.{state};
 ghost use Rattle.sqlite.specs.State.{HasCleanDisk, Survives};
@@ -8,13 +8,13 @@ use crate::fold::{RowFold, fold_first};
 use sqlite::{Alter, Connection, Row, params};
 use streetmap_rows::ReadFault;
 
-/// How many rows of a collection are read in order of ids, in a file of few collections.
+/// The most rows of a collection that are read in order of ids, in a file of few collections.
 const MOST_BY_IDS: u64 = 32_768;
 
-/// How many collections are few.
+/// A file of at most this number of collections has few.
 const FEW_COLLECTIONS: u64 = 8;
 
-/// What passes over rows.
+/// A fold that ignores its rows.
 #[derive(Drop)]
 struct Passing;
 
@@ -28,10 +28,10 @@ impl RowFold for Passing {
     }
 }
 
-/// How many rows of a collection are to be read in order of ids at most. Where it has more, all
-/// rows of the table are gone over in their own order. In order of ids each row is looked for in
-/// the table, which takes several times as long as going to the next one. But where a file has many
-/// collections, going over all rows for each of them would take longer.
+/// The most rows of a collection that are to be read in order of ids. If it has more, one pass
+/// reads all rows of the table in their own order. In order of ids each row is looked up in the
+/// table, which takes several times as long as the step to the next one. But if a file has many
+/// collections, a pass over all rows for each of them would take longer.
 pub fn most_by_ids<S: Alter>(conn: &mut Connection<S>) -> Result<u64, ReadFault>
     ensures shows { HasCleanDisk (state S.Store conn.new)
         → LooksInto (λ _ _. Unit {0}) (state S.Store conn.old) (state S.Store conn.new) result }

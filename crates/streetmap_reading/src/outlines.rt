@@ -54,8 +54,8 @@ impl RowFold for Vec<FeatureOutline> {
     }
 }
 
-/// The outlines of the features of a collection, in byte order of ids, where there are fewer than
-/// `most`; else none.
+/// The outlines of the features of a collection, in byte order of ids, if they are fewer than
+/// `most`; otherwise none.
 fn outlines_by_ids<S: Alter>(
     alloc: Global,
     conn: &mut Connection<S>,
@@ -91,7 +91,7 @@ fn sort_by_ids(outlines: &mut Vec<FeatureOutline>)
     outlines.sort_unstable_by(|one, other| one.id.as_str().cmp(other.id.as_str()));
 }
 
-/// The outlines of the features of a collection, in byte order of ids, by going over all rows of
+/// The outlines of the features of a collection, in byte order of ids, by a pass over all rows of
 /// the table.
 fn outlines_by_rows<S: Alter>(
     alloc: Global,
@@ -116,8 +116,7 @@ fn outlines_by_rows<S: Alter>(
     Ok(outlines)
 }
 
-/// The outlines of the features of a collection, in byte order of ids; none of one that is not
-/// there.
+/// The outlines of the features of a collection, in byte order of ids; none if it does not exist.
 fn outlines_in<S: Alter>(
     alloc: Global,
     conn: &mut Connection<S>,
@@ -138,8 +137,8 @@ fn outlines_in<S: Alter>(
     }
 }
 
-/// The outlines of the features of a collection, in byte order of ids; `None` where the collection
-/// is not there.
+/// The outlines of the features of a collection, in byte order of ids; `None` if the collection
+/// does not exist.
 ///
 /// # Errors
 ///

@@ -142,7 +142,7 @@ fn take_candidates<S: Alter>(
     }
 }
 
-/// The row of a collection, its title and its time property; none where it is not there.
+/// The row of a collection, its title and its time property; none if it does not exist.
 pub fn collection_row<S: Alter>(
     conn: &mut Connection<S>,
     id: &str,
@@ -175,7 +175,7 @@ pub fn property_in(row: &Row) -> Result<Option<String>, ReadFault>
     }
 }
 
-/// The page of a collection that is there, whose time property is known.
+/// The page of an existing collection, whose time property is known.
 fn page_under<S: Alter>(
     alloc: Global,
     conn: &mut Connection<S>,
@@ -204,13 +204,13 @@ fn page_under<S: Alter>(
     }
 }
 
-/// A page of a collection; none where it is not there.
+/// A page of a collection; none if it does not exist.
 ///
 /// # Errors
 ///
-/// `Memory` where memory was refused while a row was read or the page was made, `Store` where a
-/// statement failed, which tells a want of memory too by its error, and `Unread` at a row that is
-/// none that this product writes.
+/// `Memory` if memory runs out while a row is read or the page is made; `Store` if a statement
+/// failed, with its error, which may be that memory ran out too; and `Unread` at a row that this
+/// product does not write.
 pub fn page_of<S: Alter>(
     alloc: Global,
     conn: &mut Connection<S>,

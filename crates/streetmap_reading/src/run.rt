@@ -1,4 +1,4 @@
-//! Runs: the features of a collection whose ids stand between two.
+//! Runs: the features of a collection whose ids lie between two.
 ghost use Rattle.std.specs.Prelude.{◌≡◌, false};
 ghost use Rattle.std.specs.Option.{option_copied};
 ghost use Rattle.sqlite.specs.Held.{state};
@@ -15,7 +15,7 @@ use std::alloc::Global;
 use streetmap_geojson::Feature;
 use streetmap_rows::ReadFault;
 
-/// Features that were read of rows, and what their rows are read by.
+/// Features that were read from rows, and what their rows are read by.
 #[derive(Drop)]
 pub struct FeatureRows<'a> {
     pub alloc: Global,
@@ -41,7 +41,7 @@ impl RowFold for FeatureRows<'_> {
     }
 }
 
-/// The run of a collection that is there, whose time property is known.
+/// The run of an existing collection, whose time property is known.
 fn run_under<S: Alter>(
     alloc: Global,
     conn: &mut Connection<S>,
@@ -73,8 +73,8 @@ fn run_under<S: Alter>(
     Ok(run.features)
 }
 
-/// The features of a collection whose ids stand between two in byte order, with those two, in byte
-/// order of ids; `None` where the collection is not there.
+/// The features of a collection whose ids lie between two in byte order, with those two, in byte
+/// order of ids; `None` if the collection does not exist.
 ///
 /// # Errors
 ///

@@ -36,8 +36,8 @@ fn next_batch<S: Alter>(
     Ok(Some(batch))
 }
 
-/// The batches of the next rows: one at least, where there is one, and further ones while the texts
-/// of those before have fewer than `room` bytes.
+/// The batches of the next rows: at least one, if there is one, and further ones while the texts of
+/// those before have fewer than `room` bytes.
 fn next_batches<S: Alter>(
     alloc: Global,
     rows: &mut Rows<'_, S>,

@@ -1,4 +1,4 @@
-//! What is told of collections.
+//! Summaries of collections.
 ghost use Rattle.std.specs.Prelude.{◌≡◌, false, IfErr, MatchResult};
 ghost use Rattle.sqlite.specs.Held.{state};
 ghost use Rattle.sqlite.specs.State.{HasCleanDisk, Survives};
@@ -24,7 +24,7 @@ use std::alloc::Global;
 use streetmap_ledger::Summary;
 use streetmap_rows::ReadFault;
 
-/// What is told of a collection before its extent is known, from its row without its id.
+/// The summary of a collection before its extent is known, from its row without its id.
 fn head_under(alloc: Global, id: &str, row: &Row) -> Result<Summary, ReadFault>
     ensures { (c : Collection) → row.now ≡ collection_view c → HasTextNames id.now c
         → MatchResult result (λ head. summary_value head ≡ head_of id.now c) IsForMemory }
@@ -40,7 +40,7 @@ fn head_under(alloc: Global, id: &str, row: &Row) -> Result<Summary, ReadFault>
     })
 }
 
-/// What is told of a collection before its extent is known, from its row.
+/// The summary of a collection before its extent is known, from its row.
 fn head_in(row: &Row) -> Result<Summary, ReadFault>
     ensures reads { (id : Text) (c : Collection) → row.now ≡ collection_cells id c
         → HasTextNames id c → MatchResult result (λ head. summary_value head ≡ head_of id c)
@@ -74,7 +74,7 @@ impl RowFold for Vec<Summary> {
     }
 }
 
-/// What is told of a collection, with its extent.
+/// The summary of a collection, with its extent.
 fn with_extent<S: Alter>(conn: &mut Connection<S>, head: Summary) -> Result<Summary, ReadFault>
     ensures shows { HasCleanDisk (state S.Store conn.new)
         → LooksInto (CompletesHead head) (state S.Store conn.old) (state S.Store conn.new) result }
@@ -86,13 +86,13 @@ fn with_extent<S: Alter>(conn: &mut Connection<S>, head: Summary) -> Result<Summ
     Ok(Summary { extent, ..head })
 }
 
-/// What is told of a collection; `None` where it is not there.
+/// The summary of a collection; `None` if it does not exist.
 ///
 /// # Errors
 ///
-/// `Memory` where memory was refused while a row was read or what it says was kept, `Store` where a
-/// statement failed, by its error, which may be that memory was refused to it, and `Unread` at a
-/// row that is none that this product writes.
+/// `Memory` if memory runs out while a row is read or its values are kept; `Store` if a statement
+/// failed, with its error, which may be that memory ran out in it; and `Unread` at a row that this
+/// product does not write.
 pub fn summary_of<S: Alter>(
     alloc: Global,
     conn: &mut Connection<S>,
@@ -112,7 +112,7 @@ pub fn summary_of<S: Alter>(
     Ok(Some(summary))
 }
 
-/// What is told of all collections before their extents are known, in byte order of ids.
+/// The summaries of all collections before their extents are known, in byte order of ids.
 fn heads<S: Alter>(alloc: Global, conn: &mut Connection<S>) -> Result<Vec<Summary>, ReadFault>
     ensures shows { HasCleanDisk (state S.Store conn.new)
         → LooksInto AreHeads (state S.Store conn.old) (state S.Store conn.new) result }
@@ -130,7 +130,7 @@ fn heads<S: Alter>(alloc: Global, conn: &mut Connection<S>) -> Result<Vec<Summar
     Ok(heads)
 }
 
-/// What is told of collections, with their extents.
+/// The summaries of collections, with their extents.
 fn with_extents<S: Alter>(
     alloc: Global,
     conn: &mut Connection<S>,
@@ -150,7 +150,7 @@ fn with_extents<S: Alter>(
     Ok(summaries)
 }
 
-/// What is told of all collections, in byte order of ids.
+/// The summaries of all collections, in byte order of ids.
 ///
 /// # Errors
 ///
