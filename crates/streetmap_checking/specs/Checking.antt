@@ -1,4 +1,4 @@
--- What a check of tables answers.
+-- The result of a check of tables.
 use Rattle.std.specs.Prelude.{◌≡◌, ◌+◌, ℕ, List, [], ◌∷◌, length, Result, Ok, Err, IsTrue}
 use Rattle.std.specs.Prelude.{map, codes, pos}
 use Rattle.sqlite.specs.Order.{Row}
@@ -25,7 +25,7 @@ use Rattle.streetmap_checking.specs.declared.checking.CheckFault.{CheckFault}
 use Rattle.streetmap_checking.specs.declared.checking.CheckFault.TheVariants.{Damaged, Device}
 use Rattle.streetmap_checking.specs.declared.checking.CheckFault.TheVariants.{Memory}
 
--- the rows that are shown are good, and so many
+-- the rows that are shown are good, and their numbers are these totals
 pub record ShowsTotals (totals : Totals) (seen : Seen) : Type 0 where
   pub format : SeesFormat seen
   pub heads : List Known
@@ -46,7 +46,7 @@ pub data IsDamaged (seen : Seen) : Type 0 where
       → IsDamaged seen
   by_batches : NoBatches seen → IsDamaged seen
 
--- how many features there are in these collections
+-- the number of features in these collections
 abbrev pub feature_count : List (Text × Collection) → ℕ
 feature_count [] = 0
 feature_count (e ∷ es) = len e.1.features + feature_count es
@@ -78,22 +78,22 @@ pub record IsOfState (totals : Totals) (seen : Seen) : Type 0 where
   pub shows : ShowsState state seen
   pub numbers : AreTotals state totals
 
--- What is answered is what the looks tell, whatever the tables are; but the store may fail, or
--- memory be refused.
+-- The result is what the queries show, whatever the tables are; but the store may fail, or memory
+-- may run out.
 abbrev pub ChecksBy : Seen → Result Totals CheckFault → Type 0
 ChecksBy seen (Ok totals) = IsOfState totals seen
 ChecksBy seen (Err Damaged) = IsDamaged seen
 ChecksBy seen (Err (Device e)) = IsOfStore e
 ChecksBy seen (Err Memory) = Unit {0}
 
--- an error of the store that is told came about between these two for a reason
+-- an error of the store that is returned arose between these two for a reason
 abbrev pub ChecksFor : Seen → Seen → CheckFault → Type 0
 ChecksFor old new Damaged = Unit {0}
 ChecksFor old new (Device e) = HasReason old new e
 ChecksFor old new Memory = Unit {0}
 
 -- The tables of a state are never damaged: the numbers are its own, and the connection rests at it.
--- But the store may fail, or memory be refused, which changes nothing.
+-- But the store may fail, or memory may run out, which changes nothing.
 abbrev pub ChecksState : State → Seen → Seen → Result Totals CheckFault → Type 0
 ChecksState s old new (Ok totals) = AreTotals s totals × Rests new s
 ChecksState s old new (Err Memory) = Rests new s

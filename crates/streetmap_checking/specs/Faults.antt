@@ -1,4 +1,4 @@
--- Why a check tells no totals: the names and sentences.
+-- Why a check returns no totals: the names and sentences.
 use Rattle.std.specs.Prelude.{ℕ, List, codes}
 use Rattle.streetmap_checking.specs.declared.checking.CheckFault.{CheckFault}
 use Rattle.streetmap_checking.specs.declared.checking.CheckFault.TheVariants as checking

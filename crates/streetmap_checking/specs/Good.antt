@@ -19,7 +19,7 @@ use Rattle.streetmap_ledger.specs.Batches.{most_batches}
 use Rattle.streetmap_ledger.specs.WellFormed.{IsPlaced, AreCounts}
 use Rattle.streetmap_rows.specs.Rows.{feature_cells, batch_cells}
 
--- the rows of entries in byte order of their keys, each of which is fine
+-- the rows of entries in byte order of their keys, each of which is valid
 pub record AreEntryRows {V : Type 0} (cells : Text → V → Row) (Fine : Text → V
     → Type 0) (rows : List Row) : Type 0 where
   pub entries : List (Text × V)
@@ -43,7 +43,7 @@ pub record CollectionHead : Type 0 where
 abbrev pub head_cells : Text → CollectionHead → Row
 head_cells name h = Words name ∷ Words h.title ∷ or_null Words h.time ∷ []
 
--- its id, title and time property are as the rules ask
+-- its id, title and time property satisfy the rules
 pub record IsCollectionHead (name : Text) (h : CollectionHead) : Type 0 where
   pub named : IsTrue (is_collection_id name)
   pub titled : IsTitle h.title
@@ -58,11 +58,11 @@ AreCollectionRows = AreEntryRows head_cells IsCollectionHead
 abbrev pub feature_view : Text → FeatureValue → Row
 feature_view id f = drop 1 (feature_cells ([], id) f)
 
--- an id and a text stand in a row of a feature
+-- a row of a feature has this id and this text
 abbrev pub HasTextCells : Text → Text → Row → Type 0
 HasTextCells id body row = (column row 0 ≡ Words id) × (column row 1 ≡ Words body)
 
--- so do the bounds of an extent, or NULLs
+-- it has the bounds of this extent, or NULLs
 abbrev pub HasExtentCells : Option BoxValue → Row → Type 0
 HasExtentCells e row =
     (column row 2 ≡ or_null Int (option_map (λ (b : BoxValue). b.x0) e))
@@ -70,13 +70,13 @@ HasExtentCells e row =
     × (column row 4 ≡ or_null Int (option_map (λ (b : BoxValue). b.x1) e))
     × (column row 5 ≡ or_null Int (option_map (λ (b : BoxValue). b.y1) e))
 
--- so do the seconds of a time
+-- it has the seconds of this time
 abbrev pub HasSeconds : Option (ℤ × ℤ) → Row → Type 0
 HasSeconds o row = (column row 6 ≡ or_null Int (option_map (λ (s : ℤ × ℤ). s.0) o))
     × (column row 7 ≡ or_null Int (option_map (λ (s : ℤ × ℤ). s.1) o))
 
--- each stands under its id, with the time that this property tells, and beside it are its extent
--- and its seconds
+-- each feature is kept under its id, with the time that this property gives, and beside it are its
+-- extent and its seconds
 abbrev pub AreFeatureRows : Option Text → List Row → Type 0
 AreFeatureRows property = AreEntryRows feature_view (IsPlaced property)
 
@@ -87,11 +87,11 @@ AreOwnerRows names rows = AllByRecursion (λ row. (name : Text) × Has names nam
 
 -- ---- batches
 
--- a number from 0 to this stands in a row
+-- a row has a number from 0 to this
 abbrev pub HasNumber : ℕ → Row → ℕ → Type 0
 HasNumber most row at = (n : ℕ) × (column row at ≡ Int (pos n)) × (n ≤ most)
 
--- a text and the counts of a batch stand in a row of a batch
+-- a row of a batch has a text and the counts of a batch
 abbrev pub HasBatch : Row → Type 0
 HasBatch row = ((text : Text) × (column row 1 ≡ Words text)) × HasNumber most_edits row 2
     × HasNumber most_edits row 3 × HasNumber most_edits row 4 × HasNumber most_edits row 5

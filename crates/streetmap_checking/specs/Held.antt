@@ -1,4 +1,4 @@
--- What is held of rows that were taken.
+-- What is held of rows that have been taken.
 use Rattle.std.specs.Prelude.{◌≡◌, ◌⊎◌, List, [], ◌∷◌, map, length, Option, None, Some, option_map}
 use Rattle.std.specs.Prelude.{string_bytes}
 use Rattle.std.specs.declared.cmp.Ordering.TheVariants.{Less}
@@ -21,7 +21,7 @@ last_key [] = None
 last_key (e ∷ []) = Some e.0
 last_key (e ∷ f ∷ es) = last_key (f ∷ es)
 
--- a key stands behind the last
+-- a key comes after the last
 abbrev pub StandsBehind : Option Text → Text → Type 0
 StandsBehind None key = Unit {0}
 StandsBehind (Some last) key = text_cmp last key ≡ Less

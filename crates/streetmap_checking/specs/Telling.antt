@@ -1,4 +1,4 @@
--- What the looks of a check tell, whatever the tables are.
+-- What the queries of a check show, whatever the tables are.
 use Rattle.std.specs.Prelude.{◌≡◌, ℕ, ◌+◌, List, [], ◌∷◌, ◌++◌, map, length, Option, Result}
 use Rattle.std.specs.Prelude.{Ok, Err}
 use Rattle.sqlite.specs.declared.types.Value.TheVariants.{Text as Words}
@@ -27,20 +27,20 @@ pub data IsNotShown (sql : List ℕ) (params : Row) (Good : List Row → Type 0)
   not_good : (rows : List Row) → QueryShows sql params seen rows → (Good rows → ⊥)
       → IsNotShown sql params Good seen
 
--- a look tells why not, or the store failed, or memory was refused
+-- a query shows why not, or the store failed, or memory ran out
 abbrev pub TellsWhy : Type 0 → Seen → Seen → ReadFault → Type 0
 TellsWhy why old new Memory = IsUnchanged old new
 TellsWhy why old new Unread = why × IsUnchanged old new
 TellsWhy why old new (Store e) =
     ((¬ (IsOfStore e)) → why) × IsAsItWas old new × HasReason old new e
 
--- a look that leaves a connection tells this, or why not
+-- a query that leaves a connection shows this, or why not
 abbrev pub LooksOver : {A : Type 0} → (A → Type 0) → Type 0 → Seen → Seen → Result A ReadFault
     → Type 0
 LooksOver Is why old new (Ok a) = Is a × IsUnchanged old new
 LooksOver Is why old new (Err fault) = TellsWhy why old new fault
 
--- ---- each look
+-- ---- each query
 
 -- the row of the format is shown, and no other
 abbrev pub SeesFormat : Seen → Type 0
@@ -55,13 +55,13 @@ abbrev pub SeesCollections : List Known → Seen → Type 0
 SeesCollections heads seen = (rows : List Row) × QueryShows select_collections [] seen rows
     × (are : AreCollectionRows rows) × (heads ≡ map (λ e. (e.0, e.1.time)) are.entries)
 
--- so many features of a collection are shown
+-- this number of features of a collection is shown
 abbrev pub SeesFeatures : Known → ℕ → Seen → Type 0
 SeesFeatures head count seen = (rows : List Row)
     × QueryShows select_features (Words head.0 ∷ []) seen rows × (are : AreFeatureRows head.1 rows)
     × (count ≡ length are.entries)
 
--- so many of all these collections
+-- this number is shown of all these collections
 abbrev pub SeesAllFeatures : List Known → ℕ → Seen → Type 0
 SeesAllFeatures [] count seen = count ≡ 0
 SeesAllFeatures (head ∷ heads) count seen = (first : ℕ) × (others : ℕ)
@@ -72,12 +72,12 @@ abbrev pub SeesOwners : List Known → Seen → Type 0
 SeesOwners heads seen = (rows : List Row) × QueryShows select_owners [] seen rows
     × AreOwnerRows (map (λ h. h.0) heads) rows
 
--- so many batches are shown
+-- this number of batches is shown
 abbrev pub SeesBatches : ℕ → Seen → Type 0
 SeesBatches count seen = (rows : List Row) × QueryShows select_batches [] seen rows
     × (are : AreBatchRows rows) × (count ≡ length are.0.entries)
 
--- ---- why a look tells nothing
+-- ---- why a query shows nothing
 
 abbrev pub NoFormat : Seen → Type 0
 NoFormat = IsNotShown select_formats [] AreFormatRows

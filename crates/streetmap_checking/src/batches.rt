@@ -18,7 +18,7 @@ use streetmap_batch::is_key;
 use streetmap_reading::{RowFold, text_at};
 use streetmap_rows::ReadFault;
 
-/// How many batches a ledger accepts at most.
+/// The most batches that a ledger accepts.
 const MOST_BATCHES: u64 = 9_223_372_036_854_775_807;
 
 /// What is known of the batches whose rows were read.
@@ -37,7 +37,7 @@ struct KeptBatch {
     serial: u64,
 }
 
-/// The number in a cell, where it is one from 0.
+/// The number in a cell, if it is one from 0.
 fn number_at(row: &Row, at: usize) -> Option<u64>
     ensures { MatchOption result
         (at < length row.now → (n : ℕ) → column row.now at ≡ Int (pos n) → ⊥)
@@ -49,7 +49,7 @@ fn number_at(row: &Row, at: usize) -> Option<u64>
     }
 }
 
-/// Whether a cell has a number of edits that a batch may have.
+/// Whether a cell has a number of edits that a batch can have.
 fn is_count(row: &Row, at: usize) -> bool
     ensures { IsTrue result ↔ (at < length row.now) × HasNumber most_edits row.now at }
 {
@@ -104,7 +104,7 @@ impl RowFold for BatchRows {
     }
 }
 
-/// Whether serials are the numbers from 1 to how many they are, each once.
+/// Whether N serials are the numbers from 1 to N, each once.
 pub fn are_serials(alloc: Global, serials: &[u64]) -> Result<bool, AllocError>
     ensures { IfOk result (λ are. IsTrue are ↔ AreSerials serials.now) }
 {

@@ -1,4 +1,4 @@
-//! What stands in the cells of a row, whatever it is.
+//! The values in the cells of a row, whatever it is.
 ghost use Rattle.std.specs.Prelude.{◌≡◌, ◌↔◌, ◌<◌, ◌+◌, suc, length, IsTrue};
 ghost use Rattle.std.specs.Prelude.{MatchResult};
 ghost use Rattle.std.specs.Option.{option_copied};
@@ -31,7 +31,7 @@ pub fn has_text(row: &Row, at: usize) -> bool
     matches!(row.get_ref(at), Ok(ValueRef::Text(_)))
 }
 
-/// Whether a cell has this number; or, where there is none, is NULL.
+/// Whether a cell has this number; or, if there is none, is NULL.
 pub fn is_number(row: &Row, at: usize, number: Option<i64>) -> bool
     ensures { IsTrue result ↔ (at < length row.now)
         × (column row.now at ≡ or_null Int number) }
@@ -43,7 +43,7 @@ pub fn is_number(row: &Row, at: usize, number: Option<i64>) -> bool
     }
 }
 
-/// Whether a key stands behind the last in byte order.
+/// Whether a key comes after the last in byte order.
 pub fn follows(last: Option<&str>, key: &str) -> bool
     ensures { IsTrue result ↔ StandsBehind (option_copied last.entry) key.now }
 {
@@ -53,7 +53,7 @@ pub fn follows(last: Option<&str>, key: &str) -> bool
     }
 }
 
-/// One more than a count; refused as for memory where no number is left.
+/// One more than a count; if no number is left, the error is the one for memory.
 pub fn one_more(count: u64) -> Result<u64, ReadFault>
     ensures { MatchResult result (λ more. more ≡ suc count) (Refuses ⊥) }
 {
@@ -63,7 +63,7 @@ pub fn one_more(count: u64) -> Result<u64, ReadFault>
     }
 }
 
-/// The sum of two counts; refused as for memory where no number is left.
+/// The sum of two counts; if no number is left, the error is the one for memory.
 pub fn sum_of(one: u64, other: u64) -> Result<u64, ReadFault>
     ensures { MatchResult result (λ sum. sum ≡ one + other) (Refuses ⊥) }
 {

@@ -27,14 +27,14 @@ pub struct Totals {
     pub batches: u64,
 }
 
-/// Why a check told no totals.
+/// Why a check returned no totals.
 #[derive(Drop)]
 pub enum CheckFault {
-    /// `damaged`: the rows are those of no ledger.
+    /// `damaged`: the rows are not those of a ledger.
     Damaged,
-    /// `device`: the store failed, or has no room: the error that told it.
+    /// `device`: the store failed, or has no room; the error that reported it.
     Device(Error),
-    /// `memory`: memory was refused, or a count had no number left.
+    /// `memory`: memory ran out, or a count had no number left.
     Memory,
 }
 
@@ -53,7 +53,7 @@ impl CheckFault {
         }
     }
 
-    /// A sentence on it.
+    /// A sentence that describes it.
     #[tactic(auto, unfolding(crate::specs::Faults::description_of))]
     pub fn description(&self) -> &'static str
         ensures { result.now ≡ description_of self.now }
@@ -88,18 +88,17 @@ fn look_at_all<S: Alter>(alloc: Global, conn: &mut Connection<S>) -> Result<Tota
     })
 }
 
-/// Checks the tables that a connection has: reads all their rows, and tells how many collections,
+/// Checks the tables that a connection has: reads all their rows, and returns how many collections,
 /// features and batches they hold.
 ///
-/// It writes nothing: in every case the connection holds what it held, and a stop may leave no more
-/// than before. The connection is to have no step limit.
+/// It writes nothing: in every case the connection holds what it held, and a crash can leave no
+/// more than before. The connection must have no step limit.
 ///
 /// # Errors
 ///
-/// `Damaged` where a statement is refused or shows rows that are those of no ledger; `Memory` where
-/// memory was refused, or a count had no number left, and the connection is open; `Device` where
-/// the store fails, by its error, or where memory is refused again while the connection is looked
-/// at.
+/// `Damaged` if a statement is refused or shows rows that are not those of a ledger; `Memory` if
+/// memory runs out, or a count has no number left, and the connection is open; `Device` if the
+/// store fails, with its error, or if memory runs out again while the connection is checked.
 pub fn check_tables<S: Alter>(alloc: Global, conn: &mut Connection<S>) -> Result<Totals, CheckFault>
     requires { conn.old.in_transaction ≡ false }
     ensures idle { conn.new.in_transaction ≡ false }
@@ -126,8 +125,8 @@ pub fn check_tables<S: Alter>(alloc: Global, conn: &mut Connection<S>) -> Result
     }
 }
 
-/// A well-formed state whose rows are shown, as those of the state whose numbers a check reports,
-/// is the state that the tables hold, where they hold one.
+/// If the shown rows are those of a well-formed state, as those of the state whose numbers a check
+/// reports are, then that state is the one that the tables hold, if they hold one.
 pub fn shown_state_is_kept<S: Alter>(conn: &Connection<S>)
     ensures { (s t : State) → IsState s → ShowsState s (state S.Store conn.now) →
         Rests (state S.Store conn.now) t → s ≡ t }

@@ -30,7 +30,7 @@ pub struct CollectionRows {
     pub heads: Vec<Head>,
 }
 
-/// A copy of a text, where there is one.
+/// A copy of a text, if there is one.
 fn copy_if(text: &Option<String>) -> Result<Option<String>, AllocError>
     ensures { IfOk result (λ copy. option_map string_bytes copy
         ≡ option_map string_bytes text.now) }
@@ -50,7 +50,7 @@ pub fn copy_of(head: &Head) -> Result<Head, AllocError>
     Ok(Head { id, time })
 }
 
-/// Whether a text may name a time property, where one is given.
+/// Whether a text may name a time property, if one is given.
 fn is_property(time: &Option<String>) -> bool
     ensures { IsTrue result ↔ IsTimePropertyIf (option_map string_bytes time.now) }
 {

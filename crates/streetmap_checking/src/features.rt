@@ -68,7 +68,7 @@ fn text_of(alloc: Global, feature: &Feature) -> Result<String, AllocError>
     Ok(text)
 }
 
-/// Whether the bounds in a row of eight cells are those of an extent, or NULLs where there is none.
+/// Whether the bounds in a row of eight cells are those of an extent, or NULLs if there is none.
 fn has_extent(row: &Row, extent: Option<GridBox>) -> bool
     ensures { length row.now ≡ 8
         → (IsTrue result ↔ HasExtentCells (option_map box_value extent) row.now) }
@@ -89,7 +89,7 @@ fn has_extent(row: &Row, extent: Option<GridBox>) -> bool
     }
 }
 
-/// Whether the seconds in a row of eight cells are these, or NULLs where there are none.
+/// Whether the seconds in a row of eight cells are these, or NULLs if there are none.
 fn has_seconds(row: &Row, time: Option<Interval>) -> bool
     ensures { length row.now ≡ 8 → (IsTrue result ↔ HasSeconds
         (option_map (λ i. seconds_of (interval_value i)) time) row.now) }

@@ -1,4 +1,4 @@
-//! The looks of a check, one statement after the other.
+//! The queries of a check, one after the other.
 ghost use Rattle.std.specs.Prelude.{◌≡◌, false, IsTrue};
 ghost use Rattle.sqlite.specs.Held.{state};
 ghost use Rattle.sqlite.specs.State.{HasCleanDisk, Survives};
@@ -22,7 +22,7 @@ use std::alloc::Global;
 use streetmap_reading::fold_rows;
 use streetmap_rows::ReadFault;
 
-/// Whether the row of the format is there, and no other.
+/// Whether the row of the format exists, and no other.
 pub fn check_format<S: Alter>(conn: &mut Connection<S>) -> Result<(), ReadFault>
     ensures looks { HasCleanDisk (state S.Store conn.new)
         → LooksOver (λ _. SeesFormat (state S.Store conn.old)) (NoFormat (state S.Store conn.old))

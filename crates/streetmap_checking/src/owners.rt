@@ -10,7 +10,7 @@ use sqlite::Row;
 use streetmap_reading::RowFold;
 use streetmap_rows::ReadFault;
 
-/// The collections that are there.
+/// The existing collections.
 #[derive(Drop)]
 pub struct OwnerRows {
     pub heads: Vec<Head>,
