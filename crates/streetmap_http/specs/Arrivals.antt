@@ -1,5 +1,4 @@
--- What bytes that came hold of a request, and how far they were looked through for the end of its
--- head.
+-- What received bytes hold of a request, and how far they were scanned for the end of its head.
 use Rattle.std.specs.Prelude.{◌≡◌, ◌≢◌, ◌⊎◌, ℕ, ◌<◌, ◌≤◌, List, [], length, take, Bool}
 use Rattle.streetmap_http.specs.Head.{HasNoHead}
 use Rattle.streetmap_http.specs.Progress.{StandsAt}
@@ -17,8 +16,8 @@ abbrev pub IsAnswered : List ℕ → Type 0
 IsAnswered bytes = ((h : HeadValue) × (body : List ℕ) × IsRequest bytes h body)
     ⊎ ((bare : Bool) × (fault : FramingFault) × Breaks bytes bare fault)
 
--- the first n bytes are answered as one; or no head ends in the bytes, and may yet; or so many
--- bytes of the body are missing
+-- the first n bytes are answered as one; or no head ends in the bytes, and may yet; or this number
+-- of bytes of the body is missing
 abbrev pub HoldsOf : Arrival → List ℕ → Type 0
 HoldsOf (Request n) bytes = (n ≤ length bytes) × IsAnswered (take n bytes)
 HoldsOf Head bytes = (length bytes < HEAD_LIMIT) × HasNoHead bytes
@@ -29,7 +28,7 @@ abbrev pub SplitsAs : Framing → List ℕ → List ℕ → Type 0
 SplitsAs (broken bare fault) body bytes = Breaks bytes bare fault × (body ≡ [])
 SplitsAs (sized h) body bytes = IsRequest bytes h body
 
--- the first bytes, which were looked through, stand so far in a head, and not behind one
+-- the first bytes, which were scanned, have come this far in a head, and not to its end
 pub record HasScanned (scan : HeadScan) (bytes : List ℕ) : Type 0 where
   pub within : scan.scanned ≤ length bytes
   pub short : scan.scanned ≤ HEAD_LIMIT

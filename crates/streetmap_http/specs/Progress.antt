@@ -34,7 +34,7 @@ abbrev pub BehindHead : List ℕ → Type 0
 BehindHead bytes = (head : List ℕ) × (rest : List ℕ) × (lines : List (List ℕ))
     × IsLinesOfHead head lines × (bytes ≡ head ++ rest)
 
--- the bytes are those of a head that has come so far
+-- the bytes are those of a head that has come this far
 abbrev pub StandsAt : HeadProgress → List ℕ → Type 0
 StandsAt Blank bytes = AreEmptyLines bytes
 StandsAt BlankCr bytes = BehindReturn AreEmptyLines bytes

@@ -1,5 +1,5 @@
--- A stream of requests, one behind the other, and how it goes on behind them. RFC 9112, sections
--- 2.1, 6.3 and 9.3.
+-- A stream of requests, one after the other, and how it goes on after them. RFC 9112, sections 2.1,
+-- 6.3 and 9.3.
 use Rattle.std.specs.Prelude.{◌≡◌, ℕ, ◌+◌, ◌<◌, List, ◌++◌, length, Bool, All}
 use Rattle.std.specs.List.{flat_map}
 use Rattle.streetmap_http.specs.Head.{IsHead, HasNoHead, IsBlank}
@@ -21,7 +21,7 @@ IsWholeRequest r = IsRequest r.bytes r.head r.body
 abbrev pub BeginsWith : List ℕ → List ℕ → Type 0
 BeginsWith stream bytes = (rest : List ℕ) × (stream ≡ bytes ++ rest)
 
--- a head, and what of its body came: so many bytes are missing
+-- a head, and a part of its body: this number of bytes is missing
 pub record LacksOfBody (missing : ℕ) (bytes : List ℕ) : Type 0 where
   pub head : List ℕ
   pub came : List ℕ
@@ -36,36 +36,35 @@ pub data IsUnfinished (bytes : List ℕ) : Type 0 where
   in_head : length bytes < HEAD_LIMIT → HasNoHead bytes → (IsBlank bytes → ⊥) → IsUnfinished bytes
   in_body : (missing : ℕ) → 0 < missing → LacksOfBody missing bytes → IsUnfinished bytes
 
--- how a stream goes on where no further request is: bytes that break a rule of framing (with
--- whether the answer has no
--- body), its end, or a request without its end
+-- how a stream goes on if there is no further request: bytes that break a rule of framing (with
+-- whether the answer has no body), its end, or a request without its end
 pub data StreamEnd : Type 0 where
   refused : List ℕ → Bool → FramingFault → StreamEnd
   ended : StreamEnd
   truncated : StreamEnd
 
--- the stream goes on so
+-- the stream goes on in this way
 abbrev pub EndsAs : List ℕ → StreamEnd → Type 0
 EndsAs stream (refused bytes bare fault) = Breaks bytes bare fault × BeginsWith stream bytes
 EndsAs stream ended = IsBlank stream
 EndsAs stream truncated = IsUnfinished stream
 
--- what stands at the front of a stream
+-- the front of a stream
 pub data Front : Type 0 where
   request : Request → Front
   stops : StreamEnd → Front
 
--- the stream begins with this request, or goes on so
+-- the stream begins with this request, or goes on in this way
 abbrev pub IsFront : List ℕ → Front → Type 0
 IsFront stream (request r) = IsWholeRequest r × BeginsWith stream r.bytes
 IsFront stream (stops end) = EndsAs stream end
 
--- the stream is these requests, one behind the other, and then the rest
+-- the stream is these requests, one after the other, and then the rest
 pub record BeginsWithAll (stream : List ℕ) (requests : List Request) (rest : List ℕ) : Type 0 where
   pub whole : All IsWholeRequest requests
   pub joined : stream ≡ flat_map (λ r. r.bytes) requests ++ rest
 
--- the stream is these requests, one behind the other, and then goes on so
+-- the stream is these requests, one after the other, and then goes on in this way
 pub record IsCut (stream : List ℕ) (requests : List Request) (end : StreamEnd) : Type 0 where
   pub rest : List ℕ
   pub begins : BeginsWithAll stream requests rest

@@ -1,4 +1,4 @@
-//! What bytes that came hold of a request, for an edge that reads many connections.
+//! What received bytes hold of a request, for an edge that reads many connections.
 ghost use Rattle.std.specs.Prelude.{◌≡◌, ◌≤◌, ℕ, List, IfSome, IfNone, length, take};
 ghost use Rattle.streetmap_http.specs.Head.{IsHead, HasNoHead};
 ghost use Rattle.streetmap_http.specs.Arrivals.{HasScanned, HoldsOf, IsAnswered, SplitsAs};
@@ -11,20 +11,20 @@ use crate::head::{HeadProgress, next_progress};
 use crate::limits::{FIELD_LIMIT, HEAD_LIMIT};
 use httparse::spans::{EMPTY_HEADER_SPAN, HeaderSpan};
 
-/// What bytes that came hold of a request.
+/// What received bytes hold of a request.
 #[derive(Clone, Copy, PartialEq, Eq)]
 pub enum Arrival {
-    /// So many bytes of the front are answered as one: they are a whole request, or break a rule of
-    /// framing (the head alone, or `HEAD_LIMIT` bytes in which no head ends).
+    /// The first N bytes are answered as one: they are a whole request, or break a rule of framing
+    /// (the head alone, or `HEAD_LIMIT` bytes in which no head ends).
     Request(usize),
-    /// They are the front of a head, or nothing.
+    /// They are the start of a head, or nothing.
     Head,
-    /// The head is whole, and so many bytes of the body are missing.
+    /// The head is whole, and N bytes of the body are missing.
     Body(usize),
 }
 
-/// How far bytes were looked through for the end of a head, so that none is looked at again when
-/// more come behind them. Once a request was taken off their front, a new one begins.
+/// How far bytes were scanned for the end of a head, so that none is scanned again when more arrive
+/// after them. Once a request was taken off their front, a new scan begins.
 #[derive(Clone, Copy, PartialEq, Eq)]
 pub struct HeadScan {
     scanned: usize,
@@ -32,7 +32,7 @@ pub struct HeadScan {
 }
 
 impl HeadScan {
-    /// No byte was looked at.
+    /// No byte is scanned yet.
     pub fn new() -> HeadScan
         ensures { (bytes : List ℕ) → HasScanned result bytes }
     {
@@ -42,7 +42,7 @@ impl HeadScan {
         }
     }
 
-    /// How many bytes of the front are a head, or `None` where none ends in them or within
+    /// How many bytes at the front are a head, or `None` if no head ends in them or within
     /// `HEAD_LIMIT` bytes.
     pub fn find_head(&mut self, bytes: &[u8]) -> Option<usize>
         requires { HasScanned self.old bytes.now }
@@ -64,7 +64,7 @@ impl HeadScan {
     }
 }
 
-/// What bytes hold of a request whose head is so many bytes of their front.
+/// What bytes hold of a request whose head is this number of bytes at their front.
 fn arrival_behind(bytes: &[u8], head: usize) -> Arrival
     requires within { head ≤ length bytes.now }
     requires cut { IsHead (take head bytes.now) }
@@ -84,7 +84,7 @@ fn arrival_behind(bytes: &[u8], head: usize) -> Arrival
     }
 }
 
-/// What bytes hold of a request, by how many bytes of their front are a head.
+/// What bytes hold of a request, given how many bytes at their front are a head.
 fn arrival_by(bytes: &[u8], head: Option<usize>) -> Arrival
     requires found { IfSome head (λ len. (len ≤ length bytes.now)
         × IsHead (take len bytes.now)) }
@@ -103,8 +103,8 @@ fn arrival_by(bytes: &[u8], head: Option<usize>) -> Arrival
     }
 }
 
-/// What bytes hold of a request, where their front was looked through before. While bytes of the
-/// body are missing, each call reads the head again: it is best made when so many came.
+/// What bytes hold of a request, if their front was scanned before. While bytes of the body are
+/// missing, each call reads the head again: call it again only when that many have arrived.
 pub fn arrival_after(scan: &mut HeadScan, bytes: &[u8]) -> Arrival
     requires { HasScanned scan.old bytes.now }
     ensures holds { HoldsOf result bytes.now }
@@ -115,7 +115,7 @@ pub fn arrival_after(scan: &mut HeadScan, bytes: &[u8]) -> Arrival
     arrival_by(bytes, head)
 }
 
-/// What bytes hold of a request; no other `Arrival` holds of them.
+/// What bytes hold of a request; no other `Arrival` is true of them.
 pub fn arrival_of(bytes: &[u8]) -> Arrival
     ensures holds { HoldsOf result bytes.now }
     ensures only { (other : Arrival) → HoldsOf other bytes.now → other ≡ result }
@@ -123,7 +123,7 @@ pub fn arrival_of(bytes: &[u8]) -> Arrival
     arrival_after(&mut HeadScan::new(), bytes)
 }
 
-/// What the bytes of one request say, as `arrival_of` finds them, and its body (nothing where they
+/// What the bytes of one request say, as `arrival_of` finds them, and its body (nothing if they
 /// break a rule of framing). The spans are working memory, as for `frame_of`.
 pub fn split_request<'a>(bytes: &'a [u8], headers: &mut [HeaderSpan]) -> (Framed<'a>, &'a [u8])
     requires room { length headers.old ≡ FIELD_LIMIT }

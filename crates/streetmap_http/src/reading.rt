@@ -9,7 +9,7 @@ use std::io::{ErrorKind, Read};
 #[derive(Drop, Clone, Copy, PartialEq, Eq)]
 pub(crate) struct ReadFailed;
 
-/// The next byte, or `None` at the end. A read that a signal interrupts is made again.
+/// The next byte, or `None` at the end. A read that a signal interrupts is tried again.
 pub(crate) fn read_byte<R: Read>(reader: &mut R) -> Result<Option<u8>, ReadFailed>
     ensures { MatchResult result
         (λ found. MatchOption found
