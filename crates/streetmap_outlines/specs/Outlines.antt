@@ -27,11 +27,11 @@ use Rattle.streetmap_outlines.specs.declared.chunks.Chunks.{Chunks}
 abbrev pub IsOutlineOf : KeptOutline → FeatureValue → Type 0
 IsOutlineOf o f = outline_value o ≡ feature_outline_of f.id f
 
--- the outlines of all chunks, those of each one behind those of the chunk before it
+-- the outlines of all chunks, those of each one after those of the chunk before it
 abbrev pub joined : List Chunk → List KeptOutline
 joined chunks = flat_map (λ chunk. chunk.outlines.items) chunks
 
--- the outlines of runs, put together
+-- the outlines of runs, concatenated
 abbrev pub joined_runs : List (Vec KeptOutline Global) → List KeptOutline
 joined_runs runs = flat_map (λ run. run.items) runs
 
@@ -71,18 +71,18 @@ Pairs features (o ∷ os) (f ∷ fs) = IsEntry features o f × Pairs features os
 abbrev pub has_extent : KeptOutline → Bool
 has_extent o = is_some o.extent
 
--- the seconds of a time within bounds: its first one is not behind the latest first, nor its last
+-- the seconds of a time within bounds: its first one is not after the latest first, nor its last
 -- one before the earliest last
 abbrev pub IsTimedBy : Option (ℤ × ℤ) → Option (ℤ × ℤ) → Type 0
 IsTimedBy seconds None = Unit {0}
 IsTimedBy None (Some bounds) = ⊥
 IsTimedBy (Some seconds) (Some bounds) = (seconds.0 ≤ℤ bounds.0) × (bounds.1 ≤ℤ seconds.1)
 
--- those of each outline are
+-- the same for the seconds of each outline
 abbrev pub AllTimedBy : List KeptOutline → Option (ℤ × ℤ) → Type 0
 AllTimedBy os bounds = All (λ o. IsTimedBy o.seconds bounds) os
 
--- this is the extent, if there is one, counted from the corner of the grid; where there is none it
+-- this is the extent, if there is one, counted from the corner of the grid; if there is none it
 -- ends at that corner, which no box of the grid reaches
 abbrev pub IsExtentIf : Envelope → Option GridBox → Type 0
 IsExtentIf e None = e.x1 ≡ 0
@@ -96,7 +96,7 @@ AreExtentsOf es os =
 
 -- a chunk's bounds are those of its features, and the extents of its outlines lie within them; as
 -- many of these have an extent as it says; their seconds lie within its bounds of seconds; and the
--- extents beside one another are theirs
+-- extents in its column are theirs
 pub record IsBounded (chunk : Chunk) : Type 0 where
   pub within : AllLieWithin chunk.outlines.items chunk.bounds
   pub exact : (features : Features) (fs : List FeatureValue)
@@ -105,7 +105,7 @@ pub record IsBounded (chunk : Chunk) : Type 0 where
   pub timed : AllTimedBy chunk.outlines.items chunk.seconds
   pub extents : AreExtentsOf chunk.extents.items chunk.outlines.items
 
--- in each chunk they do
+-- the same for each chunk
 abbrev pub AreBounded : List Chunk → Type 0
 AreBounded chunks = All IsBounded chunks
 
@@ -115,20 +115,20 @@ pub record AreChunksOf (chunks : List Chunk) (features : Features) : Type 0 wher
   pub filled : AreFilled chunks
   pub bounded : AreBounded chunks
 
--- the extent, if there is one, stands in the cells under the number of a chunk
+-- the extent, if there is one, is in the cells under the number of a chunk
 abbrev pub IsListedIf : Cells → ℕ → Option GridBox → Type 0
 IsListedIf cells number None = Unit {0}
 IsListedIf cells number (Some extent) = HasExtent cells number (box_value extent)
 
--- the extents of these outlines do
+-- the same for the extents of these outlines
 abbrev pub AreListedUnder : Cells → ℕ → List KeptOutline → Type 0
 AreListedUnder cells number os = All (λ o. IsListedIf cells number o.extent) os
 
--- those of a chunk's outlines stand under its number
+-- the extents of a chunk's outlines are in the cells under its number
 abbrev pub IsListedChunk : Cells → Chunk → Type 0
 IsListedChunk cells chunk = AreListedUnder cells chunk.number chunk.outlines.items
 
--- in each chunk they do
+-- the same for each chunk
 abbrev pub AreListed : Cells → List Chunk → Type 0
 AreListed cells chunks = All (IsListedChunk cells) chunks
 

@@ -1,4 +1,4 @@
--- What outlines tell of the features that a query selects.
+-- What outlines show of the features that a query selects.
 use Rattle.std.specs.Prelude.{◌≡◌, ℕ, true, ◌++◌, List, All, length, Bool, ◌||◌}
 use Rattle.std.specs.Prelude.{Option, None, Some, is_none}
 use Rattle.streetmap_geojson.specs.FeatureValue.{FeatureValue}
@@ -32,13 +32,13 @@ MarksCandidates outlines q marks =
     (number : ℕ) (o : KeptOutline) (f : FeatureValue) → IsListedIf outlines.cells number o.extent
     → IsOutlineOf o f → is_candidate q f ≡ true → is_marked marks number ≡ true
 
--- a chunk is marked, where there are marks
+-- a chunk is marked, if there are marks
 abbrev pub is_marked_if : Option Marks → ℕ → Bool
 is_marked_if None number = true
 is_marked_if (Some marks) number = is_marked marks number
 
--- whether a chunk that is counted whole counts an outline: each where no box is asked, else those
--- with an extent
+-- whether a chunk that is counted whole counts an outline: each if the query has no box, otherwise
+-- those with an extent
 abbrev pub counts : QueryValue → KeptOutline → Bool
 counts q o = is_none q.bbox || has_extent o
 
@@ -56,12 +56,12 @@ CountsWhole q chunk count =
     (features : Features) (fs : List FeatureValue) → Pairs features chunk.outlines.items fs
     → SelectsCandidates q count fs
 
--- each feature with one of these outlines comes after the id asked, or none does
+-- each feature with one of these outlines comes after the id of the query, or none does
 abbrev pub AllComeAfter : QueryValue → Bool → List KeptOutline → Type 0
 AllComeAfter q behind os =
     All (λ o. (f : FeatureValue) → IsOutlineOf o f → comes_after q.after f ≡ behind) os
 
--- the features of a chunk were met behind those met before
+-- the features of a chunk were met after those met before
 abbrev pub TakesChunk : QueryValue → Chunk → PageFold → PageFold → Type 0
 TakesChunk q chunk old new =
     (features : Features) (met fs : List FeatureValue) → Pairs features chunk.outlines.items fs

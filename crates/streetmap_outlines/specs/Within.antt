@@ -1,4 +1,4 @@
--- What an extent tells of a geometry that may meet a box.
+-- What an extent shows of a geometry that may meet a box.
 use Rattle.std.specs.Prelude.{◌≡◌, ℕ, ◌+◌, ◌≤◌, Bool, true, ◌&&◌, nat_le, [], ◌∷◌}
 use Rattle.std.specs.List.{count_by}
 use Rattle.streetmap_cells.specs.Envelopes.{overlaps}
@@ -18,6 +18,6 @@ bounds_in extent window =
 abbrev pub HasThreeBoundsIn : Envelope → Envelope → Type 0
 HasThreeBoundsIn extent window = 3 ≤ bounds_in extent window
 
--- an extent tells whether its geometry meets a window: if it overlaps, it has three bounds in it
+-- an extent shows whether its geometry meets a window: if it overlaps, it has three bounds in it
 abbrev pub TellsWhetherMet : Envelope → Envelope → Type 0
 TellsWhetherMet extent window = overlaps extent window ≡ true → HasThreeBoundsIn extent window

@@ -29,7 +29,7 @@ pub fn bounds_of_both(one: Option<GridBox>, other: Option<GridBox>) -> Option<Gr
     }
 }
 
-/// The bounds so far, with those of the features with these outlines.
+/// The bounds so far, extended by those of the features with these outlines.
 pub fn grown(bounds: Option<GridBox>, outlines: &[KeptOutline]) -> Option<GridBox>
     ensures exact { (features : Features) (ps : List PositionValue) (fs : List FeatureValue)
         → Pairs features outlines.now fs → AreBounds ps bounds
@@ -56,7 +56,7 @@ pub fn count_extents(outlines: &[KeptOutline]) -> u64
     count
 }
 
-/// The bounds of the seconds that have these bounds, and of those of one time more.
+/// The bounds of the seconds that have these bounds, and of those of one more time.
 fn bounds_of_seconds_too(
     bounds: Option<(i64, i64)>,
     seconds: Option<(i64, i64)>,
@@ -70,8 +70,8 @@ fn bounds_of_seconds_too(
     }
 }
 
-/// The latest first second and the earliest last second of the outlines' times; none where one has
-/// no time.
+/// The latest first second and the earliest last second of the outlines' times; none if one of them
+/// has no time.
 pub fn bounds_of_seconds(outlines: &[KeptOutline]) -> Option<(i64, i64)>
     ensures { AllTimedBy outlines.now result }
 {

@@ -1,4 +1,4 @@
-//! Outlines of features that follow one another, and what is known of all of them.
+//! Consecutive outlines of features, and what is known of all of them.
 ghost use Rattle.std.specs.Prelude.{◌≡◌, ℕ, ◌<◌, ◌≤◌, IfOk, IsTrue, OnOk, drop, length};
 ghost use Rattle.std.specs.Prelude.{string_bytes, take};
 ghost use Rattle.std.specs.FinMap.{insert, remove};
@@ -20,21 +20,21 @@ use std::alloc::{AllocError, Global};
 use streetmap_cells::Envelope;
 use streetmap_grid::GridBox;
 
-/// Outlines that follow one another, and what is known of all of them.
+/// Consecutive outlines, and what is known of all of them.
 #[derive(Drop)]
 pub struct Chunk {
     /// In byte order of ids.
     pub outlines: Vec<KeptOutline>,
-    /// Their extents, beside one another: those of the first ones alone where memory was refused.
+    /// Their extents, one after the other: only those of the first ones if memory ran out.
     pub extents: Vec<Envelope>,
-    /// The bounds of their extents, in millimetres; none where no outline has an extent.
+    /// The bounds of their extents, in millimetres; none if no outline has an extent.
     pub bounds: Option<GridBox>,
     /// How many of them have an extent.
     pub with_extent: u64,
     /// The latest first second and the earliest last second of their times, since
-    /// 1970-01-01T00:00:00Z; none where an outline has no time.
+    /// 1970-01-01T00:00:00Z; none if an outline has no time.
     pub seconds: Option<(i64, i64)>,
-    /// The number that their extents stand under in cells.
+    /// The number that cells have for their extents.
     pub number: u32,
 }
 
@@ -79,7 +79,7 @@ impl Chunk {
         }
     }
 
-    /// Where the outline under an id stands, or where it would stand.
+    /// The place of the outline under an id, or the place where it would be.
     fn place_of(&self, id: &str) -> Result<usize, usize>
         ensures bound { IsSearchInRange result (length self.now.outlines.items) }
         ensures place { IsBinarySearchResult (λ o. text_cmp (string_bytes o.id) id.now)
@@ -101,7 +101,7 @@ impl Chunk {
         }
     }
 
-    /// Works out anew what is known of all the outlines.
+    /// Computes again what is known of all the outlines.
     fn bound(&mut self)
         ensures same { self.new.outlines.items ≡ self.old.outlines.items }
         ensures number { self.new.number ≡ self.old.number }
@@ -113,7 +113,7 @@ impl Chunk {
         keep_extents(&mut self.extents, self.outlines.as_slice());
     }
 
-    /// Puts an outline in, in place of the one under its id, if there is one.
+    /// Inserts an outline, in place of the one under its id, if there is one.
     pub(crate) fn put(&mut self, outline: KeptOutline) -> Result<(), AllocError>
         ensures some { OnOk result (0 < length self.new.outlines.items) }
         ensures outlines { (features : Features) (f : FeatureValue)
@@ -137,7 +137,7 @@ impl Chunk {
         Ok(())
     }
 
-    /// Takes the outline under an id out, if there is one.
+    /// Removes the outline under an id, if there is one.
     pub(crate) fn cut(&mut self, id: &str)
         ensures outlines { (features : Features) → AreOutlines self.old.outlines.items features
             → AreOutlines self.new.outlines.items (remove features id.now) }
@@ -151,7 +151,8 @@ impl Chunk {
         }
     }
 
-    /// Takes the outlines from a place on out, as a chunk of their own with this number.
+    /// Removes the outlines from a place on, and returns them as a chunk of their own with this
+    /// number.
     pub(crate) fn split_off(
         &mut self,
         alloc: Global,

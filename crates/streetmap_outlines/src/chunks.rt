@@ -1,5 +1,5 @@
-//! Outlines of features in byte order of ids, in chunks, so that one that comes or goes moves few
-//! others.
+//! Outlines of features in byte order of ids, in chunks, so that an insertion or a removal moves
+//! few others.
 ghost use Rattle.std.specs.Prelude.{◌≡◌, ℕ, ◌+◌, ◌<◌, [], true, false, IfOk, IfSome, OnOk, length};
 ghost use Rattle.std.specs.Prelude.{All, slice_index_or};
 ghost use Rattle.std.specs.FinMap.{insert, remove};
@@ -25,17 +25,17 @@ use streetmap_grid::GridBox;
 use streetmap_ledger::FeatureOutline;
 use streetmap_query::Query;
 
-/// How many outlines a chunk has at most. A chunk that has come to so many is cut in two.
+/// The most outlines that a chunk has. A chunk that reaches this number is cut in two.
 const MOST_IN_CHUNK: usize = 512;
 
-/// How many outlines a chunk has that is learnt, which leaves room for others.
+/// How many outlines a chunk has when it is first built, which leaves room for others.
 const LEARNT_IN_CHUNK: usize = 256;
 
-/// How many chunks are passed over by their bounds in the time that a search of cells takes for one
-/// of the first level, and for its part of the others.
+/// How many chunks a page can pass over by their bounds in the time that a search of cells takes
+/// for one cell of the first level, and for its part of the others.
 const CHUNKS_A_CELL: i64 = 64;
 
-/// Outlines of features in byte order of ids: those of each chunk behind those of the chunk before
+/// Outlines of features in byte order of ids: those of each chunk after those of the chunk before
 /// it, and no chunk is empty.
 #[derive(Drop)]
 pub struct Chunks {
@@ -51,8 +51,8 @@ fn number_after(chunks: &[Chunk]) -> u32 {
     u32::try_from(chunks.len()).unwrap_or(u32::MAX)
 }
 
-/// Cuts outlines into runs of as many as a chunk has that is learnt, but for the first run, which
-/// may have fewer.
+/// Cuts outlines into runs of the number that a chunk has when it is first built, except the first
+/// run, which may have fewer.
 fn cut_up(
     alloc: Global,
     mut outlines: Vec<FeatureOutline>,
@@ -74,8 +74,8 @@ fn cut_up(
 }
 
 /// Chunks of runs of outlines. All outlines are in their place before, so that the extents of one
-/// chunk come to stand behind those of the chunk before it: a page of a large box goes over the
-/// extents of all, and the processor reads on ahead of it.
+/// chunk come after those of the chunk before it in memory: a page of a large box goes over the
+/// extents of all, and the processor prefetches them.
 fn chunks_of(alloc: Global, runs: Vec<Vec<KeptOutline>>) -> Result<Vec<Chunk>, AllocError>
     ensures same { IfOk result (λ made. joined made.items ≡ joined_runs runs.items) }
     ensures filled { All (λ run. 0 < length run.items) runs.items
@@ -110,8 +110,8 @@ impl Chunks {
         })
     }
 
-    /// The first chunk that reaches an id, or else the last one: there the outline under the id
-    /// stands, or would stand.
+    /// The first chunk that reaches an id, or otherwise the last one: the outline under the id is
+    /// there, or would be there.
     fn chunk_of(&self, id: &str) -> usize
         ensures bound { 0 < length self.now.chunks.items → result < length self.now.chunks.items }
         ensures before { (features : Features) → AreChunksOf self.now.chunks.items features
@@ -129,7 +129,7 @@ impl Chunks {
         place.min(self.chunks.len().saturating_sub(1))
     }
 
-    /// Cuts a chunk in two, if it has come to the most outlines that one has.
+    /// Cuts a chunk in two, if it has reached the most outlines that one can have.
     fn halve(&mut self, alloc: Global, place: usize) -> Result<(), AllocError>
         requires { place < length self.old.chunks.items }
         ensures same { OnOk result (joined self.new.chunks.items ≡ joined self.old.chunks.items) }
@@ -151,7 +151,7 @@ impl Chunks {
         Ok(())
     }
 
-    /// Makes a first chunk of an outline, where there is none.
+    /// Makes a first chunk of an outline, if there is no chunk.
     fn begin(&mut self, alloc: Global, outline: KeptOutline) -> Result<(), AllocError>
         requires { self.old.chunks.items ≡ [] }
         ensures { (features : Features) (f : FeatureValue) →
@@ -167,8 +167,8 @@ impl Chunks {
         Ok(())
     }
 
-    /// Puts the extent of an outline into cells, under the number of the chunk in this place, where
-    /// it does not stand there already.
+    /// Puts the extent of an outline into cells, under the number of the chunk in this place, if it
+    /// is not there already.
     fn list(&mut self, alloc: Global, place: usize, outline: &KeptOutline) -> Result<(), AllocError>
         requires { place < length self.old.chunks.items }
         ensures same { self.new.chunks ≡ self.old.chunks }
@@ -186,7 +186,7 @@ impl Chunks {
         list_extent(&mut self.cells, number, outline.extent())
     }
 
-    /// Puts an outline in, in place of the one under its id, if there is one. After an error
+    /// Inserts an outline, in place of the one under its id, if there is one. After an error
     /// outlines may be missing.
     pub fn put(&mut self, alloc: Global, outline: KeptOutline) -> Result<(), AllocError>
         ensures { (features : Features) (f : FeatureValue) →
@@ -203,7 +203,7 @@ impl Chunks {
         self.halve(alloc, place)
     }
 
-    /// Takes the outline under an id out, if there is one, and its chunk, if that is empty then.
+    /// Removes the outline under an id, if there is one, and its chunk, if that is empty then.
     pub fn cut(&mut self, id: &str)
         ensures { (features : Features) → AreListedChunksOf self.old features →
             AreListedChunksOf self.new (remove features id.now) }
@@ -217,12 +217,12 @@ impl Chunks {
         }
     }
 
-    /// Whether to look for the box in the cells. With no marks a page passes over each chunk by its
-    /// bounds. So where there are very many chunks for the cells that a search goes over, it is the
-    /// cheaper way wherever the box lies. Else it is where a page would go over more chunks with no
-    /// marks than the search goes over cells: to go over a chunk costs more than to go over a cell.
-    /// Where ids follow places few chunks are near a small box, and a search would only add to
-    /// them.
+    /// Whether to search the cells for the box. Without marks a page passes over each chunk by its
+    /// bounds. So if there are very many chunks for the number of cells that a search goes over,
+    /// the search is cheaper wherever the box lies. Otherwise it is cheaper if, without marks, a
+    /// page would go over more chunks than the search goes over cells: a chunk costs more than a
+    /// cell. If the order of ids follows places, few chunks are near a small box, and a search
+    /// would only add to them.
     fn is_cheaper_by_cells(&self, query: &Query, area: &GridBox) -> bool {
         let cells = Cells::cost(area);
         let chunks = i64::try_from(self.chunks.len()).unwrap_or(i64::MAX);
@@ -241,8 +241,8 @@ impl Chunks {
         false
     }
 
-    /// Marks the chunks with candidates for a page; none where the query has no box, or one that
-    /// costs more to be looked for in cells than in the chunks, or where memory is refused.
+    /// Marks the chunks with candidates for a page; none if the query has no box, or one that is
+    /// cheaper to find in the chunks than in the cells, or if memory runs out.
     pub fn marks(&self, alloc: Global, query: &Query) -> Option<Marks>
         ensures { IfSome result (MarksCandidates self.now (query_value query.now)) }
     {

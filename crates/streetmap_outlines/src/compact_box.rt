@@ -66,7 +66,7 @@ impl CompactBox {
         }
     }
 
-    /// The same box, as others take it.
+    /// The same box as a `GridBox`.
     pub(crate) fn grid_box(&self) -> GridBox
         ensures { result ≡ self.now }
     {

@@ -1,7 +1,7 @@
-//! The extents of a chunk's outlines, beside one another: a column of them. A page of a box goes
-//! over these, and looks only at the outlines whose extents overlap the box: 16 bytes are read of
-//! each other one, in place of all that an outline has. Where it only counts, and each extent that
-//! overlaps the box tells that its feature meets it, no outline is looked at.
+//! The extents of a chunk's outlines, one after the other, as a column. A page of a box goes over
+//! these, and reads only the outlines whose extents overlap the box: of each other outline it reads
+//! 16 bytes, instead of the whole outline. If it only counts, and each extent that overlaps the box
+//! shows that its feature meets it, it reads no outline.
 ghost use Rattle.std.specs.Prelude.{◌≡◌, ◌<◌, ◌↔◌, List, All, Some, IsSome, IfSome, IsTrue, false};
 ghost use Rattle.std.specs.Prelude.{not, length, slice_get, ◌≤◌};
 ghost use Rattle.std.specs.List.{count_by};
@@ -24,7 +24,7 @@ use streetmap_query::Query;
 /// How many extents are counted at a time: few enough for a count of 32 bits.
 const BLOCK: usize = 4_096;
 
-/// What is kept of an extent. Where there is none it ends at the corner of the grid, so that no box
+/// What is kept of an extent. If there is none it ends at the corner of the grid, so that no box
 /// overlaps it.
 fn envelope_of(extent: Option<GridBox>) -> Envelope
     ensures { IsExtentIf result extent }
@@ -40,8 +40,8 @@ fn envelope_of(extent: Option<GridBox>) -> Envelope
     }
 }
 
-/// Keeps the extents of outlines, in place of those that were kept: of as many, from the first on,
-/// as there is memory for.
+/// Keeps the extents of outlines, in place of those kept before: of as many, from the first on, as
+/// memory allows.
 pub fn keep_extents(extents: &mut Vec<Envelope>, outlines: &[KeptOutline])
     ensures { AreExtentsOf extents.new.items outlines.now }
 {
@@ -53,7 +53,7 @@ pub fn keep_extents(extents: &mut Vec<Envelope>, outlines: &[KeptOutline])
     }
 }
 
-/// The box that a query asks for, as extents are kept; none where it asks for none.
+/// The box that a query asks for, in the form of the kept extents; none if it asks for none.
 pub fn window_of(query: &Query) -> Option<Envelope>
     ensures { IsWindowOf (query_value query.now) result }
 {
@@ -63,8 +63,8 @@ pub fn window_of(query: &Query) -> Option<Envelope>
     }
 }
 
-/// Whether what is kept of the extent of the outline in this place lies outside the window. Then a
-/// page does not examine its feature.
+/// Whether the kept extent of the outline in this place lies outside the window. Then a page does
+/// not examine its feature.
 pub fn lies_outside(window: Option<Envelope>, extents: &[Envelope], place: usize) -> bool
     ensures passed_over { IsTrue result → (q : QueryValue) (os : List KeptOutline)
         (o : KeptOutline) (f : FeatureValue) → IsWindowOf q window → AreExtentsOf extents.now os
@@ -83,9 +83,9 @@ pub fn lies_outside(window: Option<Envelope>, extents: &[Envelope], place: usize
     }
 }
 
-/// How many of the extents overlap the window, where each of these has three bounds in it; none
-/// where one has not. No extent decides where to go on: among extents in no order the processor
-/// guesses such a branch wrong, and without one it looks at four of them at once.
+/// How many of the extents overlap the window, if each of these has three bounds in it; none if one
+/// has not. No branch depends on an extent: among extents in no order the processor mispredicts
+/// such a branch, and without it the processor compares four of them at once.
 fn count_in_block(window: &Envelope, extents: &[Envelope]) -> Option<u32>
     requires { length extents.now ≤ BLOCK }
     ensures count { IfSome result (λ count. count
@@ -102,8 +102,8 @@ fn count_in_block(window: &Envelope, extents: &[Envelope]) -> Option<u32>
     if is_told { Some(count) } else { None }
 }
 
-/// How many of the extents overlap the window, where each of these has three bounds in it; none
-/// where one has not.
+/// How many of the extents overlap the window, if each of these has three bounds in it; none if one
+/// has not.
 pub fn count_in_window(window: &Envelope, extents: &[Envelope]) -> Option<u64>
     ensures count { IfSome result (λ count. count
         ≡ count_by (λ e. overlaps e window.now) extents.now) }

@@ -9,7 +9,7 @@ use std::alloc::{AllocError, Global};
 use streetmap_cells::Cells;
 use streetmap_grid::GridBox;
 
-/// For how many extents more than twice as many as there are is room in cells.
+/// Cells have room for this many extents more than twice the present number.
 const SPARE_ROOM: usize = 1024;
 
 /// Puts an extent into cells, if there is one, under a chunk's number.
@@ -66,7 +66,7 @@ pub fn cells_of(alloc: Global, chunks: &[Chunk]) -> Result<Cells, AllocError>
     Ok(cells)
 }
 
-/// Makes cells anew, where it is time for that.
+/// Rebuilds the cells, if it is time for that.
 pub fn renew(alloc: Global, cells: &mut Cells, chunks: &[Chunk]) -> Result<(), AllocError>
     ensures { AreListed cells.old chunks.now → OnOk result (AreListed cells.new chunks.now) }
 {

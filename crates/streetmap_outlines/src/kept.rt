@@ -13,12 +13,12 @@ use streetmap_ledger::FeatureOutline;
 pub struct KeptOutline {
     /// The id of the feature.
     pub id: String,
-    /// The extent of its geometry, in millimetres; none where it has none.
+    /// The extent of its geometry, in millimetres; none if it has none.
     pub extent: Option<CompactBox>,
-    /// The first and the last second of its time, since 1970-01-01T00:00:00Z, as a
-    /// `FeatureOutline` has them; none where it has no time.
+    /// The first and the last second of its time, since 1970-01-01T00:00:00Z, as a `FeatureOutline`
+    /// has them; none if it has no time.
     pub seconds: Option<(i64, i64)>,
-    /// The rowid of its row, where a store told one that fits. Nothing is told by it.
+    /// The rowid of its row, if a store gave one that fits. No clause relies on it.
     pub rowid: Option<u32>,
 }
 
@@ -32,7 +32,7 @@ fn compact(extent: Option<GridBox>) -> Option<CompactBox>
     }
 }
 
-/// A rowid, where it fits.
+/// A rowid, if it fits.
 fn short(rowid: Option<i64>) -> Option<u32> {
     match rowid {
         Some(rowid) => u32::try_from(rowid).ok(),
@@ -53,7 +53,7 @@ impl KeptOutline {
         }
     }
 
-    /// The extent of its geometry, in millimetres; none where it has none.
+    /// The extent of its geometry, in millimetres; none if it has none.
     pub(crate) fn extent(&self) -> Option<GridBox>
         ensures { result ≡ self.now.extent }
     {
@@ -63,7 +63,7 @@ impl KeptOutline {
         }
     }
 
-    /// The outline, as a keeper takes it. The error is that memory for the id is refused.
+    /// The outline, as a keeper takes it. The error is that memory for the id runs out.
     pub fn to_feature_outline(&self, alloc: Global) -> Result<FeatureOutline, AllocError>
         ensures { IfOk result (λ outline. feature_outline_value outline
             ≡ outline_value self.now) }

@@ -2,16 +2,16 @@
 //! each, in byte order of ids, with its id, its extent, and the first and the last second of its
 //! time.
 //!
-//! Outlines stand in chunks. A page passes over a chunk whose bounds are off its box, and over one
-//! with no extent that overlaps the box where the cells of the grid show that. Where it shows none
-//! of a chunk's features it counts them by what stands beside the outlines: by the chunk's bounds,
-//! if it lies within the box and the interval, or by the extents, if each that overlaps the box
-//! tells that its feature meets it. It goes over the outlines of the others, and looks only at
-//! those whose extents overlap the box.
+//! Outlines are in chunks. A page passes over a chunk whose bounds are off its box, and over one
+//! with no extent that overlaps the box if the cells of the grid show that. If it shows none of a
+//! chunk's features it counts them by what is kept beside the outlines: by the chunk's bounds, if
+//! it lies within the box and the interval, or by the extents, if each that overlaps the box shows
+//! that its feature meets it. It goes over the outlines of the others, and reads only those whose
+//! extents overlap the box.
 //!
 //! In the order of reading: `compact_box` and `kept` (an outline as it is kept), `bounds`,
 //! `within`, `extent_column`, `chunk`, `in_cells` and `chunks` (outlines in chunks, of which an
-//! edit changes one, and their extents by cells), `selection` (what these tell of a query).
+//! edit changes one, and their extents by cells), `selection` (what these show of a query).
 #![tactic(auto)]
 
 mod bounds;

@@ -1,4 +1,4 @@
-//! What an outline tells of a feature that a query asks for.
+//! What an outline shows of a feature that a query asks for.
 ghost use Rattle.std.specs.Prelude.{◌≡◌, Option, IsTrue, IfSome, false, true, not};
 ghost use Rattle.std.specs.Prelude.{option_copied};
 ghost use Rattle.streetmap_grid.specs.Meeting.{geometry_meets};
@@ -23,7 +23,7 @@ use streetmap_cells::{Envelope, Marks};
 use streetmap_ledger::overlaps_box;
 use streetmap_query::Query;
 
-/// Whether the seconds overlap those of the interval, where one is asked.
+/// Whether the seconds overlap those of the interval, if the query has one.
 fn overlaps_interval(query: &Query, outline: &KeptOutline) -> bool
     ensures { (f : FeatureValue) → IsOutlineOf outline.now f
         → result ≡ passes seconds_overlap f.time (interval_asked (query_value query.now)) }
@@ -48,7 +48,7 @@ pub fn is_candidate(query: &Query, outline: &KeptOutline) -> bool
     overlaps_box(query, outline.extent()) && overlaps_interval(query, outline)
 }
 
-/// Whether the chunk's bounds tell that a page examines none of the features with its outlines.
+/// Whether the chunk's bounds show that a page examines none of the features with its outlines.
 pub fn is_passed_over(query: &Query, chunk: &Chunk) -> bool
     ensures { IsTrue result → (outline : KeptOutline) (f : FeatureValue)
         → LiesWithin outline.extent chunk.now.bounds → IsOutlineOf outline f
@@ -57,7 +57,7 @@ pub fn is_passed_over(query: &Query, chunk: &Chunk) -> bool
     !overlaps_box(query, chunk.bounds)
 }
 
-/// Whether a chunk has no mark, where there are marks.
+/// Whether a chunk has no mark, if there are marks.
 pub fn is_unmarked(marks: Option<&Marks>, chunk: &Chunk) -> bool
     ensures { result ≡ not (is_marked_if (option_copied marks.entry) chunk.now.number) }
 {
@@ -67,8 +67,9 @@ pub fn is_unmarked(marks: Option<&Marks>, chunk: &Chunk) -> bool
     }
 }
 
-/// Whether the first second comes before the one that the interval ends in, and the last one behind
-/// that it begins in, where one is asked. Then each time with seconds within these bounds meets it.
+/// Whether the first second comes before the one that the interval ends in, and the last one after
+/// the one that it begins in, if the query has an interval. Then each time with seconds within
+/// these bounds meets it.
 fn reaches_into_interval(query: &Query, seconds: Option<(i64, i64)>) -> bool
     ensures { IsTrue result → (outline : KeptOutline) (f : FeatureValue) →
         IsTimedBy outline.seconds seconds → IsOutlineOf outline f →
@@ -86,7 +87,7 @@ fn reaches_into_interval(query: &Query, seconds: Option<(i64, i64)>) -> bool
     }
 }
 
-/// Whether the outline tells that the query selects the feature.
+/// Whether the outline shows that the query selects the feature.
 pub fn is_selected(query: &Query, outline: &KeptOutline) -> bool
     ensures { IsTrue result → (f : FeatureValue) → IsOutlineOf outline.now f → IsFeature f
         → selects (query_value query.now) f ≡ true }
@@ -94,7 +95,7 @@ pub fn is_selected(query: &Query, outline: &KeptOutline) -> bool
     tells_meeting(query, outline.extent()) && reaches_into_interval(query, outline.seconds)
 }
 
-/// Whether the chunk's bounds lie within the box, where one is asked. Then each feature with an
+/// Whether the chunk's bounds lie within the box, if the query has one. Then each feature with an
 /// extent meets it.
 fn lies_whole_within_box(query: &Query, chunk: &Chunk) -> bool
     ensures { IsTrue result → (outline : KeptOutline) (f : FeatureValue) →
@@ -111,9 +112,9 @@ fn lies_whole_within_box(query: &Query, chunk: &Chunk) -> bool
     }
 }
 
-/// How many features of a chunk the query selects, where its bounds tell that it selects all those
-/// that a page examines: all of them where no box is asked, else those with an extent. None where
-/// they do not tell.
+/// How many features of a chunk the query selects, if its bounds show that it selects all those
+/// that a page examines: all of them if the query has no box, otherwise those with an extent. None
+/// if they do not show it.
 pub fn count_by_bounds(query: &Query, chunk: &Chunk) -> Option<u64>
     ensures { IsBounded chunk.now
         → IfSome result (CountsWhole (query_value query.now) chunk.now) }
@@ -130,9 +131,9 @@ pub fn count_by_bounds(query: &Query, chunk: &Chunk) -> Option<u64>
     }
 }
 
-/// How many features of a chunk the query selects, where a box is asked and the extents that are
-/// kept tell it: all are kept, and each that overlaps the box has three bounds in it. None where
-/// they do not tell.
+/// How many features of a chunk the query selects, if it has a box and the kept extents show the
+/// number: all are kept, and each that overlaps the box has three bounds in it. None if they do not
+/// show it.
 fn count_by_extents(query: &Query, chunk: &Chunk) -> Option<u64>
     ensures { IsBounded chunk.now
         → IfSome result (CountsWhole (query_value query.now) chunk.now) }
@@ -147,9 +148,9 @@ fn count_by_extents(query: &Query, chunk: &Chunk) -> Option<u64>
     }
 }
 
-/// How many features of a chunk the query selects, where the chunk tells that it selects all those
-/// that a page examines: by its bounds, or else by the extents that it keeps. None where it does
-/// not tell. No outline is looked at.
+/// How many features of a chunk the query selects, if the chunk shows that it selects all those
+/// that a page examines: by its bounds, or otherwise by the extents that it keeps. None if it does
+/// not show it. It reads no outline.
 pub fn count_selected(query: &Query, chunk: &Chunk) -> Option<u64>
     ensures { IsBounded chunk.now
         → IfSome result (CountsWhole (query_value query.now) chunk.now) }
@@ -160,7 +161,7 @@ pub fn count_selected(query: &Query, chunk: &Chunk) -> Option<u64>
     }
 }
 
-/// Whether the feature's id comes after the one asked.
+/// Whether the feature's id comes after the id of the query.
 pub fn comes_after(query: &Query, outline: &KeptOutline) -> bool
     ensures { (f : FeatureValue) → IsOutlineOf outline.now f
         → result ≡ comes_after_of (query_value query.now).after f }
@@ -171,7 +172,7 @@ pub fn comes_after(query: &Query, outline: &KeptOutline) -> bool
     }
 }
 
-/// Whether the first outline of a chunk, if there is one, is under an id behind this one.
+/// Whether the first outline of a chunk, if there is one, has an id after this one.
 fn begins_after(chunk: &Chunk, id: &str) -> bool
     ensures { IsTrue result → BeginsAfter id.now chunk.now.outlines.items }
 {
@@ -181,7 +182,7 @@ fn begins_after(chunk: &Chunk, id: &str) -> bool
     }
 }
 
-/// Whether all features of a chunk come after the id asked, or none does; none where neither is
+/// Whether all features of a chunk come after the id of the query, or none does; none if neither is
 /// known.
 pub fn all_come_after(query: &Query, chunk: &Chunk) -> Option<bool>
     ensures { AreInOrder chunk.now.outlines.items

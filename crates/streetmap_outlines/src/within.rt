@@ -1,4 +1,4 @@
-//! What an extent tells of a geometry that may meet a box.
+//! What an extent shows of a geometry that may meet a box.
 ghost use Rattle.std.specs.Prelude.{◌≡◌, ◌↔◌, Option, IsTrue, true, option_map};
 ghost use Rattle.streetmap_grid.specs.Extent.{extent_of};
 ghost use Rattle.streetmap_grid.specs.Meeting.{geometry_meets};
@@ -13,8 +13,8 @@ use streetmap_cells::Envelope;
 use streetmap_grid::GridBox;
 use streetmap_query::Query;
 
-/// Whether a bound lies between two others, or is one of them. Both are compared and neither
-/// decides alone: among bounds in no order the processor guesses such a branch wrong.
+/// Whether a bound lies between two others, or is one of them. It always makes both comparisons,
+/// without a branch: among bounds in no order the processor mispredicts such a branch.
 fn lies_between(low: u32, high: u32, at: u32) -> bool
     ensures { result ≡ is_between low high at }
 {
@@ -32,11 +32,10 @@ pub fn has_three_bounds_in(extent: &Envelope, window: &Envelope) -> bool
     u32::from(west) + u32::from(east) + u32::from(south) + u32::from(north) >= 3
 }
 
-/// Whether an extent tells that its geometry meets the box, where one is asked. Each bound of an
-/// extent is the coordinate of a position. Where three of the four lie between those of the box,
-/// the position at one of them lies in the box: the extent begins or ends there in one direction,
-/// and lies within the box in the other. So a line that crosses one edge of the box need not be
-/// read.
+/// Whether an extent shows that its geometry meets the box, if the query has one. Each bound of an
+/// extent is the coordinate of a position. If three of the four lie between those of the box, the
+/// position at one of them lies in the box: the extent begins or ends there in one direction, and
+/// lies within the box in the other. So a line that crosses one edge of the box need not be read.
 pub fn tells_meeting(query: &Query, extent: Option<GridBox>) -> bool
     ensures { IsTrue result → (geometry : Option GeometryValue)
         → option_map box_value extent ≡ option_map extent_of geometry → IsGeometryIf geometry
