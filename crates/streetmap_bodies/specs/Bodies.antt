@@ -41,12 +41,12 @@ items_href root name = collection_href root name ++ codes "/items"
 abbrev pub page_href : Text → Text → Text → Text
 page_href root name query = items_href root name ++ codes "?" ++ query
 
--- the link to the page behind it, where there is one
+-- the link to the page after it, if there is one
 abbrev pub next_link : Option Text → Items
 next_link None = no_items
 next_link (Some href) = item (link href (codes "next") geo_json) no_items
 
--- to itself, and to the page behind it, where there is one; OGC 17-069, section 7.15.5
+-- to itself, and to the page after it, if there is one; OGC 17-069, section 7.15.5
 abbrev pub page_links : Text → Option Text → Data
 page_links here next = array (item (link here (codes "self") geo_json) (next_link next))
 
@@ -54,7 +54,7 @@ page_links here next = array (item (link here (codes "self") geo_json) (next_lin
 abbrev pub self_href : Text → Text → QueryValue → Text
 self_href root name q = page_href root name (query_text q)
 
--- the same query, from behind an id
+-- the same query, from after an id
 abbrev pub next_href : Text → Text → QueryValue → Text → Text
 next_href root name q id = page_href root name (query_text (record q { after = Some id }))
 
@@ -68,12 +68,12 @@ page_data root name q p =
     (member (codes "numberReturned") (number (unsigned (length p.features)))
     (member (codes "type") (string (codes "FeatureCollection")) no_members)))))
 
--- the member `next`, where more features follow
+-- the member `next`, if more features follow
 abbrev pub next_member : Option Text → Members → Members
 next_member None others = others
 next_member (Some id) others = member (codes "next") (string id) others
 
--- a page as a line shows it: without links, with the last id shown where more follow
+-- a page as a line shows it: without links, with the last id shown if more follow
 unfoldable pub line_page_data : PageValue → Data
 line_page_data p =
     object (member (codes "features") (array_of feature_data p.features)
@@ -132,7 +132,7 @@ extent_data b = object (member (codes "spatial")
     (object (member (codes "bbox") (array (item (array (items_of (box_numbers b))) no_items))
     (member (codes "crs") grid_crs no_members))) no_members)
 
--- the member `extent`, where there is a position
+-- the member `extent`, if there is a position
 abbrev pub extent_member : Option BoxValue → Members → Members
 extent_member None others = others
 extent_member (Some b) others = member (codes "extent") (extent_data b) others
@@ -165,7 +165,7 @@ collections_data root ss =
     object (member (codes "collections") (array_of (collection_data root) ss)
     (member (codes "links") (self_link (root ++ codes "/collections")) no_members))
 
--- the bytes of an id that are percent-encoded in a path: all of ASCII but letters, digits, `-`,
+-- the bytes of an id that are percent-encoded in a path: all of ASCII except letters, digits, `-`,
 -- `_`, `~` and `.` (RFC 3986, section 2.3)
 abbrev pub encoded_bytes : AsciiSet
 encoded_bytes = record { mask = 244577951340790884343731678625228914687 }
@@ -196,7 +196,7 @@ linked_feature_data root name f =
 
 -- ---- texts of parts
 
--- what stands for the extent in the text of a collection
+-- the text of the extent in the text of a collection
 abbrev pub extent_text : Option BoxValue → Text
 extent_text None = []
 extent_text (Some b) = codes "\"extent\":" ++ compact_text (extent_data b) ++ codes ","

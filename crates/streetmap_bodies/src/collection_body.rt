@@ -21,7 +21,7 @@ fn extent_value(alloc: Global, area: GridBox) -> Result<Value, AllocError>
     json!(in alloc; {"spatial": {"bbox": [[area.x0, area.y0, area.x1, area.y1]], "crs": "tag:streetmap.invalid,2024:crs/grid-mm"}})
 }
 
-/// The member `extent` and a comma, where there is a box.
+/// The member `extent` and a comma, if there is a box.
 fn extent_text(alloc: Global, extent: Option<GridBox>) -> Result<String, AllocError>
     ensures { IfOk result (λ text. string_bytes text
         ≡ spec.extent_text (option_map box_value extent)) }
@@ -89,7 +89,7 @@ fn add_collection(
 ///
 /// # Errors
 ///
-/// Want of memory alone.
+/// Only that memory runs out.
 pub fn collection_text(alloc: Global, root: &str, summary: &Summary) -> Result<String, AllocError>
     ensures { IfOk result (λ text. string_bytes text
         ≡ compact_text (spec.collection_data root.now (summary_value summary.now))) }
@@ -99,7 +99,7 @@ pub fn collection_text(alloc: Global, root: &str, summary: &Summary) -> Result<S
     Ok(out)
 }
 
-/// Appends the collections and the bracket behind them.
+/// Appends the collections and the bracket after them.
 fn add_collections(
     alloc: Global,
     out: &mut String,
@@ -140,11 +140,11 @@ fn add_collections_link(alloc: Global, out: &mut String, root: &str) -> Result<(
     out.push_str(text.as_str())
 }
 
-/// The body of all collections (OGC 17-069, section 7.13), in the order that they are handed in.
+/// The body of all collections (OGC 17-069, section 7.13), in the order in which they are given.
 ///
 /// # Errors
 ///
-/// Want of memory alone.
+/// Only that memory runs out.
 pub fn collections_text(
     alloc: Global,
     root: &str,

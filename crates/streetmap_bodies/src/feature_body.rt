@@ -62,7 +62,7 @@ fn linked_feature(
 ///
 /// # Errors
 ///
-/// Want of memory alone.
+/// Only that memory runs out.
 pub fn feature_text(
     alloc: Global,
     root: &str,

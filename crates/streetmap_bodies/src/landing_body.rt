@@ -59,7 +59,7 @@ fn links_under(alloc: Global, root: &str) -> Result<Value, AllocError>
 ///
 /// # Errors
 ///
-/// Want of memory alone.
+/// Only that memory runs out.
 #[tactic(auto, unfolding(crate::specs::Bodies::landing_data))]
 pub fn landing_text(alloc: Global, root: &str) -> Result<String, AllocError>
     ensures { IfOk result (λ text. string_bytes text

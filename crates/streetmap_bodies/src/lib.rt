@@ -1,12 +1,13 @@
 //! The bodies of answers as JSON texts, for lines and for HTTP.
 //!
 //! Each text is exactly the compact JSON text of the value that `specs/Bodies` (pages, collections,
-//! features, the landing page), `specs/Replies` and `specs/Errors` say. A page is written feature
-//! by feature, with no value of the whole, so its length is known before its first byte is sent.
+//! features, the landing page), `specs/Replies` and `specs/Errors` define. A page is written
+//! feature by feature, without a value of the whole, so its length is known before its first byte
+//! is sent.
 //!
-//! An answer to a batch must not fail for want of memory once the batch was applied. So replies and
-//! errors are appended to room that was taken before (`push_reply_body`, `push_fault`), and are
-//! proved to fit.
+//! An answer to a batch must not fail because memory runs out once the batch was applied. So
+//! replies and errors are appended to room that was allocated before (`push_reply_body`,
+//! `push_fault`), and are proved to fit.
 //!
 //! `RequestFault` is one enum over the faults of all layers: its code, its sentence and its status.
 //!

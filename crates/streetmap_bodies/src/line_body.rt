@@ -16,7 +16,7 @@ use streetmap_ledger::Page;
 ///
 /// # Errors
 ///
-/// Want of memory alone.
+/// Only that memory runs out.
 pub fn line_feature_text(alloc: Global, feature: &Feature) -> Result<String, AllocError>
     ensures { IfOk result (λ text. string_bytes text ≡ compact_text (feature_data feature.now)) }
 {
@@ -25,7 +25,7 @@ pub fn line_feature_text(alloc: Global, feature: &Feature) -> Result<String, All
     Ok(out)
 }
 
-/// Appends the member `next`, where there is one.
+/// Appends the member `next`, if there is one.
 fn add_next(alloc: Global, out: &mut String, next: &Option<String>) -> Result<(), AllocError>
     ensures { OnOk result (string_bytes out.new
         ≡ string_bytes out.old ++ next_text (option_map string_bytes next.now)) }
@@ -39,12 +39,12 @@ fn add_next(alloc: Global, out: &mut String, next: &Option<String>) -> Result<()
     }
 }
 
-/// The text of a page, as a line shows it: its features, the last id shown where more follow, and
-/// how many features are selected and shown.
+/// The text of a page, as a line shows it: its features, the last id shown if more follow, and how
+/// many features are selected and shown.
 ///
 /// # Errors
 ///
-/// Want of memory alone.
+/// Only that memory runs out.
 #[tactic(auto, unfolding(crate::specs::Bodies::line_page_data))]
 pub fn line_page_text(alloc: Global, page: &Page) -> Result<String, AllocError>
     ensures { IfOk result (λ text. string_bytes text

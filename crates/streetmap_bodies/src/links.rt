@@ -1,4 +1,4 @@
-//! Texts that are appended where memory is taken as it is needed, and the addresses in links.
+//! Texts that are appended with memory allocated as needed, and the addresses in links.
 ghost use Rattle.std.specs.Prelude.{◌≡◌, ◌++◌, IfOk, OnOk, decimal, string_bytes};
 ghost use Rattle.percent_encoding.specs.Percent.{percent_encode};
 ghost use Rattle.serde_json.specs.View.{view};
@@ -33,7 +33,7 @@ pub(crate) fn joined(alloc: Global, root: &str, path: &str) -> Result<String, Al
     Ok(out)
 }
 
-/// A link: where it leads, its relation, and the media type that is found there.
+/// A link: its address, its relation, and the media type of the resource there.
 pub(crate) fn link(
     alloc: Global,
     href: &str,
@@ -88,7 +88,7 @@ const ENCODED: AsciiSet = percent_encoding::ascii_set!(
         .remove(b'.')
 );
 
-/// Appends the id of a feature as it stands in a path.
+/// Appends the id of a feature as it is written in a path.
 fn add_id(out: &mut String, id: &str) -> Result<(), AllocError>
     ensures { OnOk result (string_bytes out.new
         ≡ string_bytes out.old ++ percent_encode spec.encoded_bytes id.now) }

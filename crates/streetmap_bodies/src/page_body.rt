@@ -55,7 +55,7 @@ fn self_href(alloc: Global, root: &str, name: &str, query: &Query) -> Result<Str
     page_href(alloc, root, name, text.as_str())
 }
 
-/// The address of the page behind an id.
+/// The address of the page after an id.
 fn next_href(
     alloc: Global,
     root: &str,
@@ -97,13 +97,13 @@ fn add_page_links(
     }
 }
 
-/// The body of a page (OGC 17-069, section 7.15): its features are appended one by one, with no
+/// The body of a page (OGC 17-069, section 7.15): its features are appended one by one, without a
 /// value of the whole. `root` is the base of links without its last slash, and `name` the
 /// collection.
 ///
 /// # Errors
 ///
-/// Want of memory alone.
+/// Only that memory runs out.
 #[tactic(auto, unfolding(crate::specs::Bodies::page_data))]
 pub fn page_text(
     alloc: Global,

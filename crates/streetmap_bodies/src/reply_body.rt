@@ -11,7 +11,7 @@ use streetmap_batch::Batch;
 use streetmap_http::{push, push_number};
 use streetmap_ledger::{Counts, Reply};
 
-/// Appends a name with what stands around it, and a number.
+/// Appends a name with the characters around it, and a number.
 fn push_count(out: &mut String, name: &str, number: u64)
     requires name { length name.now ≤ 16 }
     requires room { string_len out.old + 36 ≤ string_capacity out.old }
@@ -24,7 +24,7 @@ fn push_count(out: &mut String, name: &str, number: u64)
 }
 
 /// Appends the body of the reply to an accepted or repeated batch: how many edits of each kind it
-/// has, its key and its serial. There must be room for 320 bytes, so that no memory is taken.
+/// has, its key and its serial. There must be room for 320 bytes, so that no memory is allocated.
 pub fn push_reply(out: &mut String, key: &str, counts: Counts, serial: u64)
     requires room { string_len out.old + 320 ≤ string_capacity out.old }
     requires key { IsEscapeFree key.now }
@@ -44,8 +44,8 @@ pub fn push_reply(out: &mut String, key: &str, counts: Counts, serial: u64)
     push(out, "}");
 }
 
-/// Appends the body of the reply to a batch: of an accepted or repeated one the reply, of a refused
-/// one the error. There must be room for 320 bytes, so that no memory is taken.
+/// Appends the body of the reply to a batch: the reply if it was accepted or repeated, the error if
+/// it was refused. There must be room for 320 bytes, so that no memory is allocated.
 #[tactic(auto, unfolding(crate::specs::Replies::reply_body))]
 pub fn push_reply_body(out: &mut String, batch: &Batch, reply: Reply)
     requires { string_len out.old + 320 ≤ string_capacity out.old }

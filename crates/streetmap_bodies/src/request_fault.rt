@@ -28,7 +28,7 @@ pub enum RequestFault {
     Query(QueryFault),
     /// The batch cannot be read.
     Batch(BatchFault),
-    /// The batch is refused, with the place of the edit at fault where there is one.
+    /// The batch is refused, with the place of the edit at fault if there is one.
     Refused(Refusal, Option<u64>),
     /// The keeper did not answer.
     Keeper(Fault),
@@ -122,7 +122,8 @@ impl RequestFault {
     }
 }
 
-/// Appends the body of the answer. There must be room for 320 bytes, so that no memory is taken.
+/// Appends the body of the answer. There must be room for 320 bytes, so that no memory is
+/// allocated.
 #[tactic(auto, unfolding(crate::specs::RequestFaults::fault_body))]
 pub fn push_fault(out: &mut String, fault: &RequestFault)
     requires room { string_len out.old + 320 ≤ string_capacity out.old }
