@@ -1,4 +1,4 @@
--- What a request asks for, before the state is asked. OGC 17-069, section 7.
+-- What a request asks for, before the state is read. OGC 17-069, section 7.
 use Rattle.std.specs.Prelude.{ℕ, [], ◌∷◌, Bool, false, unwrap_or, ◌||◌, Option, None, Some}
 use Rattle.std.specs.Prelude.{option_map, option_and_then, Result, Ok, Err, codes, if◌then◌else◌}
 use Rattle.std.specs.Prelude.{◌==◌, bytes_eq, slice_get, nat_lt, length}
@@ -44,7 +44,7 @@ segment place path = unwrap_or (slice_get (slice_split (λ b. b == 47) path) pla
 abbrev pub if_text : Text → Option Text
 if_text bytes = if is_utf8 bytes then Some bytes else None
 
--- the same, percent-decoded; none where that is no text
+-- the same, percent-decoded; none if that is not text
 unfoldable pub decoded : ℕ → Text → Option Text
 decoded place path = if_text (percent_decode (segment place path))
 
@@ -68,7 +68,7 @@ route_of path = option_map (λ row. row.value) (first the_rows path)
 unfoldable pub resource_at : Text → Option ResourceValue
 resource_at path = option_and_then (resource_by path) (route_of path)
 
--- what is asked: an error, or what is to be answered
+-- what is asked for: an error, or what is to be answered
 pub data AskValue : Type 0 where
   faulty : RequestFault → AskValue
   landing_page : AskValue
@@ -90,7 +90,7 @@ abbrev pub ask_page : Text → Result QueryValue QueryFault → AskValue
 ask_page name (Ok q) = page name q
 ask_page name (Err fault) = faulty (Query fault)
 
--- what is asked of a resource without a query
+-- what a request for a resource without a query asks for
 abbrev pub unqueried : ResourceValue → Text → AskValue
 unqueried landing body = landing_page
 unqueried api body = api_text
@@ -132,7 +132,7 @@ placed (Some r) method query body =
 unfoldable pub path_part : Text → Text
 path_part target = before_first (λ b. b == 63) target
 
--- the part behind it, where there is one
+-- the part after it, if there is one
 unfoldable pub query_part : Text → Option Text
 query_part target = if nat_lt (position_or_len (λ b. b == 63) target) (length target)
     then Some (after_first (λ b. b == 63) target) else None

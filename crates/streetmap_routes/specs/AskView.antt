@@ -21,7 +21,7 @@ resource_value (Items name) = ask.items (string_bytes name)
 resource_value (Item name id) = ask.item (string_bytes name) (string_bytes id)
 resource_value Batches = ask.batches
 
--- what is asked, as a value
+-- what is asked for, as a value
 abbrev pub ask_value : Ask → ask.AskValue
 ask_value (asks.Faulty fault) = ask.faulty fault
 ask_value asks.LandingPage = ask.landing_page

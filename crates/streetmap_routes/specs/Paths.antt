@@ -11,12 +11,12 @@ abbrev pub HasNoSlash : Text → Type 0
 HasNoSlash [] = ⊤
 HasNoSlash (b ∷ bs) = (b < 256) × (b ≢ 47) × HasNoSlash bs
 
--- a name as it stands in a path, percent-encoded: at least one byte, and no slash
+-- a name as it is written in a path, percent-encoded: at least one byte, and no slash
 pub record IsSegment (name : Text) : Type 0 where
   pub some : 0 < length name
   pub plain : HasNoSlash name
 
--- each path finds its own route, whatever names stand in it
+-- each path finds its own route, whatever names are in it
 pub record EachFindsItsRoute : Type 0 where
   pub landing : route_of (codes "/") ≡ Some Landing
   pub api : route_of (codes "/api") ≡ Some Api

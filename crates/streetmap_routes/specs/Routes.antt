@@ -10,7 +10,7 @@ use Rattle.streetmap_routes.specs.declared.routes.Route.TheVariants.{Landing, Ap
 use Rattle.streetmap_routes.specs.declared.routes.Route.TheVariants.{Collections, Collection}
 use Rattle.streetmap_routes.specs.declared.routes.Route.TheVariants.{Items, Item, Batches}
 
--- the rows with one more, where its text is a route
+-- the rows with one more, if its text is a route
 abbrev pub put_scan : Result Scan InsertError → Route → RowsOf (RouteOf Route)
     → RowsOf (RouteOf Route)
 put_scan (Ok s) path rows = placed (s.pattern, route_from s path) rows

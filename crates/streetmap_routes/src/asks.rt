@@ -1,4 +1,4 @@
-//! What a request asks for, before the state is asked.
+//! What a request asks for, before the state is read.
 ghost use Rattle.std.specs.Prelude.{◌≡◌, IfOk, string_bytes};
 ghost use Rattle.std.specs.Option.{option_copied};
 ghost use Rattle.streetmap_batch.specs.BatchReading.{batch_of};
@@ -58,7 +58,7 @@ fn allows(methods: Methods, method: &[u8]) -> bool
     }
 }
 
-/// A target's path, and the query behind it, where there is one.
+/// A target's path, and the query after it, if there is one.
 #[tactic(auto, unfolding(crate::specs::Ask::path_part, crate::specs::Ask::query_part))]
 fn split_target(target: &str) -> (&str, Option<&str>)
     ensures path { result.0.now ≡ spec.path_part target.now }
@@ -101,7 +101,7 @@ fn ask_page(alloc: Global, name: String, query: Option<&str>) -> Result<Ask, All
     }
 }
 
-/// What is asked of a resource that takes no parameter.
+/// What a request for a resource that takes no parameter asks for.
 fn ask_plain(alloc: Global, resource: Resource, body: &[u8]) -> Result<Ask, AllocError>
     ensures { IfOk result (λ a. ask_value a
         ≡ spec.unqueried (resource_value resource) body.now) }

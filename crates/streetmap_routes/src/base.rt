@@ -11,13 +11,13 @@ use matchit::Router;
 use std::alloc::{AllocError, Global};
 use url::{ParseError, Position, Url};
 
-/// Why a text gives no base.
+/// Why a text is not a base.
 #[derive(Clone, Copy, PartialEq, Eq)]
 pub enum BaseFault {
-    /// `bad_base`: the text is no `http` or `https` URL with the path `/` and no user name,
+    /// `bad_base`: the text is not an `http` or `https` URL with the path `/` and no user name,
     /// password, query or fragment.
     BadBase,
-    /// `memory`: memory was refused, or the URL came to 4 GB.
+    /// `memory`: memory ran out, or the URL reached 4 GB.
     Memory,
 }
 
@@ -33,7 +33,7 @@ impl BaseFault {
         }
     }
 
-    /// The sentence of the fault; empty where it has none.
+    /// The sentence of the fault; empty if it has none.
     #[tactic(auto, unfolding(crate::specs::BaseFaults::description_of))]
     pub fn description(&self) -> &'static str
         ensures { result.now ≡ description_of self.now }
@@ -107,11 +107,11 @@ impl Base {
     ghost use Rattle.streetmap_routes.specs.BaseUrl.{ReadsBase};
     ghost use Rattle.streetmap_routes.specs.BaseView.{url_of, root_of};
 
-    /// The base that a text is, as `url` reads it.
+    /// The base that a text is, as `url` parses it.
     ///
     /// # Errors
     ///
-    /// `BadBase` exactly where the text is none, want of memory aside.
+    /// `BadBase` exactly if the text is not a base, unless memory runs out.
     pub fn new(alloc: Global, text: &str) -> Result<Base, BaseFault>
         ensures ok { IfOk result (λ base. ReadsBase text.now (url_of base)) }
         ensures bad { IsErrOf result BaseFault.BadBase → (url : Parts) →
@@ -150,7 +150,7 @@ impl Base {
     ///
     /// # Errors
     ///
-    /// Want of memory alone.
+    /// Only that memory runs out.
     pub fn ask(
         &self,
         alloc: Global,

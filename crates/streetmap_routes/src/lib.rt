@@ -1,11 +1,11 @@
-//! What a request asks for, by its method, its target and its body, before any state is asked.
+//! What a request asks for, by its method, its target and its body, before any state is read.
 //!
-//! A target is parted at its first question mark; the path is looked up undecoded in the router of
+//! A target is split at its first question mark; the path is looked up undecoded in the router of
 //! the eight paths of OGC API - Features, and its captured segments are then percent-decoded. The
 //! whole order (the target, the path, the method, the query, the body) is `specs/Ask`, `ask_of`.
 //!
-//! `Base` is the base of links, a web URL without anything behind its host and port; it holds the
-//! router, and `Base::ask` answers what a request asks for.
+//! `Base` is the base of links, a web URL without anything after its host and port; it holds the
+//! router, and `Base::ask` returns what a request asks for.
 //!
 //! Modules, in the order of reading: `routes`, `asks`, `base`, `laws`.
 #![tactic(auto)]

@@ -85,7 +85,7 @@ fn route_of(router: &Router<Route>, path: &str) -> Option<Route>
     }
 }
 
-/// What a path has at this place between its slashes, where it has so many.
+/// What a path has at this place between its slashes, if it has that many.
 fn find_segment(place: usize, path: &[u8]) -> Option<&[u8]>
     ensures { option_map (λ part. part.now) result ≡
         slice_get (slice_split (λ b. b == 47) path.now) place }
@@ -93,7 +93,7 @@ fn find_segment(place: usize, path: &[u8]) -> Option<&[u8]>
     path.split(|byte| *byte == b'/').nth(place)
 }
 
-/// The same; nothing where it has not.
+/// The same; nothing if it has not.
 fn segment(place: usize, path: &[u8]) -> &[u8]
     ensures { result.now ≡ spec.segment place path.now }
 {
@@ -103,7 +103,7 @@ fn segment(place: usize, path: &[u8]) -> &[u8]
     }
 }
 
-/// Bytes without their percent escapes, or `None` where they are no text.
+/// Bytes without their percent escapes, or `None` if they are not text.
 fn decode(alloc: Global, bytes: &[u8]) -> Result<Option<String>, AllocError>
     ensures { IfOk result (λ found. MatchOption found (IsUtf8 (percent_decode_of bytes.now)
         → ⊥)
@@ -116,7 +116,7 @@ fn decode(alloc: Global, bytes: &[u8]) -> Result<Option<String>, AllocError>
     }
 }
 
-/// What a path has at this place, percent-decoded; `None` where that is no text.
+/// What a path has at this place, percent-decoded; `None` if that is not text.
 fn decoded(alloc: Global, place: usize, path: &str) -> Result<Option<String>, AllocError>
     ensures { IfOk result (λ found. option_map string_bytes found
         ≡ spec.decoded place path.now) }
