@@ -5,7 +5,7 @@ use Rattle.streetmap_grid.specs.Values.{BoxValue}
 use Rattle.std.specs.Fmt.{signed_decimal}
 use Rattle.streetmap_query.specs.Number.{◌>>=◌, bound_at, comma_at}
 
--- the box, whose bounds are in order, where nothing follows
+-- the box, whose bounds are in order, if nothing follows
 abbrev pub in_order : BoxValue → List ℕ → Option BoxValue
 in_order b rest = if (length rest == 0) && int_le b.x0 b.x1 && int_le b.y0 b.y1 then Some b
     else None

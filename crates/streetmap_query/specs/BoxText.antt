@@ -6,8 +6,8 @@ use Rattle.std.specs.Str.Parse.{digits_value}
 use Rattle.streetmap_grid.specs.Values.{BoxValue}
 use Rattle.streetmap_grid.specs.WellFormed.{IsBox}
 
--- a number as it is written: a minus or none, digits, and behind a point that many zeros; no point
--- where there are none
+-- a number as it is written: a minus or none, digits, and after a point this number of zeros; no
+-- point if there are none
 pub record NumberText : Type 0 where
   pub minus : Bool
   pub digits : List ℕ

@@ -27,12 +27,12 @@ description_of BadDatetime = codes "The date-time or interval cannot be read."
 description_of BadAfter = codes "The value of after is no id."
 description_of Memory = codes "Memory was refused; the call may be made again."
 
--- the fault is what reading gives; nothing is said where memory was refused
+-- the fault is what reading gives; nothing is claimed if memory ran out
 abbrev pub Fails : {Y : Type 0} → QueryFault → Result Y QueryFault → Type 0
 Fails Memory read = Unit {0}
 Fails e read = read ≡ Err e
 
--- what a call returned, seen by view, is what reading gives, unless memory was refused
+-- what a call returned, seen by view, is what reading gives, unless memory ran out
 abbrev pub Gives : {X Y : Type 0} → (X → Y) → Result X QueryFault → Result Y QueryFault → Type 0
 Gives view (Ok x) read = read ≡ Ok (view x)
 Gives view (Err e) read = Fails e read

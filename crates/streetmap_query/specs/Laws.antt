@@ -8,7 +8,7 @@ use Rattle.streetmap_query.specs.Query.{IsQuery, query_of, query_text}
 use Rattle.streetmap_query.specs.QueryValue.{QueryValue}
 use Rattle.streetmap_query.specs.Text.{IsText}
 
--- a text is read as a box exactly where it is spelled as one that means it
+-- a text is read as a box exactly if it is spelled as one that means it
 abbrev pub BoxTextsAreRead : Type 0
 BoxTextsAreRead = (text : List ℕ) (b : BoxValue) → (box_of text ≡ Some b) ↔ IsBoxText text b
 

@@ -1,4 +1,4 @@
--- Reading numbers at the front of a text: what was read, and the bytes behind it.
+-- Reading numbers at the front of a text: what was read, and the bytes after it.
 use Rattle.std.specs.Prelude.{ℕ, ◌+◌, ◌-◌, ◌*◌, ◌==◌, nat_le, List, [], ◌∷◌, Option, Some, None}
 use Rattle.std.specs.Prelude.{option_map, option_and_then, if◌then◌else◌, ℤ, pos, neg_ℤ}
 use Rattle.std.specs.Borrow.{Bor}
@@ -8,12 +8,12 @@ use Rattle.std.specs.Char.{is_ascii_digit}
 abbrev pub reach : ℕ
 reach = 2_000_000_000
 
--- goes on with a value, where there is one
+-- continues with a value, if there is one
 infixl 10 ◌>>=◌
 abbrev pub ◌>>=◌ : {A B : Type 0} → Option A → (A → Option B) → Option B
 o >>= f = option_and_then f o
 
--- what a reader of the code gives, with the bytes behind it as a list
+-- the result of a reader in the code, with the bytes after it as a list
 abbrev pub read_view : {A : Type 0} → Option (A × Bor (List ℕ)) → Option (A × List ℕ)
 read_view r = option_map (λ x. (x.0, x.1.now)) r
 
@@ -22,7 +22,7 @@ unfoldable pub digit_at : List ℕ → Option (ℕ × List ℕ)
 digit_at [] = None
 digit_at (b ∷ rest) = if is_ascii_digit b then Some (b - 48, rest) else None
 
--- the digits behind those of `n`, as many as stand there; more than `room` are none
+-- the digits after those of `n`, as many as there are; none if they are more than `room`
 unfoldable pub digits_at : (room n : ℕ) → List ℕ → Option (ℕ × List ℕ)
 digits_at room n [] = Some (n, [])
 digits_at room n (b ∷ rest) =
@@ -36,7 +36,7 @@ whole_at text = do
   first ← digit_at text
   digits_at 18 first.0 first.1
 
--- what is behind the zeros at the front
+-- what follows the zeros at the front
 unfoldable pub zeros_from : List ℕ → List ℕ
 zeros_from [] = []
 zeros_from (b ∷ rest) = if b == 48 then zeros_from rest else b ∷ rest

@@ -15,14 +15,14 @@ use Rattle.streetmap_query.specs.Limit.{limit_of, default_limit}
 use Rattle.streetmap_query.specs.Box.{box_of}
 use Rattle.streetmap_query.specs.QueryValue.{DatetimeValue, QueryValue}
 
--- goes on with a value, and stops at a fault
+-- continues with a value, and stops at a fault
 infixl 10 ◌>>=◌
 abbrev pub ◌>>=◌ : {A B : Type 0} → Result A QueryFault → (A → Result B QueryFault)
     → Result B QueryFault
 (Ok x) >>= f = f x
 (Err e) >>= f = Err e
 
--- the parameters that were read so far, each absent until it stands in the text
+-- the parameters that were read so far, each absent until it occurs in the text
 pub record ParametersValue : Type 0 where
   pub bbox : Option BoxValue
   pub datetime : Option DatetimeValue
@@ -32,7 +32,7 @@ pub record ParametersValue : Type 0 where
 abbrev pub no_parameters : ParametersValue
 no_parameters = record { bbox = None; datetime = None; limit = None; after = None }
 
--- the query of the parameters: the limit is 10 where none was given
+-- the query of the parameters: the limit is 10 if none was given
 abbrev pub query_by : ParametersValue → QueryValue
 query_by p = record {
   bbox = p.bbox;
@@ -59,7 +59,7 @@ datetime_read text (Err e) p = Err BadDatetime
 datetime_read text (Ok i) p = Ok
     (record p { datetime = Some (record { text = text; interval = i }) })
 
--- `limit`: a whole number from 1, of which no more than 1000 is taken
+-- `limit`: a whole number from 1; above 1000 it is 1000
 unfoldable pub set_limit : ParametersValue → List ℕ → Result ParametersValue QueryFault
 set_limit p value = unless_given p.limit (limit_read (limit_of value) p)
 

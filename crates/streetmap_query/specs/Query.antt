@@ -1,4 +1,4 @@
--- The query that a text is, or the first fault in it; and the text that is written for a query.
+-- The query that a text means, or the first fault in it; and the text that is written for a query.
 use Rattle.std.specs.Prelude.{◌≡◌, ℕ, Bool, false, List, [], ◌∷◌, map, Option, Some, None, length}
 use Rattle.std.specs.Prelude.{nat_lt, option_map, Result, Ok, codes, decimal, IsTrue}
 use Rattle.std.specs.Option.{ForSome}
@@ -14,7 +14,7 @@ use Rattle.streetmap_query.specs.QueryValue.{QueryValue}
 use Rattle.streetmap_query.specs.Parameters.{ParametersValue, no_parameters, query_by, with_pairs}
 use Rattle.streetmap_query.specs.Parameters.{◌>>=◌}
 
--- the text that an encoded name or value stands for; bytes that are no UTF-8 are read as U+FFFD
+-- the text that an encoded name or value represents; bytes that are not UTF-8 are read as U+FFFD
 abbrev pub text_of : List ℕ → List ℕ
 text_of bytes = utf8_lossy (decode bytes)
 
@@ -31,19 +31,19 @@ abbrev pub query_of : Option (List ℕ) → Result QueryValue QueryFault
 query_of None = Ok (query_by no_parameters)
 query_of (Some text) = parameters_of text >>= λ p. Ok (query_by p)
 
--- some pair stands in the query text; where no parameter is known each pair is a fault
+-- some pair occurs in the query text; if no parameter is known each pair is a fault
 abbrev pub has_pair : Option (List ℕ) → Bool
 has_pair None = false
 has_pair (Some text) = nat_lt 0 (length (raw_pairs text))
 
 -- ---- writing
 
--- a pair of this name, where there is a value, and others behind it
+-- a pair of this name, if there is a value, and others after it
 abbrev pub pair_if : List ℕ → Option (List ℕ) → List (List ℕ × List ℕ) → List (List ℕ × List ℕ)
 pair_if name None others = others
 pair_if name (Some value) others = (name, value) ∷ others
 
--- the pairs of a query in the order of their names; `limit` is always there
+-- the pairs of a query in the order of their names; `limit` is always present
 abbrev pub pairs_of : QueryValue → List (List ℕ × List ℕ)
 pairs_of q =
     pair_if (codes "after") q.after
@@ -55,7 +55,7 @@ pairs_of q =
 abbrev pub query_text : QueryValue → List ℕ
 query_text q = extend_pairs [] (pairs_of q)
 
--- what every query keeps, whatever text it was read from
+-- what holds of every query, whatever text it was read from
 pub record IsQuery (q : QueryValue) : Type 0 where
   pub bbox : ForSome q.bbox IsBox
   pub datetime : ForSome q.datetime (λ t. interval_of t.text ≡ Ok t.interval)

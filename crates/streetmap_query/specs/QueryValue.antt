@@ -8,7 +8,7 @@ pub record DatetimeValue : Type 0 where
   pub text : List ℕ
   pub interval : IntervalValue
 
--- OGC 17-069, 7.15: `bbox`, `datetime` and `limit`; and the id behind which the page starts
+-- OGC 17-069, 7.15: `bbox`, `datetime` and `limit`; and the id after which the page starts
 pub record QueryValue : Type 0 where
   pub bbox : Option BoxValue
   pub datetime : Option DatetimeValue

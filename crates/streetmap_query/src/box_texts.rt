@@ -10,7 +10,7 @@ use crate::numbers::{behind_comma, bound};
 use std::alloc::{AllocError, Global};
 use streetmap_grid::GridBox;
 
-// The box of four bounds, where nothing is left of the text and they are in order.
+// The box of four bounds, if nothing is left of the text and they are in order.
 fn ordered(x0: i64, y0: i64, x1: i64, y1: i64, rest: &[u8]) -> Option<GridBox>
     requires west { IsBound x0 }
     requires south { IsBound y0 }
@@ -25,7 +25,7 @@ fn ordered(x0: i64, y0: i64, x1: i64, y1: i64, rest: &[u8]) -> Option<GridBox>
     GridBox::new(x0, y0, x1, y1).ok()
 }
 
-// The box of a text, as its numbers are read one behind the other.
+// The box of a text, whose numbers are read one after the other.
 #[tactic(auto, unfolding(crate::specs::Box::box_of))]
 fn box_at(text: &[u8]) -> Option<GridBox>
     ensures { option_map box_value result ≡ box_of text.now }
@@ -39,12 +39,12 @@ fn box_at(text: &[u8]) -> Option<GridBox>
 
 /// The box of a text of four numbers, in range and in order (OGC 17-069, 7.15.3), in millimetres.
 pub(crate) fn read_box(text: &[u8]) -> Option<GridBox>
-    // What is read is four numbers that mean this box.
+    // If it reads a box, the text is four numbers that mean this box.
     ensures found { IfSome result (λ b. IsBoxText text.now (box_value b)) }
-    // Four numbers that mean a box are read.
+    // It reads all texts of four numbers that mean a box.
     ensures only { (b : BoxValue) → IsBoxText text.now b
         → option_map box_value result ≡ Some b }
-    // Which box it is, as a function of the text.
+    // The box, as a function of the text.
     ensures value { option_map box_value result ≡ box_of text.now }
 {
     box_at(text)

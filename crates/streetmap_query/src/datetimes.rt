@@ -1,4 +1,4 @@
-//! Intervals of time beside their texts.
+//! Intervals of time with their texts.
 ghost use Rattle.std.specs.Prelude.{◌≡◌, Ok};
 ghost use Rattle.std.specs.String.{string_bytes};
 ghost use Rattle.streetmap_moment.specs.Intervals.{interval_of};

@@ -4,23 +4,23 @@ ghost use Rattle.streetmap_query.specs.declared.fault.QueryFault.TheVariants.{Me
 
 use std::alloc::AllocError;
 
-/// Why a query text is no query.
+/// Why a text is not the text of a query.
 #[derive(Clone, Copy, Debug, PartialEq, Eq)]
 pub enum QueryFault {
-    /// The name of a parameter is none of `bbox`, `datetime`, `limit` and `after`
-    /// (OGC 17-069, 7.6).
+    /// The name of a parameter is not one of `bbox`, `datetime`, `limit` and `after` (OGC 17-069,
+    /// 7.6).
     UnknownParameter,
-    /// A parameter stands twice.
+    /// A parameter occurs twice.
     RepeatedParameter,
-    /// The value of `limit` is no whole number from 1.
+    /// The value of `limit` is not a whole number from 1.
     BadLimit,
     /// The value of `bbox` is not four whole numbers in range and in order.
     BadBbox,
-    /// The value of `datetime` is no date-time (RFC 3339) and no interval.
+    /// The value of `datetime` is neither a date-time (RFC 3339) nor an interval.
     BadDatetime,
-    /// The value of `after` is no id.
+    /// The value of `after` is not an id.
     BadAfter,
-    /// Memory was refused. The call may be made again.
+    /// Out of memory. The caller may try again.
     Memory,
 }
 

@@ -1,9 +1,9 @@
-//! Queries for a page of features: read from the text behind the `?` of a target, and written
-//! again for links.
+//! Queries for a page of features: read from the text after the `?` of a target, and written again
+//! for links.
 //!
-//! A query text is read as the pairs of a form, from left to right; what comes out is the query
-//! that the pairs give, or the first fault in them, and nothing else. The text that is written for
-//! a query reads as that query again.
+//! A query text is read as the pairs of a form, from left to right; the result is the query that
+//! the pairs give, or the first fault in them, and nothing else. The text that is written for a
+//! query reads as that query again.
 //!
 //! In the order of reading: `queries` and `datetimes` (the types), `fault`, `numbers` and
 //! `box_texts` (the value of `bbox`), `reading` (a query text), `writing` (a query), `laws`.

@@ -1,4 +1,4 @@
-//! Numbers, read at the front of what is left of a text.
+//! Numbers, read at the front of the rest of a text.
 ghost use Rattle.std.specs.Prelude.{◌≡◌, ◌<◌, ◌≤◌, ◌≤ℤ◌, pos, IfSome, option_copied};
 ghost use Rattle.streetmap_grid.specs.Range.{IsBound};
 ghost use Rattle.streetmap_query.specs.Number.{read_view, digit_at, whole_at, zeros_from};
@@ -18,7 +18,7 @@ fn digit(text: &[u8]) -> Option<(u64, &[u8])>
     }
 }
 
-// One to nineteen digits, as many as stand there.
+// One to nineteen digits, as many as there are.
 #[tactic(auto, unfolding(crate::specs::Number::whole_at))]
 fn whole(text: &[u8]) -> Option<(u64, &[u8])>
     ensures { read_view result ≡ whole_at text.now }
@@ -51,7 +51,7 @@ fn behind_zeros(text: &[u8]) -> &[u8]
     rest
 }
 
-// What follows a point and one or more zeros, or the whole text where there is no point.
+// What follows a point and one or more zeros, or the whole text if there is no point.
 #[tactic(auto, unfolding(crate::specs::Number::fraction_at))]
 fn fraction(text: &[u8]) -> Option<&[u8]>
     ensures { option_copied result ≡ fraction_at text.now }

@@ -1,4 +1,4 @@
-//! Queries, and the parameters of a query as far as they were read.
+//! Queries, and the parameters of a query that were read so far.
 ghost use Rattle.std.specs.Prelude.{IsTrue};
 ghost use Rattle.std.specs.Option.{ForSome};
 ghost use Rattle.streetmap_geojson.specs.Id.{is_id};
@@ -8,7 +8,7 @@ use crate::datetimes::Datetime;
 use streetmap_geojson::Id;
 use streetmap_grid::GridBox;
 
-/// The parameters that were read so far, each absent until it stands in the text.
+/// The parameters that were read so far, each absent until it occurs in the text.
 #[derive(Drop)]
 pub(crate) struct Parameters {
     pub(crate) bbox: Option<GridBox>,
@@ -19,16 +19,16 @@ pub(crate) struct Parameters {
     pub ghost named: { ForSome after (λ id. IsTrue (is_id id)) },
 }
 
-/// What a page of features is asked for (OGC 17-069, 7.15).
+/// What a request for a page of features asks for (OGC 17-069, 7.15).
 #[derive(Drop)]
 pub struct Query {
     /// Only features that meet this box, in millimetres.
     pub bbox: Option<GridBox>,
     /// Only features whose time meets this interval.
     pub datetime: Option<Datetime>,
-    /// At most so many features on the page, 1 to 1000.
+    /// At most this number of features on the page, 1 to 1000.
     pub limit: u32,
-    /// Only features whose id comes behind this one, in the order of bytes.
+    /// Only features whose id comes after this one, in the order of bytes.
     pub after: Option<Id>,
     pub ghost limited: { IsLimit limit },
     pub ghost named: { ForSome after (λ id. IsTrue (is_id id)) },

@@ -103,7 +103,7 @@ impl Parameters {
         if self.after.is_some() {
             return Err(QueryFault::RepeatedParameter);
         }
-        // A value that is no id is refused before memory is taken.
+        // A value that is not an id is refused before memory is allocated.
         if !is_id(value) {
             return Err(QueryFault::BadAfter);
         }
@@ -144,7 +144,7 @@ impl Parameters {
         self.with(alloc, name.as_str(), value.as_str())
     }
 
-    // The query of these parameters, with the limit 10 where none was read.
+    // The query of these parameters, with the limit 10 if none was read.
     fn query(self) -> Query
         ensures { query_value result ≡ query_by (parameters_value self) }
     {
@@ -169,11 +169,11 @@ fn read_parameters(alloc: Global, text: &str) -> Result<Parameters, QueryFault>
     Ok(parameters)
 }
 
-/// The query of a query text, the part of a target behind its `?`; without a text, the query of no
+/// The query of a query text, the part of a target after its `?`; without a text, the query of no
 /// parameters.
 ///
-/// The text is read as the pairs of a form (URL Standard, 5.1), from left to right. The first fault
-/// is answered: of each pair first an unknown name (OGC 17-069, 7.6), then a repeated name, then a
+/// The text is read as the pairs of a form (URL Standard, 5.1), from left to right. It returns the
+/// first fault: of each pair first an unknown name (OGC 17-069, 7.6), then a repeated name, then a
 /// bad value.
 ///
 /// - `bbox`: four numbers with commas between them, in millimetres, from -2,000,000,000 to
@@ -192,8 +192,8 @@ pub fn read_query(alloc: Global, text: Option<&str>) -> Result<Query, QueryFault
     }
 }
 
-/// Whether a parameter stands in the query text, for a resource that knows none
-/// (OGC 17-069, 7.6). It takes no memory.
+/// Whether a parameter occurs in the query text, for a resource that has none (OGC 17-069, 7.6). It
+/// allocates no memory.
 pub fn has_parameter(text: Option<&str>) -> bool
     ensures { result ≡ has_pair (option_copied text.entry) }
 {

@@ -26,7 +26,7 @@ fn append(form: &mut Serializer, name: &str, value: &str) -> Result<(), AllocErr
     form.append_pair(name, value)
 }
 
-// Appends the id behind which the page starts, where there is one.
+// Appends the id after which the page starts, if there is one.
 fn append_after(form: &mut Serializer, after: Option<&str>) -> Result<(), AllocError>
     ensures pair { OnOk result (form.new
         ≡ record form.old {
@@ -41,7 +41,7 @@ fn append_after(form: &mut Serializer, after: Option<&str>) -> Result<(), AllocE
     }
 }
 
-// Appends the box, where there is one.
+// Appends the box, if there is one.
 fn append_bbox(
     alloc: Global,
     form: &mut Serializer,
@@ -62,7 +62,7 @@ fn append_bbox(
     }
 }
 
-// Appends the interval of time, where there is one.
+// Appends the interval of time, if there is one.
 fn append_datetime(form: &mut Serializer, datetime: &Option<Datetime>) -> Result<(), AllocError>
     ensures pair { OnOk result (form.new
         ≡ record form.old {
@@ -90,7 +90,7 @@ fn append_limit(alloc: Global, form: &mut Serializer, limit: u32) -> Result<(), 
     form.append_pair("limit", text.as_str())
 }
 
-// The text of a query whose page starts behind another id.
+// The text of a query whose page starts after another id.
 fn spell(alloc: Global, after: Option<&str>, query: &Query) -> Result<String, AllocError>
     ensures spelled { IfOk result (λ text. string_bytes text
         ≡ query_text (record (query_value query.now) { after = option_copied after.entry })) }
@@ -117,8 +117,8 @@ fn write(alloc: Global, after: Option<&str>, query: &Query) -> Result<String, Al
     spell(alloc, after, query)
 }
 
-/// The text of a query, for the link to the page itself: `after`, `bbox` and `datetime` where they
-/// are given, and `limit` always, in this order (URL Standard, 5.2).
+/// The text of a query, for the link to the page itself: `after`, `bbox` and `datetime` if they are
+/// given, and `limit` always, in this order (URL Standard, 5.2).
 pub fn self_query(alloc: Global, query: &Query) -> Result<String, AllocError>
     ensures spelled { IfOk result (λ text. string_bytes text
         ≡ query_text (query_value query.now)) }
@@ -132,13 +132,13 @@ pub fn self_query(alloc: Global, query: &Query) -> Result<String, AllocError>
     }
 }
 
-/// The text of a query, for the link to the page that starts behind the id `last`
-/// (OGC 17-069, 7.15.7).
+/// The text of a query, for the link to the page that starts after the id `last` (OGC 17-069,
+/// 7.15.7).
 pub fn next_query(alloc: Global, query: &Query, last: &str) -> Result<String, AllocError>
     requires { IsTrue (is_id last.now) }
     ensures spelled { IfOk result (λ text. string_bytes text
         ≡ query_text (record (query_value query.now) { after = Some last.now })) }
-    // The text reads as the same query, behind `last`.
+    // The text reads as the same query, after `last`.
     ensures again { IfOk result (λ text. query_of (Some (string_bytes text))
         ≡ Ok (record (query_value query.now) { after = Some last.now })) }
 {
