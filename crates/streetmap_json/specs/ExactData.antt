@@ -14,12 +14,12 @@ is_whole (negative (pos n)) = false
 is_whole (negative (negsuc n)) = nat_lt n (2 ^ 63)
 is_whole (float x) = false
 
--- the name stands before those of all these members, in the order of bytes
+-- the name comes before those of all these members, in the order of bytes
 abbrev pub is_before : List ℕ → Members → Bool
 is_before name no_members = true
 is_before name (member other d ms) = is_lt (slice_cmp nat_cmp name other) && is_before name ms
 
--- every number is whole, every text is UTF-8, and the members of each object stand in the order of
+-- every number is whole, every text is UTF-8, and the members of each object are in the order of
 -- their names
 abbrev mutual
   pub is_exact : Data → Bool

@@ -9,6 +9,6 @@ use Rattle.streetmap_json.specs.NumberText.{with_whole_numbers}
 abbrev pub utf8_value : List ℕ → Option Data
 utf8_value bytes = if is_utf8 bytes then read bytes else None
 
--- the value of JSON bytes, whose numbers with a fraction of zeros alone are whole
+-- the value of JSON bytes, in which numbers with a fraction of only zeros are whole
 abbrev pub json_value : List ℕ → Option Data
 json_value bytes = utf8_value (with_whole_numbers bytes)

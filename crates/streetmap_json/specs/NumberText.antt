@@ -1,5 +1,4 @@
--- JSON texts in which a number with a fraction of zeros alone stands for the whole number before
--- it.
+-- JSON texts in which a number with a fraction of only zeros represents the whole number before it.
 use Rattle.std.specs.Prelude.{◌≢◌, ℕ, List, [], ◌∷◌, length, codes, Bool, true, false, ◌&&◌, ◌||◌}
 use Rattle.std.specs.Prelude.{not, ◌==◌, nat_lt, if◌then◌else◌, bytes_eq}
 use Rattle.std.specs.Char.{is_ascii_digit}
@@ -28,7 +27,7 @@ is_dot b = b == ascii.dot
 abbrev pub has_zero_fraction : List ℕ → Bool
 has_zero_fraction s = are_signed_digits (before_first is_dot s) && are_zeros (after_first is_dot s)
 
--- a fraction of zeros alone is left out with its point
+-- a fraction of only zeros is left out with its point
 abbrev pub without_fraction : List ℕ → List ℕ
 without_fraction s = if has_zero_fraction s then before_first is_dot s else s
 
@@ -47,7 +46,7 @@ abbrev pub is_in_number : ℕ → Bool
 is_in_number b = is_ascii_digit b || (b == ascii.plus) || (b == ascii.minus) || (b == ascii.dot)
     || (b == ascii.lower_e) || (b == ascii.upper_e)
 
--- where the text goes on behind a byte: outside of strings, within a string, or within one behind a
+-- where the text goes on after a byte: outside of strings, within a string, or within one after a
 -- backslash
 pub data Side : Type 0 where
   outside : Side
@@ -65,9 +64,8 @@ abbrev pub starts_number : List ℕ → Bool
 starts_number [] = false
 starts_number (b ∷ bs) = is_in_number b
 
--- whether the byte b, behind which the text goes on with bs on that side, and the next are of one
--- token:
--- where a string goes on, and between two number bytes outside of strings
+-- whether the byte b and the next, with which bs begins on that side, are of one token: within a
+-- string, and between two number bytes outside of strings
 abbrev pub is_joined : Side → ℕ → List ℕ → Bool
 is_joined outside b bs = is_in_number b && starts_number bs
 is_joined within b bs = true
@@ -77,8 +75,7 @@ abbrev pub put_before : Bool → ℕ → List (List ℕ) → List (List ℕ)
 put_before joined b tokens = if joined then onto_first b tokens else (b ∷ []) ∷ tokens
 
 -- the tokens of a text that begins on that side: strings with their quotes, longest runs of number
--- bytes
--- outside of them, and every other byte alone
+-- bytes outside of them, and every other byte alone
 unfoldable pub tokens_from : Side → List ℕ → List (List ℕ)
 tokens_from side [] = []
 tokens_from side (b ∷ bs) = put_before (is_joined (side_after side b) b bs) b
@@ -88,13 +85,13 @@ tokens_from side (b ∷ bs) = put_before (is_joined (side_after side b) b bs) b
 abbrev pub with_whole_numbers : List ℕ → List ℕ
 with_whole_numbers text = flat_map whole_text (tokens_from outside text)
 
--- ---- what each text that changes has
+-- ---- what each text that changes contains
 
 abbrev pub starts_digit : List ℕ → Bool
 starts_digit [] = false
 starts_digit (b ∷ bs) = is_ascii_digit b
 
--- a zero behind a point, or one behind a minus with no digit behind it
+-- a zero after a point, or one after a minus with no digit after it
 abbrev pub is_changing_zero : ℕ → ℕ → Bool → Bool
 is_changing_zero before b digit_behind =
     (b == ascii.zero) && (is_dot before || ((before == ascii.minus) && not digit_behind))
@@ -107,9 +104,8 @@ may_change (a ∷ b ∷ bs) = is_changing_zero a b (starts_digit bs) || may_chan
 
 -- ---- by grammar
 
--- the text between the quotes of a string: bytes that are no quote and no backslash, and
--- backslashes, each
--- with the byte that it escapes (RFC 8259, section 7)
+-- the text between the quotes of a string: bytes that are neither a quote nor a backslash, and
+-- backslashes, each with the byte that it escapes (RFC 8259, section 7)
 pub data IsStringBody : List ℕ → Type 0 where
   empty : IsStringBody []
   unescaped : (b : ℕ) (s : List ℕ) → b ≢ ascii.quote → b ≢ ascii.backslash → IsStringBody s

@@ -4,10 +4,10 @@ ghost use Rattle.std.specs.Prelude.{◌≡◌};
 use json::Invalid;
 use std::alloc::{AllocError, AllocFailed};
 
-/// Why no value was answered for the bytes of a JSON text.
+/// Why no value was returned for the bytes of a JSON text.
 #[derive(Clone, Copy, PartialEq, Eq, Drop)]
 pub enum ParseFault {
-    /// Memory was refused; the call may be made again.
+    /// Out of memory; the caller may try again.
     Memory,
     /// The bytes have no value as a JSON text.
     NotJson,

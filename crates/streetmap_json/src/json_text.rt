@@ -17,24 +17,24 @@ use std::alloc::Global;
 /// How deep a text may nest.
 const MAX_DEPTH: usize = 127;
 
-/// The value of the bytes of a JSON text (RFC 8259) in UTF-8. A number with a fraction of zeros
-/// alone and no exponent, as `1200.0`, is read as the whole number, and `-0` as `0`.
+/// The value of the bytes of a JSON text (RFC 8259) in UTF-8. A number with a fraction of only
+/// zeros and no exponent, as `1200.0`, is read as the whole number, and `-0` as `0`.
 ///
 /// # Errors
 ///
-/// `NotJson` where the bytes have no value: they are no UTF-8 or no JSON, nest deeper than 127
+/// `NotJson` if the bytes have no value: they are not UTF-8 or not JSON, nest deeper than 127
 /// levels, or have a number too large for a float.
 pub fn read_json(alloc: Global, bytes: &[u8]) -> Result<Value, ParseFault>
     ensures exact { Reads result (json_value bytes.now) }
-    // What was written for a value reads as that value, and is refused for memory alone.
+    // What was written for a value reads as that value, and fails only if memory runs out.
     ensures again { (d : Data) → IsTrue (is_exact d) → depth d ≤ max_depth
         → bytes.now ≡ compact_text d → Reads result (Some d) }
 {
     read_json_with(alloc, &mut Scratch::new(alloc), bytes)
 }
 
-/// The same with memory that is lent. One `scratch`, which takes 16 KiB, serves any number of
-/// reads, one after the other.
+/// The same with memory that the caller lends. One `scratch`, which takes 16 KiB, serves any number
+/// of reads, one after the other.
 ///
 /// # Errors
 ///
@@ -54,7 +54,7 @@ pub fn read_json_with(
     }
 }
 
-// The value of bytes that are to be a text.
+// The value of bytes that must be a text.
 fn read_plain(alloc: Global, scratch: &mut Scratch, bytes: &[u8]) -> Result<Value, ParseFault>
     ensures { Reads result (utf8_value bytes.now) }
 {
@@ -64,7 +64,7 @@ fn read_plain(alloc: Global, scratch: &mut Scratch, bytes: &[u8]) -> Result<Valu
     }
 }
 
-// The value that all tokens of a text are.
+// The value of a text, which must take all its tokens.
 fn read_text(alloc: Global, scratch: &mut Scratch, text: &str) -> Result<Value, ParseFault>
     ensures { Reads result (read text.now) }
 {

@@ -23,9 +23,8 @@ pub fn written_text_reads_again()
         → json_value (compact_text d) ≡ Some d }
 {}
 
-/// A number text is read without its fraction where it is digits, with or without a minus before
-/// them, a point and one zero or more, and as it stands in every other case; and `-0` is read as
-/// `0`.
+/// A number text is read without its fraction if it is digits, with or without a minus before them,
+/// a point and one zero or more, and as it is in every other case; and `-0` is read as `0`.
 pub fn number_text_is_read_whole()
     ensures fraction { (whole zeros : List ℕ) → IsTrue (are_signed_digits whole)
         → IsTrue (are_zeros zeros) → whole_text (whole ++ ascii.dot ∷ zeros) ≡ unsigned_zero whole }
@@ -35,8 +34,8 @@ pub fn number_text_is_read_whole()
         → whole_text s ≡ unsigned_zero s }
 {}
 
-/// A text is changed token by token: each longest run of number bytes as that number text is read.
-/// Strings, with an end or without, and all other bytes stay as they are.
+/// A text is changed token by token: each longest run of number bytes is changed as that number
+/// text is read. Strings, with an end or without, and all other bytes stay as they are.
 pub fn text_is_changed_by_token()
     ensures number { (s rest : List ℕ) → 0 < length s → IsTrue (list_all is_in_number s)
         → starts_number rest ≡ false → with_whole_numbers (s ++ rest)

@@ -1,14 +1,13 @@
-//! JSON texts (RFC 8259) read as values, whole numbers also where they have a fraction of zeros.
+//! JSON texts (RFC 8259) read as values, whole numbers also if they have a fraction of zeros.
 //!
 //! Usual exporters write the whole number 1200 as `1200.0`, and 0 as `-0`. `read_json` reads the
 //! value of the bytes after each such number text was changed to the whole number; the change alone
-//! is `with_whole_numbers`. `specs/NumberText` says what becomes of a number text and where the
-//! tokens of a text end, `specs/JsonText` what the value of bytes is. The laws tell that the
-//! compact text of exact data (`specs/ExactData`: whole numbers, UTF-8 texts, members in order)
-//! reads as that data.
+//! is `with_whole_numbers`. `specs/NumberText` defines what a number text becomes and where the
+//! tokens of a text end, `specs/JsonText` the value of bytes. The laws say that the compact text of
+//! exact data (`specs/ExactData`: whole numbers, UTF-8 texts, members in order) reads as that data.
 //!
-//! `read_value` and `read_token` read one value at a time from the tokens of a text, for who must
-//! not have the whole value in memory.
+//! `read_value` and `read_token` read one value at a time from the tokens of a text, for callers
+//! that must not have the whole value in memory.
 //!
 //! Modules, in the order of reading: `fault`, `number_text`, `number`, `value`, `json_text`,
 //! `laws`.

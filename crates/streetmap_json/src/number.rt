@@ -8,14 +8,14 @@ ghost use Rattle.serde_json.specs.View.{number_view};
 use fast_float::Numeral;
 use serde_json::Number;
 
-/// The nearest float, where there is a finite one.
+/// The nearest float, if there is a finite one.
 fn float(is_negative: bool, numeral: &Numeral<'_>) -> Option<Number>
     ensures { option_map number_view result ≡ float_of is_negative numeral.now }
 {
     Number::from_f64(numeral.to_float::<f64>(is_negative))
 }
 
-/// The number below zero that these digits are, behind a minus; `-0` is a float.
+/// The number below zero that these digits are, after a minus; `-0` is a float.
 fn below_zero(numeral: &Numeral<'_>) -> Option<Number>
     ensures { option_map number_view result ≡ number_from true numeral.now }
 {
@@ -41,7 +41,7 @@ fn has_minus(text: &[u8]) -> bool
     !text.is_empty() && text[0] == b'-'
 }
 
-/// The number of a number text, where it is not too large for a float.
+/// The number of a number text, if it is not too large for a float.
 pub(crate) fn read_number(text: &str) -> Option<Number>
     ensures { option_map number_view result ≡ number_of text.now }
 {

@@ -1,4 +1,4 @@
-// Number texts whose fraction is zeros alone, in the bytes of a JSON text.
+// Number texts whose fraction is only zeros, in the bytes of a JSON text.
 ghost use Rattle.std.specs.Prelude.{◌≡◌, ◌∷◌, ℕ, IfOk, MatchOption, ◌<◌, ◌≤◌, ◌-◌, length};
 ghost use Rattle.std.specs.Prelude.{take, drop};
 ghost use Rattle.std.specs.List.{prefix_len, position_or_len, onto_first};
@@ -69,7 +69,7 @@ fn without_fraction(token: &[u8]) -> &[u8]
     }
 }
 
-// What a token is read as: each that changes ends with a zero, and becomes shorter.
+// What a token is read as: each token that changes ends with a zero, and becomes shorter.
 #[tactic(auto, unfolding(crate::specs::NumberText::whole_text))]
 fn whole_text(token: &[u8]) -> &[u8]
     ensures { result.now ≡ whole_text token.now }
@@ -97,7 +97,7 @@ fn number_len(text: &[u8]) -> usize
     text.len()
 }
 
-// The length of what is left of a string, with its closing quote.
+// The length of the rest of a string, with its closing quote.
 fn string_rest(rest: &[u8]) -> usize
     ensures within { result ≤ length rest.now }
     ensures first { (quote : ℕ) → onto_first quote (tokens_from within rest.now)
@@ -134,8 +134,8 @@ fn token_len(text: &[u8]) -> usize
     }
 }
 
-// Whether a byte is a zero behind a point, or one behind a minus with no digit behind it. There is
-// no `&&`, and so no branch, so that a loop over it takes many bytes at a time.
+// Whether a byte is a zero after a point, or one after a minus with no digit after it. There is no
+// `&&`, and so no branch, so that a loop over it takes many bytes at a time.
 fn is_changing_zero(before: u8, byte: u8, digit_behind: bool) -> bool
     ensures { result ≡ is_changing_zero before byte digit_behind }
 {
@@ -152,8 +152,8 @@ fn may_change_at_end(text: &[u8]) -> bool
     }
 }
 
-// Whether the text has such a zero anywhere: a quick look, since without one no number text
-// changes. The loop does not stop where it finds one, so that it takes many bytes at a time.
+// Whether the text has such a zero anywhere: a quick check, since without one no number text
+// changes. The loop does not stop when it finds one, so that it takes many bytes at a time.
 fn may_change(text: &[u8]) -> bool
     ensures { result ≡ may_change text.now }
 {
@@ -164,14 +164,14 @@ fn may_change(text: &[u8]) -> bool
     found || may_change_at_end(text)
 }
 
-/// The text with its number texts as [`crate::read_json`] reads them, or `None` where that is the
-/// text itself. Digits, with or without a minus before them, a point and zeros alone, as `1200.0`,
-/// become the digits, and `-0` becomes `0`. Strings and all other bytes stay as they are. Any bytes
-/// are taken, JSON or not.
+/// The text with its number texts as [`crate::read_json`] reads them, or `None` if that is the text
+/// itself. Digits, with or without a minus before them, a point and only zeros, as `1200.0`, become
+/// the digits, and `-0` becomes `0`. Strings and all other bytes stay as they are. Any bytes are
+/// taken, JSON or not.
 ///
 /// # Errors
 ///
-/// `AllocError` where memory was refused; the call may be made again.
+/// `AllocError` if memory runs out; the caller may try again.
 pub fn with_whole_numbers(alloc: Global, text: &[u8]) -> Result<Option<Vec<u8>>, AllocError>
     ensures { IfOk result (λ o. MatchOption o (with_whole_numbers text.now ≡ text.now)
         (λ v. v.items ≡ with_whole_numbers text.now)) }

@@ -10,11 +10,11 @@ use json::{Reader, Token};
 use serde_json::{Map, Value};
 use std::alloc::Global;
 
-/// Reads the value that comes next, nested no deeper than this.
+/// Reads the next value, nested no deeper than this.
 ///
 /// # Errors
 ///
-/// `NotJson` where no value comes next, it nests deeper, or it has a number too large for a float.
+/// `NotJson` if no value comes next, it nests deeper, or it has a number too large for a float.
 #[cycle(read_value)]
 pub fn read_value(alloc: Global, reader: &mut Reader<'_>, depth: usize) -> Result<Value, ParseFault>
     ensures takes { Takes view result reader.new (value_at depth reader.old) }
@@ -26,7 +26,7 @@ pub fn read_value(alloc: Global, reader: &mut Reader<'_>, depth: usize) -> Resul
     }
 }
 
-/// Reads the value that begins with a token that was read, nested no deeper than this.
+/// Reads the value that begins with a token that was already read, nested no deeper than this.
 ///
 /// # Errors
 ///
@@ -86,7 +86,8 @@ fn read_items(
     Ok(items)
 }
 
-/// The members of an object whose opening brace was read. Of those with one name the last stays.
+/// The members of an object whose opening brace was read. Of members with the same name the last is
+/// kept.
 #[cycle(read_value)]
 fn read_members(
     alloc: Global,
