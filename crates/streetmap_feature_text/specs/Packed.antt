@@ -19,7 +19,7 @@ use Rattle.streetmap_feature_text.specs.Written.{feature_data}
 abbrev pub feature_in_text : List ℕ → Result FeatureValue Fault
 feature_in_text text = json_of text >>= λ d. feature None d
 
--- what was read, or a feature of nothing
+-- what was read, or an empty feature
 abbrev pub or_nothing : Result FeatureValue Fault → FeatureValue
 or_nothing (Ok f) = f
 or_nothing (Err fault) = record { id = []; geometry = None; properties = null; time = None }
@@ -34,7 +34,8 @@ pub record IsPartOf (part : Part) (text part_text : List ℕ) : Type 0 where
   pub within : part.end ≤ length text
   pub is : slice_range text part.start part.end ≡ part_text
 
--- the text is that of a feature, the extent that of its geometry, and the part that is told its id
+-- the text is that of a feature, the extent that of its geometry, and the part, if one is given,
+-- its id
 pub record IsPacked (text : List ℕ) (extent : Option BoxValue) (id : Option Part) : Type 0 where
   pub packed : FeatureValue
   pub is : IsFeature packed

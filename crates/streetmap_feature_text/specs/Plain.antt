@@ -1,4 +1,4 @@
--- What stands in a JSON string as it is. RFC 8259, section 7.
+-- The bytes that a JSON string has unescaped. RFC 8259, section 7.
 use Rattle.std.specs.Prelude.{ℕ, Bool, ◌&&◌, ◌==◌, not, nat_le}
 use Rattle.json.specs.Ascii as ascii
 

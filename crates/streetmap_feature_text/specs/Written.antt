@@ -1,5 +1,5 @@
--- What is written for a feature. RFC 7946 3; the members of each object stand in byte order of
--- their names.
+-- What is written for a feature. RFC 7946 3; the members of each object are in byte order of their
+-- names.
 use Rattle.std.specs.Prelude.{ℤ, ℕ, List, [], ◌∷◌, Option, None, Some, map, codes}
 use Rattle.serde_json.specs.Data.{Data, null, number, string, array, object, no_members, member}
 use Rattle.serde_json.specs.Find.{of_integer}

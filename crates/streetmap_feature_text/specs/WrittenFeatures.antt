@@ -1,4 +1,4 @@
--- A feature beside its text, of which only a part may be kept.
+-- A feature with its text, of which only a part may be kept.
 use Rattle.std.specs.Prelude.{◌≡◌, ℕ, List, IfSome, Option, option_map}
 use Rattle.serde_json.specs.Written.{compact_text}
 use Rattle.streetmap_grid.specs.Values.{BoxValue}

@@ -10,8 +10,8 @@ ghost use Rattle.streetmap_geojson.specs.JsonText.{json_of};
 ghost use Rattle.streetmap_geojson.specs.FeatureInvariant.{IsFeature};
 ghost use Rattle.streetmap_feature_text.specs.Written.{feature_data, collection_data};
 
-/// A value reads as one feature at most under a time property, and what is written for a feature
-/// reads as it, its time left out.
+/// A value reads as at most one feature under a time property, and what is written for a feature
+/// reads as that feature without its time.
 pub fn reads_once()
     ensures once { (time_property : Option (List ℕ)) (d : Data) (f g : FeatureValue)
         → ReadsAs time_property d f → ReadsAs time_property d g → f ≡ g }
@@ -28,8 +28,8 @@ pub fn feature_text_reads_again()
         → json_of (compact_text (feature_data f)) ≡ Ok (feature_data f) }
 {}
 
-/// What is written for a list of features reads as them, their times left out, and its compact
-/// text is read as its value.
+/// What is written for a list of features reads as these features without their times, and its
+/// compact text is read as its value.
 pub fn collection_reads_again()
     ensures again { (fs : List FeatureValue) → All IsFeature fs
         → AreFeatures None (collection_data fs) (map untimed fs) }

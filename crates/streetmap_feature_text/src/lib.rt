@@ -1,10 +1,10 @@
 //! Features as texts: GeoJSON (RFC 7946) written as JSON values and as compact JSON texts, and
 //! features that are kept as their texts.
 //!
-//! What `write_feature` writes reads again as that feature, its time left out (`value_writing`);
-//! the texts that `push_feature` and `collection_text` make are the compact texts of those values,
-//! with no value between (`text_writing`). A `WrittenFeature` has its text beside it, a
-//! `PackedFeature` is a feature kept as its text, and an `Outline` what is known of a feature
+//! What `write_feature` writes reads again as that feature without its time (`value_writing`); the
+//! texts that `push_feature` and `collection_text` make are the compact texts of those values,
+//! without a value in between (`text_writing`). A `WrittenFeature` has its text beside it, a
+//! `PackedFeature` is a feature kept as its text, and an `Outline` is what is known of a feature
 //! without reading it: its extent and its time.
 //!
 //! Modules, in the order of reading: `value_writing`, `quoting`, `properties_writing`,

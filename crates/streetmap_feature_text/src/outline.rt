@@ -42,14 +42,14 @@ impl Outline {
         }
     }
 
-    /// The extent of the geometry, in millimetres: none where there is none.
+    /// The extent of the geometry, in millimetres: none if there is none.
     pub fn extent(&self) -> Option<GridBox>
         ensures { option_map box_value result ≡ self.now.extent }
     {
         self.extent
     }
 
-    /// The time, where the feature has one.
+    /// The time, if the feature has one.
     pub fn time(&self) -> Option<Interval>
         ensures { option_map interval_value result ≡ self.now.time }
     {

@@ -32,8 +32,8 @@ struct Part {
     end: u32,
 }
 
-/// What is kept of a feature: its compact text, its extent and its time, and where its id stands in
-/// the text, if it stands there as it is.
+/// What is kept of a feature: its compact text, its extent and its time, and the place of its id in
+/// the text, if it is unescaped there.
 #[derive(Drop)]
 struct Packing {
     text: Bytes,
@@ -42,8 +42,8 @@ struct Packing {
     id: Option<Part>,
 }
 
-/// A feature that is kept as its compact text, with its extent and its time beside it: a fraction
-/// of the memory of a [`Feature`], and none of its own for the text where that is a part of a
+/// A feature that is kept as its compact text, with its extent and its time beside it: it takes a
+/// fraction of the memory of a [`Feature`], and none of its own for the text if that is a part of a
 /// shared one. Clauses see it as a `FeatureValue`.
 #[derive(Drop)]
 pub struct PackedFeature {
@@ -67,10 +67,10 @@ impl Model for PackedFeature {
     ghost invariant = { λ p. IsPacked p.kept.value.text (option_map box_value p.kept.value.extent) p.kept.value.id };
 }
 
-/// What stands before an id in a feature's text.
+/// The bytes before an id in a feature's text.
 const BEFORE_THE_ID: &[u8] = b"\"id\":\"";
 
-/// Where the id stands in a feature's text, if it stands there as it is.
+/// The place of the id in a feature's text, if it is unescaped there.
 fn id_in(text: &[u8], id: &[u8]) -> Option<Part>
     ensures { IfSome result (λ part. IsPartOf part text.now id.now) }
 {
@@ -124,14 +124,14 @@ impl PackedFeature {
         let _ = &self.kept.time;
     }
 
-    /// The extent of the geometry, in millimetres: none where there is none.
+    /// The extent of the geometry, in millimetres: none if there is none.
     pub fn extent(&self) -> Option<GridBox>
         ensures { option_map box_value result ≡ option_map extent_of self.now.geometry }
     {
         self.kept.extent
     }
 
-    /// The time, where the feature has one.
+    /// The time, if the feature has one.
     pub fn time(&self) -> Option<Interval>
         ensures { option_map interval_value result ≡ self.now.time }
     {
@@ -148,8 +148,8 @@ impl PackedFeature {
         }
     }
 
-    /// The bytes of the id, which stand so in the text. None where they do not, since one of them
-    /// is written as an escape: the feature has then to be read.
+    /// The bytes of the id, if the text has exactly these bytes. None if it has not, since one of
+    /// them is written as an escape: then the caller must read the feature.
     pub fn unescaped_id(&self) -> Option<&[u8]>
         ensures { IfSome result (λ id. id.now ≡ self.now.id) }
     {

@@ -7,7 +7,7 @@ ghost use Rattle.streetmap_feature_text.specs.Ends.{end_at};
 
 use streetmap_moment::{Interval, Moment};
 
-/// How many nanoseconds a second has. An end with so many beside its second is not there.
+/// How many nanoseconds a second has. An end with this number beside its second is absent.
 const SECOND: u32 = 1_000_000_000;
 
 /// A time or none, by its two ends: of each the whole seconds since 1970-01-01T00:00:00Z, and the

@@ -1,4 +1,4 @@
-//! The properties of features as JSON texts (RFC 7946, section 3.2), with no text between.
+//! The properties of features as JSON texts (RFC 7946, section 3.2), without a text in between.
 ghost use Rattle.std.specs.Prelude.{◌≡◌, ◌++◌, OnOk, false, string_bytes};
 ghost use Rattle.serde_json.specs.View.{view, members_view};
 ghost use Rattle.serde_json.specs.Written.{compact_text, has_float, members_have_float};
@@ -36,7 +36,7 @@ fn push_member(alloc: Global, out: &mut String, value: &Value) -> Result<(), All
     }
 }
 
-/// Appends members and the brace behind them.
+/// Appends members and the brace after them.
 fn push_members(
     alloc: Global,
     out: &mut String,

@@ -9,7 +9,7 @@ ghost use Rattle.streetmap_feature_text.specs.Plain.{is_plain};
 use serde_json::Value;
 use std::alloc::{AllocError, Global};
 
-/// Whether a byte stands for itself in a JSON string.
+/// Whether a byte represents itself in a JSON string.
 fn is_plain(byte: u8) -> bool
     ensures { result ≡ is_plain byte }
 {
@@ -22,7 +22,7 @@ fn are_plain(text: &[u8]) -> bool
     text.iter().all(|byte| is_plain(*byte))
 }
 
-/// Appends a text as it stands, in quotes. Where memory is refused, nothing is appended.
+/// Appends a text as it is, in quotes. If memory runs out, nothing is appended.
 fn push_in_quotes(out: &mut String, text: &str) -> Result<(), AllocError>
     ensures bytes { OnOk result (string_bytes out.new
         ≡ string_bytes out.old ++ ascii.quote ∷ (text.now ++ ascii.quote ∷ [])) }
@@ -34,7 +34,7 @@ fn push_in_quotes(out: &mut String, text: &str) -> Result<(), AllocError>
     out.push_str("\"")
 }
 
-/// Appends a text as a JSON string, with its escapes. Where memory is refused, nothing is appended.
+/// Appends a text as a JSON string, with its escapes. If memory runs out, nothing is appended.
 fn push_escaped(alloc: Global, out: &mut String, text: &str) -> Result<(), AllocError>
     ensures bytes { OnOk result (string_bytes out.new
         ≡ string_bytes out.old ++ compact_text (string text.now)) }
@@ -45,8 +45,8 @@ fn push_escaped(alloc: Global, out: &mut String, text: &str) -> Result<(), Alloc
     out.push_str(quoted.as_str())
 }
 
-/// Appends a text as a JSON string, in quotes and with its escapes (RFC 8259, section 7). Where
-/// memory is refused, nothing is appended.
+/// Appends a text as a JSON string, in quotes and with its escapes (RFC 8259, section 7). If memory
+/// runs out, nothing is appended.
 pub fn push_quoted(alloc: Global, out: &mut String, text: &str) -> Result<(), AllocError>
     ensures bytes { OnOk result (string_bytes out.new
         ≡ string_bytes out.old ++ compact_text (string text.now)) }

@@ -1,4 +1,5 @@
-//! Features and collections as JSON texts (RFC 7946, section 3; RFC 8259), with no value between.
+//! Features and collections as JSON texts (RFC 7946, section 3; RFC 8259), without a value in
+//! between.
 ghost use Rattle.std.specs.Prelude.{◌≡◌, ◌++◌, IfOk, OnOk, OnErr, map, option_map, string_bytes};
 ghost use Rattle.serde_json.specs.Data.{string};
 ghost use Rattle.serde_json.specs.View.{view};
@@ -23,7 +24,7 @@ use std::alloc::{AllocError, Global};
 use streetmap_geojson::Feature;
 use streetmap_grid::{Geometry, Line, Polygon, Position, Ring, SimpleGeometry};
 
-/// Appends a comma, where an element or a member stands before. Where memory is refused, nothing is
+/// Appends a comma, if an element or a member comes before. If memory runs out, nothing is
 /// appended.
 pub fn push_comma(out: &mut String, later: bool) -> Result<(), AllocError>
     ensures bytes { OnOk result (string_bytes out.new ≡ string_bytes out.old ++ comma_if later) }
@@ -41,7 +42,7 @@ pub(crate) fn push_number(out: &mut String, number: i64) -> Result<(), AllocErro
     out.push_str(digits.format(number))
 }
 
-/// Appends a height and the comma before it, where there is one.
+/// Appends a height and the comma before it, if there is one.
 fn push_height(out: &mut String, height: Option<i64>) -> Result<(), AllocError>
     ensures { OnOk result (string_bytes out.new ≡ string_bytes out.old ++ height_text height) }
 {
@@ -199,7 +200,7 @@ fn push_geometry(out: &mut String, geometry: Option<&Geometry>) -> Result<(), Al
 }
 
 /// Appends the compact JSON text of a feature, as `write_feature` writes its value: without its
-/// time. Where memory is refused, a beginning of it may be appended.
+/// time. If memory runs out, a prefix of it may have been appended.
 pub fn push_feature(alloc: Global, out: &mut String, feature: &Feature) -> Result<(), AllocError>
     ensures { OnOk result (string_bytes out.new
         ≡ string_bytes out.old ++ compact_text (feature_data (feature_value feature.now))) }
@@ -213,7 +214,7 @@ pub fn push_feature(alloc: Global, out: &mut String, feature: &Feature) -> Resul
     out.push_str(",\"type\":\"Feature\"}")
 }
 
-/// Appends the array of features, in their order. Where memory is refused, a beginning of it may be
+/// Appends the array of features, in their order. If memory runs out, a prefix of it may have been
 /// appended.
 pub fn push_features(
     alloc: Global,

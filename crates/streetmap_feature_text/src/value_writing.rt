@@ -190,7 +190,7 @@ fn write_members(alloc: Global, feature: &Feature) -> Result<Value, AllocError>
 /// `id`, `properties` and `type`; the id is always text.
 pub fn write_feature(alloc: Global, feature: &Feature) -> Result<Value, AllocError>
     ensures value { IfOk result (λ v. view v ≡ feature_data (feature_value feature.now)) }
-    // What is written reads as that feature, its time left out.
+    // What is written reads as that feature without its time.
     ensures reads_again { IfOk result (λ v.
         ReadsAs None (view v) (untimed (feature_value feature.now))) }
     // Its compact text is read as the same value.
@@ -232,7 +232,7 @@ fn write_whole(alloc: Global, features: &[Feature]) -> Result<Value, AllocError>
 pub fn write_collection(alloc: Global, features: &[Feature]) -> Result<Value, AllocError>
     ensures value { IfOk result (λ v. view v
         ≡ collection_data (map feature_value features.now)) }
-    // What is written reads as those features, their times left out.
+    // What is written reads as those features without their times.
     ensures reads_again { IfOk result (λ v.
         AreFeatures None (view v) (map untimed (map feature_value features.now))) }
     // Its compact text is read as the same value.

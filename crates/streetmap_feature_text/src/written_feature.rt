@@ -23,7 +23,7 @@ use streetmap_moment::{Interval, TimeFault};
 const TEXT_ROOM: usize = 256;
 
 /// What is kept of a feature: its compact text, its id, its extent and its time, and the feature
-/// itself where one of its properties may be a time.
+/// itself if one of its properties may be a time.
 #[derive(Drop)]
 struct Written {
     text: String,
@@ -33,10 +33,10 @@ struct Written {
     feature: Option<Feature>,
 }
 
-/// A feature as its compact text, which is made once and may be written often. Its properties stand
-/// in the text alone, unless one of them may be a time: so most features take a third of the memory
-/// of a [`Feature`], and the others are asked for their times without being read again. It is kept
-/// at an address, which is handed on. Clauses see it as a `FeatureValue`.
+/// A feature as its compact text, which is made once and may be written often. Its properties are
+/// kept only in the text, unless one of them may be a time: so most features take a third of the
+/// memory of a [`Feature`], and the times of the others are found without reading them again. It is
+/// kept at an address, which is passed on. Clauses see it as a `FeatureValue`.
 #[derive(Drop)]
 pub struct WrittenFeature {
     kept: Box<Written>,
@@ -103,7 +103,7 @@ impl WrittenFeature {
     ///
     /// # Errors
     ///
-    /// `AllocError` where memory was refused.
+    /// `AllocError` if memory runs out.
     pub fn new(alloc: Global, feature: Feature) -> Result<WrittenFeature, AllocError>
         ensures { IfOk result (λ w. w ≡ feature) }
     {
@@ -126,7 +126,7 @@ impl WrittenFeature {
         self.kept.id.as_str()
     }
 
-    /// The extent of the geometry, in millimetres: none where there is none.
+    /// The extent of the geometry, in millimetres: none if there is none.
     pub fn extent(&self) -> Option<GridBox>
         ensures { option_map box_value result ≡ option_map extent_of self.now.geometry }
     {
@@ -158,12 +158,12 @@ impl WrittenFeature {
         }
     }
 
-    /// What the property of that name says of the time, as [`Feature::time_under`] tells it; none
-    /// without a name. A feature whose properties stand in its text alone is read for it.
+    /// What the property of that name says of the time, as [`Feature::time_under`] returns it; none
+    /// without a name. A feature whose properties are only in its text is read for it.
     ///
     /// # Errors
     ///
-    /// `AllocError` where memory was refused; the call may be made again.
+    /// `AllocError` if memory runs out; the caller may try again.
     pub fn time_under(
         &self,
         alloc: Global,
