@@ -4,13 +4,12 @@ use Rattle.json.specs.Token.{Token}
 use Rattle.serde_json.specs.Data.{Data, Members, member, put}
 use Rattle.streetmap_json.specs.Values.{value_at}
 
--- a member of this name, where it was found, before others
+-- a member of this name, if it was found, before others
 abbrev pub found : List ℕ → Option Data → Members → Members
 found name None more = more
 found name (Some d) more = member name d more
 
--- the value that comes next, nested no deeper than this, is read, and put among the members under
--- this name
+-- the next value, nested no deeper than this, is read, and put among the members under this name
 abbrev pub Takes : (depth : ℕ) (name : List ℕ) → (old new : Members)
     → (before behind : List Token) → Type 0
 Takes depth name old new before behind =

@@ -1,11 +1,12 @@
 //! Features read from their JSON texts (RFC 8259) as GeoJSON (RFC 7946).
 //!
-//! A text is usual where it is an object with the members `geometry`, `id`, `properties` and the
-//! type `Feature`, each once and in any order, and no other member, and its geometry is null, or an
-//! object with a type that has coordinates and its `coordinates`, and no other member: so exporters
-//! write features, and so they are kept. `read_usual` reads such a text member by member from its
-//! tokens, and makes no JSON value of the whole. `read_feature_text` reads any text, a usual one
-//! so, and every other as a value. What both answer is what the value of the text reads as.
+//! A text is usual if it is an object with the members `geometry`, `id`, `properties` and the type
+//! `Feature`, each once and in any order, and no other member, and its geometry is null, or an
+//! object with a type that has coordinates and its `coordinates`, and no other member: exporters
+//! write features in this form, and so they are kept. `read_usual` reads such a text member by
+//! member from its tokens, and makes no JSON value of the whole. `read_feature_text` reads any
+//! text, a usual one in this way, and every other as a value. Both return what the value of the
+//! text reads as.
 //!
 //! Modules, in the order of reading: `places`, `usual_geometry`, `usual_members`, `reading`.
 #![tactic(auto)]

@@ -9,8 +9,8 @@ use serde_json::Value;
 use std::alloc::Global;
 use streetmap_json::{ParseFault, read_value};
 
-/// Reads the value that comes next, nested no deeper than this, where none was found before;
-/// returns whether it did.
+/// Reads the next value, nested no deeper than this, if none was found before; returns whether it
+/// did.
 pub(crate) fn fill(
     alloc: Global,
     place: &mut Option<Value>,

@@ -19,7 +19,7 @@ use std::alloc::{AllocError, Global};
 use streetmap_geojson::{Fault, Feature, FeatureMembers, JsonFault, read_feature, read_members};
 use streetmap_json::{ParseFault, read_json_with, with_whole_numbers};
 
-/// The members that the tokens of a text are, where they are those that a feature usually has.
+/// The members that the tokens of a text are, if they are those that a feature usually has.
 fn members_of(
     alloc: Global,
     scratch: &mut Scratch,
@@ -42,7 +42,7 @@ fn members_of(
     Ok(members.whole())
 }
 
-/// The feature of members, where they read as one.
+/// The feature of members, if they read as one.
 fn feature_of(
     alloc: Global,
     members: FeatureMembers,
@@ -61,7 +61,7 @@ fn feature_of(
     }
 }
 
-/// The feature of a text, where it is usual and reads as one.
+/// The feature of a text, if it is usual and reads as one.
 fn read_usual_text(
     alloc: Global,
     scratch: &mut Scratch,
@@ -79,7 +79,7 @@ fn read_usual_text(
     }
 }
 
-/// The feature of bytes whose numbers are read as they stand.
+/// The feature of bytes whose numbers are read as they are.
 fn read_usual_bytes(
     alloc: Global,
     scratch: &mut Scratch,
@@ -97,12 +97,12 @@ fn read_usual_bytes(
 }
 
 /// The feature of a JSON text, its time read from the property of that name, or none without a
-/// name, where the text is usual and reads as a feature. Else nothing is told of the text. One
+/// name, if the text is usual and reads as a feature. Otherwise nothing is claimed of the text. One
 /// `scratch` serves any number of reads, one after the other.
 ///
 /// # Errors
 ///
-/// `AllocError` where memory was refused; the call may be made again.
+/// `AllocError` if memory runs out; the caller may try again.
 pub fn read_usual(
     alloc: Global,
     scratch: &mut Scratch,
@@ -156,9 +156,8 @@ fn read_any(
 ///
 /// # Errors
 ///
-/// `Fault` with `NotJson` where the bytes have no value, as [`read_json_with`] has it, and else
-/// with the fault of [`read_feature`]. `Memory` where memory was refused; the call may be made
-/// again.
+/// `Fault` with `NotJson` if the bytes have no value, as [`read_json_with`] has it, and otherwise
+/// with the fault of [`read_feature`]. `Memory` if memory runs out; the caller may try again.
 pub fn read_feature_text(
     alloc: Global,
     scratch: &mut Scratch,
@@ -168,7 +167,7 @@ pub fn read_feature_text(
     // What is read is what the value of the text reads as.
     ensures found { IfOk result (λ f. (d : Data) × (json_of bytes.now ≡ Ok d)
         × ReadsAs (option_map (λ s. s.now) time_property.entry) d (feature_value f)) }
-    // What it reads as is read, unless memory runs out.
+    // It reads what the value of the text reads as, unless memory runs out.
     ensures only { (d : Data) (f : FeatureValue) → json_of bytes.now ≡ Ok d
         → ReadsAs (option_map (λ s. s.now) time_property.entry) d f
         → Gives feature_value result (Ok f) }

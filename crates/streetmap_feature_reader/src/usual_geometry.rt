@@ -25,7 +25,7 @@ struct UsualGeometry {
     kind: Option<SimpleKind>,
 }
 
-/// The kind whose name comes next, where it has coordinates.
+/// The kind whose name comes next, if it has coordinates.
 fn read_kind(reader: &mut Reader<'_>) -> Option<SimpleKind>
     ensures { IfSome result (λ kind. (value_at 125 reader.old
         ≡ Some (string (kind_name kind), reader.new)) × (length reader.new < length reader.old)) }
@@ -46,7 +46,7 @@ impl UsualGeometry {
         }
     }
 
-    /// Reads the type, where it was not found before; returns whether it did.
+    /// Reads the type, if it was not found before; returns whether it did.
     fn take_kind(&mut self, reader: &mut Reader<'_>) -> bool
         ensures { IsTrue result → Takes 125 (codes "type") (geometry_members self.old)
             (geometry_members self.new) reader.old reader.new }
@@ -58,7 +58,7 @@ impl UsualGeometry {
         self.kind.is_some()
     }
 
-    /// Reads the value of the member of that name, where a geometry usually has it and it was not
+    /// Reads the value of the member of that name, if a geometry usually has it and it was not
     /// found before; returns whether it did.
     fn take(
         &mut self,
@@ -76,8 +76,8 @@ impl UsualGeometry {
         }
     }
 
-    /// The members behind an opening brace, up to the closing one, where they are those that a
-    /// geometry usually has.
+    /// The members after an opening brace, up to the closing one, if they are those that a geometry
+    /// usually has.
     fn read(alloc: Global, reader: &mut Reader<'_>) -> Result<Option<UsualGeometry>, ParseFault>
         ensures { IfOk result (λ found. IfSome found (λ members.
             (members_at 125 reader.old ≡ Some (geometry_members members, reader.new))
@@ -92,7 +92,7 @@ impl UsualGeometry {
         Ok(Some(members))
     }
 
-    /// The geometry, where no member is missing.
+    /// The geometry, if no member is missing.
     fn whole(self) -> Option<GeometryMember>
         ensures { IfSome result (λ geometry. object (geometry_members self)
             ≡ geometry_data geometry) }
@@ -101,7 +101,7 @@ impl UsualGeometry {
     }
 }
 
-/// The geometry behind an opening brace, where it is usual.
+/// The geometry after an opening brace, if it is usual.
 fn read_object(alloc: Global, reader: &mut Reader<'_>) -> Result<Option<GeometryMember>, ParseFault>
     ensures { IfOk result (λ found. IfSome found (λ geometry.
         (parse_map object (members_at 125 reader.old) ≡ Some (geometry_data geometry, reader.new))
@@ -113,8 +113,8 @@ fn read_object(alloc: Global, reader: &mut Reader<'_>) -> Result<Option<Geometry
     }
 }
 
-/// Reads the geometry that comes next, where it is null, or an object with a type that has
-/// coordinates, its `coordinates`, and no other member.
+/// Reads the next geometry, if it is null, or an object with a type that has coordinates, its
+/// `coordinates`, and no other member.
 pub(crate) fn read_geometry(
     alloc: Global,
     reader: &mut Reader<'_>,

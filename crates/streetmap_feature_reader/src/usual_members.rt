@@ -28,8 +28,7 @@ pub(crate) struct UsualMembers {
     is_feature: bool,
 }
 
-/// Reads the geometry that comes next, where none was found before and it is usual; returns whether
-/// it did.
+/// Reads the next geometry, if none was found before and it is usual; returns whether it did.
 fn fill_geometry(
     alloc: Global,
     place: &mut Option<GeometryMember>,
@@ -69,7 +68,7 @@ impl UsualMembers {
         }
     }
 
-    /// Reads the type of a feature, where it was not found before; returns whether it did.
+    /// Reads the type of a feature, if it was not found before; returns whether it did.
     fn take_type(&mut self, reader: &mut Reader<'_>) -> bool
         ensures { IsTrue result → Takes 126 (codes "type") (found_members self.old)
             (found_members self.new) reader.old reader.new }
@@ -81,8 +80,8 @@ impl UsualMembers {
         self.is_feature
     }
 
-    /// Reads the value of the member of that name, where a feature usually has it and it was not
-    /// found before; returns whether it did.
+    /// Reads the value of the member of that name, if a feature usually has it and it was not found
+    /// before; returns whether it did.
     fn take(
         &mut self,
         alloc: Global,
@@ -101,8 +100,8 @@ impl UsualMembers {
         }
     }
 
-    /// The members behind an opening brace, up to the closing one, where they are those that a
-    /// feature usually has.
+    /// The members after an opening brace, up to the closing one, if they are those that a feature
+    /// usually has.
     pub(crate) fn read(
         alloc: Global,
         reader: &mut Reader<'_>,
@@ -119,7 +118,7 @@ impl UsualMembers {
         Ok(Some(members))
     }
 
-    /// The members, where none is missing.
+    /// The members, if none is missing.
     pub(crate) fn whole(self) -> Option<FeatureMembers>
         ensures { IfSome result (λ members. object (found_members self)
             ≡ feature_object (geometry_data members.geometry) (view members.id)
