@@ -5,7 +5,7 @@ use Rattle.streetmap_batch.specs.BatchValue.{EditValue, BatchValue}
 use Rattle.streetmap_batch.specs.Names.{is_key}
 use Rattle.streetmap_packing.specs.Packs.{numbered_key, Packs, PacksFirst}
 
--- edits are packed in one way at most, and the batches have the edits, in their order
+-- edits are packed in at most one way, and the batches have the edits, in their order
 abbrev pub OneWay : Type 0
 OneWay =
     ((each : ℕ) (key : Text) (es : List EditValue) (bs cs : List BatchValue) → Packs each key es bs
@@ -13,7 +13,7 @@ OneWay =
     × ((each : ℕ) (key : Text) (es : List EditValue) (bs : List BatchValue) → Packs each key es bs →
     flat_map (λ b. b.edits) bs ≡ es)
 
--- the batches that are done are the first, whatever comes behind the edits
+-- the batches that are complete are the first ones, whatever follows the edits
 abbrev pub GoesOn : Type 0
 GoesOn =
     (each : ℕ) (key : Text) (es more left : List EditValue) (bs all : List BatchValue) →

@@ -1,17 +1,17 @@
--- What is under way while edits are packed.
+-- The state while edits are packed.
 use Rattle.std.specs.Prelude.{ℕ, ◌+◌, Bool, List, [], ◌∷◌, ◌++◌}
 use Rattle.streetmap_batch.specs.Text.{Text}
 use Rattle.streetmap_batch.specs.BatchValue.{EditValue, BatchValue}
 use Rattle.streetmap_packing.specs.Packs.{numbered, passes}
 
--- the key, the most edits of a batch, and the number and the edits of the batch under way
+-- the key, the most edits of a batch, and the number and the edits of the current batch
 pub record Packing : Type 0 where
   pub key : Text
   pub each : ℕ
   pub number : ℕ
   pub edits : List EditValue
 
--- the batch under way
+-- the current batch
 abbrev pub under_way : Packing → BatchValue
 under_way p = numbered p.key p.number p.edits
 
@@ -19,7 +19,7 @@ under_way p = numbered p.key p.number p.edits
 abbrev pub is_passing : Packing → Bool
 is_passing p = passes p.each p.key p.number p.edits
 
--- with one edit more
+-- with one more edit
 abbrev pub with_edit : Packing → EditValue → Packing
 with_edit p e = record p { edits = p.edits ++ e ∷ [] }
 
@@ -27,7 +27,7 @@ with_edit p e = record p { edits = p.edits ++ e ∷ [] }
 abbrev pub next : Packing → Packing
 next p = record p { number = p.number + 1; edits = [] }
 
--- the comma in front of an edit behind these
+-- the comma before an edit that follows these
 abbrev pub comma_behind : {A : Type 0} → List A → List ℕ
 comma_behind [] = []
 comma_behind (x ∷ xs) = 44 ∷ []

@@ -37,7 +37,7 @@ abbrev pub Packs : (each : ℕ) (key : Text) → List EditValue → List BatchVa
 Packs each key es bs = (runs : List (List EditValue)) × AreRuns (passes each key) 1 es runs ×
     (bs ≡ numbered_all key 1 runs)
 
--- the batches that are done whatever comes behind these edits, and the edits that are left
+-- the batches that are complete whatever follows these edits, and the edits that are left
 abbrev pub PacksFirst : (each : ℕ) (key : Text) → List EditValue → List BatchValue →
     List EditValue → Type 0
 PacksFirst each key es bs left = (runs : List (List EditValue)) × AreDone (passes each key) 1 es

@@ -1,7 +1,7 @@
--- Lists cut into runs, each as long as a test of it lets it be.
+-- Lists cut into runs, each as long as a test of it allows.
 use Rattle.std.specs.Prelude.{◌≡◌, ◌≢◌, ℕ, ◌+◌, Bool, true, false, List, [], ◌∷◌, ◌++◌}
 
--- the run of this number does not pass with what comes next, where something does
+-- the run of this number does not pass with what comes next, if something does
 abbrev pub Stops : {A : Type 0} → (ℕ → List A → Bool) → ℕ → List A → List A → Type 0
 Stops passes n run [] = Unit {0}
 Stops passes n run (x ∷ rest) = passes n (run ++ x ∷ []) ≡ false
@@ -22,11 +22,11 @@ AreRuns passes n xs [] = xs ≡ []
 AreRuns {A} passes n xs (run ∷ runs) = (rest : List A)
     × IsLongestRun passes n xs run rest × AreRuns passes (n + 1) rest runs
 
--- where it stands at the end, it passes with nothing that may come
+-- if it is at the end, it passes with nothing that may follow
 abbrev pub TakesNoMore : {A : Type 0} → (ℕ → List A → Bool) → ℕ → List A → List A → Type 0
 TakesNoMore {A} passes n run rest = rest ≡ [] → (x : A) → passes n (run ++ x ∷ []) ≡ false
 
--- these runs are done, whatever comes behind the list, and the elements that are left are behind
+-- these runs are complete, whatever follows the list, and the elements that are left come after
 -- them
 abbrev pub AreDone : {A : Type 0} → (ℕ → List A → Bool) → ℕ → List A → List (List A) → List A →
     Type 0

@@ -1,9 +1,10 @@
 //! Edits, packed into batches K.1, K.2, .. of a key K.
 //!
-//! Each batch is the longest next run of the edits that is within the limits of a batch: so many
-//! edits, and so many bytes of batch text (`specs/Packs`). A `Packer` gives the batches out one by
-//! one as the edits come. The laws tell that there is one way to pack edits, that what was given
-//! out begins what more edits give, and that a key of at most 44 bytes has room for each number.
+//! Each batch is the longest next run of the edits that is within the limits of a batch: a number
+//! of edits, and a number of bytes of batch text (`specs/Packs`). A `Packer` returns the batches
+//! one by one as the edits come. The laws say that there is one way to pack edits, that the batches
+//! returned so far are a prefix of those that more edits give, and that a key of at most 44 bytes
+//! has room for each number.
 #![tactic(auto)]
 
 pub mod laws;

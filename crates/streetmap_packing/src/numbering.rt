@@ -13,7 +13,8 @@ use streetmap_batch::{Batch, BatchFault, Edit};
 /// The most bytes of a batch text that can be posted.
 pub const MAX_TEXT: usize = 8_388_608;
 
-/// Whether a text of so many bytes has room for a comma of so many and an edit of so many.
+/// Whether a text of `bytes` bytes has room for a comma of `comma` bytes and an edit of `size`
+/// bytes.
 pub(crate) fn has_room(bytes: usize, comma: usize, size: usize) -> bool
     ensures { result ≡ nat_le (bytes + (comma + size)) most_bytes }
 {
@@ -23,7 +24,7 @@ pub(crate) fn has_room(bytes: usize, comma: usize, size: usize) -> bool
     bytes + (comma + size) <= MAX_TEXT
 }
 
-/// How many bytes the comma behind the edits has: none where there is no edit.
+/// How many bytes the comma after the edits has: none if there is no edit.
 pub(crate) fn comma_len(edits: &[Edit]) -> usize
     ensures value { result ≡ length (comma_behind (edit_values edits.now)) }
     ensures short { result ≤ 1 }

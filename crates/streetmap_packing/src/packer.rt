@@ -1,4 +1,4 @@
-//! Edits on the way into batches.
+//! Edits that are being packed into batches.
 ghost use Rattle.std.specs.Prelude.{◌≡◌, ◌≤◌, IsTrue, length, string_bytes};
 ghost use Rattle.streetmap_batch.specs.BatchText.{batch_text};
 ghost use Rattle.streetmap_batch.specs.BatchView.{edit_values};
@@ -10,18 +10,19 @@ use std::alloc::{AllocError, Global};
 use std::mem;
 use streetmap_batch::{Batch, Edit};
 
-/// The most bytes of the text of an edit. One of no more bytes has room in a batch of its own.
+/// The most bytes of the text of an edit. An edit of at most this size has room in a batch of its
+/// own.
 pub const MAX_EDIT: usize = 8_388_480;
 
-/// Edits on the way into batches K.1, K.2, .. of a key K: those of the batch under way, and its
-/// number.
+/// Edits that are being packed into batches K.1, K.2, .. of a key K: those of the current batch,
+/// and its number.
 #[derive(Drop)]
 pub struct Packer {
     pub(crate) key: String,
     pub(crate) each: usize,
     pub(crate) number: u64,
     pub(crate) edits: Vec<Edit>,
-    /// How many bytes the text of the batch under way has.
+    /// How many bytes the text of the current batch has.
     pub(crate) bytes: usize,
     pub ghost named: { IsTrue (is_key (string_bytes key)) },
     pub ghost short: { length (string_bytes key) ≤ 44 },
@@ -42,7 +43,7 @@ impl Packer {
     ghost use Rattle.streetmap_packing.specs.PackerView.{packing, begun, GivesOut, Adds, Fills};
     ghost use Rattle.streetmap_packing.specs.PackerView.{Finishes};
 
-    /// A packer of a key of at most 44 bytes, for at most `each` edits a batch.
+    /// A packer of a key of at most 44 bytes, with at most `each` edits in a batch.
     pub fn new(alloc: Global, key: String, each: usize) -> Result<Packer, AllocError>
         requires named { IsTrue (is_key (string_bytes key)) }
         requires short { length (string_bytes key) ≤ 44 }
@@ -60,7 +61,7 @@ impl Packer {
         })
     }
 
-    /// Whether the batch under way takes an edit whose text has so many bytes.
+    /// Whether the current batch has room for an edit whose text has `size` bytes.
     fn takes(&self, size: usize) -> bool
         ensures { (e : EditValue) → length (compact_text (edit_data e)) ≡ size →
             result ≡ is_passing (with_edit (packing self.now) e) }
@@ -69,7 +70,7 @@ impl Packer {
         self.edits.len() < self.each && has_room(self.bytes, comma, size)
     }
 
-    /// Puts an edit into the batch under way, which takes it.
+    /// Adds an edit to the current batch, which has room for it.
     fn push(&mut self, edit: Edit, size: usize) -> Result<(), AllocError>
         requires sized { length (compact_text (edit_data (edit_value edit))) ≡ size }
         requires passes { is_passing (with_edit (packing self.old) (edit_value edit)) ≡ true }
@@ -82,7 +83,7 @@ impl Packer {
         Ok(())
     }
 
-    /// Gives out the batch under way, and begins the next, whose text has so many bytes.
+    /// Returns the current batch, and begins the next, whose text has `bytes` bytes.
     fn take(&mut self, alloc: Global, bytes: usize) -> Result<Batch, AllocError>
         requires room { (packing self.old).number + 1 < 2 ^ 63 }
         requires measured { bytes ≡ length (batch_text (under_way (next (packing self.old)))) }
@@ -95,12 +96,12 @@ impl Packer {
         numbered_batch(alloc, self.key.as_str(), number, edits)
     }
 
-    /// Adds an edit whose text has so many bytes. Where the batch under way does not take it, that
-    /// batch is given out, and the edit is the first of the next.
+    /// Adds an edit whose text has `size` bytes. If the current batch has no room for it, that
+    /// batch is returned, and the edit is the first of the next.
     ///
     /// # Errors
     ///
-    /// Memory was refused; the packer is then no more of use.
+    /// Out of memory; the packer can then not be used any more.
     pub fn add(
         &mut self,
         alloc: Global,
@@ -122,11 +123,11 @@ impl Packer {
         Ok(Some(batch))
     }
 
-    /// Gives out the batch under way where it has as many edits as a batch may have.
+    /// Returns the current batch if it has as many edits as a batch may have.
     ///
     /// # Errors
     ///
-    /// Memory was refused; the packer is then no more of use.
+    /// Out of memory; the packer can then not be used any more.
     pub fn fill(&mut self, alloc: Global) -> Result<Option<Batch>, AllocError>
         requires { (packing self.old).number + 1 < 2 ^ 63 }
         ensures { Fills (packing self.old) result (packing self.new) }
@@ -138,11 +139,11 @@ impl Packer {
         Ok(Some(self.take(alloc, bytes)?))
     }
 
-    /// Gives out the last batch, where it has an edit.
+    /// Returns the last batch, if it has an edit.
     ///
     /// # Errors
     ///
-    /// Memory was refused.
+    /// Out of memory.
     pub fn finish(self, alloc: Global) -> Result<Option<Batch>, AllocError>
         requires { (packing self).number < 2 ^ 63 }
         ensures { Finishes (packing self) result }
