@@ -3,12 +3,12 @@ use Rattle.std.specs.Prelude.{◌≤◌, ◌<◌, ℕ, List, length, take, Optio
 use Rattle.std.specs.Io.{StartsWith}
 use Rattle.std.specs.Io.KnownBytes.{Appends}
 
--- the first so many of these bytes were written, and nothing else
+-- the first `written` of these bytes were written, and nothing else
 abbrev pub AppendsFirst : ℕ → Option (List ℕ) → Option (List ℕ) → List ℕ → Type 0
 AppendsFirst written old new bytes =
     (written ≤ length bytes) × Appends old new (take written bytes)
 
--- a beginning of these bytes was written, and nothing else
+-- a prefix of these bytes was written, and nothing else
 abbrev pub AppendsBeginning : Option (List ℕ) → Option (List ℕ) → List ℕ → Type 0
 AppendsBeginning old new bytes = (first : List ℕ) × StartsWith bytes first × Appends old new first
 

@@ -8,16 +8,16 @@ use std::io::{Error, ErrorKind};
 /// Why a line is not read.
 #[derive(Clone, Copy, PartialEq, Eq)]
 pub enum LineFault {
-    /// It has more bytes than asked for, its line feed not counted.
+    /// It has more bytes than allowed, its line feed not counted.
     LineTooLong,
     /// The input could not be read.
     ReadFailed,
-    /// Memory was refused.
+    /// Out of memory.
     Memory,
 }
 
 impl LineFault {
-    /// The fault of a read that failed. A buffer that finds no memory fails so too.
+    /// The fault of a read that failed. A buffer that runs out of memory fails in this way too.
     pub fn of_read(error: &Error) -> LineFault
         ensures memory { error_kind error.now ≡ ErrorKind.OutOfMemory →
             result ≡ LineFault.Memory }
@@ -48,12 +48,13 @@ impl From<AllocError> for LineFault {
 pub enum WriteFault {
     /// They could not be written.
     WriteFailed,
-    /// Memory was refused.
+    /// Out of memory.
     Memory,
 }
 
 impl WriteFault {
-    /// The fault of a write or a flush that failed. A buffer that finds no memory fails so too.
+    /// The fault of a write or a flush that failed. A buffer that runs out of memory fails in this
+    /// way too.
     pub fn of_write(error: &Error) -> WriteFault
         ensures memory { error_kind error.now ≡ ErrorKind.OutOfMemory →
             result ≡ WriteFault.Memory }

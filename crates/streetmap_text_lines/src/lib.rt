@@ -1,11 +1,11 @@
-//! Lines of bounded length, read one by one off any reader.
+//! Lines of bounded length, read one by one from any reader.
 //!
-//! `read_line` takes one line off a reader, into memory that is lent for line after line; what it
-//! takes, and what is lost where it fails, is `specs/Reading`, and which line is the first that is
-//! too long `specs/Lines`. `next_line` does the same into memory of the line's own, and
-//! `next_whole_line` takes a line as it stands, with its line feed (`specs/Whole`).
+//! `read_line` takes one line from a reader, into memory that the caller lends for line after line.
+//! `specs/Reading` defines what it takes, and what is lost if it fails; `specs/Lines` defines which
+//! line is the first that is too long. `next_line` does the same into memory of the line's own, and
+//! `next_whole_line` takes a line as it is, with its line feed (`specs/Whole`).
 //!
-//! `write_bytes` writes bytes whole, or a beginning of them (`specs/Written`).
+//! `write_bytes` writes bytes whole, or a prefix of them (`specs/Written`).
 #![tactic(auto)]
 
 mod fault;

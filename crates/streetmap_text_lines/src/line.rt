@@ -1,4 +1,4 @@
-//! One line of bounded length, read off a reader.
+//! One line of bounded length, read from a reader.
 ghost use Rattle.std.specs.Prelude.{◌≡◌, ◌≤◌, ◌++◌, Some, Err, IfOk, OnOk, OnErr, IfSome};
 ghost use Rattle.std.specs.Prelude.{vec_len, ◌==◌};
 ghost use Rattle.std.specs.List.{position_or_len};
@@ -13,7 +13,7 @@ use memchr::memchr;
 use std::alloc::Global;
 use std::io::{BufRead, ErrorKind};
 
-/// What stood at the front of the input.
+/// What was at the front of the input.
 #[derive(Drop)]
 pub enum Line {
     /// A line, without its line feed and a carriage return before it.
@@ -22,10 +22,10 @@ pub enum Line {
     End,
 }
 
-/// What stood at the front of an input whose line is read into lent memory.
+/// What was at the front of an input whose line is read into lent memory.
 #[derive(Clone, Copy, PartialEq, Eq)]
 pub enum Found {
-    /// A line, which the memory has.
+    /// A line, which is now in the memory.
     Line,
     /// The end of the input.
     End,
@@ -42,7 +42,7 @@ pub(crate) enum Shown {
     End,
 }
 
-/// How many bytes stand before the first line feed.
+/// How many bytes come before the first line feed.
 fn line_length(shown: &[u8]) -> usize
     ensures { result ≡ position_or_len (λ b. b == 10) shown.now }
 {
@@ -52,7 +52,7 @@ fn line_length(shown: &[u8]) -> usize
     }
 }
 
-/// Takes what the reader shows of a line over to it, and its line feed off the reader.
+/// Appends to a line what the reader shows of it, and takes it and its line feed from the reader.
 pub(crate) fn take_shown<R: BufRead>(
     reader: &mut R,
     line: &mut Vec<u8>,
@@ -91,7 +91,7 @@ pub(crate) fn take_shown<R: BufRead>(
     }
 }
 
-/// Drops the carriage return at the end of a line, where there is one.
+/// Drops the carriage return at the end of a line, if there is one.
 fn drop_carriage_return(line: &mut Vec<u8>)
     ensures { line.new.items ≡ strip_carriage_return line.old.items }
 {
@@ -100,14 +100,14 @@ fn drop_carriage_return(line: &mut Vec<u8>)
     }
 }
 
-/// Reads the next line of the input, of at most `most` bytes, its line feed not counted, over what
-/// `line` had: without its line feed and a carriage return before it. The last one may lack its
-/// line feed. `line` keeps its memory for the lines to come.
+/// Reads the next line of the input, of at most `most` bytes, its line feed not counted, in place
+/// of what `line` had: without its line feed and a carriage return before it. The last one may lack
+/// its line feed. `line` keeps its memory for the next lines.
 ///
 /// # Errors
 ///
-/// `LineTooLong` where the first line has more bytes, `ReadFailed` and `Memory`: of what is lost no
-/// byte is a line feed, and what `line` has then is of no use.
+/// `LineTooLong` if the first line has more bytes, `ReadFailed` and `Memory`: no byte that is lost
+/// is a line feed, and what `line` has then is of no use.
 pub fn read_line<R: BufRead>(
     reader: &mut R,
     line: &mut Vec<u8>,
@@ -144,8 +144,8 @@ pub fn read_line<R: BufRead>(
 ///
 /// # Errors
 ///
-/// `LineTooLong` where the first line has more bytes, `ReadFailed` and `Memory`: of what is lost no
-/// byte is a line feed.
+/// `LineTooLong` if the first line has more bytes, `ReadFailed` and `Memory`: no byte that is lost
+/// is a line feed.
 pub fn next_line<R: BufRead>(alloc: Global, reader: &mut R, most: usize) -> Result<Line, LineFault>
     ensures taken { IfOk result (TakesLine most (R.remaining reader.old) (R.remaining reader.new)) }
     ensures lost { OnErr result (LosesPart most (R.remaining reader.old) (R.remaining reader.new)) }

@@ -1,4 +1,4 @@
-//! One whole line of bounded length, read off a reader: with its line feed.
+//! One whole line of bounded length, read from a reader: with its line feed.
 ghost use Rattle.std.specs.Prelude.{◌≡◌, ◌≤◌, Some, Err, IfOk, OnErr, IfSome, vec_len};
 ghost use Rattle.streetmap_text_lines.specs.Lines.{first_too_long};
 ghost use Rattle.streetmap_text_lines.specs.Reading.{LosesPart};
@@ -9,24 +9,24 @@ use crate::line::{Shown, take_shown};
 use std::alloc::Global;
 use std::io::BufRead;
 
-/// What stood at the front of an input whose lines end with a line feed each.
+/// What was at the front of an input whose lines end with a line feed each.
 #[derive(Drop)]
 pub enum WholeLine {
     /// A line, without its line feed.
     Line(Vec<u8>),
-    /// The input ended within a line, of which there was a byte at least.
+    /// The input ended within a line, which had at least one byte.
     Cut,
     /// The end of the input.
     End,
 }
 
-/// The next line of the input, of at most `most` bytes, its line feed not counted, as it stands. A
-/// last line without its line feed is `Cut`.
+/// The next line of the input, of at most `most` bytes, its line feed not counted, as it is. A last
+/// line without its line feed is `Cut`.
 ///
 /// # Errors
 ///
-/// `LineTooLong` where the first line has more bytes, `ReadFailed` and `Memory`: of what is lost no
-/// byte is a line feed.
+/// `LineTooLong` if the first line has more bytes, `ReadFailed` and `Memory`: no byte that is lost
+/// is a line feed.
 pub fn next_whole_line<R: BufRead>(
     alloc: Global,
     reader: &mut R,

@@ -1,4 +1,4 @@
-//! Bytes, written as often as the writer takes some of them.
+//! Bytes, written in as many calls as the writer needs.
 ghost use Rattle.std.specs.Prelude.{◌≡◌, ◌-◌, ◌<◌, length, OnOk, IfErr};
 ghost use Rattle.std.specs.Io.KnownBytes.{Appends};
 ghost use Rattle.streetmap_text_lines.specs.Written.{AppendsFirst};
@@ -30,7 +30,7 @@ fn all_but(bytes: &[u8], rest: &[u8], why: WriteFault) -> NotWritten
 ///
 /// # Errors
 ///
-/// Where a write fails, or takes none of them: a beginning of the bytes was written, and not all.
+/// If a write fails, or takes none of them: a prefix of the bytes was written, and not all.
 #[tactic(auto, using(crate::proofs::WriteLemmas::part_first))]
 pub fn write_bytes<W: Write>(writer: &mut W, bytes: &[u8]) -> Result<(), NotWritten>
     ensures ok { OnOk result
