@@ -13,13 +13,13 @@ use Rattle.streetmap_batch.specs.BatchValue.{EditValue, BatchValue}
 abbrev pub IsTitle : Text → Type 0
 IsTitle title = IsTrue (is_title title) × IsTrue (is_utf8 title)
 
--- the name of a time property, where one is given
+-- the name of a time property, if one is given
 abbrev pub IsTimePropertyIf : Option Text → Type 0
 IsTimePropertyIf None = Unit {0}
 IsTimePropertyIf (Some name) = IsTrue (is_time_property name) × IsTrue (is_utf8 name)
 
--- an edit names a collection; what it opens has a title and may have a time property, what it puts
--- in is a feature, and what it takes out has an id, a text in UTF-8
+-- an edit names a collection; what it opens has a title and may have a time property, what it
+-- inserts is a feature, and what it deletes has an id, a text in UTF-8
 abbrev pub IsSoundEdit : EditValue → Type 0
 IsSoundEdit (edit.«open» name title time) = IsTrue (is_collection_id name) × IsTitle title
     × IsTimePropertyIf time

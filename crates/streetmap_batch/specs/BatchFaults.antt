@@ -1,5 +1,5 @@
--- Why a batch is refused: the names and sentences of the refusals, and what a reader answers beside
--- what it reads.
+-- Why a batch is refused: the names and sentences of the refusals, and what a reader returns,
+-- compared with what is read.
 use Rattle.std.specs.Prelude.{◌≡◌, ℕ, codes, Option, None, Some, Result, Ok, Err}
 use Rattle.streetmap_geojson.specs.declared.fault.Fault.{Fault}
 use Rattle.streetmap_batch.specs.Text.{Text}
@@ -33,7 +33,7 @@ abbrev pub cause_of : BatchFault → Option Fault
 cause_of (BadFeature place cause) = Some cause
 cause_of _ = None
 
--- a fault beside memory is that of what is read
+-- a fault other than memory is that of what is read
 abbrev pub Fails : {Y : Type 0} → BatchFault → Result Y BatchFault → Type 0
 Fails (BadBatch place) read = read ≡ Err (BadBatch place)
 Fails BadKey read = read ≡ Err BadKey
@@ -41,7 +41,7 @@ Fails TooManyEdits read = read ≡ Err TooManyEdits
 Fails (BadFeature place cause) read = read ≡ Err (BadFeature place cause)
 Fails Memory read = Unit {0}
 
--- what was answered, seen by view, is what is read, unless memory ran out
+-- the result, seen by view, is what is read, unless memory ran out
 abbrev pub Gives : {X Y : Type 0} → (X → Y) → Result X BatchFault → Result Y BatchFault → Type 0
 Gives view (Ok x) read = read ≡ Ok (view x)
 Gives view (Err e) read = Fails e read

@@ -17,25 +17,25 @@ use Rattle.streetmap_batch.specs.declared.format.Format.TheVariants as formats
 abbrev pub HasText : Text → Text → Data → Type 0
 HasText name text d = get name d ≡ Some (string text)
 
--- an edit of a collection: an object with no member but these, by its `op`
+-- an edit of a collection: an object with no other member than these, by its `op`
 pub record IsEditOf (format : Format) (op collection : Text) (d : Data) : Type 0 where
   pub only : IsTrue (has_only format d)
   pub op_is : HasText (codes "op") op d
   pub collection_is : HasText (codes "collection") collection d
   pub named : IsTrue (is_collection_id collection)
 
--- the title, which is the collection id where it is missing
+-- the title, which is the collection id if it is missing
 abbrev pub IsTitleOf : Option Data → Text → Text → Type 0
 IsTitleOf None collection title = title ≡ collection
 IsTitleOf (Some d) collection title = (d ≡ string title) × IsTrue (is_title title)
 
--- the time property, where there is one
+-- the time property, if there is one
 abbrev pub IsTimeMember : Option Data → Option Text → Type 0
 IsTimeMember None time = time ≡ None
 IsTimeMember (Some d) time = (t : Text) × (d ≡ string t) × IsTrue (is_time_property t)
     × (time ≡ Some t)
 
--- the member of that name stands for it
+-- the member of that name represents it
 abbrev pub HasMember : {A : Type 0} → Text → (Data → A → Type 0) → Data → A → Type 0
 HasMember name R d a = (told : Data) × (get name d ≡ Some told) × R told a
 

@@ -24,7 +24,7 @@ use Rattle.streetmap_batch.specs.declared.format.Format.TheVariants as formats
 use Rattle.streetmap_batch.specs.declared.format.Operation.{Operation}
 use Rattle.streetmap_batch.specs.declared.format.Operation.TheVariants as operations
 
--- one step after another: the first fault is the fault
+-- one step after another: the first fault is the result
 infixl 10 ◌>>=◌
 abbrev pub ◌>>=◌ : {A B : Type 0} → Result A BatchFault → (A → Result B BatchFault)
     → Result B BatchFault
@@ -69,7 +69,7 @@ abbrev pub names_pass : (Text → Bool) → Members → Bool
 names_pass test no_members = true
 names_pass test (member name d rest) = test name && names_pass test rest
 
--- an object with no member but these
+-- an object with no other member than these
 unfoldable pub has_only : Format → Data → Bool
 has_only format (object ms) = names_pass (may_have format) ms
 has_only format _ = false
@@ -86,7 +86,8 @@ array_at name d = option_map list_of (option_and_then as_array (get name d))
 
 -- ---- the shape of an edit
 
--- what is there, or else the edit of that place is not as an edit is written
+-- what was found, or otherwise the fault that the edit of that place does not have the form of an
+-- edit
 abbrev pub shaped : {A : Type 0} → ℕ → Option A → Result A BatchFault
 shaped place o = ok_or o (BadBatch (Some place))
 
@@ -203,7 +204,7 @@ batch d = do
   ds ← ok_or (array_at (codes "edits") d) (BadBatch None)
   keyed (as_str told) ds
 
--- the value of bytes, or else they are no batch
+-- the value of bytes, or otherwise the fault that they are not a batch
 abbrev pub as_whole : Result Data Fault → Result Data BatchFault
 as_whole (Ok d) = Ok d
 as_whole (Err fault) = Err (BadBatch None)

@@ -1,4 +1,5 @@
--- The text of a batch. It tells apart what batches mean, and not how their JSON was written.
+-- The text of a batch. It distinguishes batches by what they mean, not by how their JSON was
+-- written.
 use Rattle.std.specs.Prelude.{List, Option, None, Some, codes, map}
 use Rattle.serde_json.specs.Data.{Data, string, array, object, Items, Members, no_members, member}
 use Rattle.serde_json.specs.View.{items_of}
@@ -9,7 +10,7 @@ use Rattle.streetmap_batch.specs.Text.{Text}
 use Rattle.streetmap_batch.specs.BatchValue as value
 use Rattle.streetmap_batch.specs.BatchValue.{EditValue, BatchValue}
 
--- the member `time`, where a time property was given
+-- the member `time`, if a time property was given
 abbrev pub time_member : Option Text → Members → Members
 time_member None rest = rest
 time_member (Some time) rest = member (codes "time") (string time) rest
@@ -21,7 +22,7 @@ feature_edit_data op collection feature =
     (member (codes "feature") (feature_data feature)
     (member (codes "op") (string op) no_members)))
 
--- an open edit has its title always, a deleted id is text
+-- an open edit always has its title, and a deleted id is text
 unfoldable pub edit_data : EditValue → Data
 edit_data (value.«open» collection title time) =
     object (member (codes "collection") (string collection)

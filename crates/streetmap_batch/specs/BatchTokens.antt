@@ -22,14 +22,13 @@ use Rattle.streetmap_batch.specs.declared.batch_reading.Parts.{Parts}
 use Rattle.streetmap_batch.specs.declared.edit.Edit.{Edit}
 use Rattle.streetmap_batch.specs.declared.format.Format.TheVariants as formats
 
--- what was answered stands for what is at the front, and these tokens are left, unless memory ran
--- out
+-- the result represents what is at the front, and these tokens are left, unless memory ran out
 abbrev pub Takes : {X Y : Type 0} → (Y → X → Type 0) → Result X ParseFault → List Token
     → Option (Y × List Token) → Type 0
 Takes {X} {Y} R (Ok x) left front = (y : Y) × (front ≡ Some (y, left)) × R y x
 Takes R (Err fault) left front = Fails fault front
 
--- the edits of an array, where they are no more than a batch may have
+-- the edits of an array, if they are no more than a batch may have
 abbrev pub few_edits : List Data → Result (List EditValue) BatchFault
 few_edits ds = unless (nat_le (length ds) most_edits) TooManyEdits >>= λ few. edits_after 0 ds
 
@@ -40,7 +39,7 @@ edits_view edits = edit_values edits.items
 abbrev pub AreItemsRead : Items → Result (Vec Edit Global) BatchFault → Type 0
 AreItemsRead ds edits = Gives edits_view edits (few_edits (list_of ds))
 
--- the edits of an array; none of a value that is no array
+-- the edits of an array; none of a value that is not an array
 abbrev pub IsArrayRead : Data → Option (Result (Vec Edit Global) BatchFault) → Type 0
 IsArrayRead d told = MatchOption told (as_array d ≡ None) (λ edits. (ds : Items)
     × (as_array d ≡ Some ds) × AreItemsRead ds edits)
@@ -53,11 +52,11 @@ pub record AreRead (ms : Members) (parts : Parts) : Type 0 where
       (ds : List Data) × (array_at (codes "edits") (object ms) ≡ Some ds)
       × Gives edits_view edits (few_edits ds))
 
--- the batch of a text's value, where it has one
+-- the batch of a text's value, if it has one
 abbrev pub batch_in : Option Data → Result BatchValue BatchFault
 batch_in value = as_whole (ok_or value faults.NotJson) >>= batch
 
--- the members of the text's value are those read; else it is no batch
+-- the members of the text's value are those read; otherwise it is not a batch
 abbrev pub IsWholeRead : Option Data → Result Parts ParseFault → Type 0
 IsWholeRead value (Ok parts) = (ms : Members) × (value ≡ Some (object ms)) × AreRead ms parts
 IsWholeRead value (Err NotJson) = batch_in value ≡ Err (BadBatch None)

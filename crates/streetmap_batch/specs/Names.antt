@@ -6,7 +6,7 @@ use Rattle.std.specs.Char.{is_ascii_alphanumeric}
 use Rattle.streetmap_geojson.specs.Id.{has_no_controls}
 use Rattle.streetmap_batch.specs.Text.{Text}
 
--- from so many bytes to so many
+-- the text has from `least` to `most` bytes
 abbrev pub is_long : ℕ → ℕ → Text → Bool
 is_long least most text = nat_le least (length text) && nat_le (length text) most
 
@@ -38,6 +38,6 @@ is_title text = nat_le (length text) 256 && has_no_controls text
 unfoldable pub is_time_property : Text → Bool
 is_time_property text = is_long 1 128 text
 
--- the text, where it passes the test
+-- the text, if it passes the test
 abbrev pub passing : (Text → Bool) → Text → Option Text
 passing test text = if test text then Some text else None

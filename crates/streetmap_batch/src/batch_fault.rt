@@ -7,16 +7,16 @@ use streetmap_geojson::Fault;
 /// Why a batch is refused. Places are counted from 1.
 #[derive(Clone, Copy, Debug, PartialEq, Drop)]
 pub enum BatchFault {
-    /// The whole is not as a batch is written, or the edit of that place is not as an edit is
-    /// written.
+    /// The whole does not have the form of a batch, or the edit of that place does not have the
+    /// form of an edit.
     BadBatch { place: Option<u64> },
-    /// The key is none.
+    /// The key is not valid.
     BadKey,
     /// There are more than 10,000 edits.
     TooManyEdits,
     /// The feature of the edit of that place cannot be read.
     BadFeature { place: u64, cause: Fault },
-    /// Memory was refused. The call may be made again.
+    /// Out of memory. The caller may try again.
     Memory,
 }
 

@@ -35,7 +35,7 @@ struct Parts {
     /// Whether there was no other member.
     only: bool,
     key: Option<Value>,
-    /// The edits, where they are an array.
+    /// The edits, if they are an array.
     edits: Option<Edits>,
 }
 
@@ -170,15 +170,16 @@ fn read_bytes(alloc: Global, bytes: &[u8]) -> Result<Batch, BatchFault>
     }
 }
 
-/// The batch that JSON bytes are. The first refusal in this order is answered:
+/// The batch that JSON bytes are. It returns the first refusal in this order:
 ///
-/// 1. `BadBatch` without a place, where the bytes are not JSON, are not an object with exactly the members
-///    `key` and `edits`, or `edits` is not an array;
-/// 2. `BadKey`, where the key is none;
-/// 3. `TooManyEdits`, where there are more than 10,000;
-/// 4. of the edits from left to right, `BadBatch` with the edit's place where it is not as an edit is
-///    written, all but what stands within `feature`, and then `BadFeature` with the place and the cause
-///    where its feature cannot be read. Features are read without a time: it is set when the edit acts.
+/// 1. `BadBatch` without a place, if the bytes are not JSON, are not an object with exactly the
+///    members `key` and `edits`, or `edits` is not an array;
+/// 2. `BadKey`, if the key is not valid;
+/// 3. `TooManyEdits`, if there are more than 10,000;
+/// 4. of the edits from left to right, `BadBatch` with the edit's place if it does not have the
+///    form of an edit, apart from what `feature` contains, and then `BadFeature` with the place and
+///    the cause if its feature cannot be read. Features are read without a time: it is set when the
+///    edit acts.
 ///
 /// Only one edit at a time is in memory as a JSON value.
 pub fn read_batch(alloc: Global, bytes: &[u8]) -> Result<Batch, BatchFault>

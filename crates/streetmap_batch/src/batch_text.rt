@@ -145,7 +145,7 @@ impl Edit {
     }
 }
 
-/// Appends the edits and the bracket behind them.
+/// Appends the edits and the bracket after them.
 fn push_edits(alloc: Global, out: &mut String, edits: &[Edit]) -> Result<(), AllocError>
     ensures { OnOk result (string_bytes out.new
         ≡ string_bytes out.old ++ items_text false (edits_data (edit_values edits.now))) }

@@ -33,7 +33,7 @@ impl Model for CollectionId {
 }
 
 impl CollectionId {
-    /// The id with that text, where it may be one.
+    /// The id with that text, if it may be one.
     pub fn new(id: String) -> Option<CollectionId>
         ensures { result ≡ passing is_collection_id (string_bytes id) }
     {
@@ -70,7 +70,7 @@ impl Model for Title {
 }
 
 impl Title {
-    /// The title with that text, where it may be one.
+    /// The title with that text, if it may be one.
     pub fn new(text: String) -> Option<Title>
         ensures { result ≡ passing is_title (string_bytes text) }
     {
@@ -116,7 +116,7 @@ impl Model for TimeProperty {
 }
 
 impl TimeProperty {
-    /// The property of that name, where it may be one.
+    /// The property of that name, if it may be one.
     pub fn new(name: String) -> Option<TimeProperty>
         ensures { result ≡ passing is_time_property (string_bytes name) }
     {
@@ -138,14 +138,14 @@ impl TimeProperty {
 /// One edit of a batch.
 #[derive(Drop)]
 pub enum Edit {
-    /// A collection is opened. Its features' times are read from the time property, where one is
+    /// A collection is opened. Its features' times are read from the time property, if one is
     /// given.
     Open {
         collection: CollectionId,
         title: Title,
         time: Option<TimeProperty>,
     },
-    /// A feature is put into the collection, which has none with its id.
+    /// A feature is inserted into the collection, which has none with its id.
     Insert {
         collection: CollectionId,
         feature: WrittenFeature,
@@ -155,7 +155,7 @@ pub enum Edit {
         collection: CollectionId,
         feature: WrittenFeature,
     },
-    /// The feature with that id is taken out of the collection.
+    /// The feature with that id is deleted from the collection.
     Delete {
         collection: CollectionId,
         id: Id,
@@ -203,7 +203,7 @@ impl Edit {
         }
     }
 
-    /// The edit that inserts a feature. It is refused as `BadBatch` where the text is no collection
+    /// The edit that inserts a feature. It is refused as `BadBatch` if the text is not a collection
     /// id.
     pub fn insert(alloc: Global, collection: &str, feature: Feature) -> Result<Edit, BatchFault>
         ensures { Gives edit_value result (edit_in value.insert collection.now feature) }

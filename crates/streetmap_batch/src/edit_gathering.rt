@@ -25,7 +25,7 @@ pub(crate) type Edits = Result<Vec<Edit>, BatchFault>;
 /// How many edits a batch may have.
 const MOST_EDITS: u64 = 10000;
 
-/// The edits, with that of the next place behind them.
+/// The edits, with that of the next place after them.
 fn with_next(alloc: Global, edits: Edits, value: &Value, place: u64) -> Edits
     ensures { (ds : List Data) → place ≡ length ds + 1
         → Gives edits_view edits (edits_after 0 ds)
@@ -64,7 +64,7 @@ fn opens_array(token: &Token<'_>) -> bool
     matches!(token, Token::BeginArray)
 }
 
-/// The edits of the value that comes next, where it is an array.
+/// The edits of the next value, if it is an array.
 pub(crate) fn read_array(
     alloc: Global,
     reader: &mut Reader<'_>,

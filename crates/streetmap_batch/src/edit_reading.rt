@@ -24,7 +24,7 @@ use std::alloc::Global;
 use streetmap_feature_text::WrittenFeature;
 use streetmap_geojson::{Id, JsonFault, read_feature, read_id};
 
-/// The edit of that place is not as an edit is written.
+/// The fault of an edit at that place which does not have the form of an edit.
 fn misshapen(place: u64) -> BatchFault
     ensures { result ≡ BatchFault.BadBatch (Some place) }
 {
@@ -91,7 +91,7 @@ fn check_time(alloc: Global, name: &str, place: u64) -> Result<Option<TimeProper
     }
 }
 
-/// The time property of an open edit, where there is one.
+/// The time property of an open edit, if there is one.
 fn read_time(
     alloc: Global,
     told: Option<&Value>,

@@ -1,10 +1,10 @@
 //! Batches of edits: a key, and edits that act together or not at all.
 //!
-//! What a batch is when it is written is said twice. `specs/BatchMeaning` says by cases which batch
-//! a value is, with no order of steps; `specs/BatchReading` says which refusal comes first, each
-//! line a sentence of the order of refusals. `read_batch` answers a batch only where the bytes are
-//! that batch, and a refusal, memory aside, only where it is the first. `Batch::text` is the text
-//! of `specs/BatchText`, by which a batch that comes again is known.
+//! What a written batch means is defined twice. `specs/BatchMeaning` says by cases which batch a
+//! value is, with no order of steps; `specs/BatchReading` says which refusal comes first, each line
+//! a sentence of the order of refusals. `read_batch` returns a batch only if the bytes are that
+//! batch, and a refusal, unless memory runs out, only if it is the first. `Batch::text` is the text
+//! of `specs/BatchText`, by which a repeated batch is recognised.
 //!
 //! Modules, in the order of reading: `names`, `edit`, `batch_fault`, `batch`, `batch_text`,
 //! `format`, `member`, `edit_reading`, `edit_gathering`, `batch_reading`.

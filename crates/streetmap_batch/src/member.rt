@@ -28,7 +28,7 @@ fn names_pass(format: Format, members: &Map<String, Value>) -> bool
     members.keys().all(|name| may_have(format, name.as_str()))
 }
 
-/// Whether a value is an object with no member but those of the format.
+/// Whether a value is an object with no member other than those of the format.
 pub(crate) fn has_only(value: &Value, format: Format) -> bool
     ensures { result ≡ has_only format (view value.now) }
 {
