@@ -27,18 +27,18 @@ use Rattle.streetmap_placing.specs.declared.role.Role.TheVariants.{Properties, O
 
 -- ---- outcomes: a value, or the first fault
 
--- a step and the next, which goes on from what the first gave; the first fault ends both
+-- a step and the next, which continues with the result of the first; the first fault ends both
 abbrev pub Then : {A B : Type 0} → (Result A PlacingFault → Type 0)
     → (A → Result B PlacingFault → Type 0) → Result B PlacingFault → Type 0
 Then {A} First Next (Ok b) = (a : A) × (First (Ok a) × Next a (Ok b))
 Then {A} First Next (Err f) = First (Err f) ⊎ ((a : A) × (First (Ok a) × Next a (Err f)))
 
--- the same, where the next step only makes something of what the first gave
+-- the same, if the next step only converts the result of the first
 abbrev pub Made : {A B : Type 0} → (A → B) → (Result A PlacingFault → Type 0)
     → Result B PlacingFault → Type 0
 Made make First = Then First (λ a r. r ≡ Ok (make a))
 
--- what was answered is the outcome, unless memory ran out
+-- the result is the outcome, unless memory ran out
 abbrev pub Answers : {X Y : Type 0} → (X → Y) → Result X PlacingFault
     → (Result Y PlacingFault → Type 0) → Type 0
 Answers view (Ok x) Outcome = Outcome (Ok (view x))
@@ -50,7 +50,7 @@ Answers view (Err Fraction) Outcome = Outcome (Err Fraction)
 
 -- ---- a number
 
--- a value, or none: no JSON
+-- a value, or none: not JSON
 abbrev pub value_or_fault : Option Data → Result Data PlacingFault
 value_or_fault None = Err NotJson
 value_or_fault (Some d) = Ok d
@@ -67,7 +67,7 @@ IsPlacedCoordinate p axis text r =
     × (PlacesText (shift_of axis p.shift) p.scale.count p.rounding text g
     × (r ≡ coordinate_or_fault g))
 
--- a number as its text alone is read
+-- a number, read from its text alone
 abbrev pub StaysAs : List ℕ → Result Data PlacingFault → Type 0
 StaysAs text r = r ≡ value_or_fault (json_value text)
 
@@ -83,7 +83,7 @@ kept text (Some d) = if is_fraction d then string text else d
 abbrev pub KeptAs : List ℕ → Result Data PlacingFault → Type 0
 KeptAs text r = r ≡ Ok (kept text (json_value text))
 
--- a coordinate is placed where there is a placement, a number within properties kept as the option
+-- a coordinate is placed if there is a placement, a number within properties is kept as the option
 -- says, and every other number stays
 abbrev pub NumberBy : Option Placement → Fractions → Role → List ℕ
     → Result Data PlacingFault → Type 0
@@ -102,12 +102,12 @@ NumberBecomes n = NumberBy n.placement n.fractions
 
 -- ---- a value
 
--- how many elements there are
+-- the number of elements
 abbrev pub items_count : json.Items → ℕ
 items_count json.no_items = 0
 items_count (json.item j js) = suc (items_count js)
 
--- each value from left to right; of the members with one name the last stays
+-- each value from left to right; of the members with the same name the last is kept
 abbrev mutual
   pub Becomes : Numbers → Role → json.Json → Result Data PlacingFault → Type 0
   Becomes n role json.null = λ r. r ≡ Ok null
@@ -117,7 +117,7 @@ abbrev mutual
   Becomes n role (json.array js) = Made array (ItemsBecome n role (items_count js) 0 js)
   Becomes n role (json.object ms) = Made object (MembersBecome n role ms no_members)
 
-  -- the elements of an array of so many, from that index on
+  -- the elements, from that index on, of an array of `count` elements
   pub ItemsBecome : Numbers → Role → (count index : ℕ) → json.Items
       → Result Items PlacingFault → Type 0
   ItemsBecome n role count index json.no_items = λ r. r ≡ Ok no_items

@@ -1,4 +1,4 @@
--- What the members and elements of a feature are (RFC 7946, sections 3.1 and 3.2).
+-- The roles of the members and elements of a feature (RFC 7946, sections 3.1 and 3.2).
 use Rattle.std.specs.Prelude.{ℕ, List, codes, bytes_eq, ◌==◌, ◌&&◌, ◌||◌, if◌then◌else◌}
 use Rattle.streetmap_decimal.specs.declared.axis.Axis.TheVariants.{Easting, Northing, Height}
 use Rattle.streetmap_placing.specs.declared.role.Role.{Role}
@@ -6,8 +6,8 @@ use Rattle.streetmap_placing.specs.declared.role.Role.TheVariants.{Feature, Geom
 use Rattle.streetmap_placing.specs.declared.role.Role.TheVariants.{Coordinates, Coordinate}
 use Rattle.streetmap_placing.specs.declared.role.Role.TheVariants.{Properties, Other}
 
--- a feature has a geometry and properties, a geometry coordinates or geometries, and what stands
--- within properties are properties
+-- a feature has a geometry and properties, a geometry coordinates or geometries, and everything
+-- within properties is properties
 abbrev pub member_role : Role → List ℕ → Role
 member_role Feature name =
     if bytes_eq name (codes "geometry") then Geometry
@@ -29,7 +29,7 @@ role_in_array count index =
     else (if ((count == 2) || (count == 3)) && (index == 1) then Coordinate Northing
     else (if (count == 3) && (index == 2) then Coordinate Height else Coordinates))
 
--- the element at that index of an array of so many
+-- the element at that index of an array of `count` elements
 abbrev pub element_role : Role → (count index : ℕ) → Role
 element_role Geometries count index = Geometry
 element_role Coordinates count index = role_in_array count index

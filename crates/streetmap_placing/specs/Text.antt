@@ -19,18 +19,18 @@ use Rattle.streetmap_placing.specs.declared.numbers.Fractions.{Fractions}
 use Rattle.streetmap_placing.specs.declared.numbers.Fractions.TheVariants.{Number, Text}
 use Rattle.streetmap_placing.specs.declared.role.Role.TheVariants.{Feature}
 
--- the value that tokens are, its numbers as they are written
+-- the value of tokens, its numbers as they are written
 abbrev pub tree_of : List Token → Option Json
 tree_of ts = option_and_then (λ p. if_last p.0 p.1) (value max_depth ts)
 
 abbrev pub text_tree : List ℕ → Option Json
 text_tree text = tree_of (tokens text)
 
--- the value that a text in UTF-8 is (RFC 8259), its numbers as they are written
+-- the value of a text in UTF-8 (RFC 8259), its numbers as they are written
 abbrev pub utf8_tree : List ℕ → Option Json
 utf8_tree bytes = if is_utf8 bytes then text_tree bytes else None
 
--- what was parsed is what the tokens are, unless memory ran out
+-- what was parsed is the value of the tokens, unless memory ran out
 abbrev pub ParsesAs : {X : Type 0} → (X → Json) → Result X PlacingFault → List Token → Type 0
 ParsesAs view (Ok x) ts = tree_of ts ≡ Some (view x)
 ParsesAs view (Err Memory) ts = Unit {0}
@@ -50,8 +50,8 @@ asks None Number = false
 asks None Text = true
 asks (Some p) f = true
 
--- where something is asked for, what the value of the feature becomes, and else that of the JSON
--- text
+-- if something is asked for, what the value of the feature becomes, and otherwise the value of the
+-- JSON text
 abbrev pub ReadsBy : Bool → Numbers → List ℕ → Result Data PlacingFault → Type 0
 ReadsBy true n text r = TextBecomes n (utf8_tree text) r
 ReadsBy false n text r = r ≡ value_or_fault (json_value text)

@@ -24,7 +24,7 @@ use Rattle.streetmap_placing.specs.declared.role.Role.TheVariants.{Feature, Geom
 use Rattle.streetmap_placing.specs.declared.role.Role.TheVariants.{Coordinates, Coordinate}
 use Rattle.streetmap_placing.specs.declared.role.Role.TheVariants.{Properties, Other}
 
--- a step and the next, which goes on from what the first gave; the first fault ends both
+-- a step and the next, which continues with the result of the first; the first fault ends both
 infixl 10 ◌>>=◌
 abbrev pub ◌>>=◌ : {A B : Type 0} → Result A PlacingFault → (A → Result B PlacingFault)
     → Result B PlacingFault
@@ -36,11 +36,11 @@ abbrev pub placed_number : Placement → Axis → List ℕ → Result Data Placi
 placed_number p axis text =
     coordinate_or_fault (placed_text (shift_of axis p.shift) p.scale.count p.rounding text)
 
--- a number as its text alone is read
+-- a number, read from its text alone
 abbrev pub staying : List ℕ → Result Data PlacingFault
 staying text = value_or_fault (json_value text)
 
--- a coordinate is placed where there is a placement, a number within properties kept as the option
+-- a coordinate is placed if there is a placement, a number within properties is kept as the option
 -- says, and every other number stays
 abbrev pub number_by : Option Placement → Fractions → Role → List ℕ → Result Data PlacingFault
 number_by None fractions (Coordinate axis) text = staying text
@@ -53,7 +53,7 @@ number_by placement fractions Geometries text = staying text
 number_by placement fractions Coordinates text = staying text
 number_by placement fractions Other text = staying text
 
--- each value from left to right; of the members with one name the last stays
+-- each value from left to right; of the members with the same name the last is kept
 abbrev mutual
   pub value_in : Numbers → Role → json.Json → Result Data PlacingFault
   value_in n role json.null = Ok null
@@ -64,7 +64,7 @@ abbrev mutual
       items_in n role (items_count js) 0 js >>= λ found. Ok (array found)
   value_in n role (json.object ms) = members_in n role ms no_members >>= λ found. Ok (object found)
 
-  -- the elements of an array of so many, from that index on
+  -- the elements, from that index on, of an array of `count` elements
   pub items_in : Numbers → Role → (count index : ℕ) → json.Items → Result Items PlacingFault
   items_in n role count index json.no_items = Ok no_items
   items_in n role count index (json.item j js) =
@@ -85,11 +85,11 @@ value_of_tree n (Some j) = value_in n Feature j
 abbrev pub value_by : Bool → Numbers → List ℕ → Result Data PlacingFault
 value_by asked n text = if asked then value_of_tree n (utf8_tree text) else staying text
 
--- the value of a feature's text where something is asked for, and else that of the JSON text
+-- the value of a feature's text if something is asked for, and otherwise that of the JSON text
 unfoldable pub value_of : Numbers → List ℕ → Result Data PlacingFault
 value_of n text = value_by (asks n.placement n.fractions) n text
 
--- what was answered is what is asked, unless memory ran out
+-- the result is what is asked for, unless memory ran out
 abbrev pub Gives : {X Y : Type 0} → (X → Y) → Result X PlacingFault → Result Y PlacingFault
     → Type 0
 Gives view (Ok x) asked = asked ≡ Ok (view x)

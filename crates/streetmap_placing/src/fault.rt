@@ -8,17 +8,17 @@ use streetmap_json::ParseFault;
 /// Why the text of a feature was not read.
 #[derive(Clone, Copy, PartialEq, Eq, Drop)]
 pub enum PlacingFault {
-    /// Memory was refused; the call may be made again.
+    /// Out of memory; the caller may try again.
     Memory,
-    /// The text is no JSON (RFC 8259) in UTF-8, nests deeper than 127 levels, or has a number too
-    /// large for a float where it stays a number.
+    /// The text is not JSON (RFC 8259) in UTF-8, nests deeper than 127 levels, or has a number too
+    /// large for a float that stays a number.
     NotJson,
-    /// A coordinate has more than 38 characters, or digits behind its 18th decimal place that are
+    /// A coordinate has more than 38 characters, or digits after its 18th decimal place that are
     /// not rounded off.
     TooManyDigits,
     /// A coordinate lies outside of the grid.
     OutOfGrid,
-    /// A coordinate comes to no whole millimetre, and is not to be rounded.
+    /// A coordinate does not result in a whole millimetre, and is not to be rounded.
     Fraction,
 }
 

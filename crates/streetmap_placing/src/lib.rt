@@ -1,14 +1,15 @@
 //! The text of a feature read as a JSON value, its coordinates placed in the grid.
 //!
-//! A `Value` has no number's text, only what is left of it in 64 bits. So the coordinates of a map
-//! in metres are placed before there is a value: `read_placed` reads the text of one feature (RFC
-//! 7946) to the value that `streetmap_json::read_json` reads of it, but for the numbers within the
-//! `coordinates` of its geometry, which are the grid's (`streetmap_decimal`), and those of its
-//! properties that are not whole, which may be kept as texts. [`Numbers`] says which of both is
-//! done.
+//! A `Value` does not have a number's text, only what 64 bits hold of it. So the coordinates of a
+//! map in metres are placed before there is a value: `read_placed` reads the text of one feature
+//! (RFC 7946) to the value that `streetmap_json::read_json` reads of it, except for the numbers
+//! within the `coordinates` of its geometry, which are the grid's (`streetmap_decimal`), and those
+//! of its properties that are not whole, which may be kept as texts. [`Numbers`] says which of
+//! these two it does.
 //!
-//! `specs/Placed` says what becomes of each value within a feature, and of which [`Role`] a member
-//! and an element is; the value then goes to the reader of features, which refuses what is none.
+//! `specs/Placed` defines what each value within a feature becomes, and which [`Role`] a member and
+//! an element have; the value then goes to the reader of features, which refuses what is not a
+//! feature.
 //!
 //! Modules, in the order of reading: `fault`, `role`, `numbers`, `number`, `placing`, `reading`,
 //! `laws`.

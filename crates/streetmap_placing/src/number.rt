@@ -1,4 +1,4 @@
-//! What becomes of a number of a feature.
+//! What a number of a feature becomes.
 ghost use Rattle.std.specs.Prelude.{◌≡◌};
 ghost use Rattle.serde_json.specs.View.{view};
 ghost use Rattle.streetmap_placing.specs.Placed.{Answers, IsPlacedCoordinate, StaysAs, KeptAs};
@@ -38,7 +38,7 @@ fn placed_number(placement: &Placement, axis: Axis, text: &str) -> Result<Value,
     }
 }
 
-// A number as its text alone is read.
+// A number, read from its text alone.
 fn staying_number(alloc: Global, text: &str) -> Result<Value, PlacingFault>
     ensures { Answers view result (StaysAs text.now) }
 {
@@ -48,7 +48,7 @@ fn staying_number(alloc: Global, text: &str) -> Result<Value, PlacingFault>
     }
 }
 
-// A whole number as its text alone is read, and any other as its text.
+// A whole number, read from its text alone, and any other number as its text.
 fn kept_number(alloc: Global, text: &str) -> Result<Value, PlacingFault>
     ensures { Answers view result (KeptAs text.now) }
 {

@@ -2,7 +2,7 @@
 
 use streetmap_decimal::{Placement, Rounding, Scale, Shift};
 
-/// What becomes of a number within the properties that is not whole.
+/// What a number within the properties becomes if it is not whole.
 #[derive(Clone, Copy, PartialEq, Eq, Drop)]
 pub enum Fractions {
     /// It stays a number, which the reader of features refuses.
@@ -14,9 +14,9 @@ pub enum Fractions {
 /// How the numbers of a feature are read.
 #[derive(Clone, Copy, PartialEq, Eq)]
 pub struct Numbers {
-    /// Where the map lies in the grid, or none where its coordinates are the grid's.
+    /// The position of the map in the grid, or none if its coordinates are the grid's.
     pub placement: Option<Placement>,
-    /// What becomes of a number within the properties that is not whole.
+    /// What a number within the properties becomes if it is not whole.
     pub fractions: Fractions,
 }
 
@@ -25,8 +25,8 @@ impl Numbers {
     ghost use Rattle.streetmap_placing.specs.Options.{IsPlacementOf};
 
     /// The numbers by the options of a command line: a scale, a shift, whether coordinates are
-    /// rounded, and what becomes of fractions. Where none of the first three is given, coordinates
-    /// stay as they are; else the scale is 1 and the shift 0 where they are not given.
+    /// rounded, and what fractions become. If none of the first three is given, coordinates stay as
+    /// they are; otherwise the scale is 1 if it is not given, and the shift 0 if it is not given.
     pub fn new(
         scale: Option<Scale>,
         shift: Option<Shift>,

@@ -58,7 +58,8 @@ fn placed_items(
     Ok(placed)
 }
 
-/// What the members of an object become, from left to right. Of those with one name the last stays.
+/// What the members of an object become, from left to right. Of members with the same name the last
+/// is kept.
 #[cycle(placing)]
 fn placed_members(
     alloc: Global,

@@ -23,15 +23,15 @@ const MAX_DEPTH: usize = 127;
 /// array of two or three elements within the coordinates of a geometry, a number is placed in the
 /// grid, the first as an easting, the second as a northing, the third as a height; a number within
 /// the properties that is not whole may become a text. Every other value is as
-/// [`streetmap_json::read_json`] reads it, and so is the whole text where `numbers` asks for
-/// nothing. One `scratch` serves any number of reads, one after the other.
+/// [`streetmap_json::read_json`] reads it, and so is the whole text if `numbers` asks for nothing.
+/// One `scratch` serves any number of reads, one after the other.
 ///
 /// # Errors
 ///
-/// `NotJson` where the text is no JSON (RFC 8259) in UTF-8, or nests deeper than 127 levels. Else
-/// the first fault in the order of the text: `NotJson` for a number too large for a float, where it
-/// stays a number, and `TooManyDigits`, `OutOfGrid` and `Fraction` for a coordinate, as
-/// [`streetmap_decimal::Placement::grid_of_text`] has them. `Memory` where memory was refused.
+/// `NotJson` if the text is not JSON (RFC 8259) in UTF-8, or nests deeper than 127 levels.
+/// Otherwise the first fault in the order of the text: `NotJson` for a number too large for a
+/// float, if it stays a number, and `TooManyDigits`, `OutOfGrid` and `Fraction` for a coordinate,
+/// as [`streetmap_decimal::Placement::grid_of_text`] has them. `Memory` if memory runs out.
 pub fn read_placed(
     alloc: Global,
     scratch: &mut Scratch,
@@ -39,13 +39,13 @@ pub fn read_placed(
     numbers: &Numbers,
 ) -> Result<Value, PlacingFault>
     ensures read { Answers view result (IsReadAs numbers.now text.now) }
-    // The same, by the function that it comes to.
+    // The same, by the function that gives the result.
     ensures value { Gives view result (value_of numbers.now text.now) }
 {
     read_asked(alloc, scratch, text, numbers)
 }
 
-// The value of bytes, its numbers read where something is asked of them.
+// The value of bytes, its numbers read if something is asked of them.
 fn read_asked(
     alloc: Global,
     scratch: &mut Scratch,

@@ -1,11 +1,11 @@
-//! What a value is within a feature.
+//! The role of a value within a feature.
 ghost use Rattle.std.specs.Prelude.{◌≡◌};
 ghost use Rattle.streetmap_placing.specs.Roles.{member_role, element_role, role_in_array};
 ghost use Rattle.streetmap_placing.specs.declared.role.Role.TheVariants.{Feature, Geometry};
 
 use streetmap_decimal::Axis;
 
-/// What a value is within a feature (RFC 7946, sections 3.1 and 3.2).
+/// The role of a value within a feature (RFC 7946, sections 3.1 and 3.2).
 #[derive(Clone, Copy, PartialEq, Eq, Drop)]
 pub enum Role {
     /// The feature.
@@ -16,7 +16,7 @@ pub enum Role {
     Geometries,
     /// The coordinates of a geometry, or an array within them.
     Coordinates,
-    /// A coordinate of a position, where it is a number.
+    /// A coordinate of a position, if it is a number.
     Coordinate(Axis),
     /// The properties, or a value within them.
     Properties,
@@ -25,7 +25,7 @@ pub enum Role {
 }
 
 impl Role {
-    /// What the member of that name is.
+    /// The role of the member of that name.
     pub fn of_member(self, name: &str) -> Role
         ensures { result ≡ member_role self name.now }
     {
@@ -37,7 +37,7 @@ impl Role {
         }
     }
 
-    /// What the element at that index of an array of so many is.
+    /// The role of the element at that index of an array of `count` elements.
     pub fn of_element(self, count: usize, index: usize) -> Role
         ensures { result ≡ element_role self count index }
     {
