@@ -1,4 +1,4 @@
--- What a text is read as, and a decimal counted in a small unit.
+-- The number that a text is read as, and a decimal counted in a small unit.
 use Rattle.std.specs.Prelude.{◌≡◌, ◌⊎◌, ℕ, ◌+◌, ◌<◌, ◌≤◌, ◌*◌, ◌^◌, suc, List, length, ℤ, pos}
 use Rattle.std.specs.Prelude.{negsuc, ◌+ℤ◌, ◌*ℤ◌, unsigned_abs, int_lt, Result, Ok, Err}
 use Rattle.streetmap_decimal.specs.declared.fault.DecimalFault.{DecimalFault}
@@ -7,7 +7,7 @@ use Rattle.streetmap_decimal.specs.declared.fault.DecimalFault.TheVariants.{TooM
 use Rattle.streetmap_decimal.specs.declared.fault.DecimalFault.TheVariants.{OutOfGrid, Fraction}
 use Rattle.streetmap_decimal.specs.NumberText.{Means, signed}
 
--- a step and the next, which goes on from what the first gave; the first fault ends both
+-- a step and the next, which continues with the result of the first; the first fault ends both
 abbrev pub Then : {A B : Type 0} → (Result A DecimalFault → Type 0)
     → (A → Result B DecimalFault → Type 0) → Result B DecimalFault → Type 0
 Then {A} First Next (Ok b) = (a : A) × (First (Ok a) × Next a (Ok b))
@@ -19,7 +19,7 @@ Then {A} First Next (Err f) = First (Err f) ⊎ ((a : A) × (First (Ok a) × Nex
 abbrev pub max_len : ℕ
 max_len = 38
 
--- no number text
+-- not a number text
 abbrev pub IsNoNumber : List ℕ → Type 0
 IsNoNumber text = (m e : ℤ) → Means text m e → ⊥
 
@@ -40,8 +40,8 @@ coordinate_places = 18
 abbrev pub scale_places : ℕ
 scale_places = 9
 
--- counts are smaller than this; a coordinate whose count is not lies out of the grid, whatever the
--- shift and the scale
+-- counts are smaller than this; a coordinate whose count is not smaller lies outside of the grid,
+-- whatever the shift and the scale
 abbrev pub count_limit : ℕ
 count_limit = 10 ^ 37
 
@@ -54,7 +54,7 @@ IsShifted m (negsuc k) u = m ≡ u *ℤ pos (10 ^ suc k)
 abbrev pub IsCount : (places : ℕ) → (m e u : ℤ) → Type 0
 IsCount places m e u = IsShifted m (e +ℤ pos places) u
 
--- m * 10 ^ e is counted, or refused: where the count is no whole number, and where it is too large
+-- m * 10 ^ e is counted, or refused: if the count is not a whole number, and if it is too large
 abbrev pub Counts : (places : ℕ) → (m e : ℤ) → Result ℤ DecimalFault → Type 0
 Counts places m e (Ok u) = IsCount places m e u × (unsigned_abs u < count_limit)
 Counts places m e (Err TooManyDigits) = (u : ℤ) → IsCount places m e u → ⊥
@@ -91,7 +91,7 @@ abbrev pub IsCeiling : (n : ℕ) → (k : ℤ) → (v : ℕ) → Type 0
 IsCeiling n (pos k) v = v ≡ n * 10 ^ k
 IsCeiling n (negsuc k) v = (n ≤ v * 10 ^ suc k) × (v * 10 ^ suc k < n + 10 ^ suc k)
 
--- both, or refused, where the number is too large
+-- both, or refused, if the number is too large
 abbrev pub Sides : (n : ℕ) → (k : ℤ) → Result (ℕ × ℕ) DecimalFault → Type 0
 Sides n k (Ok s) = IsFloor n k s.0 × IsCeiling n k s.1 × (s.0 < count_limit)
 Sides n k (Err OutOfGrid) = (u : ℕ) × (IsFloor n k u × (count_limit ≤ u))
@@ -99,12 +99,12 @@ Sides n k (Err TooManyDigits) = ⊥
 Sides n k (Err NotANumber) = ⊥
 Sides n k (Err Fraction) = ⊥
 
--- u, or u below zero where m is
+-- u, or u below zero if m is
 abbrev pub with_sign_of : ℤ → ℕ → ℤ
 with_sign_of m u = signed (int_lt m (pos 0)) u
 
 -- the whole counts on both sides of m * 10 ^ e, of which the first is nearer to zero: both are the
--- count, where that is a whole number
+-- count, if that is a whole number
 abbrev pub Encloses : (places : ℕ) → (m e : ℤ) → Result (ℤ × ℤ) DecimalFault → Type 0
 Encloses places m e (Ok z) =
     (s : ℕ × ℕ) × (Sides (unsigned_abs m) (e +ℤ pos places) (Ok s)

@@ -13,7 +13,7 @@ abbrev pub IsOptionCount : (places : ℕ) → List ℕ → ℤ → Type 0
 IsOptionCount places text u =
     ReadsCount places text (Ok u) × (unsigned_abs u < option_limit)
 
--- the text is read as an option's count, or is none
+-- the text is read as an option's count, or is not one
 abbrev pub ReadsOption : (places : ℕ) → List ℕ → Option ℤ → Type 0
 ReadsOption places text (Some u) = IsOptionCount places text u
 ReadsOption places text None = (u : ℤ) → IsOptionCount places text u → ⊥
@@ -26,7 +26,7 @@ IsScale text s = IsOptionCount scale_places text s × (pos 0 <ℤ s)
 abbrev pub is_comma : ℕ → Bool
 is_comma b = b == 44
 
--- before its first comma the text is a number that is x times 10 ^ -18, and behind it one that is y
+-- before its first comma the text is a number that is x times 10 ^ -18, and after it one that is y
 -- times 10 ^ -18, both below 10 ^ 18
 abbrev pub IsShift : List ℕ → ℤ → ℤ → Type 0
 IsShift text x y =

@@ -1,4 +1,4 @@
--- The number of the grid that a text comes to, as a function of it: `PlacesText` says which it is.
+-- The number of the grid that a text gives, as a function of it: `PlacesText` says which it is.
 use Rattle.std.specs.Prelude.{ℕ, suc, ◌+◌, ◌*◌, ◌/◌, ◌%◌, ◌^◌, ◌==◌, nat_lt, nat_le, List, length}
 use Rattle.std.specs.Prelude.{ℤ, pos, negsuc, ◌+ℤ◌, unsigned_abs, Option, Some, None, Result, Ok, Err}
 use Rattle.std.specs.Prelude.{if◌then◌else◌}
@@ -15,7 +15,7 @@ use Rattle.streetmap_decimal.specs.declared.fault.DecimalFault.TheVariants.{OutO
 use Rattle.streetmap_decimal.specs.declared.rounding.Rounding.{Rounding}
 use Rattle.streetmap_decimal.specs.declared.rounding.Rounding.TheVariants.{Exact, Nearest}
 
--- a step and the next, which goes on from what the first gave; the first fault ends both
+-- a step and the next, which continues with the result of the first; the first fault ends both
 infixl 10 ◌>>=◌
 abbrev pub ◌>>=◌ : {A B : Type 0} → Result A DecimalFault → (A → Result B DecimalFault)
     → Result B DecimalFault
@@ -39,7 +39,7 @@ read_decimal text =
 abbrev pub limited : ℕ → Result ℕ DecimalFault
 limited u = if nat_lt u count_limit then Ok u else Err OutOfGrid
 
--- n * 10 ^ k, where that is a whole number
+-- n * 10 ^ k, if that is a whole number
 abbrev pub shifted : (n : ℕ) → (k : ℤ) → Result ℕ DecimalFault
 shifted n (pos k) = limited (n * 10 ^ k)
 shifted n (negsuc k) =
@@ -77,16 +77,16 @@ coordinate_at z =
     if nat_le (nearest_of (unsigned_abs z)) 1_000_000_000
     then Some (with_sign_of z (nearest_of (unsigned_abs z))) else None
 
--- where nothing is left
+-- if there is no rest
 abbrev pub whole_coordinate : (rest : ℕ) → Option ℤ → Result ℤ DecimalFault
 whole_coordinate rest None = Err OutOfGrid
 whole_coordinate rest (Some g) = if rest == 0 then Ok g else Err Fraction
 
--- where both sides come to the same
+-- if both sides give the same
 abbrev pub agreed : (near far : Option ℤ) → Result ℤ DecimalFault
 agreed near far = if option_eq int_eq far near then ok_or near OutOfGrid else Err TooManyDigits
 
--- the number of the grid that m * 10 ^ e comes to
+-- the number of the grid that m * 10 ^ e gives
 abbrev pub placed_decimal : (shift scale : ℤ) → Rounding → (m e : ℤ) → Result ℤ DecimalFault
 placed_decimal shift scale Exact m e =
     count_of coordinate_places m e >>= λ u.
@@ -96,7 +96,7 @@ placed_decimal shift scale Nearest m e =
     counts_around coordinate_places m e >>= λ s.
     agreed (coordinate_at (placed shift scale s.0)) (coordinate_at (placed shift scale s.1))
 
--- that a text comes to
+-- the number that a text gives
 abbrev pub placed_text : (shift scale : ℤ) → Rounding → List ℕ → Result ℤ DecimalFault
 placed_text shift scale rounding text =
     read_decimal text >>= λ d. placed_decimal shift scale rounding d.0 d.1

@@ -6,8 +6,9 @@ ghost use Rattle.std.specs.List.{list_all};
 ghost use Rattle.std.specs.Str.Parse.{digits_value_after};
 ghost use Rattle.streetmap_decimal.specs.NumberText.{signed};
 
-/// What a count must be smaller than. A coordinate whose count is not lies out of the grid, whatever
-/// the options: it is at least 9 * 10^18 away from any shift, and a scale is at least 10^-9.
+/// The bound of a count: each is smaller. A coordinate whose count is not smaller lies outside of
+/// the grid, whatever the options: it is at least 9 * 10^18 away from any shift, and a scale is at
+/// least 10^-9.
 pub(crate) const COUNT_LIMIT: u128 = 10_000_000_000_000_000_000_000_000_000_000_000_000;
 
 /// A number, or that number below zero.
@@ -19,7 +20,7 @@ pub(crate) fn signed(is_negative: bool, magnitude: u128) -> i128
     if is_negative { -value } else { value }
 }
 
-/// The number that digits write when they follow those of the number before.
+/// The number that digits write when they follow the digits of `before`.
 pub(crate) fn digits_value(before: u128, digits: &[u8]) -> u128
     requires digits { IsTrue (list_all is_ascii_digit digits.now) }
     requires room { (before + 1) * 10 ^ length digits.now ≤ 10 ^ 38 }
@@ -33,7 +34,7 @@ pub(crate) fn digits_value(before: u128, digits: &[u8]) -> u128
     value
 }
 
-/// The number times 10^power, where that is below the limit.
+/// The number times 10^power, if that is below the limit.
 pub(crate) fn multiplied(number: u128, power: u128) -> Option<u128>
     ensures some { IfSome result (λ n. (n ≡ number * 10 ^ power) × (n < 10 ^ 37)) }
     ensures none { IfNone result (10 ^ 37 ≤ number * 10 ^ power) }
@@ -52,7 +53,7 @@ pub(crate) fn multiplied(number: u128, power: u128) -> Option<u128>
     }
 }
 
-/// The number divided by 10^power, where that is whole.
+/// The number divided by 10^power, if that is whole.
 pub(crate) fn divided(number: u128, power: u128) -> Option<u128>
     requires { number < 10 ^ 38 }
     ensures some { IfSome result (λ n. number ≡ n * 10 ^ power) }
@@ -73,7 +74,7 @@ pub(crate) fn divided(number: u128, power: u128) -> Option<u128>
 }
 
 /// The whole numbers on both sides of the number divided by 10^power, the lower first: both are the
-/// quotient, where that is whole.
+/// quotient, if that is whole.
 pub(crate) fn sides(number: u128, power: u128) -> (u128, u128)
     requires { number < 10 ^ 38 }
     ensures lower { (result.0 * 10 ^ power ≤ number) × (number < (result.0 + 1) * 10 ^ power) }

@@ -11,7 +11,7 @@ const MAX_LEN: usize = 38;
 /// The decimal places that are kept of coordinates and of the shift.
 pub(crate) const COORDINATE_PLACES: u8 = 18;
 
-/// What the count of an option, a scale or a shift, must be smaller than.
+/// The bound of the count of an option, a scale or a shift: each is smaller.
 const OPTION_LIMIT: u128 = 1_000_000_000_000_000_000_000_000_000_000_000_000;
 
 /// The number m * 10^e, for a whole mantissa m and a whole exponent e.
@@ -37,8 +37,8 @@ impl Decimal {
     ///
     /// # Errors
     ///
-    /// `TooManyDigits` where the text has more than 38 characters, else `NotANumber` where it is no
-    /// number.
+    /// `TooManyDigits` if the text has more than 38 characters, otherwise `NotANumber` if it is not
+    /// a number.
     pub fn read(text: &[u8]) -> Result<Decimal, DecimalFault>
         ensures { ReadsDecimal text.now (decimal_view result) }
     {
@@ -78,7 +78,7 @@ impl Decimal {
     ///
     /// # Errors
     ///
-    /// `TooManyDigits` where that is no whole number, `OutOfGrid` where it is 10^37 or more.
+    /// `TooManyDigits` if that is not a whole number, `OutOfGrid` if it is 10^37 or more.
     pub fn count(&self, places: u8) -> Result<i128, DecimalFault>
         ensures { Counts places self.now.mantissa self.now.exponent result }
     {
@@ -108,11 +108,11 @@ impl Decimal {
     }
 
     /// The whole counts of 10^-places on both sides of the number, of which the first is nearer to
-    /// zero: both are its count, where that is whole.
+    /// zero: both are its count, if that is whole.
     ///
     /// # Errors
     ///
-    /// `OutOfGrid` where the count is 10^37 or more.
+    /// `OutOfGrid` if the count is 10^37 or more.
     pub fn enclosing(&self, places: u8) -> Result<(i128, i128), DecimalFault>
         ensures { Encloses places self.now.mantissa self.now.exponent result }
     {

@@ -1,16 +1,16 @@
 //! Why a text is refused.
 
-/// Why the text of a coordinate comes to no number of the grid.
+/// Why the text of a coordinate gives no number of the grid.
 #[derive(Clone, Copy, PartialEq, Eq, Drop)]
 pub enum DecimalFault {
-    /// The text is no number of RFC 8259, section 6.
+    /// The text is not a number of RFC 8259, section 6.
     NotANumber,
-    /// The text has more than 38 characters, or the number has a digit other than zero behind its
-    /// 18th decimal place, and is not rounded or comes to different numbers with it and without.
+    /// The text has more than 38 characters, or the number has a digit other than zero after its
+    /// 18th decimal place, and is not rounded or gives different results with it and without.
     TooManyDigits,
-    /// The number comes to no coordinate of the grid.
+    /// The number gives no coordinate of the grid.
     OutOfGrid,
-    /// The number comes to no whole number, and is not to be rounded.
+    /// The number does not give a whole number, and is not to be rounded.
     Fraction,
 }
 
@@ -46,8 +46,8 @@ impl DecimalFault {
 /// Why the text of an option is refused.
 #[derive(Clone, Copy, PartialEq, Eq, Drop)]
 pub enum OptionFault {
-    /// The text of a scale is no number above 0 that is a whole multiple of 10^-9 below 10^27, or
-    /// has more than 38 characters.
+    /// The text of a scale is not a number above 0 that is a whole multiple of 10^-9 below 10^27,
+    /// or has more than 38 characters.
     BadScale,
     /// The text of a shift is not two numbers with a comma between them, each a whole multiple of
     /// 10^-18 below 10^18 of at most 38 characters.

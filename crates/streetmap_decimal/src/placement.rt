@@ -17,14 +17,14 @@ const ONE: u128 = 1_000_000_000_000_000_000_000_000_000;
 /// The greatest coordinate of the grid, in millimetres.
 const GREATEST_COORDINATE: u128 = 1_000_000_000;
 
-/// Where a map lies in the grid: a coordinate n of the map is (n - shift) * scale there.
+/// The position of a map in the grid: a coordinate n of the map is (n - shift) * scale there.
 #[derive(Clone, Copy, PartialEq, Eq)]
 pub struct Placement {
     /// Which position of the map is the grid's 0,0.
     pub shift: Shift,
     /// How many millimetres one unit of the map is.
     pub scale: Scale,
-    /// What becomes of a result that is not whole.
+    /// What a result becomes if it is not whole.
     pub rounding: Rounding,
 }
 
@@ -39,19 +39,19 @@ impl Placement {
     ///
     /// # Errors
     ///
-    /// `TooManyDigits` where the text has more than 38 characters, else `NotANumber` where it is no
-    /// number (RFC 8259, section 6). Then, where the result has to be whole: `TooManyDigits` where
-    /// the number has digits behind the 18th decimal place, `OutOfGrid` where the nearest whole
-    /// number is no coordinate, and `Fraction` where the result is not whole. Where it is rounded:
-    /// `OutOfGrid` where the result is beyond the grid on both sides of the gap behind the 18th
-    /// place, and `TooManyDigits` where the two sides differ.
+    /// `TooManyDigits` if the text has more than 38 characters, otherwise `NotANumber` if it is not
+    /// a number (RFC 8259, section 6). Then, if the result must be whole: `TooManyDigits` if the
+    /// number has digits after the 18th decimal place, `OutOfGrid` if the nearest whole number is
+    /// not a coordinate, and `Fraction` if the result is not whole. If it is rounded: `OutOfGrid`
+    /// if the result is beyond the grid on both sides of the gap after the 18th place, and
+    /// `TooManyDigits` if the two sides differ.
     pub fn grid_of_text(&self, axis: Axis, text: &[u8]) -> Result<i64, DecimalFault>
         ensures places { PlacesText (shift_of axis self.now.shift) self.now.scale.count
             self.now.rounding text.now result }
-        // What is answered is the nearest whole number to the exact value, half away from zero.
+        // The result is the nearest whole number to the exact value, half away from zero.
         ensures nearest { IfOk result (λ g. IsNearestToText (shift_of axis self.now.shift)
             self.now.scale.count text.now g) }
-        // What is refused as out of the grid has no coordinate there, by its exact value.
+        // A text that is refused as out of the grid has no coordinate there, by its exact value.
         ensures off_grid { result ≡ Err OutOfGrid → IsOffGrid (shift_of axis self.now.shift)
             self.now.scale.count text.now }
     {
@@ -108,7 +108,7 @@ impl AxisPlacement {
         }
     }
 
-    // The number of the grid of a count that has to come to a whole number.
+    // The number of the grid of a count that must give a whole number.
     fn standing(&self, count: i128) -> Result<i64, DecimalFault>
         requires { unsigned_abs count ≤ 10 ^ 37 }
         ensures { Stands (placed self.now.shift self.now.scale count) result }
@@ -119,7 +119,7 @@ impl AxisPlacement {
         }
     }
 
-    // The number of the grid that two counts both come to.
+    // The number of the grid that two counts both give.
     fn agreed(&self, near: i128, far: i128) -> Result<i64, DecimalFault>
         requires near { unsigned_abs near ≤ 10 ^ 37 }
         requires far { unsigned_abs far ≤ 10 ^ 37 }
@@ -144,7 +144,7 @@ impl AxisPlacement {
         }
     }
 
-    // (count - shift) * scale, where that is below 2^127.
+    // (count - shift) * scale, if that is below 2^127.
     fn placed(&self, count: i128) -> Option<i128>
         requires { unsigned_abs count ≤ 10 ^ 37 }
         ensures some { IfSome result (λ z. z ≡ placed self.now.shift self.now.scale count) }

@@ -37,8 +37,8 @@ impl Scale {
     ///
     /// # Errors
     ///
-    /// `BadScale` where the text is no number (RFC 8259, section 6), has more than 38 characters,
-    /// or the number is 0 or less, no whole multiple of 10^-9, or 10^27 or more.
+    /// `BadScale` if the text is not a number (RFC 8259, section 6), has more than 38 characters,
+    /// or the number is 0 or less, not a whole multiple of 10^-9, or 10^27 or more.
     pub fn read(text: &[u8]) -> Result<Scale, OptionFault>
         ensures { ReadsScale text.now result }
     {

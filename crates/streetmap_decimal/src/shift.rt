@@ -37,9 +37,9 @@ impl Shift {
     ///
     /// # Errors
     ///
-    /// `BadShift` where the text has no comma, what stands before its first comma or behind it is
-    /// no number (RFC 8259, section 6) or has more than 38 characters, or a number is no whole
-    /// multiple of 10^-18, or 10^18 or more.
+    /// `BadShift` if the text has no comma, the part before its first comma or after it is not a
+    /// number (RFC 8259, section 6) or has more than 38 characters, or a number is not a whole
+    /// multiple of 10^-18, or is 10^18 or more.
     pub fn read(text: &[u8]) -> Result<Shift, OptionFault>
         ensures { ReadsShift text.now result }
     {
