@@ -25,8 +25,8 @@ and_more (Ok f) (Ok fs) = Ok (f ∷ fs)
 and_more (Ok f) (Err fault) = Err fault
 and_more (Err fault) _ = Err fault
 
--- the features behind the n-th, from left to right; one without an id takes its place, counted from
--- 1, as id
+-- the features after the n-th, from left to right; one without an id has its place, counted from 1,
+-- as id
 unfoldable pub features_after : ℕ → (time_property : Option (List ℕ)) → List Data
     → Result (List FeatureValue) CollectionFault
 features_after n time_property [] = Ok []
@@ -62,14 +62,14 @@ abbrev pub AreFeatures : (time_property : Option (List ℕ)) → Data → List F
 AreFeatures time_property d fs = IsTrue (is_collection d)
     × ((ds : List Data) × IsArrayAt (codes "features") d ds × AreAfter 0 time_property ds fs)
 
--- ---- what a reader answers
+-- ---- what a reader returns
 
 abbrev pub FailsAt : {Y : Type 0} → CollectionFault → Result Y CollectionFault → Type 0
 FailsAt faults.Memory read = Unit {0}
 FailsAt (faults.Fault f) read = read ≡ Err (faults.Fault f)
 FailsAt (faults.At n f) read = read ≡ Err (faults.At n f)
 
--- what was answered, seen by view, is the reading, unless memory ran out
+-- the result, seen by view, is the reading, unless memory ran out
 abbrev pub GivesAt : {X Y : Type 0} → (X → Y) → Result X CollectionFault → Result Y CollectionFault
     → Type 0
 GivesAt view (Ok x) read = read ≡ Ok (view x)

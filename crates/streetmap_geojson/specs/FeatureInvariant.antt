@@ -38,7 +38,7 @@ pub record IsFeature (f : FeatureValue) : Type 0 where
   pub exact : IsTrue (is_exact f.properties)
   pub timed : IsIntervalIf f.time
 
--- what the type of a feature keeps, beside what the types of its id, geometry and time keep
+-- what the type of a feature keeps, besides what the types of its id, geometry and time keep
 pub record KeepsRules (f : FeatureValue) : Type 0 where
   pub few : count_if position_count f.geometry ≤ max_positions
   pub oriented : IsTrue (is_oriented_if f.geometry)

@@ -19,7 +19,7 @@ IsId (string s) id = IsTrue (is_id s) × (id ≡ s)
 IsId (number n) id = (z : ℤ) × (as_integer n ≡ Some z) × (id ≡ signed_decimal z)
 IsId _ id = ⊥
 
--- the member's id, or the feature's place where there is none
+-- the member's id, or the feature's place if it has none
 abbrev pub IsIdOf : (place : Option ℕ) → Option Data → List ℕ → Type 0
 IsIdOf place None id = (n : ℕ) × (place ≡ Some n) × (id ≡ decimal n)
 IsIdOf place (Some d) id = IsId d id

@@ -31,7 +31,7 @@ feature_object geometry id properties = object (member (codes "geometry") geomet
     (member (codes "properties") properties
     (member (codes "type") (string (codes "Feature")) no_members))))
 
--- what these members read as, or the first fault, where they are nested no deeper than they may
+-- what these members read as, or the first fault, if they are nested no deeper than allowed
 unfoldable pub flat_feature : (time_property : Option (List ℕ)) → (placed named told : Data)
     → Result FeatureValue Fault
 flat_feature time_property placed named told = do

@@ -1,5 +1,5 @@
--- What a feature reads as, or its first fault: the lines of `feature_at` stand in the reading
--- order. RFC 7946 3.2.
+-- What a feature reads as, or its first fault: the lines of `feature_at` are in the reading order.
+-- RFC 7946 3.2.
 use Rattle.std.specs.Prelude.{ℕ, Bool, true, false, ◌||◌, List, codes, Option, None, is_some}
 use Rattle.std.specs.Prelude.{option_map, option_and_then, unwrap_or, Result, Ok, Err, nat_le}
 use Rattle.std.specs.Prelude.{if◌then◌else◌, bytes_eq}

@@ -1,5 +1,5 @@
 -- What a feature says. RFC 7946 3.2: its id, its geometry or none, its properties (an object or
--- null), and its time, where it has one.
+-- null), and its time, if it has one.
 use Rattle.std.specs.Prelude.{ℕ, List, Option, None}
 use Rattle.serde_json.specs.Data.{Data}
 use Rattle.streetmap_grid.specs.Values.{GeometryValue}
@@ -11,7 +11,7 @@ pub record FeatureValue : Type 0 where
   pub properties : Data
   pub time : Option IntervalValue
 
--- the feature with its time left out
+-- the feature without its time
 abbrev pub untimed : FeatureValue → FeatureValue
 untimed f = record { id = f.id; geometry = f.geometry; properties = f.properties; time = None }
 

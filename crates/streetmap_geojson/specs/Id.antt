@@ -33,8 +33,8 @@ id_from (string s) = text_id s
 id_from (number n) = number_id (as_integer n)
 id_from _ = Err BadId
 
--- the place of a feature in a collection, counted from 1, is its id where it has none; alone it has
--- no place
+-- the place of a feature in a collection, counted from 1, is its id if it has none; alone it has no
+-- place
 abbrev pub place_id : (place : Option ℕ) → Result (List ℕ) Fault
 place_id None = Err BadId
 place_id (Some n) = Ok (decimal n)

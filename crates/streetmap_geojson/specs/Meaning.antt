@@ -25,7 +25,7 @@ ArePosition (a ∷ b ∷ c ∷ []) p = ReadsAsCoordinate a p.x × ReadsAsCoordin
     × ((z : ℤ) × ReadsAsCoordinate c z × (p.z ≡ Some z))
 ArePosition _ p = ⊥
 
--- an array of which the elements are as R says
+-- an array whose elements satisfy R
 abbrev pub IsArray : {A : Type 0} → (List Data → A → Type 0) → Data → A → Type 0
 IsArray R (array ds) a = R (list_of ds) a
 IsArray R _ a = ⊥
@@ -53,7 +53,7 @@ AreRing ds ps = ArePositions ds ps × (4 ≤ length ps) × IsTrue (is_closed ps)
 abbrev pub AreRings : List Data → List (List PositionValue) → Type 0
 AreRings ds rs = AreEach (IsArray AreRing) ds rs
 
--- RFC 7946 3.1.6: one ring or more, each as it stands, or reversed where its sign is wrong
+-- RFC 7946 3.1.6: one ring or more, each as it is, or reversed if its sign is wrong
 abbrev pub ArePolygon : List Data → List (List PositionValue) → Type 0
 ArePolygon ds rs = (qs : List (List PositionValue)) × AreRings ds qs × (1 ≤ length qs)
     × (rs ≡ oriented qs)

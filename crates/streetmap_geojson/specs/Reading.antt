@@ -84,7 +84,7 @@ position_of _ = Err BadPosition
 abbrev pub max_positions : ℕ
 max_positions = 100000
 
--- an array where a position stands: the 100,001st is refused
+-- an array in the place of a position: the 100,001st is refused
 unfoldable pub position : List Data → ℕ → Read PositionValue
 position ds n = if nat_lt n max_positions then (do
   p ← position_of ds
@@ -150,7 +150,7 @@ abbrev pub unless_empty : {A : Type 0} → (List Data → ℕ → Read A) → Li
 unless_empty f [] n = Ok (None, n)
 unless_empty f (d ∷ ds) n = under Some (f (d ∷ ds) n)
 
--- the member of that name, which is to be an array
+-- the member of that name, which must be an array
 abbrev pub array_at : List ℕ → Data → Result (List Data) Fault
 array_at name d = ok_or (option_map list_of (option_and_then as_array (get name d))) BadGeometry
 
@@ -164,7 +164,7 @@ simple_as k d n = do
   ds ← array_at (codes "coordinates") d
   unless_empty (coordinates_as k) ds n
 
--- a GeometryCollection within one is refused, first where it has no array of members
+-- a GeometryCollection within one is refused, first if it has no array of members
 abbrev pub nested : Data → ℕ → Read (Option SimpleValue)
 nested d n = do
   ds ← array_at (codes "geometries") d
@@ -179,7 +179,7 @@ member_as (Some (Simple k)) d n = simple_as k d n
 unfoldable pub member_of_collection : Data → ℕ → Read (Option SimpleValue)
 member_of_collection d n = if is_some (as_null d) then Ok (None, n) else member_as (kind_at d) d n
 
--- those that are there
+-- those that exist
 abbrev pub somes : {A : Type 0} → List (Option A) → List A
 somes [] = []
 somes (None ∷ xs) = somes xs

@@ -16,7 +16,7 @@ use Rattle.streetmap_grid.specs.Values.{PositionValue, SimpleValue, GeometryValu
 use Rattle.streetmap_moment.specs.IntervalValue.{IntervalValue, coded_interval}
 use Rattle.streetmap_geojson.specs.FeatureValue.{FeatureValue}
 
--- which constructor, and what it holds beside values
+-- which constructor, and what it holds besides values
 abbrev pub Part : Type 0
 Part = ℕ × (ℕ × (ℤ × (Float × List ℕ)))
 
@@ -43,7 +43,7 @@ abbrev mutual
   members_parts (member k d ms) rest = (11, (0, (pos 0, (nan, k))))
       ∷ data_parts d (members_parts ms rest)
 
--- what stands on the stack: a value, or items, or members
+-- an element of the stack: a value, or items, or members
 abbrev Node : Type 0
 Node = Data × (Items × Members)
 

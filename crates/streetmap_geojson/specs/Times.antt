@@ -1,4 +1,4 @@
--- The time of a feature: what the property says that its collection names.
+-- The time of a feature: what is said by the property that its collection names.
 use Rattle.std.specs.Prelude.{◌≡◌, ℕ, List, Option, None, Some, Result, Ok, Err}
 use Rattle.serde_json.specs.Data.{Data, null, string}
 use Rattle.serde_json.specs.Find.{get}
@@ -11,7 +11,7 @@ use Rattle.streetmap_geojson.specs.declared.fault.Fault.{Fault}
 use Rattle.streetmap_geojson.specs.declared.fault.Fault.TheVariants.{BadTime, EmptyInterval}
 use Rattle.streetmap_geojson.specs.FeatureValue.{FeatureValue}
 
--- the interval that was read is there
+-- the interval that was read, as a time that exists
 abbrev pub there : Result IntervalValue TimeFault → Result (Option IntervalValue) TimeFault
 there (Ok i) = Ok (Some i)
 there (Err f) = Err f
@@ -30,7 +30,7 @@ abbrev pub time_of : (time_property : Option (List ℕ)) → (properties : Data)
 time_of None properties = Ok None
 time_of (Some name) properties = time_from (get name properties)
 
--- the feature with its time set, or why it can't be
+-- the feature with its time set, or why it cannot be set
 abbrev pub with_time : FeatureValue → Result (Option IntervalValue) TimeFault
     → Result FeatureValue TimeFault
 with_time f (Ok t) = Ok (record

@@ -89,9 +89,9 @@ fn read_whole(
 }
 
 /// The features of a collection (RFC 7946, section 3.3), in its order, each read as by
-/// `read_feature`. One without an id takes its place in the array, counted from 1, as id.
+/// `read_feature`. A feature without an id has its place in the array, counted from 1, as id.
 ///
-/// The first fault is answered, with the place of its feature; where the value is no collection,
+/// It returns the first fault, with the place of its feature; if the value is not a collection,
 /// `WrongType` without a place.
 pub fn read_collection(
     alloc: Global,
@@ -102,11 +102,11 @@ pub fn read_collection(
     ensures found { IfOk result (λ v.
         AreFeatures (option_map (λ s. s.now) time_property.entry) (view value.now)
         (map feature_value v.items)) }
-    // What the value reads as is read, unless memory runs out.
+    // It reads what the value reads as, unless memory runs out.
     ensures only { (fs : List FeatureValue)
         → AreFeatures (option_map (λ s. s.now) time_property.entry) (view value.now) fs
         → GivesAt (λ v. map feature_value v.items) result (Ok fs) }
-    // Which fault it is, and where.
+    // Which fault it is, and of which feature.
     ensures exact { GivesAt (λ v. map feature_value v.items) result
         (features (option_map (λ s. s.now) time_property.entry) (view value.now)) }
 {

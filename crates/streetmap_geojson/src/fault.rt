@@ -4,13 +4,13 @@ ghost use Rattle.std.specs.Prelude.{◌≡◌};
 use std::alloc::{AllocError, AllocFailed};
 use streetmap_moment::TimeFault;
 
-/// What is wrong with a value that is to be a feature. Of several faults the first in the reading
-/// order of `read_feature` is answered.
+/// What is wrong with a value that should be a feature. Of several faults the result is the first
+/// in the reading order of `read_feature`.
 #[derive(Clone, Copy, Debug, PartialEq, Eq, Drop)]
 pub enum Fault {
-    /// A text is no JSON.
+    /// A text is not JSON.
     NotJson,
-    /// A value is no Feature or FeatureCollection (RFC 7946, sections 3.2 and 3.3).
+    /// A value is not a Feature or a FeatureCollection (RFC 7946, sections 3.2 and 3.3).
     WrongType,
     /// An id is missing, neither text nor a number, or a text of 0 or more than 128 bytes or with
     /// a control character.
@@ -18,11 +18,11 @@ pub enum Fault {
     /// A geometry is neither an object nor null, its type is unknown, its array is missing, or an
     /// array is missing in its coordinates.
     BadGeometry,
-    /// A position is no array of two or three numbers (RFC 7946, section 3.1.1).
+    /// A position is not an array of two or three numbers (RFC 7946, section 3.1.1).
     BadPosition,
     /// A number is not whole.
     Fraction,
-    /// A GeometryCollection stands within another (RFC 7946, section 3.1.8).
+    /// A GeometryCollection contains another (RFC 7946, section 3.1.8).
     NestedCollection,
     /// Properties are neither an object nor null (RFC 7946, section 3.2).
     BadProperties,
@@ -36,7 +36,8 @@ pub enum Fault {
     ShortLine,
     /// A ring has fewer than four positions (RFC 7946, section 3.1.6).
     ShortRing,
-    /// The first and last positions of a ring differ, in height too (RFC 7946, section 3.1.6).
+    /// The first and last positions of a ring differ, perhaps only in height (RFC 7946, section
+    /// 3.1.6).
     OpenRing,
     /// The time property is neither null nor a text that can be read.
     BadTime,
@@ -83,7 +84,7 @@ impl Fault {
         }
     }
 
-    /// The sentence on the fault in answers, empty where there is none.
+    /// The sentence on the fault in answers, empty if there is none.
     pub fn description(&self) -> &'static str
         ensures { result.now ≡ fault_description self.now }
     {
@@ -97,7 +98,7 @@ impl Fault {
 /// Why a value was not read as a feature.
 #[derive(Clone, Copy, Debug, PartialEq, Eq, Drop)]
 pub enum JsonFault {
-    /// Memory was refused; the call may be made again.
+    /// Out of memory; the caller may try again.
     Memory,
     /// The first fault of the value.
     Fault(Fault),
@@ -116,7 +117,7 @@ impl JsonFault {
         }
     }
 
-    /// The sentence on the fault in answers, empty where there is none.
+    /// The sentence on the fault in answers, empty if there is none.
     pub fn description(&self) -> &'static str
         ensures { result.now ≡ json_fault_description self.now }
     {
@@ -150,7 +151,7 @@ impl<T: Drop> From<AllocFailed<T>> for JsonFault {
 /// Why a value was not read as a collection of features.
 #[derive(Clone, Copy, PartialEq, Eq, Drop)]
 pub enum CollectionFault {
-    /// Memory was refused; the call may be made again.
+    /// Out of memory; the caller may try again.
     Memory,
     /// What is wrong with the collection as a whole.
     Fault(Fault),
@@ -173,7 +174,7 @@ impl CollectionFault {
         }
     }
 
-    /// The sentence on the fault in answers, empty where there is none.
+    /// The sentence on the fault in answers, empty if there is none.
     pub fn description(&self) -> &'static str
         ensures { result.now ≡ collection_fault_description self.now }
     {

@@ -14,8 +14,8 @@ use std::marker::Model;
 use streetmap_grid::{Geometry, GridBox};
 use streetmap_moment::{Interval, TimeFault};
 
-/// A feature (RFC 7946, section 3.2): an id, a geometry or none, properties, which are an object
-/// or null, and a time, where it has one.
+/// A feature (RFC 7946, section 3.2): an id, a geometry or none, properties, which are an object or
+/// null, and a time, if it has one.
 ///
 /// Each holds at most 64 levels of nesting and 100,000 positions; its numbers are whole, and its
 /// polygons have their exterior ring counterclockwise and their holes clockwise. Clauses see it
@@ -108,14 +108,14 @@ impl Feature {
         self.geometry.as_ref()
     }
 
-    /// The time, where the feature has one.
+    /// The time, if the feature has one.
     pub fn time(&self) -> Option<Interval>
         ensures { option_map interval_value result ≡ self.now.time }
     {
         self.time
     }
 
-    /// The extent of the geometry, in millimetres: none where there is none.
+    /// The extent of the geometry, in millimetres: none if there is none.
     pub fn extent(&self) -> Option<GridBox>
         ensures { option_map box_value result ≡ option_map extent_of self.now.geometry }
     {
@@ -125,7 +125,7 @@ impl Feature {
         }
     }
 
-    /// What the property of that name says of the time; none without a name. Refused where the
+    /// What the property of that name says of the time; none without a name. Refused if the
     /// property is neither absent nor null nor a readable text.
     pub fn time_under(&self, time_property: Option<&str>) -> Result<Option<Interval>, TimeFault>
         ensures told { IfOk result (λ t.
@@ -137,9 +137,8 @@ impl Feature {
         read_time(&self.properties, time_property)
     }
 
-    /// Sets the time to what the property of that name says, or to none without a name. Refused
-    /// where the property is neither absent nor null nor a readable text; the feature is then
-    /// unchanged.
+    /// Sets the time to what the property of that name says, or to none without a name. Refused if
+    /// the property is neither absent nor null nor a readable text; the feature is then unchanged.
     pub fn timed(&mut self, time_property: Option<&str>) -> Result<(), TimeFault>
         ensures set { IfOk result (λ _.
             timed (option_map (λ s. s.now) time_property.entry) self.old

@@ -1,4 +1,4 @@
-//! Features of the members that they usually have (RFC 7946, section 3.2).
+//! Features from the members that they usually have (RFC 7946, section 3.2).
 ghost use Rattle.std.specs.Prelude.{◌≡◌, ◌≤◌, ◌↔◌, IfOk, IsTrue, false, option_map};
 ghost use Rattle.serde_json.specs.Data.{depth};
 ghost use Rattle.serde_json.specs.View.{view};
@@ -56,7 +56,7 @@ fn take_properties(value: Value) -> Result<Value, JsonFault>
 }
 
 impl FeatureMembers {
-    /// Whether each is nested so deep that the object has at most 64 levels.
+    /// Whether none is nested so deep that the object has more than 64 levels.
     fn are_flat(&self) -> bool
         ensures told { IsTrue result ↔ depth (feature_object
             (geometry_data self.now.geometry) (view self.now.id) (view self.now.properties)) ≤ 64 }
@@ -66,7 +66,7 @@ impl FeatureMembers {
     }
 }
 
-/// The feature that members are that are nested no deeper than they may.
+/// The feature of members that are nested no deeper than allowed.
 #[tactic(auto, unfolding(crate::specs::FeatureMembers::flat_feature))]
 fn read_flat(
     alloc: Global,
@@ -100,7 +100,7 @@ fn read_flat(
 ///
 /// # Errors
 ///
-/// The fault of [`crate::read_feature`]. `Memory` where memory was refused.
+/// The fault of [`crate::read_feature`]. `Memory` if memory runs out.
 pub fn read_members(
     alloc: Global,
     members: FeatureMembers,

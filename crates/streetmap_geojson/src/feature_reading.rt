@@ -129,7 +129,7 @@ pub(crate) fn read_feature_time(
     }
 }
 
-/// A feature that has a place in a collection: it is its id, where it has none.
+/// A feature that has a place in a collection: the place is its id, if it has none.
 #[tactic(auto, unfolding(crate::specs::FeatureReading::feature_at))]
 pub(crate) fn read_at(
     alloc: Global,
@@ -161,10 +161,10 @@ pub(crate) fn read_at(
 /// The feature that a value is (RFC 7946, section 3.2), its time read from the property of that
 /// name, or none without a name.
 ///
-/// The first fault is answered, in this order: the type; more than 64 levels; the id; the
-/// geometry, its arrays from left to right, each element wholly before the next; the properties,
-/// then a number in them that is not whole; the time. Members `bbox` and foreign members are read
-/// past, but count for the levels.
+/// It returns the first fault, in this order: the type; more than 64 levels; the id; the geometry,
+/// its arrays from left to right, each element wholly before the next; the properties, then a
+/// number in them that is not whole; the time. Members `bbox` and foreign members are skipped, but
+/// count for the levels.
 pub fn read_feature(
     alloc: Global,
     value: &Value,
@@ -173,7 +173,7 @@ pub fn read_feature(
     // What is read is what the value reads as.
     ensures found { IfOk result (λ f.
         ReadsAs (option_map (λ s. s.now) time_property.entry) (view value.now) (feature_value f)) }
-    // What the value reads as is read, unless memory runs out.
+    // It reads what the value reads as, unless memory runs out.
     ensures only { (f : FeatureValue)
         → ReadsAs (option_map (λ s. s.now) time_property.entry) (view value.now) f
         → Gives feature_value result (Ok f) }

@@ -58,7 +58,7 @@ pub(crate) fn array_in<'v>(value: &'v Value, name: &str) -> Option<&'v Vec<Value
     value.get(name).and_then(Value::as_array)
 }
 
-// The elements of a member that is to be an array.
+// The elements of a member that must be an array.
 fn array_at<'v>(value: &'v Value, name: &str) -> Result<&'v [Value], JsonFault>
     ensures { Gives (λ v. map view v.now) result (array_at name.now (view value.now)) }
 {
@@ -75,7 +75,7 @@ fn kind_at(value: &Value) -> Option<Kind>
     value.get("type").and_then(Value::as_str).and_then(Kind::of)
 }
 
-// The geometry of a kind, or none where it has no elements.
+// The geometry of a kind, or none if it has no elements.
 fn read_elements(
     alloc: Global,
     kind: SimpleKind,
@@ -93,7 +93,7 @@ fn read_elements(
     Ok(Some(read_coordinates(alloc, kind, values, seen)?))
 }
 
-// The geometry of a kind, or none where its array is empty.
+// The geometry of a kind, or none if its array is empty.
 #[tactic(auto, unfolding(crate::specs::Reading::simple_as))]
 fn read_simple(
     alloc: Global,
@@ -206,7 +206,7 @@ pub(crate) fn read_geometry(
     }
 }
 
-// The geometry of a kind whose `coordinates` have that value, or none where its array is empty.
+// The geometry of a kind whose `coordinates` have that value, or none if its array is empty.
 #[tactic(auto, unfolding(crate::specs::Reading::inside))]
 fn read_coordinates_value(
     alloc: Global,

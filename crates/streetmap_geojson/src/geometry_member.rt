@@ -45,7 +45,8 @@ fn read_counted_simple(
 }
 
 impl GeometryMember {
-    /// Whether its arrays and objects nest at most 63 levels, one fewer than a feature's may.
+    /// Whether its arrays and objects nest at most 63 levels, one fewer than those of a feature
+    /// may.
     pub(crate) fn is_flat(&self) -> bool
         ensures { IsTrue result ↔ depth (geometry_data self.now) ≤ 63 }
     {

@@ -31,7 +31,7 @@ impl Model for Id {
 }
 
 impl Id {
-    /// The id of that text. Refused as `BadId` where it is none.
+    /// The id of that text. Refused as `BadId` if it is not an id.
     pub fn new(text: String) -> Result<Id, Fault>
         ensures value { IfOk result (λ i. id_value i ≡ string_bytes text) }
         ensures taken { IsOk result ↔ IsTrue (ids.is_id (string_bytes text)) }
@@ -121,8 +121,8 @@ fn read_number(alloc: Global, number: Option<i128>) -> Result<Id, JsonFault>
     }
 }
 
-/// The id that a value gives: text that is an id, or a whole number by its decimal text. Refused
-/// as `Fraction` where it is another number, else as `BadId`.
+/// The id that a value gives: text that is an id, or a whole number by its decimal text. Refused as
+/// `Fraction` if it is another number, otherwise as `BadId`.
 pub fn read_id(alloc: Global, value: &Value) -> Result<Id, JsonFault>
     ensures reads { Gives id_value result (ids.id_from (view value.now)) }
     ensures named { IfOk result (λ i. IsTrue (ids.is_id (id_value i))) }
@@ -144,7 +144,7 @@ fn read_place_id(alloc: Global, place: Option<u64>) -> Result<Id, JsonFault>
     }
 }
 
-// The id of a feature, by its member, or else by its place in a collection.
+// The id of a feature, by its member, or otherwise by its place in a collection.
 pub(crate) fn read_member_id(
     alloc: Global,
     member: Option<&Value>,

@@ -13,16 +13,16 @@ use serde_json::Value;
 use std::alloc::Global;
 
 /// The value of the bytes of a JSON text (RFC 8259) in UTF-8, read by
-/// [`streetmap_json::read_json`]. A number with a fraction of zeros alone and no exponent, as
+/// [`streetmap_json::read_json`]. A number with a fraction of only zeros and no exponent, as
 /// `1200.0`, is read as the whole number, and `-0` as `0`.
 ///
 /// # Errors
 ///
-/// `NotJson` where the bytes have no value: they are no UTF-8 or no JSON, nest deeper than 127
+/// `NotJson` if the bytes have no value: they are not UTF-8 or not JSON, nest deeper than 127
 /// levels, or have a number too large for a float.
 pub fn read_json(alloc: Global, bytes: &[u8]) -> Result<Value, JsonFault>
     ensures exact { Gives view result (json_of bytes.now) }
-    // What was written for a value reads as that value, and is refused for memory alone.
+    // What was written for a value reads as that value, and fails only if memory runs out.
     ensures again { (d : Data) → IsTrue (is_exact d) → depth d ≤ max_depth
         → bytes.now ≡ compact_text d → Gives view result (Ok d) }
 {

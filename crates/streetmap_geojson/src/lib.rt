@@ -1,14 +1,13 @@
 //! Features read from JSON values: GeoJSON (RFC 7946) on the local grid.
 //!
-//! What a value means is said twice. `specs/FeatureMeaning` says by cases over RFC 7946 which
+//! What a value means is defined twice. `specs/FeatureMeaning` says by cases over RFC 7946 which
 //! feature a value reads as, with no order of steps; `specs/FeatureReading` says which fault of a
 //! value is the first, each line a sentence of the reading order. `read_feature` and
-//! `read_collection` answer a feature only where the value reads as it, and a refusal, memory
-//! aside, only where it is the first fault. How features are written is the matter of
-//! `streetmap_feature_text`.
+//! `read_collection` return a feature only if the value reads as it, and a refusal, unless memory
+//! runs out, only if it is the first fault. `streetmap_feature_text` writes features.
 //!
-//! The value of JSON bytes is the matter of `streetmap_json`; `read_json` here reads it with the
-//! faults of this crate.
+//! `streetmap_json` reads the value of JSON bytes; `read_json` here does so with the faults of this
+//! crate.
 //!
 //! Modules, in the order of reading: `fault`, `json_text`, `id`, `kind`, `feature`, `times`,
 //! `coordinates`, `geometry`, `nesting`, `exact_numbers`, `feature_reading`, `geometry_member`,

@@ -5,7 +5,7 @@ ghost use Rattle.serde_json.specs.View.{view, items_view, members_view};
 
 use serde_json::{Map, Value};
 
-/// Whether arrays and objects nest at most so deep.
+/// Whether arrays and objects nest at most this deep.
 #[cycle(levels)]
 pub(crate) fn nests_within(value: &Value, levels: usize) -> bool
     ensures { IsTrue result ↔ depth (view value.now) ≤ levels }
