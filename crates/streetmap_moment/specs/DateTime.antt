@@ -5,8 +5,8 @@ use Rattle.std.specs.Prelude.{length, map, ℤ, pos, neg_ℤ, ◌+ℤ◌, ◌-�
 use Rattle.std.specs.List.{AllByRecursion}
 use Rattle.jiff_core.specs.Calendar.{days_in_month, days_from_civil}
 
--- RFC 3339 4.2, time-offset: `Z`, `z`, or a sign with hours and minutes, where a space stands for
--- `+`
+-- RFC 3339 4.2, time-offset: `Z`, `z`, or a sign with hours and minutes, in which a space
+-- represents `+`
 pub data Offset : Type 0 where
   Zulu : Offset
   SmallZulu : Offset
@@ -15,7 +15,7 @@ pub data Offset : Type 0 where
   West : ℕ → ℕ → Offset
 
 -- RFC 3339 5.6, date-time: its fields. The separator is a byte; the fraction is the list of its
--- digits, empty where there is no point
+-- digits, empty if there is no point
 pub record DateTime : Type 0 where
   pub year : ℕ
   pub month : ℕ

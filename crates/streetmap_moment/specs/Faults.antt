@@ -8,7 +8,7 @@ abbrev pub code_of : TimeFault → List ℕ
 code_of BadTime = codes "bad_time"
 code_of EmptyInterval = codes "empty_interval"
 
--- the sentence of a fault, empty where it has none
+-- the sentence of a fault, empty if it has none
 abbrev pub description_of : TimeFault → List ℕ
 description_of BadTime = codes "The time property of the feature cannot be read."
 description_of EmptyInterval = []

@@ -37,7 +37,7 @@ interval_text (Until open_end b) = open_text open_end ++ 47 ∷ date_time_text b
 
 -- ---- validity
 
--- each end that is there is a date-time
+-- each end that is given is a date-time
 abbrev pub HasDateTimes : IntervalText → Type 0
 HasDateTimes (Instant a) = IsDateTime a
 HasDateTimes (Between a b) = IsDateTime a × IsDateTime b

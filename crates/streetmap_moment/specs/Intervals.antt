@@ -13,12 +13,12 @@ use Rattle.streetmap_moment.specs.Reading.{date_at, ended, moment_of, ◌>>=◌}
 abbrev pub is_slash : ℕ → Bool
 is_slash b = b == 47
 
--- an end: open where the text is empty or `..`
+-- an end: open if the text is empty or `..`
 abbrev pub end_of : List ℕ → Option (Option ℤ)
 end_of text = if (length text == 0) || bytes_eq text (codes "..") then Some None
     else option_map Some (moment_of text)
 
--- two ends, of which one is there
+-- two ends, at least one of which must be given
 abbrev pub bounded : Option ℤ → Option ℤ → Option IntervalValue
 bounded None None = None
 bounded start end = Some (record { start = start; end = end })
@@ -44,7 +44,7 @@ interval_of text = ordered_ends (ends_of text)
 unfoldable pub full_date_of : List ℕ → Option ℤ
 full_date_of text = date_at text >>= ended
 
--- a full date, or else an interval text
+-- a full date, or otherwise an interval text
 abbrev pub date_or_interval : Option ℤ → Result IntervalValue TimeFault
     → Result IntervalValue TimeFault
 date_or_interval None other = other

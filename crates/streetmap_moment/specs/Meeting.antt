@@ -4,8 +4,8 @@ use Rattle.std.specs.Prelude.{◌≤ℤ◌, ◌<ℤ◌, int_le}
 use Rattle.std.specs.Int.{int_div_euclid}
 use Rattle.streetmap_moment.specs.IntervalValue.{IntervalValue, IsInOrder, starts_after}
 
--- the first is over before the second begins; an open end is never over, and an open start was
--- always there
+-- the first is over before the second begins; an open end is never over, and an open start has
+-- always begun
 abbrev pub EndsBefore : IntervalValue → IntervalValue → Type 0
 EndsBefore a b = (e : ℤ) × (s : ℤ) × (a.end ≡ Some e) × (b.start ≡ Some s) × (e <ℤ s)
 
@@ -29,7 +29,7 @@ meets a b = not (starts_after b.start a.end) && not (starts_after a.start b.end)
 abbrev pub IsSecondOf : ℤ → ℤ → Type 0
 IsSecondOf n s = ((s *ℤ pos 1_000_000_000) ≤ℤ n) × (n <ℤ ((s +ℤ pos 1) *ℤ pos 1_000_000_000))
 
--- what the seconds of a kept interval lie between, which an open end is given
+-- the bounds of the seconds of a kept interval, which an open end has
 abbrev pub IsSecond : ℤ → Type 0
 IsSecond s = (neg_ℤ (pos 1_000_000_000_000) ≤ℤ s) × (s ≤ℤ pos 1_000_000_000_000)
 
@@ -37,12 +37,12 @@ IsSecond s = (neg_ℤ (pos 1_000_000_000_000) ≤ℤ s) × (s ≤ℤ pos 1_000_0
 abbrev pub second_of : ℤ → ℤ
 second_of n = int_div_euclid n (pos 1_000_000_000)
 
--- the second of a start, far in the past where it is open
+-- the second of a start, far in the past if it is open
 abbrev pub first_second : Option ℤ → ℤ
 first_second None = neg_ℤ (pos 1_000_000_000_000)
 first_second (Some n) = second_of n
 
--- the second of an end, far in the future where it is open
+-- the second of an end, far in the future if it is open
 abbrev pub last_second : Option ℤ → ℤ
 last_second None = pos 1_000_000_000_000
 last_second (Some n) = second_of n

@@ -1,4 +1,4 @@
--- Reading date-times: what stands at the front of a text, and the bytes after it.
+-- Reading date-times: what is at the front of a text, and the bytes after it.
 use Rattle.std.specs.Prelude.{ℕ, ◌+◌, ◌-◌, ◌*◌, ◌/◌, Bool, ◌&&◌, ◌||◌, ◌==◌, nat_lt, nat_le, List}
 use Rattle.std.specs.Prelude.{[], ◌∷◌, Option, Some, None, option_map, option_and_then}
 use Rattle.std.specs.Prelude.{if◌then◌else◌, ℤ, pos, neg_ℤ}
@@ -7,12 +7,12 @@ use Rattle.std.specs.Char.{is_ascii_digit}
 use Rattle.streetmap_moment.specs.DateTime.{nanoseconds}
 use Rattle.jiff_core.specs.Calendar.{days_in_month, days_from_civil}
 
--- the second step, where the first gave a value
+-- the second step, if the first gave a value
 infixl 10 ◌>>=◌
 abbrev pub ◌>>=◌ : {A B : Type 0} → Option A → (A → Option B) → Option B
 o >>= f = option_and_then f o
 
--- what a reader of the code gives, seen as lists
+-- the result of a reader in the code, as lists
 abbrev pub read_view : {A : Type 0} → Option (A × Bor (List ℕ)) → Option (A × List ℕ)
 read_view r = option_map (λ x. (x.0, x.1.now)) r
 

@@ -14,7 +14,7 @@ abbrev pub moment_result : Result Moment TimeFault → Result ℤ TimeFault
 moment_result (Ok m) = Ok (moment_value m)
 moment_result (Err fault) = Err fault
 
--- the nanoseconds of the ends, as far as they are there
+-- the nanoseconds of the ends that are given
 abbrev pub ends_value : Option Moment → Option Moment → IntervalValue
 ends_value start end = record {
   start = option_map moment_value start;

@@ -12,9 +12,9 @@ use crate::moments::Moment;
 /// The start is not after the end, and the two are not both open.
 #[derive(Clone, Copy, PartialEq, Eq)]
 pub struct Interval {
-    /// The first moment, or nothing where the start is open.
+    /// The first moment, or none if the start is open.
     pub start: Option<Moment>,
-    /// The last moment, or nothing where the end is open.
+    /// The last moment, or none if the end is open.
     pub end: Option<Moment>,
     pub ghost bounded: { IsTrue (is_some start || is_some end) },
     pub ghost ordered: { ForSome start (λ s. ForSome end (λ e. s.nanoseconds ≤ℤ e.nanoseconds)) },
@@ -28,7 +28,7 @@ impl Interval {
     ghost use Rattle.streetmap_moment.specs.Meeting.{meets, seconds_of, seconds_overlap};
     ghost use Rattle.streetmap_moment.specs.Views.{moment_value, interval_value};
 
-    // Whether the start is after the end, where both are there.
+    // Whether the start is after the end, if both are given.
     fn starts_after(start: Option<Moment>, end: Option<Moment>) -> bool
         ensures { result ≡ starts_after (option_map moment_value start)
             (option_map moment_value end) }
@@ -39,7 +39,7 @@ impl Interval {
         }
     }
 
-    // The interval between two ends, of which one is there.
+    // The interval between two ends, at least one of which must be given.
     pub(crate) fn between(start: Option<Moment>, end: Option<Moment>) -> Result<Interval, TimeFault>
         requires { IsTrue (is_some start || is_some end) }
         ensures ok { IfOk result (λ i. (i.start ≡ start) × (i.end ≡ end)
@@ -71,7 +71,7 @@ impl Interval {
     }
 
     /// Whether the two intervals meet: neither ends before the other starts, so that some moment
-    /// lies in both. An open end is never over, and an open start was always there.
+    /// lies in both. An open end is never over, and an open start has always begun.
     pub fn meets(&self, other: &Interval) -> bool
         ensures meeting { IsTrue result ↔ Meets (interval_value self.now)
             (interval_value other.now) }
@@ -86,8 +86,8 @@ impl Interval {
             && !Interval::starts_after(self.start, other.end)
     }
 
-    /// Whether the two intervals have a second in common, where each end that is between two
-    /// seconds is rounded down, and both ends count.
+    /// Whether the two intervals have a second in common, if each end between two seconds is
+    /// rounded down and both ends belong to the interval.
     pub fn overlaps_seconds(&self, other: &Interval) -> bool
         ensures { result ≡ seconds_overlap (interval_value self.now) (interval_value other.now) }
     {

@@ -1,5 +1,4 @@
-//! The fields of a date-time (RFC 3339 section 5.6), each read at the front of what is left of a
-//! text.
+//! The fields of a date-time (RFC 3339 section 5.6), each read at the front of the rest of a text.
 ghost use Rattle.std.specs.Prelude.{◌≡◌, ◌*◌, ◌+◌, ◌-◌, ◌<◌, ◌≤◌, ◌^◌, ◌↔◌, IfSome, pos};
 ghost use Rattle.std.specs.Prelude.{option_copied, ◌≤ℤ◌, ◌-ℤ◌, neg_ℤ, option_map};
 ghost use Rattle.streetmap_moment.specs.Reading.{read_view, digit_at, two_digits_at};
@@ -135,7 +134,7 @@ fn nanoseconds(text: &[u8]) -> Option<(u32, &[u8])>
     Some((total, rest))
 }
 
-/// The nanoseconds of a point and one to nine digits, or 0 where there is no point.
+/// The nanoseconds of a point and one to nine digits, or 0 if there is no point.
 #[tactic(auto, unfolding(crate::specs::Reading::fraction_at))]
 pub(crate) fn fraction(text: &[u8]) -> Option<(u32, &[u8])>
     ensures value { read_view result ≡ fraction_at text.now }
@@ -151,7 +150,7 @@ pub(crate) fn fraction(text: &[u8]) -> Option<(u32, &[u8])>
     }
 }
 
-/// The seconds of hours and minutes, behind which nothing stands.
+/// The seconds of hours and minutes, after which the text ends.
 #[tactic(auto, unfolding(crate::specs::Reading::hours_of))]
 fn hours(text: &[u8]) -> Option<u32>
     ensures value { result ≡ hours_of text.now }

@@ -18,7 +18,7 @@ use crate::intervals::Interval;
 use crate::moments::Moment;
 use crate::reading;
 
-// The moment of a whole text, where it is a date-time.
+// The moment of a whole text, if it is a date-time.
 #[tactic(auto, unfolding(crate::specs::Reading::moment_of))]
 fn date_time(text: &str) -> Option<Moment>
     ensures { option_map moment_value result ≡ moment_of text.now }
@@ -31,7 +31,7 @@ fn date_time(text: &str) -> Option<Moment>
     Some(Moment::at(day, clock, fraction, offset))
 }
 
-// An end of an interval text: open where it is empty or two points.
+// An end of an interval text: open if it is empty or two points.
 fn end_at(text: &str) -> Option<Option<Moment>>
     ensures { option_map (option_map moment_value) result ≡ end_of text.now }
 {
@@ -41,7 +41,7 @@ fn end_at(text: &str) -> Option<Option<Moment>>
     Some(Some(date_time(text)?))
 }
 
-// The ends of an interval text, of which one is there.
+// The ends of an interval text, at least one of which must be given.
 #[tactic(auto, unfolding(crate::specs::Intervals::ends_of))]
 fn ends_at(text: &str) -> Option<(Option<Moment>, Option<Moment>)>
     ensures value { option_map (λ ends. ends_value ends.0 ends.1) result ≡ ends_of text.now }
@@ -99,7 +99,7 @@ fn day(number: i32) -> Interval
 ///
 /// # Errors
 ///
-/// [`TimeFault::BadTime`] where the text is no date-time.
+/// [`TimeFault::BadTime`] if the text is not a date-time.
 pub fn read_moment(text: &str) -> Result<Moment, TimeFault>
     // What is read is a date-time that means this moment.
     ensures found { IfOk result (λ m. IsMomentText text.now m.nanoseconds) }
@@ -108,7 +108,7 @@ pub fn read_moment(text: &str) -> Result<Moment, TimeFault>
     ensures fault { IfErr result (λ e. e ≡ TimeFault.BadTime) }
     ensures one_meaning { (n k : ℤ) → IsMomentText text.now n → IsMomentText text.now k
         → n ≡ k }
-    // Which it is, as a function of the text.
+    // The result, as a function of the text.
     ensures value { moment_result result ≡ ok_or (moment_of text.now) TimeFault.BadTime }
 {
     date_time(text).ok_or(TimeFault::BadTime)
@@ -122,8 +122,8 @@ pub fn read_moment(text: &str) -> Result<Moment, TimeFault>
 ///
 /// # Errors
 ///
-/// [`TimeFault::BadTime`] where the text is none of these, as `../..`, and
-/// [`TimeFault::EmptyInterval`] where the start is after the end.
+/// [`TimeFault::BadTime`] if the text is none of these, as `../..`, and
+/// [`TimeFault::EmptyInterval`] if the start is after the end.
 pub fn read_interval(text: &str) -> Result<Interval, TimeFault>
     // What is read is an interval text that means this interval.
     ensures found { IfOk result (λ i. IsIntervalText text.now (interval_value i)) }
@@ -133,7 +133,7 @@ pub fn read_interval(text: &str) -> Result<Interval, TimeFault>
     ensures fault { IfErr result (IsFaultOf IsIntervalText text.now) }
     ensures one_meaning { (i j : IntervalValue) → IsIntervalText text.now i
         → IsIntervalText text.now j → i ≡ j }
-    // Which it is, as a function of the text.
+    // The result, as a function of the text.
     ensures value { interval_result result ≡ interval_of text.now }
 {
     let (start, end) = ends_at(text).ok_or(TimeFault::BadTime)?;
@@ -142,13 +142,13 @@ pub fn read_interval(text: &str) -> Result<Interval, TimeFault>
 
 /// The interval of the text of a time property.
 ///
-/// The text is a full date `YYYY-MM-DD` (RFC 3339 section 5.6), which stands for the UTC day from
+/// The text is a full date `YYYY-MM-DD` (RFC 3339 section 5.6), which represents the UTC day from
 /// its first to its last nanosecond, or an interval text as [`read_interval`] takes it.
 ///
 /// # Errors
 ///
-/// [`TimeFault::BadTime`] where the text is neither, and [`TimeFault::EmptyInterval`] where the
-/// start of the interval is after its end.
+/// [`TimeFault::BadTime`] if the text is neither, and [`TimeFault::EmptyInterval`] if the start of
+/// the interval is after its end.
 pub fn read_property(text: &str) -> Result<Interval, TimeFault>
     // What is read is a full date or an interval text that means this interval.
     ensures found { IfOk result (λ i. IsPropertyText text.now (interval_value i)) }
@@ -158,7 +158,7 @@ pub fn read_property(text: &str) -> Result<Interval, TimeFault>
     ensures fault { IfErr result (IsFaultOf IsPropertyText text.now) }
     ensures one_meaning { (i j : IntervalValue) → IsPropertyText text.now i
         → IsPropertyText text.now j → i ≡ j }
-    // Which it is, as a function of the text.
+    // The result, as a function of the text.
     ensures value { interval_result result ≡ property_of text.now }
 {
     match full_date(text) {
