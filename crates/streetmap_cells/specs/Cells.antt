@@ -1,4 +1,4 @@
--- What stands in cells.
+-- The entries in cells.
 use Rattle.std.specs.Prelude.{ℕ, ◌+◌, ◌*◌, ◌/◌, ◌%◌, ◌^◌, ◌<◌, ◌≤◌, Contains, length}
 use Rattle.std.specs.List.{HoldsAt}
 use Rattle.std.specs.declared.vec.Vec.{Vec}
@@ -14,7 +14,7 @@ use Rattle.streetmap_cells.specs.declared.cells.Cells.{Cells}
 abbrev pub cell_size : ℕ → ℕ
 cell_size level = 32768 * 8 ^ level
 
--- the number, among so many buckets, of the one that a cell's entries stand in
+-- the number of the bucket, among `count` of them, that has a cell's entries
 unfoldable pub bucket_of_cell : ℕ → ℕ → ℕ → ℕ → ℕ
 bucket_of_cell count level column row =
     (level * 83492791 + column * 73856093 + row * 19349663) % count
@@ -27,8 +27,8 @@ bucket_at count level x y = bucket_of_cell count level (x / cell_size level) (y 
 abbrev pub HasEntry : Entry → Vec Entry Global → Type 0
 HasEntry entry bucket = Contains bucket.items entry
 
--- a chunk with an outline of this extent stands in the cell around its south-western corner, on a
--- level with cells as large as the extent
+-- a chunk with an outline of this extent is in the cell around its south-western corner, on a level
+-- with cells as large as the extent
 pub record IsListed (cells : Cells) (chunk : ℕ) (extent : Envelope) : Type 0 where
   pub level : ℕ
   pub known : level < 7

@@ -13,7 +13,7 @@ use Rattle.streetmap_cells.specs.declared.cells.Entry.{Entry}
 use Rattle.streetmap_cells.specs.declared.cells.Cells.{Cells}
 use Rattle.streetmap_cells.specs.declared.marks.Marks.{Marks}
 
--- whether a chunk is marked: one whose number is too great for the marks is
+-- whether a chunk is marked: one whose number is too large for the marks is
 abbrev pub is_marked : Marks → ℕ → Bool
 is_marked marks chunk = unwrap_or (slice_get marks.marked.items chunk) true
 
@@ -25,32 +25,33 @@ KeepsMarks old new = (chunk : ℕ) → IsTrue (is_marked old chunk) → IsTrue (
 abbrev pub IsMarked : Envelope → Marks → Entry → Type 0
 IsMarked window marks e = IsTrue (overlaps e.extent window) → IsTrue (is_marked marks e.chunk)
 
--- those of these entries are
+-- the same for each of these entries
 abbrev pub AreMarked : Envelope → Marks → List Entry → Type 0
 AreMarked window marks entries = All (IsMarked window marks) entries
 
--- those of a bucket are
+-- the same for the entries of a bucket
 abbrev pub IsSearched : Cells → Envelope → Marks → ℕ → Type 0
 IsSearched cells window marks bucket =
     HoldsAt (λ (b : Vec Entry Global). AreMarked window marks b.items) cells.buckets.items bucket
 
--- those of a cell's bucket are
+-- the same for the entries of a cell's bucket
 abbrev pub IsCellSearched : Cells → Envelope → Marks → ℕ → ℕ → ℕ → Type 0
 IsCellSearched cells window marks level column row =
     IsSearched cells window marks (bucket_of_cell (length cells.buckets.items) level column row)
 
--- those of the cells of a row between two columns, with these
+-- the same for the entries of the cells of a row between two columns, with these
 abbrev pub IsRowSearched : Cells → Envelope → Marks → ℕ → ℕ → ℕ → ℕ → Type 0
 IsRowSearched cells window marks level row first last =
     (column : ℕ) → first ≤ column → column ≤ last
     → IsCellSearched cells window marks level column row
 
--- those of the rows between two, with these
+-- the same for the entries of the rows between two, with these
 abbrev pub AreRowsSearched : Cells → Envelope → Marks → ℕ → ℕ → ℕ → ℕ → ℕ → Type 0
 AreRowsSearched cells window marks level low high first last =
     (row : ℕ) → low ≤ row → row ≤ high → IsRowSearched cells window marks level row first last
 
--- on a level those of each cell are that an extent could stand in which overlaps the window
+-- on a level, the same for the entries of each cell that can have an extent which overlaps the
+-- window
 abbrev pub IsLevelSearched : Cells → Envelope → Marks → ℕ → Type 0
 IsLevelSearched cells window marks level =
     (x y : ℕ) → window.x0 ≤ x + cell_size level → x ≤ window.x1 → window.y0 ≤ y + cell_size level

@@ -7,7 +7,7 @@ use crate::marks::Marks;
 use std::alloc::{AllocError, Global};
 use streetmap_grid::GridBox;
 
-/// How many entries a bucket has, on average, where there is no room for more.
+/// How many entries a bucket has, on average, if there is no room for more.
 const ENTRIES_A_BUCKET: usize = 32;
 
 /// The width and height of the smallest cells, in millimetres.
@@ -24,12 +24,12 @@ pub struct Entry {
 }
 
 /// Extents by cells. On each level the cells are squares, those of the next level eight times as
-/// wide. An extent stands in the cell around its south-western corner, on the first level whose
-/// cells are as large as it is. Several cells share a bucket.
+/// wide. An extent is in the cell around its south-western corner, on the first level whose cells
+/// are as large as it is. Several cells share a bucket.
 #[derive(Drop)]
 pub struct Cells {
     pub buckets: Vec<Vec<Entry>>,
-    /// How many extents more may be put in before the cells are full.
+    /// How many more extents may be added before the cells are full.
     pub room: usize,
     pub ghost some: { 0 < length buckets.items },
 }
@@ -54,7 +54,7 @@ impl Cells {
         Ok(Cells { buckets, room })
     }
 
-    /// Gives back the memory that no entry takes. What was put in stays.
+    /// Releases the memory that no entry takes. What was added stays.
     pub fn shrink_to_fit(&mut self)
         ensures { KeepsExtents self.old self.new }
     {
@@ -63,8 +63,8 @@ impl Cells {
         }
     }
 
-    /// Whether as many extents were put in as there was room for. Then many may be out of date, and
-    /// it is time to make the cells anew.
+    /// Whether as many extents were added as there was room for. Then many may be out of date, and
+    /// it is time to rebuild the cells.
     pub fn is_full(&self) -> bool
         ensures { result ≡ nat_eq self.now.room 0 }
     {
@@ -117,7 +117,8 @@ impl Cells {
         (mixed % self.buckets.len() as u64) as usize
     }
 
-    /// Puts in that a chunk has an outline with this extent. After an error only that is missing.
+    /// Adds that a chunk has an outline with this extent. After an error only this entry is
+    /// missing.
     fn put_envelope(&mut self, chunk: u32, extent: Envelope) -> Result<(), AllocError>
         ensures kept { KeepsListed self.old self.new }
         ensures listed { OnOk result (IsListed self.new chunk extent) }
@@ -134,7 +135,8 @@ impl Cells {
         Ok(())
     }
 
-    /// Puts in that a chunk has an outline with this extent. After an error only that is missing.
+    /// Adds that a chunk has an outline with this extent. After an error only this entry is
+    /// missing.
     pub fn put(&mut self, chunk: u32, extent: &GridBox) -> Result<(), AllocError>
         ensures kept { KeepsExtents self.old self.new }
         ensures there { OnOk result (HasExtent self.new chunk (box_value extent.now)) }
@@ -187,8 +189,8 @@ impl Cells {
         }
     }
 
-    /// Marks the chunks with entries on a level that overlap the window. An extent stands in the
-    /// cell around its south-western corner and is no larger than that cell, so the search begins a
+    /// Marks the chunks with entries on a level that overlap the window. An extent is in the cell
+    /// around its south-western corner and is no larger than that cell, so the search begins a
     /// cell's size west and south of the window.
     fn mark_level(&self, level: u32, window: &Envelope, marks: &mut Marks)
         requires known { level < 7 }
@@ -215,8 +217,7 @@ impl Cells {
         }
     }
 
-    /// How many cells of the first level a search for the window goes over, about: most of what it
-    /// costs.
+    /// About how many cells of the first level a search for the window goes over: most of its cost.
     pub fn cost(window: &GridBox) -> i64 {
         let columns = (window.x1 - window.x0) / SMALLEST_CELL + 2;
         let rows = (window.y1 - window.y0) / SMALLEST_CELL + 2;
@@ -224,7 +225,7 @@ impl Cells {
     }
 
     /// Marks, among those with a number below `count`, each chunk that has an extent that overlaps
-    /// the window; none where memory is refused.
+    /// the window; none if memory runs out.
     pub fn search(&self, alloc: Global, count: usize, window: &GridBox) -> Option<Marks>
         ensures { IfSome result (λ marks. MarksAll self.now (box_value window.now) marks) }
     {

@@ -46,9 +46,9 @@ impl Envelope {
         }
     }
 
-    /// Whether the two have a point in common, on their edges too. All four bounds are compared.
-    /// Where the answer is counted, and no branch hangs on it, none decides alone: among boxes in
-    /// no order the processor guesses such a branch wrong.
+    /// Whether the two have a point in common, on their edges too. All four bounds are compared. If
+    /// the caller counts the result without a branch on it, no branch depends on one comparison
+    /// alone: among boxes in no order the processor mispredicts such a branch.
     pub fn overlaps(&self, other: &Envelope) -> bool
         ensures { result ≡ overlaps_of self.now other.now }
     {

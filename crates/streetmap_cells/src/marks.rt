@@ -4,7 +4,7 @@ ghost use Rattle.streetmap_cells.specs.Searches.{is_marked, KeepsMarks};
 
 use std::alloc::{AllocError, Global};
 
-/// Which chunks are marked, by their numbers. A chunk whose number is too great for the marks
+/// Which chunks are marked, by their numbers. A chunk whose number is too large for the marks
 /// counts as marked.
 #[derive(Drop)]
 pub struct Marks {
