@@ -5,7 +5,7 @@ use Rattle.streetmap_grid.specs.Values.{PositionValue}
 use Rattle.streetmap_grid.specs.Views.{box_value}
 use Rattle.streetmap_grid.specs.Extent.{IsExtent}
 
--- none where no position was seen, else their extent
+-- none if no position was seen, otherwise their extent
 abbrev pub AreBounds : List PositionValue → Option GridBox → Type 0
 AreBounds ps None = ps ≡ []
 AreBounds ps (Some g) = IsExtent ps (box_value g)

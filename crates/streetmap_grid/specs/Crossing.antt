@@ -9,8 +9,8 @@ use Rattle.streetmap_grid.specs.Edges.{edges}
 abbrev pub is_above : (y : ℤ) → PositionValue → Bool
 is_above y p = int_lt y p.y
 
--- twice the area of the triangle from u to v to (x, y): above zero where (x, y) lies left of the
--- line from u to v, below zero right of it
+-- twice the area of the triangle from u to v to (x, y): above zero if (x, y) lies left of the line
+-- from u to v, below zero if right of it
 abbrev pub side : (u v : PositionValue) → (x y : ℤ) → ℤ
 side u v x y = (v.x -ℤ u.x) *ℤ (y -ℤ u.y) -ℤ (x -ℤ u.x) *ℤ (v.y -ℤ u.y)
 
@@ -37,7 +37,7 @@ crossings x y ring = count_by (λ e. is_crossing x y e.0 e.1) (edges ring)
 abbrev pub all_crossings : (x y : ℤ) → List (List PositionValue) → ℕ
 all_crossings x y rings = sum_by (crossings x y) rings
 
--- (x, y) is inside where they are an odd number
+-- (x, y) is inside if they are an odd number
 abbrev pub IsInside : (x y : ℤ) → List (List PositionValue) → Type 0
 IsInside x y rings = all_crossings x y rings % 2 ≡ 1
 

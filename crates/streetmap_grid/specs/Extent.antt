@@ -12,7 +12,7 @@ use Rattle.streetmap_grid.specs.Meeting.{Holds}
 abbrev pub polygon_vertices : List (List PositionValue) → List PositionValue
 polygon_vertices rings = flat_map (λ ring. ring) rings
 
--- all positions of a geometry that is no collection
+-- all positions of a geometry that is not a collection
 abbrev pub simple_vertices : SimpleValue → List PositionValue
 simple_vertices (point p) = p ∷ []
 simple_vertices (multi_point ps) = ps
@@ -71,6 +71,6 @@ overlaps a b = int_le a.x0 b.x1 && (int_le b.x0 a.x1 && (int_le a.y0 b.y1 && int
 abbrev pub IsWithin : BoxValue → BoxValue → Type 0
 IsWithin a b = (x y : ℤ) → Holds a x y → Holds b x y
 
--- the one reaches beyond the other in no direction
+-- the one box does not reach beyond the other in any direction
 abbrev pub is_within : BoxValue → BoxValue → Bool
 is_within a b = int_le b.x0 a.x0 && (int_le a.x1 b.x1 && (int_le b.y0 a.y0 && int_le a.y1 b.y1))

@@ -8,12 +8,12 @@ use Rattle.streetmap_grid.specs.Values.{PositionValue, BoxValue}
 use Rattle.streetmap_grid.specs.Range.{is_coordinate, is_bound}
 use Rattle.streetmap_grid.specs.Ring.{is_closed}
 
--- the height, where there is one, is a coordinate
+-- the height, if there is one, is a coordinate
 abbrev pub is_height : Option ℤ → Bool
 is_height None = true
 is_height (Some z) = is_coordinate z
 
--- a position is refused where one of its coordinates is none of the grid's
+-- a position is refused if one of its coordinates is not one of the grid's
 abbrev pub position_fault : PositionValue → Option GridFault
 position_fault p = if is_coordinate p.x && (is_coordinate p.y && is_height p.z) then None
     else Some OutOfGrid
@@ -22,7 +22,7 @@ position_fault p = if is_coordinate p.x && (is_coordinate p.y && is_height p.z) 
 abbrev pub line_fault : List PositionValue → Option GridFault
 line_fault ps = if nat_lt (length ps) 2 then Some ShortLine else None
 
--- a ring is refused below four positions, and then where it is not closed
+-- a ring is refused below four positions, and then if it is not closed
 abbrev pub ring_fault : List PositionValue → Option GridFault
 ring_fault ps = if nat_lt (length ps) 4 then Some ShortRing
     else (if is_closed ps then None else Some OpenRing)
@@ -32,7 +32,7 @@ abbrev pub is_box : BoxValue → Bool
 is_box g = is_bound g.x0 && (is_bound g.y0
     && (is_bound g.x1 && (is_bound g.y1 && (int_le g.x0 g.x1 && int_le g.y0 g.y1))))
 
--- a box is refused where a bound is out of range, or its bounds are out of order
+-- a box is refused if a bound is out of range, or its bounds are out of order
 abbrev pub box_fault : BoxValue → Option GridFault
 box_fault g = if is_box g then None else Some BadBox
 

@@ -8,12 +8,12 @@ use Rattle.streetmap_grid.specs.Meeting.{Holds, GeometryMeets, geometry_meets}
 use Rattle.streetmap_grid.specs.Extent.{IsExtent, vertices, polygon_vertices, extent_of, Overlaps}
 use Rattle.streetmap_grid.specs.Extent.{overlaps, IsWithin, is_within}
 
--- the test of a geometry against a box is true exactly where the relation by fractions holds
+-- the test of a geometry against a box is true exactly if the relation by fractions holds
 abbrev pub MeetingTestIsRelation : Type 0
 MeetingTestIsRelation = (v : GeometryValue) (g : BoxValue) → IsBox g
     → (IsTrue (geometry_meets v g) ↔ GeometryMeets v g)
 
--- the test of two boxes is true exactly where they have a point in common
+-- the test of two boxes is true exactly if they have a point in common
 abbrev pub OverlapTestIsRelation : Type 0
 OverlapTestIsRelation = (a b : BoxValue) → IsBox a → IsBox b
     → (IsTrue (overlaps a b) ↔ Overlaps a b)
@@ -23,7 +23,7 @@ abbrev pub WhatMeetsOverlaps : Type 0
 WhatMeetsOverlaps = (v : GeometryValue) (g : BoxValue) → IsGeometry v → IsBox g
     → IsTrue (geometry_meets v g) → IsTrue (overlaps (extent_of v) g)
 
--- the test of two boxes is true exactly where each point of the one lies in the other
+-- the test of two boxes is true exactly if each point of the one lies in the other
 abbrev pub WithinTestIsRelation : Type 0
 WithinTestIsRelation = (a b : BoxValue) → IsBox a → (IsTrue (is_within a b) ↔ IsWithin a b)
 

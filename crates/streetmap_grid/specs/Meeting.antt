@@ -26,8 +26,8 @@ IsWithinAt p q a b low high =
     ((q *ℤ low) ≤ℤ ((q -ℤ p) *ℤ a +ℤ p *ℤ b))
     × (((q -ℤ p) *ℤ a +ℤ p *ℤ b) ≤ℤ (q *ℤ high))
 
--- a segment meets a box where the point p/q of the way from its one end to its other lies in it,
--- for some fraction p/q from 0 to 1
+-- a segment meets a box if the point p/q of the way from its one end to its other lies in it, for
+-- some fraction p/q from 0 to 1
 abbrev pub SegmentMeets : (a b : PositionValue) → BoxValue → Type 0
 SegmentMeets a b g =
     (p : ℤ)
@@ -38,16 +38,16 @@ SegmentMeets a b g =
     × IsWithinAt p q a.x b.x g.x0 g.x1
     × IsWithinAt p q a.y b.y g.y0 g.y1))
 
--- a line meets a box where one of its segments does
+-- a line meets a box if one of its segments does
 abbrev pub LineMeets : List PositionValue → BoxValue → Type 0
 LineMeets ps g = SomeOf (λ e. SegmentMeets e.0 e.1 g) (edges ps)
 
--- a polygon meets a box where an edge of any of its rings does, or where the box's south-western
--- corner is inside
+-- a polygon meets a box if an edge of any of its rings does, or if the box's south-western corner
+-- is inside
 abbrev pub PolygonMeets : List (List PositionValue) → BoxValue → Type 0
 PolygonMeets rings g = SomeOf (λ r. LineMeets r g) rings ⊎ IsInside g.x0 g.y0 rings
 
--- each kind by its rule; a list meets a box where a member does
+-- each kind by its rule; a list meets a box if a member does
 abbrev pub SimpleMeets : SimpleValue → BoxValue → Type 0
 SimpleMeets (point p) g = PointMeets p g
 SimpleMeets (multi_point ps) g = SomeOf (λ p. PointMeets p g) ps
@@ -56,7 +56,7 @@ SimpleMeets (multi_line_string ls) g = SomeOf (λ l. LineMeets l g) ls
 SimpleMeets (polygon rings) g = PolygonMeets rings g
 SimpleMeets (multi_polygon ps) g = SomeOf (λ p. PolygonMeets p g) ps
 
--- a collection meets a box where a member does
+-- a collection meets a box if a member does
 abbrev pub GeometryMeets : GeometryValue → BoxValue → Type 0
 GeometryMeets (simple s) g = SimpleMeets s g
 GeometryMeets (collection ss) g = SomeOf (λ s. SimpleMeets s g) ss
@@ -91,7 +91,7 @@ line_meets ps g = list_any (λ e. segment_meets e.0 e.1 g) (edges ps)
 unfoldable pub polygon_meets : List (List PositionValue) → BoxValue → Bool
 polygon_meets rings g = list_any (λ r. line_meets r g) rings || is_inside g.x0 g.y0 rings
 
--- each kind by its rule, a list where a member does
+-- each kind by its rule, a list if a member does
 unfoldable pub simple_meets : SimpleValue → BoxValue → Bool
 simple_meets (point p) g = point_meets p g
 simple_meets (multi_point ps) g = list_any (λ p. point_meets p g) ps
@@ -100,7 +100,7 @@ simple_meets (multi_line_string ls) g = list_any (λ l. line_meets l g) ls
 simple_meets (polygon rings) g = polygon_meets rings g
 simple_meets (multi_polygon ps) g = list_any (λ p. polygon_meets p g) ps
 
--- the test of a geometry, true exactly where the relation holds; a collection where a member does
+-- the test of a geometry, true exactly if the relation holds; a collection if a member does
 unfoldable pub geometry_meets : GeometryValue → BoxValue → Bool
 geometry_meets (simple s) g = simple_meets s g
 geometry_meets (collection ss) g = list_any (λ s. simple_meets s g) ss

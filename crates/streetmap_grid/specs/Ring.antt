@@ -47,7 +47,7 @@ abbrev pub oriented : List (List PositionValue) → List (List PositionValue)
 oriented [] = []
 oriented (exterior ∷ holes) = turned false exterior ∷ map (turned true) holes
 
--- the ring has not the wrong sign
+-- the ring does not have the wrong sign
 abbrev pub is_right : (hole : Bool) → List PositionValue → Bool
 is_right hole ring = not (is_wrong hole (double_area ring))
 

@@ -1,7 +1,7 @@
 -- The plain values that the clauses speak of: numbers, lists and cases.
 use Rattle.std.specs.Prelude.{ℤ, List, Option}
 
--- RFC 7946 3.1.1: easting, northing and, where there is one, height, in millimetres
+-- RFC 7946 3.1.1: easting, northing and, if there is one, height, in millimetres
 pub record PositionValue : Type 0 where
   pub x : ℤ
   pub y : ℤ
@@ -14,7 +14,7 @@ pub record BoxValue : Type 0 where
   pub x1 : ℤ
   pub y1 : ℤ
 
--- RFC 7946 3.1.2 to 3.1.7: the six kinds that are no collection; a polygon is its rings, the
+-- RFC 7946 3.1.2 to 3.1.7: the six kinds that are not a collection; a polygon is its rings, the
 -- exterior one first
 pub data SimpleValue : Type 0 where
   point : PositionValue → SimpleValue
@@ -24,7 +24,7 @@ pub data SimpleValue : Type 0 where
   polygon : List (List PositionValue) → SimpleValue
   multi_polygon : List (List (List PositionValue)) → SimpleValue
 
--- RFC 7946 3.1.8: a geometry of one of the six kinds, or a collection of such, not nested
+-- RFC 7946 3.1.8: a geometry of one of the six kinds, or a collection of these, not nested
 pub data GeometryValue : Type 0 where
   simple : SimpleValue → GeometryValue
   collection : List SimpleValue → GeometryValue

@@ -18,7 +18,7 @@ use Rattle.streetmap_grid.specs.Values.{multi_polygon, simple, collection}
 abbrev pub box_value : GridBox → BoxValue
 box_value g = record { x0 = g.x0; y0 = g.y0; x1 = g.x1; y1 = g.y1 }
 
--- what a list that is not empty holds
+-- the items of a list that is not empty
 abbrev pub items_of : {T : Type 0} → NonEmpty T → List T
 items_of n = n.items.items
 

@@ -27,7 +27,7 @@ fn edge_area(a: &Position, b: &Position) -> i64
     forth - back
 }
 
-/// Twice the area that a ring runs around, in square millimetres.
+/// Twice the area inside a ring, in square millimetres.
 pub fn double_area(positions: &[Position]) -> i128
     ensures { result ≡ ring.double_area (positions_value positions.now) }
 {

@@ -42,7 +42,7 @@ fn crosses(x: i64, y: i64, a: &Position, b: &Position) -> bool
     false
 }
 
-/// A truth value turned over once for each crossing of (x, y) by a ring.
+/// A truth value negated once for each crossing of (x, y) by a ring.
 fn turned_over(odd: bool, x: i64, y: i64, ring: &[Position]) -> bool
     requires x_in { IsBound x }
     requires y_in { IsBound y }

@@ -27,7 +27,7 @@ fn extent_at(p: &Position) -> GridBox
     }
 }
 
-/// The bounds so far, with one more position.
+/// The bounds so far, extended by one more position.
 fn grown(bounds: Option<GridBox>, p: &Position) -> Option<GridBox>
     ensures { (ps : List PositionValue) → AreBounds ps bounds
         → AreBounds (ps ++ position_value p.now ∷ []) result }
@@ -38,7 +38,7 @@ fn grown(bounds: Option<GridBox>, p: &Position) -> Option<GridBox>
     }
 }
 
-/// The bounds so far, with more positions.
+/// The bounds so far, extended by more positions.
 fn with_positions(bounds: Option<GridBox>, positions: &[Position]) -> Option<GridBox>
     ensures { (ps : List PositionValue) → AreBounds ps bounds
         → AreBounds (ps ++ positions_value positions.now) result }
@@ -50,7 +50,7 @@ fn with_positions(bounds: Option<GridBox>, positions: &[Position]) -> Option<Gri
     grows
 }
 
-/// The bounds so far, with the positions of lines.
+/// The bounds so far, extended by the positions of lines.
 fn with_lines(bounds: Option<GridBox>, lines: &[Line]) -> Option<GridBox>
     ensures { (ps : List PositionValue) → AreBounds ps bounds
         → AreBounds (ps ++ flat_map (λ line. line) (lines_value lines.now)) result }
@@ -62,7 +62,7 @@ fn with_lines(bounds: Option<GridBox>, lines: &[Line]) -> Option<GridBox>
     grows
 }
 
-/// The bounds so far, with the positions of rings.
+/// The bounds so far, extended by the positions of rings.
 fn with_rings(bounds: Option<GridBox>, rings: &[Ring]) -> Option<GridBox>
     ensures { (ps : List PositionValue) → AreBounds ps bounds
         → AreBounds (ps ++ polygon_vertices (rings_value rings.now)) result }
@@ -74,7 +74,7 @@ fn with_rings(bounds: Option<GridBox>, rings: &[Ring]) -> Option<GridBox>
     grows
 }
 
-/// The bounds so far, with the positions of polygons.
+/// The bounds so far, extended by the positions of polygons.
 fn with_polygons(bounds: Option<GridBox>, polygons: &[Polygon]) -> Option<GridBox>
     ensures { (ps : List PositionValue) → AreBounds ps bounds
         → AreBounds (ps ++ flat_map polygon_vertices (polygons_value polygons.now)) result }
@@ -86,7 +86,7 @@ fn with_polygons(bounds: Option<GridBox>, polygons: &[Polygon]) -> Option<GridBo
     grows
 }
 
-/// The bounds so far, with the positions of a geometry that is no collection.
+/// The bounds so far, extended by the positions of a geometry that is not a collection.
 fn with_simple(bounds: Option<GridBox>, geometry: &SimpleGeometry) -> Option<GridBox>
     ensures { (ps : List PositionValue) → AreBounds ps bounds
         → AreBounds (ps ++ simple_vertices (simple_value geometry.now)) result }
@@ -101,7 +101,7 @@ fn with_simple(bounds: Option<GridBox>, geometry: &SimpleGeometry) -> Option<Gri
     }
 }
 
-/// The bounds so far, with the positions of the members of a collection.
+/// The bounds so far, extended by the positions of the members of a collection.
 fn with_members(bounds: Option<GridBox>, members: &[SimpleGeometry]) -> Option<GridBox>
     ensures { (ps : List PositionValue) → AreBounds ps bounds
         → AreBounds (ps ++ flat_map simple_vertices (simples_value members.now)) result }

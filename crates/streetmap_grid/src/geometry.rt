@@ -26,7 +26,7 @@ pub enum SimpleGeometry {
     MultiPolygon(NonEmpty<Polygon>),
 }
 
-/// A geometry of one of the six kinds, or a collection of such (RFC 7946, section 3.1).
+/// A geometry of one of the six kinds, or a collection of these (RFC 7946, section 3.1).
 ///
 /// # Semantics
 ///
@@ -57,7 +57,7 @@ impl Geometry {
     {}
 
     /// The extent: the box that holds every position, those of holes and members too, and each of
-    /// whose bounds is the coordinate of one. In millimetres. Heights are left out.
+    /// whose bounds is the coordinate of one. In millimetres. Heights are ignored.
     pub fn extent(&self) -> GridBox
         ensures extent { IsExtent (vertices (geometry_value self.now)) (box_value result) }
         ensures value { box_value result ≡ extent_of (geometry_value self.now) }

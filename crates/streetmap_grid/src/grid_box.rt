@@ -45,7 +45,7 @@ impl GridBox {
     ghost use Rattle.streetmap_grid.specs.Extent.{IsExtent, union, Overlaps, overlaps, IsWithin};
     ghost use Rattle.streetmap_grid.specs.Extent.{is_within};
 
-    /// The box of four bounds, in millimetres. Refused as `BadBox` where a bound is below
+    /// The box of four bounds, in millimetres. Refused as `BadBox` if a bound is below
     /// -2,000,000,000 or above 2,000,000,000, or `x0` above `x1`, or `y0` above `y1`.
     pub fn new(x0: i64, y0: i64, x1: i64, y1: i64) -> Result<GridBox, GridFault>
         ensures value { IfOk result (λ g. box_value g
@@ -65,8 +65,8 @@ impl GridBox {
         }
     }
 
-    /// The least box that holds both: of the extents of two lists of positions, that of all of
-    /// them.
+    /// The least box that holds both. The union of the extents of two lists of positions is the
+    /// extent of all the positions.
     pub fn union(&self, other: &GridBox) -> GridBox
         ensures value { box_value result ≡ union (box_value self.now) (box_value other.now) }
         ensures extent { (ps qs : List PositionValue) → IsExtent ps (box_value self.now)

@@ -6,12 +6,12 @@ ghost use Rattle.streetmap_grid.specs.Laws.{WhatLiesWithinMeets, ExtentIsOneBox}
 ghost use Rattle.streetmap_grid.specs.Laws.{ClosedRingsAreEven, NoneIsInsideOutside};
 ghost use Rattle.streetmap_grid.specs.Laws.{OrientedIsRight, RightIsUnchanged};
 
-/// The test of a geometry against a box is true exactly where the relation by fractions holds.
+/// The test of a geometry against a box is true exactly if the relation by fractions holds.
 pub fn meeting_test_is_relation()
     ensures { MeetingTestIsRelation }
 {}
 
-/// The test of two boxes is true exactly where they have a point in common.
+/// The test of two boxes is true exactly if they have a point in common.
 pub fn overlap_test_is_relation()
     ensures { OverlapTestIsRelation }
 {}
@@ -21,7 +21,7 @@ pub fn what_meets_overlaps()
     ensures { WhatMeetsOverlaps }
 {}
 
-/// The test of two boxes is true exactly where each point of the one lies in the other.
+/// The test of two boxes is true exactly if each point of the one lies in the other.
 pub fn within_test_is_relation()
     ensures { WithinTestIsRelation }
 {}
@@ -32,7 +32,7 @@ pub fn what_lies_within_meets()
 {}
 
 /// The least and greatest coordinates are the one box that holds every position, and each of whose
-/// bounds is the coordinate of one.
+/// bounds is the coordinate of a position.
 pub fn extent_is_one_box()
     ensures { ExtentIsOneBox }
 {}

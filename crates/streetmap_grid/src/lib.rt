@@ -3,17 +3,16 @@
 //! The geometries are those of RFC 7946 (section 3.1) on a plane, with whole numbers in place of
 //! degrees. A box selects them as `bbox` of OGC 17-069 does (section 7.15.3).
 //!
-//! What is promised: the constructors answer what they are handed, and refuse exactly by
-//! `specs/Faults`; what every held value is stands in `specs/WellFormed`. `Geometry::meets` is true
-//! exactly where some fraction of some edge lies in the box, or its corner is inside by the
-//! even-odd rule (`specs/Meeting`), and what meets a box has an extent that overlaps it. All
-//! clauses speak of plain values (`specs/Values`), to which one view leads from each type
-//! (`specs/Views`).
+//! What is promised: the constructors return what they are given, and refuse exactly by
+//! `specs/Faults`; `specs/WellFormed` defines what every held value is. `Geometry::meets` is true
+//! exactly if some fraction of some edge lies in the box, or its corner is inside by the even-odd
+//! rule (`specs/Meeting`), and what meets a box has an extent that overlaps it. All clauses speak
+//! of plain values (`specs/Values`), to which one view leads from each type (`specs/Views`).
 //!
-//! No call takes memory: vectors are handed in.
+//! No call allocates memory: the caller passes vectors in.
 //!
 //! Modules, in the order of reading: `fault`, `position`, `grid_box`, `line`, `ring`, `polygon`,
-//! `non_empty`, `geometry`, `laws`; behind them `range`, `area`, `segment`, `crossing`, `meeting`,
+//! `non_empty`, `geometry`, `laws`; after them `range`, `area`, `segment`, `crossing`, `meeting`,
 //! `extent`.
 #![tactic(auto)]
 

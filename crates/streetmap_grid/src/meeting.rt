@@ -101,7 +101,7 @@ fn some_polygon_meets(polygons: &[Polygon], area: &GridBox) -> bool
     false
 }
 
-/// Whether a geometry that is no collection meets the box.
+/// Whether a geometry that is not a collection meets the box.
 fn simple_meets(geometry: &SimpleGeometry, area: &GridBox) -> bool
     ensures { IsTrue result ↔ SimpleMeets (simple_value geometry.now) (box_value area.now) }
 {

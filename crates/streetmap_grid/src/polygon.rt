@@ -7,8 +7,8 @@ use crate::ring::Ring;
 ///
 /// # Semantics
 ///
-/// What is inside is said by the even-odd rule: a point whose crossings, counted over all rings
-/// together, are an odd number.
+/// The even-odd rule says what is inside: a point whose crossings, counted over all rings together,
+/// are an odd number.
 ///
 /// # What is not checked
 ///
@@ -39,7 +39,7 @@ impl Polygon {
     }
 
     /// The polygon with its exterior ring counterclockwise and its holes clockwise: each ring of
-    /// the wrong sign is reversed, every other one, and one of area zero, stays as it is.
+    /// the wrong sign is reversed; every other one, and one of area zero, stays as it is.
     pub fn oriented(self) -> Polygon
         ensures value { polygon_value result ≡ oriented (polygon_value self) }
         ensures right { IsTrue (is_oriented_polygon (polygon_value result)) }

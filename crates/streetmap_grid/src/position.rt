@@ -5,7 +5,7 @@ ghost use Rattle.streetmap_grid.specs.Range.{IsCoordinate};
 use crate::fault::GridFault;
 use crate::range::{is_coordinate, is_height};
 
-/// A position on the grid, in millimetres (RFC 7946, section 3.1.1): easting, northing and, where
+/// A position on the grid, in millimetres (RFC 7946, section 3.1.1): easting, northing and, if
 /// there is one, height, each from -1,000,000,000 to 1,000,000,000.
 #[derive(Clone, Copy, PartialEq, Eq, Drop)]
 pub struct Position {
@@ -13,7 +13,7 @@ pub struct Position {
     pub x: i64,
     /// The northing, in millimetres.
     pub y: i64,
-    /// The height, in millimetres. It is carried, and never tested against a box.
+    /// The height, in millimetres. It is kept, and never tested against a box.
     pub z: Option<i64>,
     pub ghost easting: { IsCoordinate x },
     pub ghost northing: { IsCoordinate y },
@@ -25,7 +25,7 @@ impl Position {
     ghost use Rattle.streetmap_grid.specs.Faults.{position_fault};
 
     /// The position at an easting, a northing and perhaps a height, in millimetres. Refused as
-    /// `OutOfGrid` where one of them is below -1,000,000,000 or above 1,000,000,000.
+    /// `OutOfGrid` if one of them is below -1,000,000,000 or above 1,000,000,000.
     pub fn new(x: i64, y: i64, z: Option<i64>) -> Result<Position, GridFault>
         ensures value { IfOk result (λ p. position_value p ≡ record { x = x; y = y; z = z }) }
         ensures accepted { OnOk result (position_fault (record { x = x; y = y; z = z }) ≡ None) }

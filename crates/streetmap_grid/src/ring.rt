@@ -30,7 +30,7 @@ impl Ring {
     ghost use Rattle.streetmap_grid.specs.Ring.{double_area, turned};
 
     /// The ring of positions in their order. Refused as `ShortRing` below four, and then as
-    /// `OpenRing` where the first and last differ in easting, northing or height.
+    /// `OpenRing` if the first and last differ in easting, northing or height.
     pub fn new(positions: Vec<Position>) -> Result<Ring, GridFault>
         ensures value { IfOk result (λ r. ring_value r ≡ positions_value positions.items) }
         ensures accepted { OnOk result (ring_fault (positions_value positions.items) ≡ None) }
@@ -55,16 +55,16 @@ impl Ring {
         &self.positions
     }
 
-    /// Twice the area that the ring runs around, in square millimetres: the sum over its edges of
-    /// `ax * by - bx * ay`. Above zero for a counterclockwise ring, below zero for a clockwise one.
+    /// Twice the area inside the ring, in square millimetres: the sum over its edges of `ax * by -
+    /// bx * ay`. Above zero for a counterclockwise ring, below zero for a clockwise one.
     pub fn double_area(&self) -> i128
         ensures { result ≡ double_area (ring_value self.now) }
     {
         area::double_area(&self.positions)
     }
 
-    /// Reverses the ring where its double area has the wrong sign: above zero for a hole, below
-    /// zero for an exterior ring.
+    /// Reverses the ring if its double area has the wrong sign: above zero for a hole, below zero
+    /// for an exterior ring.
     pub(crate) fn turn(&mut self, hole: bool)
         ensures { ring_value self.new ≡ turned hole (ring_value self.old) }
     {
