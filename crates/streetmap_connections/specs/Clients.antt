@@ -27,7 +27,7 @@ module _ {S : Type 0} where
   abbrev pub IsOrderly : Client S → Type 0
   IsOrderly c = ∥ FitsStream (history c.connection) ∥₁
 
-  -- nothing that came waits for an answer, and no answer waits to be sent
+  -- no received byte waits for an answer, and no answer waits to be sent
   abbrev pub IsAtRest : Client S → Type 0
   IsAtRest c = ((history c.connection).unread ≡ []) × ((history c.connection).unsent ≡ [])
 
@@ -43,18 +43,18 @@ module _ {S : Type 0} where
         || writable;
   }
 
-  -- the client took longer than the patience, or than the last one where all was sent; or its
+  -- the client took longer than the patience, or than the last one if everything was sent; or its
   -- request takes longer than any may
   abbrev pub IsLate : ℕ → ℕ → Client S → Type 0
   IsLate now patience c = ((if c.finishes then LAST_PATIENCE else patience) < now - c.since)
       ⊎ (LONGEST_REQUEST < now - c.request_since)
 
-  -- its stream is gone, or all was sent, nothing more can be answered, and the end of what it sends
-  -- was read
+  -- its stream is gone, or everything was sent, nothing more can be answered, and the end of what
+  -- it sends was read
   abbrev pub HasLeft : (S → Type 0) → Client S → Type 0
   HasLeft is_gone c = is_gone c.stream
       ⊎ (IsOver c.connection × ((history c.connection).ended ≡ true))
 
-  -- nothing of an answer is left to send, and the end of what it sends is not awaited
+  -- nothing of an answer is left to send, and the end of what the client sends is not awaited
   abbrev pub IsQuiet : Client S → Type 0
   IsQuiet c = (c.finishes ≡ false) × ((history c.connection).unsent ≡ [])

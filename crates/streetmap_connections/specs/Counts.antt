@@ -1,7 +1,7 @@
 -- Counts of lists that grow, up to the most that a count holds.
 use Rattle.std.specs.Prelude.{◌≡◌, ℕ, ◌+◌, ◌-◌, ◌^◌, List, length, min}
 
--- how many the list has, up to the most
+-- the length of the list, up to the most
 abbrev pub count_of : {A : Type 0} → List A → ℕ
 count_of xs = min (length xs) (2 ^ 64 - 1)
 

@@ -13,7 +13,8 @@ pub data IsInterleaving {A : Type 0} : List (List A) → List A → Type 0 where
   more : {xs : List A} {xss : List (List A)} {rest all : List A} → Merges xs rest all
       → IsInterleaving xss rest → IsInterleaving (xs ∷ xss) all
 
--- an interleaving of the lists before goes on by these elements, and is then one of the lists after
+-- an interleaving of the lists before continues with these elements, and is then one of the lists
+-- after
 abbrev pub GoesOnAs : {A : Type 0} → List (List A) → List A → List (List A) → Type 0
 GoesOnAs {A} before made after = (all : List A) → IsInterleaving before all
     → IsInterleaving after (all ++ made)

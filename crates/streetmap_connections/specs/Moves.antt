@@ -12,9 +12,8 @@ pub record Place : Type 0 where
   -- what is still read is dropped
   pub finishes : Bool
 
--- What was received is what the stream gave, and what was sent is what was written to it. Each read
--- came while less than so many bytes waited for an answer. All of it was in steps, one after the
--- other.
+-- What was received is what the stream gave, and what was sent is what was written to it. At each
+-- read less than `most` bytes waited for an answer. All of it was in steps, one after the other.
 pub record Moves (most : ℕ) (old new : Place) : Type 0 where
   pub more : List ℕ
   pub received : new.history.received ≡ old.history.received ++ more

@@ -11,7 +11,7 @@ first_of (x ∷ xs) ys = x ∷ xs
 abbrev pub unsent_of : Outgoing → List ℕ
 unsent_of o = drop o.head_sent (head_bytes o.answer) ++ drop o.body_sent (body_bytes o.answer)
 
--- what is sent next: the rest of the head, or else of the body
+-- what is sent next: the rest of the head, or otherwise of the body
 abbrev pub next_of : Outgoing → List ℕ
 next_of o = first_of (drop o.head_sent (head_bytes o.answer))
     (drop o.body_sent (body_bytes o.answer))

@@ -2,7 +2,7 @@
 use Rattle.std.specs.Prelude.{◌≡◌, ℕ, List, ◌++◌, All}
 use Rattle.streetmap_connections.specs.History.{Refusal}
 
--- what a service refuses: a text for the bytes that came of a request
+-- what a service refuses: a text for the received bytes of a request
 abbrev pub Refusing : Type 1
 Refusing = List ℕ → List ℕ → Type 0
 
@@ -10,7 +10,7 @@ Refusing = List ℕ → List ℕ → Type 0
 abbrev pub AreRefused : Refusing → List Refusal → Type 0
 AreRefused refuses refusals = All (λ r. refuses r.bytes r.text) refusals
 
--- those that were added between two points were refused so
+-- those that were added between two points were refused in this way
 abbrev pub AddsRefusals : Refusing → List Refusal → List Refusal → Type 0
 AddsRefusals refuses before after = (more : List Refusal) × (after ≡ before ++ more)
     × AreRefused refuses more

@@ -17,8 +17,8 @@ use Rattle.streetmap_connections.specs.Timeline.{Timeline}
 -- One list of exchanges leads the service from one state to the other, each answered in the state
 -- that the one before left. It is an interleaving of the clients' own lists, in which the clients
 -- of each slot were answered in turn, and each client's connection is in order. They were answered
--- so along one timeline of all that was read and written. What was refused is what the service
--- refuses.
+-- in this way along one timeline of all that was read and written. What was refused is what the
+-- service refuses.
 pub record Serves {V S : Type 0} (answers : Answering V) (refuses : Refusing) (old new : V)
     (before after : List (Slot S)) : Type 0 where
   pub exchanges : List Exchange
@@ -53,7 +53,7 @@ TakesTurn remaining contents answers refuses old new before after =
     ⊎ ((after ≡ before) × (new ≡ old))
 
 -- each client received what its own stream gave, and was sent what was written to it; none was read
--- while as much of its input waited as the longest request has
+-- while as many bytes of its input waited as the longest request has
 abbrev pub EachMoves : {S : Type 0} → (S → Option (List ℕ)) → (S → Option (List ℕ))
     → List (Client S) → List (Client S) → Type 0
 EachMoves remaining contents before after = AllZip (λ c d.

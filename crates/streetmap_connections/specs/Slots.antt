@@ -11,7 +11,7 @@ use Rattle.streetmap_connections.specs.Clients.{IsLate, IsQuiet, woken}
 use Rattle.streetmap_connections.specs.History.{Exchange, Refusal}
 
 module _ {S : Type 0} where
-  -- what they all were answered, one client behind the other
+  -- what they all were answered, one client after the other
   abbrev pub exchanges_in : Slot S → List Exchange
   exchanges_in s = flat_map exchanges_of (clients_in s)
 
@@ -34,15 +34,15 @@ module _ {S : Type 0} where
   abbrev pub IsTaken : Slot S → Type 0
   IsTaken s = IsSome s.client
 
-  -- the client of the slot is idle for so many milliseconds
+  -- the client of the slot has been idle for this many milliseconds
   abbrev pub IdlesFor : ℕ → Slot S → ℕ → Type 0
   IdlesFor now s n = (c : Client S) × (s.client ≡ Some c) × IsIdle c × (n ≡ now - c.since)
 
-  -- no client of these slots is idle for longer
+  -- no client of these slots has been idle for longer
   abbrev pub NoneIdlesBeyond : ℕ → ℕ → List (Slot S) → Type 0
   NoneIdlesBeyond now n slots = All (λ s. (m : ℕ) → IdlesFor now s m → m ≤ n) slots
 
-  -- the client at this place is idle, and none is idle for longer
+  -- the client at this place is idle, and none has been idle for longer
   abbrev pub IsLongestIdleAt : ℕ → List (Slot S) → ℕ → Type 0
   IsLongestIdleAt now slots place = (s : Slot S) × (slice_get slots place ≡ Some s) × (n : ℕ)
       × IdlesFor now s n × NoneIdlesBeyond now n slots
@@ -56,12 +56,13 @@ module _ {S : Type 0} where
   abbrev pub woken_in : Bool → Bool → Slot S → Slot S
   woken_in readable writable s = record s { client = option_map (woken readable writable) s.client }
 
-  -- a late client of the slot has ended as it was, the last one there, and the slot is free
+  -- a late client of the slot has ended as it was, as the last one of the slot, and the slot is
+  -- free
   abbrev pub EndsLate : ℕ → ℕ → Slot S → Slot S → Type 0
   EndsLate now patience old new = All (λ c. IsLate now patience c → (new.client ≡ None)
       × (past_of new ≡ past_of old ++ c ∷ [])) (present old.client)
 
-  -- if the slot is free, nobody was there, or the client was late, or it has ended as one that left
+  -- if the slot is free, it had no client, or the client was late, or it has ended as one that left
   abbrev pub EndsOnly : ℕ → ℕ → (S → Type 0) → Slot S → Slot S → Type 0
   EndsOnly now patience is_gone old new = new.client ≡ None
       → All (λ c. IsLate now patience c) (present old.client)

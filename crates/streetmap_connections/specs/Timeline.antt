@@ -21,7 +21,7 @@ pub data Steps : (old : History) → (answered : List Exchange) → (new : Histo
   first : {old next new : History} {answered made rest : List Exchange} → Step old made next
       → Steps next rest new → answered ≡ made ++ rest → Steps old answered new
 
--- of several connections one takes a step, or one more comes
+-- one of several connections takes a step, or a new one is added
 pub data Happens (old : List History) (answered : List Exchange) (new : List History)
     : Type 0 where
   moves : (front back : List History) (was is : History) → old ≡ front ++ was ∷ back
@@ -29,7 +29,7 @@ pub data Happens (old : List History) (answered : List Exchange) (new : List His
   comes : (front back : List History) → answered ≡ [] → old ≡ front ++ back
       → new ≡ front ++ new_history ∷ back → Happens old answered new
 
--- that happened, one thing after the other, and these requests were answered, in this order
+-- these steps happened, one after the other, and these requests were answered, in this order
 pub data Timeline : (old : List History) → (answered : List Exchange) → (new : List History)
     → Type 0 where
   none : {old new : List History} {answered : List Exchange} → answered ≡ [] → new ≡ old

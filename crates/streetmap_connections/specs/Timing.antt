@@ -11,12 +11,13 @@ abbrev pub pieces_of : History → ℕ
 pieces_of h = length h.unread / PIECE
 
 -- what was done for a client: the requests answered or refused, the bytes sent, and that all was
+-- sent
 abbrev pub done_of : History → Bool → ℕ
 done_of h finishes = length h.exchanges + length h.refusals + length h.sent
     + (if finishes then 1 else 0)
 
--- from when a client's patience is counted, and from when its request; what was done for it, and
--- the whole pieces that came
+-- the start of a client's patience, and the start of its request; what was done for it, and the
+-- whole pieces that were received
 pub record Times : Type 0 where
   pub since : ℕ
   pub request_since : ℕ
@@ -36,14 +37,14 @@ times_of c = record {
 abbrev pub restarted : {S : Type 0} → ℕ → Client S → Client S
 restarted now c = record c { since = now; request_since = now }
 
--- its patience is renewed where more whole pieces wait than so many
+-- its patience is renewed if more whole pieces wait than `pieces`
 abbrev pub renewed : {S : Type 0} → ℕ → ℕ → Client S → Client S
 renewed pieces now c = record c {
   since = if nat_lt pieces (pieces_of (history c.connection)) then now else c.since;
 }
 
--- Both times are now where anything was done for the client. Where nothing was, its patience is
--- renewed by each whole piece that came, and by nothing else; and its request began when it did.
+-- Both times are now if anything was done for the client. If nothing was, its patience is renewed
+-- by each whole piece that was received, and by nothing else; and the start of its request stays.
 pub record IsTimedFrom (now : ℕ) (old new : Times) : Type 0 where
   pub more : old.done ≤ new.done
   pub waits : new.done ≡ old.done → old.pieces ≤ new.pieces

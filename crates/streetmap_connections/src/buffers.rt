@@ -12,7 +12,7 @@ use http_server::Log;
 use std::alloc::{AllocError, Global};
 use std::io;
 
-/// The least and the most bytes of room that a read is given.
+/// The least and the most room of a read, in bytes.
 const LEAST_ROOM: usize = 16_384;
 
 const MOST_ROOM: usize = 262_144;
@@ -20,7 +20,7 @@ const MOST_ROOM: usize = 262_144;
 /// The bytes of memory for input that an idle connection keeps.
 const KEPT_ROOM: usize = 65_536;
 
-/// An answer, whether the connection closes behind it, and how many bytes its request has.
+/// An answer, whether the connection closes after it, and how many bytes its request has.
 #[derive(Drop)]
 pub(crate) struct Turn {
     pub(crate) answer: Answer,
@@ -32,9 +32,9 @@ pub(crate) struct Turn {
 pub(crate) struct Buffers {
     pub(crate) alloc: Global,
     pub(crate) input: BytesMut,
-    /// There is no whole request before so many bytes.
+    /// There is no whole request in fewer bytes than this.
     pub(crate) needs: usize,
-    /// The last answer, as far as it was not sent, and whether the connection closes behind it.
+    /// The last answer, as far as it is not sent yet, and whether the connection closes after it.
     pub(crate) outgoing: Outgoing,
     pub(crate) closes: bool,
     pub(crate) ended: bool,
@@ -42,7 +42,7 @@ pub(crate) struct Buffers {
     pub(crate) reads: Log<BytesMut, usize>,
     /// The input before each answer, and the answer.
     pub(crate) turns: Log<BytesMut, Turn>,
-    /// The answer before each write, and how many bytes of it went.
+    /// The answer before each write, and how many bytes of it were sent.
     pub(crate) writes: Log<Outgoing, usize>,
     /// The input that was refused, and the answer.
     pub(crate) refusals: Log<BytesMut, Answer>,
@@ -56,7 +56,7 @@ impl Buffers {
     ghost use Rattle.streetmap_connections.specs.History.{after_refusal};
     ghost use Rattle.streetmap_connections.specs.Leaving.{IsFinal};
 
-    /// Nothing, which takes no memory.
+    /// Nothing, which allocates no memory.
     pub(crate) fn new(alloc: Global) -> Buffers
         ensures unused { history_of result ≡ new_history }
         ensures awaits { result.needs ≡ 1 }
@@ -75,7 +75,7 @@ impl Buffers {
         }
     }
 
-    /// Reads once, if there is memory for what would come.
+    /// Reads once, if there is memory for the bytes that the read may return.
     pub(crate) fn receive_from<S: Stream>(
         &mut self,
         stream: &mut S,
@@ -96,7 +96,7 @@ impl Buffers {
         Ok(self.read(stream))
     }
 
-    /// Reads once into the room that is there.
+    /// Reads once into the present room.
     fn read<S: Stream>(&mut self, stream: &mut S) -> io::Result<usize>
         ensures ok { IfOk result (λ n. (more : List ℕ) × (length more ≡ n)
             × Consumes (S.remaining stream.old) (S.remaining stream.new) more
@@ -114,7 +114,7 @@ impl Buffers {
         Ok(count)
     }
 
-    /// Has the service refuse the input, for which there is no memory. The input is let go.
+    /// Has the service refuse the input, if there is no memory for it. The input is dropped.
     pub(crate) fn refuse<V: Service>(&mut self, service: &V)
         ensures refused { (text : List ℕ) × V.refuses (history_of self.old).unread text
             × (history_of self.new ≡ after_refusal (history_of self.old) text) }
@@ -126,7 +126,7 @@ impl Buffers {
         self.outgoing = Outgoing::new(answer);
     }
 
-    /// Has the service answer the first request of the input. Whether it did.
+    /// Has the service answer the first request of the input. Returns whether it did.
     pub(crate) fn answer<V: Service>(&mut self, service: &mut V) -> bool
         requires sent { (history_of self.old).unsent ≡ [] }
         requires stays { (history_of self.old).closes ≡ false }
@@ -153,7 +153,7 @@ impl Buffers {
         }
     }
 
-    /// Has the service answer so many bytes of the input.
+    /// Has the service answer the first `len` bytes of the input.
     fn take_turn<V: Service>(&mut self, service: &mut V, len: usize)
         requires fits { len ≤ length self.old.input.items }
         requires request { V.is_request (take len self.old.input.items) }
@@ -176,7 +176,7 @@ impl Buffers {
         self.outgoing = Outgoing::new(turn.answer);
     }
 
-    /// Writes once. An answer that was sent is let go.
+    /// Writes once. An answer that was sent is dropped.
     pub(crate) fn send_to<S: Stream>(&mut self, stream: &mut S) -> io::Result<usize>
         ensures ok { IfOk result (λ n. (history_of self.new ≡ after_send (history_of self.old) n)
             × Appends (S.contents stream.old) (S.contents stream.new)
@@ -199,7 +199,7 @@ impl Buffers {
     }
 }
 
-/// Gives memory back that an idle connection does not keep.
+/// Releases memory that an idle connection does not keep.
 fn shrink(alloc: Global, input: &mut BytesMut)
     ensures { input.new.items ≡ input.old.items }
 {
@@ -208,7 +208,7 @@ fn shrink(alloc: Global, input: &mut BytesMut)
     }
 }
 
-/// The room for a read that is to lead to so many bytes.
+/// The room for a read after which there are to be `needs` bytes.
 fn room_for(needs: usize, len: usize) -> usize {
     needs.saturating_sub(len).max(LEAST_ROOM).min(MOST_ROOM)
 }

@@ -15,18 +15,18 @@ use std::alloc::Global;
 use std::io;
 use std::io::ErrorKind;
 
-/// The steps that a client takes before the next one has its turn.
+/// The steps that a client takes before it is the turn of the next one.
 const STEPS: usize = 16;
 
-/// The milliseconds that a client may take to end its side once all was sent.
+/// The milliseconds that a client may take to end its side after everything was sent.
 const LAST_PATIENCE: u64 = 1_000;
 
 /// What a client can do next.
 #[derive(Drop, Clone, Copy, PartialEq, Eq)]
 pub enum Work {
-    /// Nothing, before its stream is ready.
+    /// Nothing, until its stream is ready.
     Rests,
-    /// It can go on at once.
+    /// It can continue at once.
     Goes,
     /// The connection is over.
     Ends,
@@ -39,12 +39,12 @@ pub struct Client<S> {
     connection: Connection,
     readable: bool,
     writable: bool,
-    /// All was sent, and the end of what the other side sends is awaited.
+    /// Everything was sent, and only the end of what the other side sends is still to be read.
     finishes: bool,
     /// When it was accepted, was last answered, last took a byte of an answer, or sent the last
     /// whole piece of a request, in milliseconds.
     since: u64,
-    /// The same, but for pieces of a request.
+    /// The same, without the pieces of a request.
     request_since: u64,
 }
 
@@ -81,7 +81,7 @@ impl<S: Stream> Client<S> {
         }
     }
 
-    /// The stream alone, once the client is over.
+    /// The stream alone, after the client is over.
     pub fn into_stream(self) -> S
         ensures { result ≡ self.stream }
     {
@@ -99,7 +99,7 @@ impl<S: Stream> Client<S> {
 
     /// Whether it took longer than `patience`, in milliseconds, to send the next piece of a request
     /// or the rest of it, or to take a byte of an answer; longer than any request may take; or
-    /// longer than a second to end its side once all was sent.
+    /// longer than a second to end its side after everything was sent.
     pub fn is_late(&self, now: u64, patience: u64) -> bool
         ensures { IsTrue result ↔ IsLate now patience self.now }
     {
@@ -112,16 +112,16 @@ impl<S: Stream> Client<S> {
             || now.saturating_sub(self.request_since) > LONGEST_REQUEST
     }
 
-    /// Whether nothing of a request came, nothing is to be sent, and its stream had nothing more to
-    /// read.
+    /// Whether no byte of a request was received, nothing is to be sent, and its stream had nothing
+    /// more to read.
     pub fn is_idle(&self) -> bool
         ensures { IsTrue result ↔ IsIdle self.now }
     {
         !self.readable && !self.finishes && self.connection.is_idle()
     }
 
-    /// Whether an answer, or a part of one, is still to be sent, or the end of what the other side
-    /// sends is awaited.
+    /// Whether an answer, or a part of one, is still to be sent, or only the end of what the other
+    /// side sends is still to be read.
     pub fn is_busy(&self) -> bool
         ensures { OnFalse result (IsQuiet self.now) }
     {
@@ -143,7 +143,7 @@ impl<S: Stream> Client<S> {
         self.connection.waiting()
     }
 
-    /// Takes some steps. No more is read once so many bytes of its input wait as `most_input`.
+    /// Takes some steps. It reads no more when `most_input` bytes of its input wait.
     pub fn work<V: Service>(&mut self, service: &mut V, now: u64, most_input: usize) -> Work
         ensures moves { Moves most_input (place_of S.remaining S.contents self.old)
             (place_of S.remaining S.contents self.new) }
@@ -186,7 +186,7 @@ impl<S: Stream> Client<S> {
         self.receive(service, now, most_input)
     }
 
-    /// Something was done for it.
+    /// Sets both times to now, since something was done for it.
     fn restart(&mut self, now: u64)
         ensures { self.new ≡ restarted now self.old }
     {
@@ -256,8 +256,8 @@ impl<S: Stream> Client<S> {
         }
     }
 
-    /// Reads once, where less than so much of the input waits. Where there is no memory for what
-    /// would come, the request is refused.
+    /// Reads once, if less than `most_input` bytes of its input wait. If there is no memory for the
+    /// bytes that the read may return, the request is refused.
     fn receive<V: Service>(&mut self, service: &V, now: u64, most_input: usize) -> Work
         requires sent { (history self.old.connection).unsent ≡ [] }
         requires stays { (history self.old.connection).closes ≡ false }
@@ -290,7 +290,7 @@ impl<S: Stream> Client<S> {
         self.connection.waiting() / PIECE
     }
 
-    /// Renews its patience, where more whole pieces wait than so many.
+    /// Renews its patience, if more whole pieces wait than `pieces`.
     fn renew(&mut self, pieces: usize, now: u64)
         ensures { self.new ≡ renewed pieces now self.old }
     {
@@ -315,7 +315,7 @@ impl<S: Stream> Client<S> {
         }
     }
 
-    /// Refuses what came of a request, for which there is no memory.
+    /// Refuses a request that was received in part, for which there is no memory.
     fn refuse<V: Service>(&mut self, service: &V, now: u64) -> Work
         requires sent { (history self.old.connection).unsent ≡ [] }
         requires stays { (history self.old.connection).closes ≡ false }
@@ -331,8 +331,8 @@ impl<S: Stream> Client<S> {
         Work::Goes
     }
 
-    /// Says that nothing more is sent. What the other side still sends is read and dropped, since
-    /// an unread byte could cost it the last answer.
+    /// Says that nothing more is sent. Bytes that the other side still sends are read and dropped,
+    /// since the other side could lose the last answer because of an unread byte.
     fn finish(&mut self, now: u64) -> Work
         requires over { IsOver self.old.connection }
         requires first { self.old.finishes ≡ false }
@@ -379,8 +379,8 @@ fn is_blocked(e: &io::Error) -> bool {
     e.kind() == ErrorKind::WouldBlock
 }
 
-/// A stream that is not ready is waited for, an interrupted call is made again, and any other error
-/// ends it.
+/// The client waits for a stream that is not ready, tries an interrupted call again, and ends at
+/// any other error.
 fn after_error(e: &io::Error) -> Work
     ensures { result ≡ Work.Ends → IsFinal e.now }
 {

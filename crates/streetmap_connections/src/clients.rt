@@ -20,7 +20,7 @@ pub struct Clients<S> {
     pub(crate) alloc: Global,
     pub(crate) slots: Vec<Slot<S>>,
     pub(crate) limits: Limits,
-    /// How many were let in, and how many ended.
+    /// How many were let in, and how many have ended.
     pub(crate) begun: u64,
     pub(crate) ended: u64,
     ghost counts_begun: { begun ≡ count_of (flat_map clients_in slots.items) },
@@ -41,7 +41,7 @@ struct Round {
 impl Round {
     ghost use Rattle.streetmap_connections.specs.Serving.{EachMoves, Serves, TakesTurn};
 
-    /// The client of the slot takes its turn, and leaves where it is over.
+    /// The client of the slot takes its turn, and leaves if it is over.
     fn give_turn<S: Stream + Drop, V: Service>(&mut self, slot: &mut Slot<S>, service: &mut V)
         ensures turn { TakesTurn S.remaining S.contents V.answers V.refuses service.old service.new
             (clients_in slot.old) (clients_in slot.new) }
@@ -133,8 +133,8 @@ impl<S: Stream + Drop> Clients<S> {
         self.ended
     }
 
-    /// The place for the next client: one that is free, or that of the client that is idle the
-    /// longest, for longer than the limits ask.
+    /// The place for the next client: one that is free, or that of the client that has been idle
+    /// the longest, if it was idle for longer than the limits require.
     pub fn place_for_next(&self, now: u64) -> Option<usize>
         ensures gives_way { IfSome result (λ place. GivesWayAt self.now.slots.items place) }
         ensures free_first { IfSome result (λ place. IsFreeAt self.now.slots.items place
@@ -166,7 +166,7 @@ impl<S: Stream + Drop> Clients<S> {
         None
     }
 
-    /// The place of the client that is idle the longest, where it is long enough.
+    /// The place of the client that has been idle the longest, if that is long enough.
     fn longest_idle(&self, now: u64) -> Option<usize>
         ensures gives_way { IfSome result (λ place. GivesWayAt self.now.slots.items place) }
         ensures longest { IfSome result (λ place. IsLongestIdleAt now self.now.slots.items place) }
@@ -186,7 +186,7 @@ impl<S: Stream + Drop> Clients<S> {
         found
     }
 
-    /// Lets a client in at a place that gives way: the client that is there ends.
+    /// Lets a client in at a place that gives way: the client at that place ends.
     pub fn let_in(&mut self, place: usize, stream: S, now: u64)
         requires { GivesWayAt self.old.slots.items place }
         ensures comes { Timeline (histories_in (slots_of self.old)) []
@@ -240,8 +240,8 @@ impl<S: Stream + Drop> Clients<S> {
         waiting
     }
 
-    /// Each client takes its turn, and those that are late, or over, leave. Whether one can go on
-    /// at once.
+    /// Each client takes its turn, and those that are late, or over, leave. Returns whether one can
+    /// continue at once.
     pub fn work<V: Service>(&mut self, service: &mut V, now: u64) -> bool
         ensures serves { Serves V.answers V.refuses service.old service.new (slots_of self.old)
             (slots_of self.new) }

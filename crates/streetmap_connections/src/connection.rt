@@ -17,7 +17,7 @@ use std::alloc::{AllocError, Global};
 use std::io;
 
 /// What was received and not yet answered, and what was answered and not yet sent. One request is
-/// answered at a time, and the next once that answer was sent.
+/// answered at a time, and the next after that answer was sent.
 #[derive(Drop)]
 pub struct Connection {
     buffers: Buffers,
@@ -28,7 +28,7 @@ impl Connection {
     ghost use Rattle.streetmap_connections.specs.Connections.{history, awaited, MayAnswer, IsOver};
     ghost use Rattle.streetmap_connections.specs.Cuts.{HasNone, HasNoneBefore};
 
-    /// Nothing received and nothing sent, which takes no memory.
+    /// Nothing received and nothing sent, which allocates no memory.
     pub fn new(alloc: Global) -> Connection
         ensures unused { history result ≡ new_history }
         ensures awaits { awaited result ≡ 1 }
@@ -53,8 +53,8 @@ impl Connection {
         !self.wants_send() && !self.buffers.closes && self.buffers.needs <= self.buffers.input.len()
     }
 
-    /// Whether nothing more can be answered: the last answer closes the connection, or no more
-    /// input can come to what is no whole request.
+    /// Whether nothing more can be answered: the last answer closes the connection, or the input is
+    /// not a whole request and no more of it can arrive.
     pub fn is_over(&self) -> bool
         ensures { IsTrue result ↔ IsOver self.now }
     {
@@ -63,7 +63,7 @@ impl Connection {
             && (self.buffers.closes || self.buffers.ended || self.buffers.input.len() >= MOST_INPUT)
     }
 
-    /// Whether nothing of a request came, and nothing is to be sent.
+    /// Whether no byte of a request was received, and nothing is to be sent.
     pub fn is_idle(&self) -> bool
         ensures { IsTrue result ↔ ((history self.now).unread ≡ [])
             × ((history self.now).unsent ≡ []) }
@@ -85,11 +85,11 @@ impl Connection {
         self.buffers.ended
     }
 
-    /// Reads once, where no answer waits to be sent. A read of no byte is the end of the input.
+    /// Reads once, if no answer waits to be sent. A read of no byte is the end of the input.
     ///
     /// # Errors
     ///
-    /// Where there is no memory for what would come: nothing is read then.
+    /// If there is no memory for the bytes that the read may return: then nothing is read.
     pub fn receive_from<S: Stream>(
         &mut self,
         stream: &mut S,
@@ -109,8 +109,8 @@ impl Connection {
         self.buffers.receive_from(stream)
     }
 
-    /// Has the service answer the first request of the input, where the answer before was sent and
-    /// did not close the connection. Whether it did: else the request is not whole.
+    /// Has the service answer the first request of the input, if the answer before was sent and did
+    /// not close the connection. Returns whether it did: otherwise the request is not whole.
     pub fn answer<V: Service>(&mut self, service: &mut V) -> bool
         requires sent { (history self.old).unsent ≡ [] }
         requires stays { (history self.old).closes ≡ false }
@@ -120,7 +120,8 @@ impl Connection {
             × (history self.new ≡ after_answer (history self.old) e)) }
         ensures waits { OnFalse result ((history self.new ≡ history self.old)
             × (service.new ≡ service.old)) }
-        // What came is then no request, and none before there are as many bytes as are awaited.
+        // If it did not, no prefix of the input is a request, and none can be until there are
+        // `awaited` bytes.
         ensures none { OnFalse result (HasNone V.is_request (history self.old).unread) }
         ensures awaits { OnFalse result ((length (history self.old).unread < awaited self.new)
             × HasNoneBefore V.is_request (history self.old).unread (awaited self.new)) }
@@ -129,8 +130,8 @@ impl Connection {
         self.buffers.answer(service)
     }
 
-    /// Has the service refuse what came of a request, for which there is no memory. It is let go,
-    /// and the connection closes after the answer.
+    /// Has the service refuse a request that was received in part, for which there is no memory.
+    /// The input is dropped, and the connection closes after the answer.
     pub fn refuse<V: Service>(&mut self, service: &V)
         requires sent { (history self.old).unsent ≡ [] }
         requires stays { (history self.old).closes ≡ false }
@@ -140,11 +141,11 @@ impl Connection {
         self.buffers.refuse(service);
     }
 
-    /// Writes once, and answers how many bytes the stream took.
+    /// Writes once, and returns how many bytes the stream took.
     ///
     /// # Errors
     ///
-    /// As the stream's; nothing is sent then.
+    /// As the stream's; then nothing is sent.
     pub fn send_to<S: Stream>(&mut self, stream: &mut S) -> io::Result<usize>
         ensures ok { IfOk result (λ n. (history self.new ≡ after_send (history self.old) n)
             × Appends (S.contents stream.old) (S.contents stream.new)

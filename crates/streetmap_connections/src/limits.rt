@@ -1,38 +1,38 @@
-//! What clients may take.
+//! The limits of clients.
 ghost use Rattle.std.specs.Prelude.{◌≡◌, ◌-◌, min, max};
 
 /// The bytes of the longest request: a head and a body. No more of a client's input is read than
-/// these and one read.
+/// this and one read.
 pub const MOST_INPUT: usize = 16_384 + 8_388_608;
 
-/// The bytes of the longest head. So much of a client's input is read whatever the other clients
-/// sent.
+/// The bytes of the longest head. This many bytes of a client's input are read whatever the other
+/// clients have sent.
 pub(crate) const MOST_HEAD: usize = 16_384;
 
-/// The bytes of a piece of a request. Each whole piece that came renews a client's patience.
+/// The bytes of a piece of a request. Each whole piece that is received renews a client's patience.
 pub const PIECE: usize = 65_536;
 
-/// The milliseconds that a client may take to send a whole request, however much of it comes
-/// meanwhile.
+/// The milliseconds that a client may take to send a whole request, however much of it arrives in
+/// the meantime.
 pub const LONGEST_REQUEST: u64 = 600_000;
 
-/// What the clients of a server may take.
+/// The limits of the clients of a server.
 #[derive(Drop, Clone, Copy)]
 pub struct Limits {
-    /// How many are served at once; with none nobody is let in.
+    /// How many are served at once; if it is 0 nobody is let in.
     pub clients: usize,
     /// The milliseconds that a client may take to send the next piece of a request or the rest of
     /// it, or to take a byte of an answer.
     pub patience: u64,
-    /// The milliseconds for which a client is idle at least before another is let in in its place.
+    /// The milliseconds for which a client must be idle before another is let in in its place.
     pub least_idle: u64,
-    /// The bytes of input that wait for an answer, over all clients: where there are more, a
+    /// The bytes of input that may wait for an answer, over all clients: if there are more, a
     /// client's input is read only up to the length of a head.
     pub most_waiting: usize,
 }
 
 impl Limits {
-    /// So many clients at once, half a minute, a second, and 64 MiB.
+    /// This number of clients at once, half a minute, a second, and 64 MiB.
     pub fn of(clients: usize) -> Limits
         ensures { result ≡ record {
           clients = clients;
@@ -49,7 +49,7 @@ impl Limits {
         }
     }
 
-    /// One client after the other: each has half a minute, also where the next one waits.
+    /// One client after the other: each has half a minute, also if the next one waits.
     pub fn in_turn() -> Limits
         ensures { result ≡ record {
           clients = 1;
@@ -66,7 +66,7 @@ impl Limits {
         }
     }
 
-    /// How much input one client may have while the others have so much.
+    /// How much input one client may have while the others have `others` bytes.
     pub(crate) fn most_input(&self, others: usize) -> usize
         ensures { result ≡ min (max (self.now.most_waiting - others) MOST_HEAD) MOST_INPUT }
     {

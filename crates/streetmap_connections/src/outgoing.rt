@@ -44,7 +44,7 @@ impl Outgoing {
         self.next().is_empty()
     }
 
-    /// What is left of the head, or else of the body.
+    /// The rest of the head, or otherwise of the body.
     pub(crate) fn next(&self) -> &[u8]
         ensures { result.now ≡ next_of self.now }
     {
@@ -56,7 +56,7 @@ impl Outgoing {
         }
     }
 
-    /// So many of the next bytes were sent.
+    /// `len` of the next bytes were sent.
     pub(crate) fn advance(&mut self, len: usize)
         requires { len ≤ length (next_of self.old) }
         ensures { unsent_of self.new ≡ drop len (unsent_of self.old) }

@@ -18,20 +18,20 @@ use std::io::ErrorKind;
 use std::net::{Net, TcpListener};
 use std::time::{Clock, Duration, Instant};
 
-/// The events that one wait gives at most.
+/// The most events that one wait returns.
 const MOST_EVENTS: usize = 256;
 
-/// A wait ends after so many milliseconds, so that late clients are seen.
+/// A wait ends after this many milliseconds, so that late clients are noticed.
 const LONGEST_WAIT: u64 = 1_000;
 
-/// Why the serving ended early.
+/// Why serving ended early.
 #[derive(Drop, Clone, Copy, PartialEq, Eq)]
 pub enum ServeFault {
-    /// `net`: no client could be accepted, or the sockets could not be waited for.
+    /// `net`: no client could be accepted, or the wait for the sockets failed.
     Net,
-    /// `memory`: memory was refused before a client was accepted or read.
+    /// `memory`: memory ran out before a client was accepted or read.
     Memory,
-    /// `over`: the service is over, and what was begun of answers was sent.
+    /// `over`: the service is over, and the answers that had begun were sent.
     Over,
 }
 
@@ -50,7 +50,7 @@ impl ServeFault {
         }
     }
 
-    /// A sentence on it.
+    /// A sentence that describes it.
     #[tactic(auto, unfolding(crate::specs::Faults::description_of))]
     pub fn description(&self) -> &'static str
         ensures { result.now ≡ description_of self.now }
@@ -90,7 +90,7 @@ impl From<AllocError> for ServeFault {
     }
 }
 
-/// The listener, and what waits for it and the clients' sockets.
+/// The listener, and the poll that waits for it and for the clients' sockets.
 #[derive(Drop)]
 struct Acceptor {
     poll: Poll,
@@ -99,21 +99,21 @@ struct Acceptor {
     token: usize,
     /// Whether a client may wait to be accepted.
     pending: bool,
-    /// Since when the service is over, in milliseconds.
+    /// When the service became over, in milliseconds.
     over_since: Option<u64>,
 }
 
-/// What one call of `accept` gave.
+/// The result of one call of `accept`.
 #[derive(Drop)]
 enum Accepted {
     Client(TcpStream),
-    /// A client that left, or whose socket could not be waited for.
+    /// A client that left, or whose socket could not be registered.
     Lost,
     Nobody,
 }
 
 impl Acceptor {
-    /// Has `listener` be waited for. From here on a call of `accept` on it does not wait.
+    /// Registers `listener`. Afterwards a call of `accept` on it does not block.
     fn new<R: Net>(rt: &R, listener: &TcpListener, token: usize) -> Result<Acceptor, ServeFault>
         ensures { IfErr result (λ fault. fault ≢ ServeFault.Over) }
     {
@@ -132,7 +132,7 @@ impl Acceptor {
         })
     }
 
-    /// Waits until a socket is ready, and notes of each whose it is.
+    /// Waits until a socket is ready, and notes whose it is.
     fn wait(
         &mut self,
         events: &mut Events<Global>,
@@ -191,7 +191,7 @@ impl Acceptor {
         Ok(())
     }
 
-    /// Lets in the client that comes next, at a place. Whether another may follow at once.
+    /// Lets in the next client, at a place. Returns whether another may follow at once.
     fn let_next_in(
         &mut self,
         clients: &mut Clients<TcpStream>,
@@ -217,7 +217,7 @@ impl Acceptor {
                 self.pending = false;
                 Ok(false)
             }
-            // Where sockets are used up, one is free once a client has ended.
+            // If no socket is left, one is free after a client has ended.
             Err(_) if clients.ended() < clients.begun() => Ok(false),
             Err(e) => Err(e.into()),
         }
@@ -246,8 +246,8 @@ impl Acceptor {
         }
     }
 
-    /// Lets in the clients that wait, and each client takes its turn. Whether one can go on at
-    /// once.
+    /// Lets in the clients that wait, and each client takes its turn. Returns whether one can
+    /// continue at once.
     fn round<V: Service>(
         &mut self,
         count: u64,
@@ -264,8 +264,8 @@ impl Acceptor {
         Ok(clients.work(service, now))
     }
 
-    /// Whether no client waits for the rest of an answer, or one has had its time for it. From here
-    /// on nobody is let in.
+    /// Whether no client waits for the rest of an answer, or one has had its time for it. After
+    /// this call nobody is let in.
     fn is_drained(&mut self, clients: &Clients<TcpStream>, now: u64) -> bool
         ensures { result ≡ true → IsDrained now self.new.over_since clients.now }
     {
@@ -274,7 +274,7 @@ impl Acceptor {
         !clients.is_busy() || now.saturating_sub(since) > clients.limits.patience
     }
 
-    /// Serves clients until so many ended that were let in, or the service is over.
+    /// Serves clients until `count` of those let in have ended, or the service is over.
     fn serve<R: Clock, V: Service>(
         &mut self,
         rt: &R,
@@ -306,17 +306,17 @@ impl Acceptor {
     }
 }
 
-/// Serves clients of a listener, many at once, until so many ended that were let in. A client that
-/// fails or is late ends alone. One for whose input there is no memory is refused by the service,
-/// and its connection closes after that answer.
+/// Serves clients of a listener, many at once, until `count` of those let in have ended. A client
+/// that fails or is late ends alone. If there is no memory for the input of a client, the service
+/// refuses it, and its connection closes after that answer.
 ///
-/// From here on a call of `accept` on the listener does not wait.
+/// Afterwards a call of `accept` on the listener does not block.
 ///
 /// # Errors
 ///
-/// `Net` where no client can be accepted while there is none, or the sockets cannot be waited for,
-/// and `Memory` where there is no room for what is waited for. `Over` once the service is over and
-/// what was begun of answers was sent, or a client took longer than its patience for that.
+/// `Net` if no client can be accepted while there is none, or the wait for the sockets fails, and
+/// `Memory` if memory runs out for that wait. `Over` after the service is over and the answers that
+/// had begun were sent, or a client took longer than its patience for that.
 pub fn serve_connections<R: Net + Clock, V: Service>(
     rt: &R,
     listener: &TcpListener,
@@ -324,10 +324,10 @@ pub fn serve_connections<R: Net + Clock, V: Service>(
     clients: &mut Clients<TcpStream>,
     service: &mut V,
 ) -> Result<(), ServeFault>
-    // There is one list of exchanges along which the service was led, each answered in the state
-    // that the one before left; it goes on from any interleaving of the clients' own lists before
-    // as one of their lists after. The clients of a place were answered in turn, each to its end
-    // before the next was answered at all.
+    // One list of exchanges led the service, each answered in the state that the one before left;
+    // after any interleaving of the clients' own lists before, it continues as an interleaving of
+    // their lists after. The clients of a place were answered in turn, each to its end before the
+    // next was answered at all.
     ensures serves { Serves V.answers V.refuses service.old service.new (slots_of clients.old)
         (slots_of clients.new) }
     ensures counted { IsOk result → count ≤ length (ended_of clients.new) }

@@ -1,13 +1,13 @@
-//! What answers the requests.
+//! The service that answers the requests.
 ghost use Rattle.std.specs.Prelude.{◌≡◌, ◌≤◌, ℕ, Bool, true, List, take, length};
 ghost use Rattle.streetmap_connections.specs.Cuts.{IfWhole, IfWaits, HasNone, HasNoneBefore};
 
-/// An answer: its head and its body, both at hand.
+/// An answer: its head and its body, both in memory.
 #[derive(Drop)]
 pub enum Answer {
     /// In memory of its own.
     Made(String, String),
-    /// A fixed one, which takes no memory.
+    /// A fixed one, which allocates no memory.
     Fixed(&'static str, &'static str),
 }
 
@@ -38,10 +38,9 @@ impl Answer {
 /// Where the first request of some bytes ends.
 #[derive(Drop, Clone, Copy, PartialEq, Eq)]
 pub enum Cut {
-    /// So many bytes are a request.
+    /// This number of bytes is a request.
     Whole(usize),
-    /// No front of the bytes is a whole request, whatever comes behind them, before there are so
-    /// many.
+    /// No prefix of the bytes is a whole request, whatever follows them, until there are this many.
     Waits(usize),
 }
 
@@ -49,17 +48,18 @@ pub enum Cut {
 pub trait Service {
     ghost use Rattle.streetmap_connections.specs.Answers.{answer_text};
 
-    // These bytes are a request, or are refused as none.
+    // These bytes are a request, or are refused because they are not one.
     ghost is_request: { List ℕ → Type 0 };
 
-    // From the first state the bytes of a request are answered by a text, which closes the
-    // connection or not, and the second state is left.
+    // From the first state the service answers the bytes of a request with a text, which closes the
+    // connection or not, and leaves the second state.
     ghost answers: { Self → List ℕ → List ℕ → Bool → Self → Type 0 };
 
-    // A request of which these bytes came, and which is not whole, is refused by a text.
+    // The service refuses, with a text, a request of which these bytes were received, and which is
+    // not whole.
     ghost refuses: { List ℕ → List ℕ → Type 0 };
 
-    // It is over: no request is answered any more.
+    // The service is over: it answers no more requests.
     ghost is_over: { Self → Type 0 };
 
     /// Finds the first request of `input`.
@@ -69,17 +69,17 @@ pub trait Service {
         ensures none { IfWaits result (λ needs. HasNone is_request input.now) }
         ensures not_before { IfWaits result (λ needs. HasNoneBefore is_request input.now needs) };
 
-    /// Answers a request, and tells whether the connection closes behind the answer.
+    /// Answers a request, and returns whether the connection closes after the answer.
     fn answer(&mut self, request: &[u8]) -> (Answer, bool)
         requires { is_request request.now }
         ensures { answers self.old request.now (answer_text result.0) result.1 self.new };
 
     /// Refuses a request for which there is no memory. The connection closes after the answer,
-    /// which is to take no memory itself.
+    /// which must allocate no memory itself.
     fn refuse(&self, input: &[u8]) -> Answer
         ensures { refuses input.now (answer_text result) };
 
-    /// Whether serving ends now: what was begun of answers is sent, and nobody else is let in.
+    /// Whether serving ends now: the answers that have begun are sent, and nobody else is let in.
     fn is_over(&self) -> bool
         ensures { result ≡ true → is_over self.now };
 }

@@ -59,7 +59,8 @@ impl<S: Stream + Drop> Slot<S> {
         if self.is_free() { 0 } else { 1 }
     }
 
-    /// The milliseconds for which the client is idle; none where it is not, or there is none.
+    /// The milliseconds for which the client has been idle; 0 if it is not, or if there is no
+    /// client.
     pub(crate) fn idle_for(&self, now: u64) -> u64
         ensures gives_way { 0 < result → GivesWay self.now }
         ensures idle { 0 < result → IdlesFor now self.now result }
@@ -104,7 +105,7 @@ impl<S: Stream + Drop> Slot<S> {
         self.client = None;
     }
 
-    /// Takes a client in, and ends the one that is there.
+    /// Lets a client in, and ends the client at this place, if there is one.
     pub(crate) fn let_in(&mut self, client: Client<S>, now: u64)
         ensures one_more { clients_in self.new ≡ clients_in self.old ++ client ∷ [] }
         ensures past { past_of self.new ≡ past_of self.old ++ present self.old.client }
@@ -114,7 +115,7 @@ impl<S: Stream + Drop> Slot<S> {
         self.client = Some(client);
     }
 
-    /// The client takes its turn, and is ended where it is late.
+    /// The client takes its turn, and is ended if it is late.
     pub(crate) fn take_turn<V: Service>(
         &mut self,
         service: &mut V,
