@@ -11,14 +11,14 @@ use Rattle.streetmap_ledger.specs.declared.reply.Reply.TheVariants.{Accepted, Re
 use Rattle.streetmap_loading.specs.declared.sink.Stop.{Stop}
 use Rattle.streetmap_loading.specs.declared.sink.Stop.TheVariants as stops
 
--- what is told of a reply: the serial, or why the batch was not taken
+-- the result for a reply: the serial, or why the batch was not taken
 abbrev pub taken_of : Result Reply Fault → Result (Option ℕ) Stop
 taken_of (Ok (Accepted counts serial)) = Ok (Some serial)
 taken_of (Ok (Repeated counts serial)) = Ok (Some serial)
 taken_of (Ok (Refused why place)) = Err (stops.Refused why place)
 taken_of (Err fault) = Err (stops.Stopped fault)
 
--- from the first keeper to the second the batch was applied, and this is told of the reply
+-- from the first keeper to the second the batch was applied, and this is the result for its reply
 pub record Applies {K : Type 0} (is_clean : K → Type 0) (cause : K → Option Cause)
     (stands : K → State → Type 0) (may_leave : K → Option State → Type 0)
     (applies : K → BatchValue → Result Reply Fault → K → Type 0) (spares fails : K → K → Type 0)

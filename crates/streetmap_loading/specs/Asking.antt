@@ -8,6 +8,6 @@ abbrev pub times_if : Option SummaryValue → Option Text
 times_if None = None
 times_if (Some summary) = summary.time
 
--- none where the collection is not there
+-- none if the collection does not exist
 abbrev pub times_in : State → Text → Option Text
 times_in s collection = times_if (summary_in s collection)

@@ -1,4 +1,4 @@
--- What reading a text without loading it comes to.
+-- The result of reading a text without loading it.
 use Rattle.std.specs.Prelude.{◌≡◌, ℕ, List, Option, length}
 use Rattle.streetmap_batch.specs.Text.{Text}
 use Rattle.streetmap_loading.specs.Places.{PlacedValue}
@@ -15,7 +15,7 @@ IsOfText (Stopped fault) = ⊥
 IsOfText WriteFailed = ⊥
 IsOfText _ = Unit {0}
 
--- of what stands in the text so many edits were read: all, or those before the fault
+-- this number of edits was read of the items of the text: all, or those before the fault
 pub record ChecksText (l : LoadValue) (text : Option Text) (loaded : Loaded) : Type 0 where
   pub read : List PlacedValue
   pub counted : length read ≡ loaded.edits

@@ -48,7 +48,7 @@ abbrev pub text_cause_of : TextFault → Option FeatureFault
 text_cause_of (BadFeature place fault) = Some fault
 text_cause_of _ = None
 
--- no name where all was loaded
+-- no name if everything was loaded
 unfoldable pub end_code : End → Text
 end_code All = []
 end_code (AtFault fault) = text_code fault

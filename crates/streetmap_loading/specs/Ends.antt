@@ -15,7 +15,7 @@ use Rattle.streetmap_loading.specs.declared.end.End.{End}
 use Rattle.streetmap_loading.specs.declared.end.End.TheVariants.{All, AtFault, ReadFailed, Memory}
 use Rattle.streetmap_loading.specs.declared.end.End.TheVariants.{Refused, Stopped, WriteFailed}
 
--- the end where no edit was read
+-- the end if no edit was read
 abbrev pub end_of_unread : Unread → End
 end_of_unread (unread.AtFault fault) = AtFault fault
 end_of_unread unread.ReadFailed = ReadFailed
@@ -32,25 +32,25 @@ abbrev pub count_of_edits : List BatchValue → ℕ
 count_of_edits [] = 0
 count_of_edits (b ∷ bs) = length b.edits + count_of_edits bs
 
--- of these edits the batches that are done are sent, and these are left
+-- of these edits the batches that are complete are sent, and these remain
 pub record AreLeft (each : ℕ) (key : Text) (read : List PlacedValue) (sent : List BatchValue)
     (left : List PlacedValue) : Type 0 where
   pub done : List PlacedValue
   pub split : read ≡ done ++ left
   pub packed : PacksFirst each key (edits_of read) sent (edits_of left)
 
--- the edits that are left are no whole batch: more may come before it is sent
+-- the edits that remain are not a whole batch: more may come before it is sent
 pub record IsShort (each : ℕ) (key : Text) (n : ℕ) (left : List EditValue) : Type 0 where
   pub few : length left < each
   pub passing : left ≢ [] → passes each key n left ≡ true
 
--- the batch of this number, of the first of the edits that are left
+-- the batch of this number, of the first of the edits that remain
 abbrev pub IsNext : (key : Text) → ℕ → List EditValue → BatchValue → Type 0
 IsNext key n left b = (rest : List EditValue) × (left ≡ b.edits ++ rest) ×
     (b.key ≡ numbered_key key n)
 
 module _ {S : Type 0} (takes : S → BatchValue → Result (Option ℕ) Stop → S → Type 0) where
-  -- the next batch, of the first of the edits that are left, was not taken
+  -- the next batch, of the first of the edits that remain, was not taken
   pub record EndsAt (each : ℕ) (key : Text) (read : List PlacedValue) (sent : List BatchValue)
       (mid last : S) (end : End) : Type 0 where
     pub left : List PlacedValue
@@ -61,15 +61,15 @@ module _ {S : Type 0} (takes : S → BatchValue → Result (Option ℕ) Stop →
     pub refused : takes mid batch (Err stop) last
     pub told : end ≡ end_of_stop (take (length batch.edits) (places_of left)) stop
 
-  -- the edits that are left are part of a batch, and none of them was sent
+  -- the edits that remain are part of a batch, and none of them was sent
   pub record EndsWithinBatch (each : ℕ) (key : Text) (read : List PlacedValue)
       (sent : List BatchValue) (mid last : S) : Type 0 where
     pub left : List PlacedValue
     pub are_left : AreLeft each key read sent left
     pub still : last ≡ mid
 
-  -- these edits were read, and the batches were sent up to the sink mid: it ended so, at the last
-  -- one
+  -- these edits were read, and the batches were sent up to the sink mid: it ended in this way, at
+  -- the last one
   abbrev pub ByEnd :
       (each : ℕ) (key : Text) (read : List PlacedValue) (sent : List BatchValue) (mid last : S) →
       End → Type 0
@@ -85,7 +85,7 @@ module _ {S : Type 0} (takes : S → BatchValue → Result (Option ℕ) Stop →
       (Stopped fault)
   ByEnd each key read sent mid last WriteFailed = EndsAt each key read sent mid last WriteFailed
 
-  -- from the first sink batches were taken, and it ended so
+  -- from the first sink on batches were taken, and it ended in this way
   pub record EndsBy (each : ℕ) (key : Text) (first last : S) (read : List PlacedValue)
       (batches taken : ℕ) (serial : Option ℕ) (end : End) : Type 0 where
     pub sent : List BatchValue

@@ -1,4 +1,4 @@
--- What a load does to a keeper.
+-- The effect of a load on a keeper.
 use Rattle.std.specs.Prelude.{◌≡◌, ◌≢◌, ℕ, ◌+◌, List, [], ◌∷◌, ◌++◌, length, take, Option, None}
 use Rattle.std.specs.Prelude.{Some, Ok, Err}
 use Rattle.streetmap_batch.specs.Text.{Text}
@@ -21,13 +21,12 @@ use Rattle.streetmap_loading.specs.declared.end.End.{End}
 use Rattle.streetmap_loading.specs.declared.end.End.TheVariants.{All, AtFault, ReadFailed, Memory}
 use Rattle.streetmap_loading.specs.declared.end.End.TheVariants.{Refused, Stopped, WriteFailed}
 
--- the fault of the keeper that ended it, where one did
+-- the fault of the keeper that ended it, if one did
 abbrev pub keeper_fault : End → Option Fault
 keeper_fault (Stopped fault) = Some fault
 keeper_fault _ = None
 
--- of the items, where they are known, these edits were read: all; those before the fault; or the
--- first
+-- these edits of the items, if they are known, were read: all; those before the fault; or the first
 abbrev pub IsRead : Option (List Item) → List PlacedValue → End → Type 0
 IsRead None read end = Unit {0}
 IsRead (Some items) read All = items ≡ items_of read
@@ -35,7 +34,7 @@ IsRead (Some items) read (AtFault fault) = (rest : List Item) ×
     (items ≡ items_of read ++ Err fault ∷ rest)
 IsRead (Some items) read _ = (rest : List Item) × (items ≡ items_of read ++ rest)
 
--- each is accepted, or was before, in the state behind those before it
+-- each is accepted, or was before, in the state after those before it
 abbrev pub AreAcknowledged : State → List BatchValue → Type 0
 AreAcknowledged s [] = Unit {0}
 AreAcknowledged s (b ∷ bs) = IsAcknowledged (act s b).reply × AreAcknowledged (act s b).state bs
@@ -53,12 +52,12 @@ last_serial before s (b ∷ bs) = last_serial (serial_of (act s b).reply) (act s
 
 module _ (s : State) (before : Option State → Type 0) (stands : State → Type 0)
     (left : Option State → Type 0) where
-  -- the keeper stands for a state, and a stop may leave that alone
+  -- the keeper represents a state, and a crash can leave only that
   pub record RestsAt (t : State) : Type 0 where
     pub stood : stands t
     pub leaves : LeavesOnly before (Some s) → LeavesOnly left (Some t)
 
-  -- the keeper did not answer this batch: a want of memory changes nothing, a failed device may
+  -- the keeper gave no reply to this batch: if memory ran out nothing changes, a failed device may
   -- have left the batch or not
   abbrev pub LeavesUnanswered : State → BatchValue → Fault → Type 0
   LeavesUnanswered t b faults.Memory = RestsAt t
@@ -67,8 +66,8 @@ module _ (s : State) (before : Option State → Type 0) (stands : State → Type
   LeavesUnanswered t b faults.Damaged = ⊥
   LeavesUnanswered t b faults.Reopen = ⊥
 
-  -- a batch of the first of these edits was refused, and is told with the place in the text; or it
-  -- was not answered
+  -- a batch of the first of these edits was refused, and is reported with the place in the text; or
+  -- the keeper gave no reply to it
   abbrev pub StopsAt : State → List PlacedValue → BatchValue → End → Type 0
   StopsAt t placed b (Refused why place) =
       (inner : Option ℕ) × ((act t b).reply ≡ replies.Refused why inner) ×
@@ -76,7 +75,7 @@ module _ (s : State) (before : Option State → Type 0) (stands : State → Type
   StopsAt t placed b (Stopped fault) = LeavesUnanswered t b fault
   StopsAt t placed b _ = ⊥
 
-  -- in the state t, behind the batches that were sent
+  -- in the state t, after the batches that were sent
   pub record EndsAtBatch (each : ℕ) (key : Text) (read : List PlacedValue)
       (sent : List BatchValue)
       (t : State) (end : End) : Type 0 where
@@ -86,7 +85,7 @@ module _ (s : State) (before : Option State → Type 0) (stands : State → Type
     pub next : IsNext key (1 + length sent) (edits_of rest) batch
     pub stops : StopsAt t rest batch end
 
-  -- what is left of the edits that were read is part of a batch, and was not sent
+  -- the rest of the edits that were read is part of a batch, and was not sent
   pub record LeavesUnsent (each : ℕ) (key : Text) (read : List PlacedValue) (sent : List BatchValue)
       (t : State) : Type 0 where
     pub rest : List PlacedValue
@@ -104,8 +103,8 @@ module _ (s : State) (before : Option State → Type 0) (stands : State → Type
   EndsIn each key read sent t WriteFailed = ⊥
   EndsIn each key read sent t end = EndsAtBatch each key read sent t end
 
-  -- of the items these edits were read; the batches of them that are done were sent and
-  -- acknowledged, from the state s on; and it ended so
+  -- these edits of the items were read; their batches that are complete were sent and acknowledged,
+  -- from the state s on; and the load ended in this way
   pub record LoadsTo (each : ℕ) (key : Text) (items : Option (List Item)) (loaded : Loaded) : Type
       0
     where

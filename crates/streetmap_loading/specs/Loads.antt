@@ -1,4 +1,4 @@
--- What a load comes to.
+-- The result of a load.
 use Rattle.std.specs.Prelude.{◌≡◌, ℕ, List, [], ◌∷◌, ◌++◌, length, Option, None, Some, Result, Ok}
 use Rattle.std.specs.Prelude.{Err}
 use Rattle.streetmap_batch.specs.Text.{Text}
@@ -21,8 +21,8 @@ abbrev pub ItemsBeginWith : Option (List Item) → List Item → Type 0
 ItemsBeginWith None read = Unit {0}
 ItemsBeginWith (Some items) read = (rest : List Item) × (items ≡ read ++ rest)
 
--- the edits are those that were taken off the source: all of it; those in front of the item at
--- fault; or its first
+-- the edits are those that were taken from the source: all of it; those before the item at fault;
+-- or its first
 abbrev pub AreTakenOff : Option (List Item) → Option (List Item) → List PlacedValue → End → Type 0
 AreTakenOff old new read All = TakesOff old new (items_of read) × HasNoItem old new
 AreTakenOff old new read (AtFault fault) = ItemsBeginWith old (items_of read ++ Err fault ∷ [])

@@ -1,4 +1,4 @@
--- What is asked of a load: the lines of `load_of` stand in the order of refusals.
+-- The options of a load: the lines of `load_of` are in the order of refusals.
 use Rattle.std.specs.Prelude.{◌≡◌, ℕ, Bool, true, ◌&&◌, nat_le, List, [], ◌∷◌, ◌++◌, length, ok_or}
 use Rattle.std.specs.Prelude.{Option, None, Some, option_map, Result, Ok, Err, string_bytes}
 use Rattle.std.specs.Prelude.{if◌then◌else◌}
@@ -18,7 +18,7 @@ use Rattle.streetmap_loading.specs.declared.load_fault.LoadFault.{LoadFault}
 use Rattle.streetmap_loading.specs.declared.load_fault.LoadFault.TheVariants.{BadKey, BadCount}
 use Rattle.streetmap_loading.specs.declared.load_fault.LoadFault.TheVariants.{BadBatch, Memory}
 
--- one step after another: the first fault is the fault
+-- one step after another: the first fault is the result
 infixl 10 ◌>>=◌
 abbrev pub ◌>>=◌ : {A B : Type 0} → Result A LoadFault → (A → Result B LoadFault) →
     Result B LoadFault
@@ -29,11 +29,11 @@ abbrev pub ◌>>=◌ : {A B : Type 0} → Result A LoadFault → (A → Result B
 abbrev pub unless : Bool → LoadFault → Result Bool LoadFault
 unless b fault = if b then Ok true else Err fault
 
--- a name that may be one
+-- a name that passes the test
 abbrev pub named : (Text → Bool) → Text → Result Text LoadFault
 named test text = ok_or (passing test text) BadBatch
 
--- the title is the collection's id where none is given
+-- the title is the collection's id if none is given
 abbrev pub title_of : Text → Option Text → Result Text LoadFault
 title_of collection None = Ok collection
 title_of collection (Some title) = named is_title title
@@ -48,7 +48,7 @@ opening_of collection title time =
     named is_collection_id collection >>= λ c.
     (title_of c title >>= λ t. (time_of time >>= λ p. Ok (edit.«open» c t p)))
 
--- where one is asked for; it has no place in the text
+-- the opening, if the options ask for one; it has no place in the text
 abbrev pub opening_if : Text → Option Opening → Result (Option PlacedValue) LoadFault
 opening_if collection None = Ok None
 opening_if collection (Some o) =
@@ -79,7 +79,7 @@ is_load_key key = is_key key && nat_le (length key) 44
 abbrev pub is_count : ℕ → Bool
 is_count each = nat_le 1 each && nat_le each 10000
 
--- the load that is asked for, which passes over nothing; or its first fault
+-- the load with these options, which skips nothing; or its first fault
 abbrev pub load_of : LoadOptions → Result LoadValue LoadFault
 load_of o = do
   keyed ← unless (is_load_key o.key.now) BadKey
@@ -94,16 +94,17 @@ load_of o = do
     opening = opening;
   })
 
--- the same load, which passes over features at fault and holds times to the property of that name
+-- the same load, which skips features at fault, and requires that times can be read from the
+-- property of that name
 abbrev pub skipping : LoadValue → Option Text → LoadValue
 skipping l property = record l { rules = record l.rules { skip = Some property } }
 
--- a fault beside memory is that of what is asked
+-- a fault other than memory is that of the options
 abbrev pub FaultAsAsked : {Y : Type 0} → LoadFault → Result Y LoadFault → Type 0
 FaultAsAsked Memory asked = Unit {0}
 FaultAsAsked e asked = asked ≡ Err e
 
--- what was answered, seen by view, is what is asked, unless memory ran out
+-- the result, seen by view, is that of the options, unless memory ran out
 abbrev pub AsAsked : {X Y : Type 0} → (X → Y) → Result X LoadFault → Result Y LoadFault → Type 0
 AsAsked view (Ok x) asked = asked ≡ Ok (view x)
 AsAsked view (Err e) asked = FaultAsAsked e asked
@@ -114,12 +115,12 @@ abbrev pub IsOpening : EditValue → Type 0
 IsOpening (edit.«open» collection title time) = Unit {0}
 IsOpening _ = ⊥
 
--- the opening, where there is one
+-- the opening, if there is one
 abbrev pub opening_items : Option PlacedValue → List Item
 opening_items None = []
 opening_items (Some p) = Ok p ∷ []
 
--- what is loaded of a text: the opening, and what stands for its features
+-- what is loaded of a text: the opening, and the items of its features
 abbrev pub load_items : LoadValue → Option Text → Option (List Item)
 load_items l text = option_map (λ items. opening_items l.opening ++ items)
     (items_left l.rules 0 text)

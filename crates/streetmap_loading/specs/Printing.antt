@@ -12,13 +12,13 @@ use Rattle.streetmap_loading.specs.declared.sink.Stop.TheVariants.{Refused, Stop
 abbrev pub line_of : BatchValue → List ℕ
 line_of b = batch_text b ++ 10 ∷ []
 
--- what may come of a write: memory is refused, or the write fails
+-- the ways in which a write may stop: memory runs out, or the write fails
 abbrev pub IsWriteStop : Stop → Type 0
 IsWriteStop (Stopped Memory) = ⊤
 IsWriteStop WriteFailed = ⊤
 IsWriteStop _ = ⊥
 
--- the batch was written, or a beginning of its line
+-- the batch was written, or a prefix of its line
 abbrev pub Prints : BatchValue → Result (Option ℕ) Stop → Option (List ℕ) → Option (List ℕ) → Type
     0
 Prints b (Ok serial) old new = (serial ≡ None) × Appends old new (line_of b)

@@ -1,4 +1,4 @@
--- A load under way.
+-- A load in progress.
 use Rattle.std.specs.Prelude.{◌≡◌, ◌<◌, ◌≤◌, ℕ, ◌+◌, ◌^◌, List, [], ◌∷◌, ◌++◌, length, Option, None}
 use Rattle.std.specs.Prelude.{Result, Ok, Err}
 use Rattle.streetmap_batch.specs.Text.{Text}
@@ -24,33 +24,33 @@ pub record Begins (each : ℕ) (key : Text) (l : Sending) : Type 0 where
   pub taken : l.taken ≡ 0
   pub serial : l.serial ≡ None
 
--- the number and the counts of one batch more do not overflow
+-- the number and the counts of one more batch do not overflow
 pub record HasNumbersLeft (l : Sending) : Type 0 where
   pub number : (packing l.packer).number + 1 < 2 ^ 63
   pub batches : l.batches + 1 < 2 ^ 64
   pub taken : l.taken + 10000 < 2 ^ 64
 
--- at most one batch more
+-- at most one more batch
 pub record FewMore (old new : Sending) : Type 0 where
   pub number : (packing new.packer).number ≤ (packing old.packer).number + 1
   pub batches : new.batches ≤ old.batches + 1
   pub taken : new.taken ≤ old.taken + 10000
 
--- it ended at an edit that was read, or for want of memory
+-- it ended at an edit that was read, or because memory ran out
 abbrev pub EndsAtEdit : End → Type 0
 EndsAtEdit All = ⊥
 EndsAtEdit (AtFault fault) = ⊥
 EndsAtEdit ReadFailed = ⊥
 EndsAtEdit _ = Unit {0}
 
--- or behind the last
+-- or after the last
 abbrev pub IsBehind : End → Type 0
 IsBehind All = Unit {0}
 IsBehind end = EndsAtEdit end
 
 module _ {S : Type 0} (takes : S → BatchValue → Result (Option ℕ) Stop → S → Type 0) where
-  -- these edits were read from the first sink on: the runs that are done were sent, and the others
-  -- are left
+  -- these edits were read from the first sink on: the runs that are complete were sent, and the
+  -- others remain
   pub record IsSending (each : ℕ) (key : Text) (first : S) (read : List PlacedValue) (l : Sending)
       (now : S) : Type 0 where
     pub sent : List (List EditValue)
@@ -65,7 +65,7 @@ module _ {S : Type 0} (takes : S → BatchValue → Result (Option ℕ) Stop →
     pub held : edits_in sent ≡ l.taken
     pub all : SinkTakesAll takes first None (numbered_all key 1 sent) now l.serial
 
-  -- a batch was counted where it was taken, and else the load ended at it
+  -- a batch was counted if it was taken, and otherwise the load ended at it
   abbrev pub Sends : Sending → S → BatchValue → List (Option ℕ) → Result (Unit {0}) End → Sending
       →
       S → Type 0
@@ -76,7 +76,7 @@ module _ {S : Type 0} (takes : S → BatchValue → Result (Option ℕ) Stop →
   Sends l old b places (Err end) m new =
       (stop : Stop) × takes old b (Err stop) new × (end ≡ end_of_stop places stop) × (m ≡ l)
 
-  -- the batch under way was sent where it was full
+  -- the current batch was sent if it was full
   abbrev pub SendsWhenFull : (each : ℕ) (key : Text) (first : S) → List PlacedValue →
       Result (Unit {0}) End → Sending → S → Type 0
   SendsWhenFull each key first read (Ok done) l now = IsSending each key first read l now ×

@@ -7,20 +7,20 @@ use Rattle.streetmap_loading.specs.declared.source.PlacedEdit.{PlacedEdit}
 use Rattle.streetmap_loading.specs.declared.source.Unread.{Unread}
 use Rattle.streetmap_loading.specs.declared.source.Unread.TheVariants.{AtFault, ReadFailed, Memory}
 
--- an edit with its place, or the fault of what stands for it
+-- an edit with its place, or its fault
 abbrev pub Item : Type 0
 Item = Result PlacedValue TextFault
 
 abbrev pub placed_value : PlacedEdit → PlacedValue
 placed_value p = record { place = p.place; edit = edit_value p.edit }
 
--- what is left of items that are known is known, and these were taken off
+-- the rest of items that are known is known, and these were taken
 abbrev pub TakesOff : Option (List Item) → Option (List Item) → List Item → Type 0
 TakesOff None new taken = Unit {0}
 TakesOff (Some items) None taken = ⊥
 TakesOff (Some items) (Some rest) taken = items ≡ taken ++ rest
 
--- none is left of items that were known
+-- no item is left of items that were known
 abbrev pub HasNoItem : Option (List Item) → Option (List Item) → Type 0
 HasNoItem None new = Unit {0}
 HasNoItem (Some items) None = Unit {0}
@@ -31,7 +31,7 @@ abbrev pub FirstIs : Option (List Item) → TextFault → Type 0
 FirstIs None fault = Unit {0}
 FirstIs (Some items) fault = (rest : List Item) × (items ≡ Err fault ∷ rest)
 
--- the next edit, what stands at fault in its place, or the end
+-- the next edit, the fault in its place, or the end
 abbrev pub SourceGives : Option (List Item) → Option (List Item) → Result (Option PlacedEdit) Unread
     →
     Type 0

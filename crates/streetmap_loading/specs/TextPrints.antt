@@ -1,4 +1,4 @@
--- What printing the batches of a text comes to.
+-- The result of printing the batches of a text.
 use Rattle.std.specs.Prelude.{◌≡◌, ℕ, ◌+◌, List, [], ◌∷◌, ◌++◌, Option, length}
 use Rattle.std.specs.Io.KnownBytes.{Appends}
 use Rattle.streetmap_batch.specs.Text.{Text}
@@ -20,14 +20,14 @@ abbrev pub lines_of : List BatchValue → List ℕ
 lines_of [] = []
 lines_of (b ∷ bs) = line_of b ++ lines_of bs
 
--- the lines of the batches that are done were written, and nothing of the edits that are left
+-- the lines of the batches that are complete were written, and nothing of the edits that remain
 pub record PrintsBefore (each : ℕ) (key : Text) (read : List PlacedValue) (sent : List BatchValue)
     (old new : Option (List ℕ)) : Type 0 where
   pub rest : List PlacedValue
   pub are_left : AreLeft each key read sent rest
   pub written : Appends old new (lines_of sent)
 
--- and a beginning of the line of the next
+-- and a prefix of the line of the next
 pub record PrintsInto (each : ℕ) (key : Text) (read : List PlacedValue) (sent : List BatchValue)
     (old new : Option (List ℕ)) : Type 0 where
   pub rest : List PlacedValue
@@ -49,8 +49,8 @@ PrintsBy each key read sent old new (Refused why place) = ⊥
 PrintsBy each key read sent old new (Stopped fault) = PrintsInto each key read sent old new
 PrintsBy each key read sent old new WriteFailed = PrintsInto each key read sent old new
 
--- of what stands in the text these edits were read, and the lines of their batches written, up to
--- the end
+-- these edits of the items of the text were read, and the lines of their batches written, up to the
+-- end
 pub record PrintsText (l : LoadValue) (text old new : Option (List ℕ)) (loaded : Loaded) : Type 0
   where
     pub read : List PlacedValue

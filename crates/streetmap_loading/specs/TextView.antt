@@ -1,4 +1,4 @@
--- What reading edits off a text takes.
+-- The steps of reading edits from a text.
 use Rattle.std.specs.Prelude.{◌≡◌, ℕ, ◌<◌, List, [], ◌∷◌, ◌++◌, length, Option, None, Some}
 use Rattle.std.specs.Prelude.{option_map, Result, Ok, Err, string_bytes}
 use Rattle.serde_json.specs.Written.{compact_text}
@@ -39,7 +39,7 @@ abbrev pub Measures : Option ℕ → EditValue → Option PlacedEdit → Type 0
 Measures place e None = 8388480 < length (compact_text (edit_data e))
 Measures place e (Some placed) = placed_value placed ≡ record { place = place; edit = e }
 
--- a line was read off: an edit was taken, or nothing that is told of, or the text ended
+-- a line was read: an edit was taken, or nothing that is reported, or the text ended
 abbrev pub Steps : Option (List Item) → Option (List Item) → Result Step Unread → Type 0
 Steps old new (Ok step.Past) = TakesOff old new []
 Steps old new (Ok (step.Edit placed)) = TakesOff old new (Ok (placed_value placed) ∷ [])
@@ -48,7 +48,7 @@ Steps old new (Err (AtFault fault)) = FirstIs old fault
 Steps old new (Err ReadFailed) = Unit {0}
 Steps old new (Err Memory) = Unit {0}
 
--- the opening stands in front
+-- the opening comes first
 abbrev pub opening_item : Option PlacedEdit → List Item
 opening_item None = []
 opening_item (Some opening) = Ok (placed_value opening) ∷ []

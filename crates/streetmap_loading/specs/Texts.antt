@@ -32,8 +32,8 @@ use Rattle.streetmap_loading.specs.declared.text_fault.TextFault.TheVariants.{No
 use Rattle.streetmap_loading.specs.declared.text_fault.TextFault.TheVariants.{LineTooLong}
 use Rattle.streetmap_loading.specs.declared.text_fault.TextFault.TheVariants.{BadFeature, TooLarge}
 
--- where features go, how their numbers are read, and whether those at fault are passed over: then
--- times are held to the property of that name
+-- where features go, how their numbers are read, and whether those at fault are skipped: then times
+-- must be readable from the property of that name
 pub record Rules : Type 0 where
   pub collection : Text
   pub replace : Bool
@@ -47,16 +47,16 @@ abbrev pub put_id : ℕ → Data → Data
 put_id place (object ms) = object (put (codes "id") (string (decimal place)) ms)
 put_id place d = d
 
--- where it has none
+-- if it has none
 abbrev pub with_place : ℕ → Data → Data
 with_place place d = if is_some (get (codes "id") d) then d else put_id place d
 
--- the feature, where its time can be read
+-- the feature, if its time can be read
 abbrev pub timely : {A : Type 0} → FeatureValue → Result A Fault → Result FeatureValue Fault
 timely f (Ok time) = Ok f
 timely f (Err fault) = Err fault
 
--- held to the property of that name, where features at fault are passed over
+-- by the property of that name, if features at fault are skipped
 abbrev pub held : Option (Option Text) → FeatureValue → Result FeatureValue Fault
 held None f = Ok f
 held (Some property) f = timely f (as_fault (time_of property f.properties))
@@ -75,7 +75,7 @@ edit_of r f = if r.replace then edit.replace r.collection f else edit.insert r.c
 abbrev pub most_bytes : ℕ
 most_bytes = 8388480
 
--- an edit, where its text is not too long
+-- an edit, if its text is not too long
 abbrev pub item_of_edit : ℕ → EditValue → Item
 item_of_edit place e =
     if nat_le (length (compact_text (edit_data e))) most_bytes then Ok
@@ -85,12 +85,13 @@ abbrev pub item_of_feature : Rules → ℕ → Result FeatureValue Fault → Ite
 item_of_feature r place (Ok f) = item_of_edit place (edit_of r f)
 item_of_feature r place (Err fault) = Err (BadFeature place (causes.Read fault))
 
--- the first value is no FeatureCollection
+-- the first value must not be a FeatureCollection
 abbrev pub item_of_value : Rules → ℕ → Data → Item
 item_of_value r place d = if (place == 1) && is_collection d then Err NotASequence else
     item_of_feature r place (feature_of r place d)
 
--- what is wrong with a feature whose text has no value; want of memory is no fault of a text
+-- what is wrong with a feature whose text has no value; running out of memory is not a fault of a
+-- text
 abbrev pub cause_of : PlacingFault → FeatureFault
 cause_of placings.NotJson = causes.Read features.NotJson
 cause_of placings.TooManyDigits = causes.TooManyDigits
@@ -98,7 +99,7 @@ cause_of placings.OutOfGrid = causes.Read features.OutOfGrid
 cause_of placings.Fraction = causes.Read features.Fraction
 cause_of placings.Memory = causes.Read features.NotJson
 
--- the first text is a whole JSON text
+-- the first text must be a whole JSON text
 abbrev pub unread : ℕ → PlacingFault → TextFault
 unread place placings.NotJson = if place == 1 then NotASequence else BadFeature place
     (causes.Read features.NotJson)
@@ -108,13 +109,13 @@ abbrev pub item_of_read : Rules → ℕ → Result Data PlacingFault → Item
 item_of_read r place (Ok d) = item_of_value r place d
 item_of_read r place (Err fault) = Err (unread place fault)
 
--- what stands for the feature of a text at a place
+-- the item for the feature of a text at a place
 abbrev pub item_of_text : Rules → ℕ → Text → Item
 item_of_text r place text = item_of_read r place (value_of r.numbers text)
 
 -- ---- lines
 
--- before the first feature a byte order mark is read past (U+FEFF in UTF-8)
+-- before the first feature a byte order mark is skipped (U+FEFF in UTF-8)
 abbrev pub mark : Text
 mark = 239 ∷ 187 ∷ 191 ∷ []
 
@@ -128,7 +129,7 @@ abbrev pub without_separator : Text → Text
 without_separator [] = []
 without_separator (b ∷ bs) = if b == 30 then bs else b ∷ bs
 
--- a carriage return alone is what a last line has that lacks its line feed
+-- a last line without its line feed may be only a carriage return
 abbrev pub without_return : Text → Text
 without_return [] = []
 without_return (b ∷ []) = if b == 13 then [] else b ∷ []
@@ -139,7 +140,7 @@ abbrev pub text_on : ℕ → Text → Text
 text_on place line =
     without_return (without_separator (if place == 1 then without_mark line else line))
 
--- features at fault are passed over, and no other fault is
+-- features at fault are skipped, and no other fault is
 abbrev pub of_feature : TextFault → Bool
 of_feature NotASequence = false
 of_feature (LineTooLong place) = false
@@ -153,7 +154,7 @@ abbrev pub and_more : Rules → Item → List Item → List Item
 and_more r (Ok p) more = Ok p ∷ more
 and_more r (Err fault) more = if is_skipped r fault then more else Err fault ∷ more
 
--- a line without a text is read past: then the place stays
+-- a line without a text is skipped: then the place stays
 abbrev pub on_text : Rules → ℕ → Text → (same next : List Item) → List Item
 on_text r place [] same next = same
 on_text r place (b ∷ bs) same next = and_more r (item_of_text r place (b ∷ bs)) next
@@ -167,8 +168,8 @@ abbrev pub one_less : Option ℕ → Option ℕ
 one_less None = None
 one_less (Some n) = Some (n - 1)
 
--- what stands on lines, the next feature at this place; behind so many lines there is one that is
--- too long
+-- the items of lines, the next feature at this place; the line after `long` lines, if that is
+-- given, is too long
 abbrev pub items_on : Rules → ℕ → Option ℕ → List Text → List Item
 items_on r place long [] = if is_here long then Err (LineTooLong place) ∷ [] else []
 items_on r place long (line ∷ lines) =
@@ -180,11 +181,11 @@ items_on r place long (line ∷ lines) =
 abbrev pub most_of_line : ℕ
 most_of_line = 8388608
 
--- what stands in a text behind so many features
+-- the items of a text after this number of features
 abbrev pub items_in : Rules → ℕ → Text → List Item
 items_in r features text = items_on r (features + 1) (first_too_long most_of_line text)
     (lines text)
 
--- where the text is known
+-- if the text is known
 abbrev pub items_left : Rules → ℕ → Option Text → Option (List Item)
 items_left r features text = option_map (λ t. items_in r features t) text

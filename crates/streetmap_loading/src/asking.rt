@@ -1,4 +1,4 @@
-//! The time property of a collection, asked of a keeper.
+//! The time property of a collection, read from a keeper.
 ghost use Rattle.std.specs.Prelude.{◌≡◌, Some, IsErrOf};
 ghost use Rattle.streetmap_ledger.specs.Keep.{Looks, ShutsBy, LeavesOnly, AsBefore};
 ghost use Rattle.streetmap_ledger.specs.State.{State};
@@ -10,8 +10,8 @@ use crate::keeper_sink::KeeperSink;
 use crate::rules::HeldTimes;
 use streetmap_ledger::{Fault, Keeper};
 
-/// The property that the times of a collection's features are read from: none where it has none, or
-/// is not there.
+/// The property that the times of a collection's features are read from: none if it has none, or
+/// does not exist.
 pub fn ask_times<K: Keeper>(sink: &mut KeeperSink<K>, collection: &str) -> Result<HeldTimes, Fault>
     ensures spared { K.spares sink.old.keeper sink.new.keeper }
     ensures began_clean { K.is_clean sink.new.keeper → K.is_clean sink.old.keeper }

@@ -11,7 +11,7 @@ use std::alloc::Global;
 use std::io::BufRead;
 use streetmap_batch::Batch;
 
-/// What takes batches, and lets them go.
+/// A sink that drops each batch.
 #[derive(Drop)]
 struct Nowhere;
 
@@ -25,8 +25,8 @@ impl Sink for Nowhere {
     }
 }
 
-/// Reads a text as a load does, and loads nothing: of a load that passes over features at fault
-/// each is told to the listener.
+/// Reads a text as a load does, and loads nothing: if a load skips features at fault, each is
+/// reported to the listener.
 pub fn check_text<R: BufRead + Drop, L: Listener + Drop>(
     alloc: Global,
     reader: R,

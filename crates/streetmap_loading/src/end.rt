@@ -9,27 +9,27 @@ use crate::text_fault::TextFault;
 use std::alloc::{AllocError, AllocFailed};
 use streetmap_ledger::{Fault, Refusal};
 
-/// By what a load ended.
+/// What ended a load.
 #[derive(Clone, Copy, PartialEq, Eq, Drop)]
 pub enum End {
     /// All edits were read, and all their batches taken.
     All,
-    /// What stands for the next edit is at fault.
+    /// The part of the text for the next edit is at fault.
     AtFault(TextFault),
-    /// The text could not be read on.
+    /// A read of the text failed.
     ReadFailed,
-    /// Memory was refused.
+    /// Out of memory.
     Memory,
-    /// The next batch was refused, with the place in the text of the feature at fault, where there
-    /// is one.
+    /// The next batch was refused, with the place in the text of the feature at fault, if there is
+    /// one.
     Refused(Refusal, Option<u64>),
-    /// The keeper did not answer the next batch.
+    /// The keeper gave no reply to the next batch.
     Stopped(Fault),
     /// The next batch could not be written.
     WriteFailed,
 }
 
-/// What a load came to.
+/// The result of a load.
 #[derive(Clone, Copy, Drop)]
 pub struct Loaded {
     /// How many edits were read.
@@ -38,9 +38,9 @@ pub struct Loaded {
     pub batches: u64,
     /// How many edits these have.
     pub taken: u64,
-    /// The serial of the last of them, where it has one.
+    /// The serial of the last of them, if it has one.
     pub serial: Option<u64>,
-    /// By what it ended.
+    /// What ended it.
     pub end: End,
 }
 
@@ -72,7 +72,7 @@ impl End {
     ghost use Rattle.streetmap_loading.specs.EndCodes.{end_code, end_description};
     ghost use Rattle.streetmap_loading.specs.EndCodes.{end_place, end_cause};
 
-    /// The end where no edit was read.
+    /// The end if no edit was read.
     pub(crate) fn of_unread(unread: Unread) -> End
         ensures { result ≡ end_of_unread unread }
     {
@@ -94,7 +94,7 @@ impl End {
         }
     }
 
-    /// Its name; empty where all was loaded.
+    /// Its name; empty if everything was loaded.
     #[tactic(auto, unfolding(crate::specs::EndCodes::end_code))]
     pub fn code(&self) -> &'static str
         ensures { result.now ≡ end_code self.now }
@@ -110,7 +110,7 @@ impl End {
         }
     }
 
-    /// The sentence on it; empty where all was loaded.
+    /// The sentence on it; empty if everything was loaded.
     #[tactic(auto, unfolding(crate::specs::EndCodes::end_description))]
     pub fn description(&self) -> &'static str
         ensures { result.now ≡ end_description self.now }
@@ -126,7 +126,8 @@ impl End {
         }
     }
 
-    /// The place in the text of the feature at fault, counted from 1; none where an opening is.
+    /// The place in the text of the feature at fault, counted from 1; none if an opening is at
+    /// fault.
     pub fn place(&self) -> Option<u64>
         ensures { result ≡ end_place self.now }
     {
@@ -137,7 +138,7 @@ impl End {
         }
     }
 
-    /// What is wrong with that feature, where it cannot be read.
+    /// What is wrong with that feature, if it cannot be read.
     pub fn cause(&self) -> Option<FeatureFault>
         ensures { result ≡ end_cause self.now }
     {

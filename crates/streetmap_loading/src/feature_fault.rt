@@ -5,7 +5,7 @@ use streetmap_placing::PlacingFault;
 /// What is wrong with a feature of a text.
 #[derive(Clone, Copy, PartialEq, Eq, Drop)]
 pub enum FeatureFault {
-    /// A coordinate has more digits than are kept: more than 38 characters, or places behind its
+    /// A coordinate has more digits than are kept: more than 38 characters, or places after its
     /// 18th that are not rounded off.
     TooManyDigits,
     /// What a reader of features finds (RFC 7946).
@@ -28,7 +28,7 @@ impl FeatureFault {
         }
     }
 
-    /// The sentence on it, empty where there is none.
+    /// The sentence on it, empty if there is none.
     #[tactic(auto, unfolding(crate::specs::EndCodes::cause_description))]
     pub fn description(&self) -> &'static str
         ensures { result.now ≡ cause_description self.now }

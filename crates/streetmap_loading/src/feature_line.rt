@@ -47,7 +47,7 @@ fn put_id(
     Ok(members)
 }
 
-/// The value with the text of a place as its id, where it is an object.
+/// The value with the text of a place as its id, if it is an object.
 fn with_id(alloc: Global, value: Value, place: u64) -> Result<Value, AllocError>
     ensures { IfOk result (λ v. view v ≡ put_id place (view value)) }
 {
@@ -68,7 +68,7 @@ fn has_id(value: &Value) -> bool
     value.get("id").is_some()
 }
 
-/// The value with the text of its place as its id, where it is an object without one.
+/// The value with the text of its place as its id, if it is an object without one.
 fn with_place(alloc: Global, value: Value, place: u64) -> Result<Value, AllocError>
     ensures { IfOk result (λ v. view v ≡ with_place place (view value)) }
 {
@@ -89,7 +89,7 @@ fn is_collection(value: &Value) -> bool
     }
 }
 
-/// Tests whether the time of a feature can be read, where times are held to a property.
+/// Tests whether the time of a feature can be read, if times must satisfy a property.
 fn test_time(feature: &Feature, skip: Option<&HeldTimes>) -> Result<(), Fault>
     ensures { timely (feature_value feature.now) result
         ≡ held (option_map (λ t. property_of t.now) skip.entry) (feature_value feature.now) }
@@ -131,7 +131,7 @@ fn make_edit(
 }
 
 impl PlacedEdit {
-    /// An edit with its place; none where its text has more than 8,388,480 bytes.
+    /// An edit with its place; none if its text has more than 8,388,480 bytes.
     pub fn new(
         alloc: Global,
         place: Option<u64>,
@@ -165,14 +165,14 @@ fn place_edit(
     }
 }
 
-/// What stands for a feature at fault.
+/// The result for a feature at fault.
 fn feature_at_fault(place: u64, fault: Fault) -> Unread
     ensures { result ≡ AtFault (BadFeature place (causes.Read fault)) }
 {
     Unread::AtFault(TextFault::BadFeature(place, FeatureFault::Read(fault)))
 }
 
-/// The edit of a feature at a place in the text, where its time can be read.
+/// The edit of a feature at a place in the text, if its time can be read.
 fn edit_where_timely(
     alloc: Global,
     rules: &FeatureRules,
@@ -208,7 +208,7 @@ fn read_edit_of(
     }
 }
 
-/// What is wrong with the text of a feature at a place that was not read to a value.
+/// What is wrong with the text of a feature at a place that could not be read as a value.
 fn unread(place: u64, fault: PlacingFault) -> TextFault
     ensures { result ≡ unread place fault }
 {
@@ -235,7 +235,7 @@ fn read_edit_by_value(
     }
 }
 
-/// The feature of a text whose numbers stay as they are, where it is usual.
+/// The feature of a text whose numbers stay as they are, if it is usual.
 fn usual_feature(
     alloc: Global,
     scratch: &mut Scratch,

@@ -1,14 +1,14 @@
 //! Laws of loading.
 ghost use Rattle.streetmap_loading.specs.LoadLaws.{LoadedAgain, GoesOnAgain};
 
-/// Batches that were acknowledged, sent again in order, are acknowledged again, and leave the
-/// state.
+/// If batches that were acknowledged are sent again in order, they are acknowledged again, and the
+/// state stays.
 pub fn loaded_again()
     ensures { LoadedAgain }
 {}
 
-/// A load that ended behind some batches and is done again comes to the state of one that did not
-/// end.
+/// A load that ended after some batches and is done again gives the state of a load that did not
+/// end early.
 pub fn goes_on_again()
     ensures { GoesOnAgain }
 {}

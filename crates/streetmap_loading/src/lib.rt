@@ -1,12 +1,12 @@
-//! Features of any number, loaded from a text with a feature a line: a GeoJSON text sequence
-//! (RFC 8142), or lines alone.
+//! Any number of features, loaded from a text with a feature a line: a GeoJSON text sequence (RFC
+//! 8142), or lines alone.
 //!
-//! `load_text` applies the features of a text to a keeper in batches K.1, K.2, .. of a key K. Which
-//! features stand in a text, and which fault is the first, is `specs/Texts`; which batches they
-//! come in is `specs/Packs` of `streetmap_packing`; what the keeper stands for then, and what a
-//! stop may leave, is `specs/KeeperLoads`. The laws tell that the same load again changes nothing,
-//! and that one that was stopped goes on. `check_text` reads a text and loads nothing, `print_text`
-//! writes the batches in place of applying them.
+//! `load_text` applies the features of a text to a keeper in batches K.1, K.2, .. of a key K.
+//! `specs/Texts` defines which features a text has, and which fault is the first; `specs/Packs` of
+//! `streetmap_packing` defines their batches; `specs/KeeperLoads` defines the state that the keeper
+//! then represents, and what a crash can leave. The laws say that the same load again changes
+//! nothing, and that a load which was stopped continues. `check_text` reads a text and loads
+//! nothing, `print_text` writes the batches instead of applying them.
 //!
 //! Modules, in the order of reading: `feature_fault`, `text_fault`, `source`, `sink`, `end`,
 //! `sending`, `whole`; `rules`, `listener`, `measuring`, `feature_line`, `text_edits`;

@@ -59,7 +59,7 @@ fn write_bytes<W: Write>(writer: &mut W, bytes: &[u8]) -> Result<(), Stop>
     }
 }
 
-/// Writes a line, and lets the reader of the lines see it.
+/// Writes a line, and flushes the writer.
 fn write_line<W: Write>(writer: &mut W, line: &[u8]) -> Result<(), Stop>
     ensures ok { OnOk result (Appends (W.contents writer.old) (W.contents writer.new) line.now) }
     ensures err { OnErr result

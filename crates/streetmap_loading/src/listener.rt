@@ -1,16 +1,16 @@
-//! What is told of a load under way.
+//! A listener to the progress of a load.
 use crate::text_fault::TextFault;
 
-/// What is told of a load under way. It changes nothing of what is loaded.
+/// Receives the progress of a load. It does not change what is loaded.
 pub trait Listener {
-    /// So many features were met in the text, in about so many bytes.
+    /// The load has found `features` features in the text, in about `bytes` bytes.
     fn reached(&mut self, features: u64, bytes: u64);
 
-    /// A feature at fault is passed over.
+    /// A feature at fault is skipped.
     fn passed_over(&mut self, fault: TextFault);
 }
 
-/// So one that is lent can be asked afterwards.
+/// So a caller can lend one and use it afterwards.
 impl<L: Listener> Listener for &mut L {
     fn reached(&mut self, features: u64, bytes: u64) {
         (**self).reached(features, bytes);

@@ -1,4 +1,4 @@
-//! What is asked of a load.
+//! The options of a load.
 ghost use Rattle.std.specs.Prelude.{◌≤◌, IsTrue, length, string_bytes};
 ghost use Rattle.streetmap_batch.specs.Names.{is_key, is_collection_id};
 
@@ -10,23 +10,23 @@ use std::alloc::Global;
 use streetmap_batch::{is_collection_id, is_key};
 use streetmap_placing::Numbers;
 
-/// The most bytes of a load's key: behind it there is room for each number.
+/// The most bytes of a load's key: after it there is room for each number.
 pub const MAX_KEY: usize = 44;
 
-/// The opening of a collection: its title, which is its id where there is none, and the property
-/// that the times of its features are read from.
+/// The opening of a collection: its title, which is its id if none is given, and the property that
+/// the times of its features are read from.
 #[derive(Clone, Copy)]
 pub struct Opening<'a> {
     pub title: Option<&'a str>,
     pub time: Option<&'a str>,
 }
 
-/// What is asked of a load.
+/// The options of a load.
 #[derive(Clone, Copy)]
 pub struct LoadOptions<'a> {
-    /// The key of its batches, with no number behind it.
+    /// The key of its batches, without the number after it.
     pub key: &'a str,
-    /// At most so many edits are in a batch.
+    /// The most edits in a batch.
     pub each: usize,
     /// The collection of the features.
     pub collection: &'a str,
@@ -56,13 +56,13 @@ impl Load {
     ghost use Rattle.streetmap_loading.specs.TextView.{property_of};
     ghost use Rattle.std.specs.Prelude.{◌≡◌};
 
-    /// The load that is asked for. It passes over no fault.
+    /// The load with these options. It skips no fault.
     ///
     /// # Errors
     ///
-    /// `BadKey` where the key is none or has more than 44 bytes; then `BadCount`, where a batch is
-    /// to have no edit or more than 10,000; then `BadBatch`, where a name of the collection is
-    /// none.
+    /// `BadKey` if the key is not valid or has more than 44 bytes; then `BadCount`, if a batch is
+    /// to have no edit or more than 10,000; then `BadBatch`, if a name of the collection is not
+    /// valid.
     pub fn new(alloc: Global, options: LoadOptions<'_>) -> Result<Load, LoadFault>
         ensures { AsAsked load_value result (load_of options.entry) }
     {
@@ -92,7 +92,8 @@ impl Load {
         })
     }
 
-    /// The same load, which passes over features at fault and holds times to a property.
+    /// The same load, which skips features at fault, and requires that times can be read from a
+    /// property.
     pub fn skipping(self, times: HeldTimes) -> Load
         ensures { load_value result ≡ skipping (load_value self) (property_of times) }
     {

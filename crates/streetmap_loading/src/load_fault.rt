@@ -4,13 +4,13 @@ use std::alloc::AllocError;
 /// Why a load does not begin.
 #[derive(Clone, Copy, PartialEq, Eq, Drop)]
 pub enum LoadFault {
-    /// The key is none, or has more than 44 bytes.
+    /// The key is not valid, or has more than 44 bytes.
     BadKey,
     /// The batches are to have no edit, or more than 10,000.
     BadCount,
-    /// The id, the title or the time property of the collection is none.
+    /// The id, the title or the time property of the collection is not valid.
     BadBatch,
-    /// Memory was refused.
+    /// Out of memory.
     Memory,
 }
 

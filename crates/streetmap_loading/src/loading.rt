@@ -21,7 +21,7 @@ use std::alloc::Global;
 use std::io::BufRead;
 use streetmap_ledger::Keeper;
 
-/// Sends the edits of a source, of which nothing is left behind.
+/// Sends the edits of a source, of which nothing remains.
 fn send_source<S: Sink, E: Edits + Drop>(
     alloc: Global,
     sink: &mut S,
@@ -39,9 +39,9 @@ fn send_source<S: Sink, E: Edits + Drop>(
     send_all(alloc, sink, &mut edits, key, each)
 }
 
-/// Sends the edits of the features of a text in batches of the load's key, behind the opening where
-/// one is asked for: what stands in the text is `specs/Texts`, and the batches are `specs/Packs` of
-/// `streetmap_packing`.
+/// Sends the edits of the features of a text in batches of the load's key, after the opening if the
+/// load has one: `specs/Texts` defines the items of the text, and `specs/Packs` of
+/// `streetmap_packing` the batches.
 pub fn send_text<S: Sink, R: BufRead + Drop, L: Listener + Drop>(
     alloc: Global,
     sink: &mut S,
@@ -72,10 +72,10 @@ pub fn send_text<S: Sink, R: BufRead + Drop, L: Listener + Drop>(
 }
 
 /// Applies the features of a text to a keeper in batches of the load's key. A batch that was
-/// accepted before is repeated, and changes nothing: so the same load again changes nothing, and
-/// one that was stopped goes on by the same call (`laws`).
+/// accepted before is repeated, and changes nothing: so the same load again changes nothing, and a
+/// load that was stopped continues by the same call (`laws`).
 ///
-/// The load ends at the first fault: nothing of the batch under way and behind it is applied.
+/// The load ends at the first fault: nothing of the current batch and after it is applied.
 pub fn load_text<K: Keeper, R: BufRead + Drop, L: Listener + Drop>(
     alloc: Global,
     sink: &mut KeeperSink<K>,
@@ -85,12 +85,12 @@ pub fn load_text<K: Keeper, R: BufRead + Drop, L: Listener + Drop>(
 ) -> Loaded
     ensures spared { K.spares sink.old.keeper sink.new.keeper }
     ensures began_clean { K.is_clean sink.new.keeper → K.is_clean sink.old.keeper }
-    // A shut keeper that is asked answers `Reopen` and no other does; `Device` and `Damaged` shut
+    // A closed keeper returns `Reopen` to a batch, and no other does; `Device` and `Damaged` close
     // it.
     ensures faults { RunShuts (keeper_fault result.end)
         (K.cause sink.old.keeper) (K.cause sink.new.keeper) }
-    // The features that were read, the batches of them that were sent, how it ended, what the
-    // keeper stands for then and what a stop may leave.
+    // The features that were read, the batches of them that were sent, how the load ended, the
+    // state that the keeper then represents and what a crash can leave.
     ensures loads { K.is_clean sink.new.keeper → (s : State) → K.stands sink.old.keeper s →
         LoadsTo s (K.may_leave sink.old.keeper)
         (K.stands sink.new.keeper) (K.may_leave sink.new.keeper)

@@ -17,7 +17,7 @@ const INSERTION: &str = "{\"collection\":\"\",\"feature\":,\"op\":\"insert\"}";
 const REPLACEMENT: &str = "{\"collection\":\"\",\"feature\":,\"op\":\"replace\"}";
 
 /// How many bytes the collection and the feature take in the text of an edit. The id of a
-/// collection has no byte that is escaped.
+/// collection has no byte that must be escaped.
 fn parts_len(collection: &CollectionId, feature: &WrittenFeature) -> usize
     ensures sum { result ≡ length collection.now
         + length (compact_text (feature_data feature.now)) }
@@ -27,8 +27,8 @@ fn parts_len(collection: &CollectionId, feature: &WrittenFeature) -> usize
     collection.as_str().len() + feature.text().len()
 }
 
-/// How many bytes the text of an edit has within the text of a batch. That of a feature's edit is
-/// not made for it.
+/// How many bytes the text of an edit has within the text of a batch. The text of a feature's edit
+/// is not built for this.
 pub(crate) fn text_len(alloc: Global, edit: &Edit) -> Result<usize, AllocError>
     ensures { IfOk result (λ n. n ≡ length (compact_text (edit_data (edit_value edit.now)))) }
 {

@@ -39,7 +39,7 @@ fn read_title(alloc: Global, id: &CollectionId, title: Option<&str>) -> Result<T
     }
 }
 
-/// The name of a time property, where one is given.
+/// The name of a time property, if one is given.
 fn read_time(alloc: Global, time: Option<&str>) -> Result<Option<TimeProperty>, LoadFault>
     ensures { AsAsked (λ t. t) result (time_of (option_map (λ t. t.now) time.entry)) }
 {
@@ -89,7 +89,7 @@ fn place_opening(alloc: Global, edit: Edit) -> Result<PlacedEdit, AllocError>
     }
 }
 
-/// The opening, where one is asked for.
+/// The opening, if the options ask for one.
 pub(crate) fn read_opening(
     alloc: Global,
     collection: &str,

@@ -10,7 +10,7 @@ use crate::loading::send_text;
 use std::alloc::Global;
 use std::io::{BufRead, Write};
 
-/// Writes the batches of a text's features, a line each, in place of applying them.
+/// Writes the batches of a text's features, a line each, instead of applying them.
 pub fn print_text<W: Write, R: BufRead + Drop, L: Listener + Drop>(
     alloc: Global,
     sink: &mut LineSink<W>,

@@ -4,7 +4,7 @@ ghost use Rattle.streetmap_batch.specs.Names.{is_collection_id};
 
 use streetmap_placing::Numbers;
 
-/// The property that the times of features are held to; none where they have no times.
+/// The property that the times of features must be readable from; none if they have no times.
 #[derive(Drop)]
 pub struct HeldTimes {
     pub property: Option<String>,
@@ -19,7 +19,7 @@ pub struct FeatureRules {
     pub replace: bool,
     /// How their numbers are read.
     pub numbers: Numbers,
-    /// Features at fault are passed over; then times are held to a property too.
+    /// Features at fault are skipped; then times must be readable from a property too.
     pub skip: Option<HeldTimes>,
     pub ghost placed: { IsTrue (is_collection_id (string_bytes collection)) },
 }

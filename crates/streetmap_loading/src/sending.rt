@@ -1,4 +1,4 @@
-//! A load under way.
+//! A load in progress.
 ghost use Rattle.std.specs.Prelude.{◌≡◌, ◌<◌, ◌≤◌, ◌+◌, ◌^◌, ◌∷◌, [], ℕ, List, OnOk};
 ghost use Rattle.std.specs.Prelude.{Ok, Err, IfOk, IsTrue, length, string_bytes, None, Some};
 ghost use Rattle.streetmap_batch.specs.BatchView.{batch_value};
@@ -18,7 +18,7 @@ use std::mem;
 use streetmap_batch::Batch;
 use streetmap_packing::Packer;
 
-/// A load under way: the packer of the edits that were read, the places of those that are left in
+/// A load in progress: the packer of the edits that were read, the places of those that remain in
 /// it, how many batches were taken, how many edits these have, and the serial of the last.
 #[derive(Drop)]
 pub(crate) struct Sending {
@@ -57,7 +57,7 @@ impl Sending {
         })
     }
 
-    /// Sends a batch whose edits have these places in the text, and counts it where it is taken.
+    /// Sends a batch whose edits have these places in the text, and counts it if it is taken.
     fn send<S: Sink>(
         &mut self,
         sink: &mut S,
@@ -81,7 +81,7 @@ impl Sending {
         }
     }
 
-    /// Sends the batch under way where it has as many edits as a batch may have.
+    /// Sends the current batch if it has as many edits as a batch may have.
     pub(crate) fn fill<S: Sink>(&mut self, alloc: Global, sink: &mut S) -> Result<(), End>
         requires { HasNumbersLeft self.old }
         ensures few { OnOk result (FewMore self.old self.new) }
@@ -98,7 +98,7 @@ impl Sending {
         }
     }
 
-    /// Adds an edit to the batch under way. Where that does not take it, the batch is sent, and the
+    /// Adds an edit to the current batch. If that has no room for it, the batch is sent, and the
     /// edit begins the next.
     pub(crate) fn put<S: Sink>(
         &mut self,
@@ -126,7 +126,7 @@ impl Sending {
         }
     }
 
-    /// Sends the last batch, where an edit is left.
+    /// Sends the last batch, if an edit remains.
     pub(crate) fn finish<S: Sink>(self, alloc: Global, sink: &mut S, edits: u64) -> Loaded
         requires { HasNumbersLeft self }
         ensures edits { result.edits ≡ edits }
@@ -175,7 +175,7 @@ impl Sending {
         }
     }
 
-    /// What a load came to that ended so.
+    /// The result of a load with this end.
     pub(crate) fn ended(&self, edits: u64, end: End) -> Loaded
         ensures { result ≡ record {
           edits = edits;

@@ -8,14 +8,14 @@ use crate::text_fault::TextFault;
 use std::alloc::AllocError;
 use streetmap_batch::Edit;
 
-/// Why there is no edit.
+/// Why no edit was returned.
 #[derive(Clone, Copy, PartialEq, Eq, Drop)]
 pub enum Unread {
-    /// What stands for the edit is at fault.
+    /// The part of the text for the edit is at fault.
     AtFault(TextFault),
-    /// The text could not be read.
+    /// A read of the text failed.
     ReadFailed,
-    /// Memory was refused.
+    /// Out of memory.
     Memory,
 }
 
@@ -35,7 +35,7 @@ pub struct PlacedEdit {
 pub trait Edits {
     ghost use Rattle.streetmap_loading.specs.Sources.{Item, SourceGives};
 
-    /// The edits that are left, where it tells them, and what stands at fault among them.
+    /// The edits that are left, if they are known, and the faults among them.
     ghost left: { Self → Option (List Item) };
 
     /// The next edit; none at the end.

@@ -18,32 +18,33 @@ use streetmap_text_lines::{Found, LineFault, read_line};
 /// The most bytes of a line, its line feed not counted.
 pub const MAX_LINE: usize = 8_388_608;
 
-/// What a line was.
+/// The result of a read of a line.
 #[derive(Drop)]
 pub(crate) enum Step {
-    /// Nothing stood on it, or a feature that is passed over.
+    /// The line had no text, or a feature that is skipped.
     Past,
-    /// A feature stood on it.
+    /// The line had a feature.
     Edit(PlacedEdit),
     /// The text ended before it.
     End,
 }
 
-/// The edits of the features of a text, behind the opening of their collection where there is one.
-/// The text has a feature a line: a record separator before it, a carriage return behind it, empty
+/// The edits of the features of a text, after the opening of their collection if there is one. The
+/// text has a feature a line: a record separator before it, a carriage return after it, empty lines
+/// and a byte order mark before the first are skipped.
 /// lines and a byte order mark before the first are read past.
 #[derive(Drop)]
 pub struct TextEdits<R: BufRead + Drop, L: Listener + Drop> {
     pub alloc: Global,
     pub reader: R,
     pub listener: L,
-    /// The line that was read last. Its memory serves one line after the other.
+    /// The line that was read last. Its memory is reused for each line.
     pub line: Vec<u8>,
-    /// What a line's tokens are found in. Its memory serves one line after the other.
+    /// The memory for a line's tokens. It is reused for each line.
     pub scratch: Scratch,
     pub rules: FeatureRules,
     pub opening: Option<PlacedEdit>,
-    /// How many features were met.
+    /// How many features were found.
     pub features: u64,
     /// In about how many bytes.
     pub bytes: u64,
@@ -69,7 +70,7 @@ fn drop_separator(line: &[u8]) -> &[u8]
     }
 }
 
-/// A line without the carriage return that it is alone.
+/// A line that is only a carriage return, without it; any other line as it is.
 fn drop_return(line: &[u8]) -> &[u8]
     ensures { result.now ≡ without_return line.entry.now }
 {
@@ -79,7 +80,7 @@ fn drop_return(line: &[u8]) -> &[u8]
     }
 }
 
-/// The text of the feature at that place on a line.
+/// The text of the feature with that place, on its line.
 fn text_on(place: u64, line: &[u8]) -> &[u8]
     ensures { result.now ≡ text_on place line.entry.now }
 {
@@ -91,7 +92,7 @@ fn text_on(place: u64, line: &[u8]) -> &[u8]
 }
 
 impl FeatureRules {
-    /// Whether the fault is one of a feature, and is passed over.
+    /// Whether the fault is one of a feature, and is skipped.
     fn skips(&self, fault: TextFault) -> bool
         ensures { result ≡ is_skipped (rules_value self.now) fault }
     {

@@ -1,11 +1,11 @@
 //! What is wrong with a text of features.
 use crate::feature_fault::FeatureFault;
 
-/// What is wrong with a text of features, where a load ends at it. Places are those of features in
-/// the text, counted from 1.
+/// What is wrong with a text of features, if a load ends at it. Places are those of features in the
+/// text, counted from 1.
 #[derive(Clone, Copy, PartialEq, Eq, Drop)]
 pub enum TextFault {
-    /// The first line is no whole JSON text, or a FeatureCollection (RFC 7946, section 3.3).
+    /// The first line is not a whole JSON text, or is a FeatureCollection (RFC 7946, section 3.3).
     NotASequence,
     /// The line of the feature at that place has more than 8,388,608 bytes, its line feed not
     /// counted.

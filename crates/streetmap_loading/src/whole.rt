@@ -13,11 +13,11 @@ use std::alloc::Global;
 pub const MAX_EDITS: u64 = 100_000_000_000_000;
 
 /// Sends edits in batches K.1, K.2, .. of the key K, each the longest next run of them with at most
-/// `each` edits and 8,388,608 bytes of batch text. One that has its number of edits is sent before
-/// the next edit is read.
+/// `each` edits and 8,388,608 bytes of batch text. A batch that is full by its number of edits is
+/// sent before the next edit is read.
 ///
-/// An edit at fault ends the load: the batches before the one under way are sent, and nothing of
-/// that one and behind it. After `MAX_EDITS` edits it ends as where the text is not read on.
+/// An edit at fault ends the load: the batches before the current one are sent, and nothing of that
+/// one and after it. After `MAX_EDITS` edits the load ends as if a read of the text failed.
 pub fn send_all<S: Sink, E: Edits>(
     alloc: Global,
     sink: &mut S,
