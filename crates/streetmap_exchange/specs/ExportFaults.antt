@@ -1,4 +1,4 @@
--- Why an export ends early: the names and sentences of the refusals, and what comes of its parts.
+-- Why an export ends early: the names and sentences of the refusals, and the faults of its parts.
 use Rattle.std.specs.Prelude.{◌≡◌, ◌⊎◌, Option, None, Result, Ok, Err, codes, ⊤}
 use Rattle.streetmap_batch.specs.Text.{Text}
 use Rattle.streetmap_ledger.specs.Keep.{ShutsBy}
@@ -23,7 +23,7 @@ export_description_of (Stopped fault) = fault_description fault
 export_description_of WriteFailed = codes "The text could not be written."
 export_description_of FlushFailed = codes "The text could not be written."
 
--- what may come of a write: memory is refused, or the write fails
+-- the faults of a write: memory runs out, or the write fails
 abbrev pub IsWriteFault : ExportFault → Type 0
 IsWriteFault NoCollection = ⊥
 IsWriteFault (Stopped Memory) = ⊤
@@ -31,7 +31,7 @@ IsWriteFault (Stopped _) = ⊥
 IsWriteFault WriteFailed = ⊤
 IsWriteFault FlushFailed = ⊥
 
--- what may come of a flush: memory is refused, or the flush fails
+-- the faults of a flush: memory runs out, or the flush fails
 abbrev pub IsFlushFault : ExportFault → Type 0
 IsFlushFault NoCollection = ⊥
 IsFlushFault (Stopped Memory) = ⊤
@@ -39,11 +39,11 @@ IsFlushFault (Stopped _) = ⊥
 IsFlushFault WriteFailed = ⊥
 IsFlushFault FlushFailed = ⊤
 
--- what may come of a write with a flush behind it
+-- the faults of a write and then a flush
 abbrev pub IsEndFault : ExportFault → Type 0
 IsEndFault fault = IsWriteFault fault ⊎ IsFlushFault fault
 
--- a shut keeper answers `Reopen` and no other does; `Device` and `Damaged` shut it
+-- a closed keeper returns `Reopen` and no other does; `Device` and `Damaged` close it
 abbrev pub ExportShuts : {T : Type 0} → Result T ExportFault → Option Cause → Option Cause → Type 0
 ExportShuts (Ok x) old new = (old ≡ None) × (new ≡ None)
 ExportShuts (Err NoCollection) old new = (old ≡ None) × (new ≡ None)

@@ -24,29 +24,29 @@ use Rattle.streetmap_exchange.specs.declared.fault.ExportFault.TheVariants.{Flus
 abbrev pub export_text : List FeatureValue → List ℕ
 export_text fs = compact_text (collection_data fs) ++ 10 ∷ []
 
--- the features of a collection in byte order of their ids: none where it is not there
+-- the features of a collection in byte order of their ids: none if it does not exist
 abbrev pub features_in : State → Text → Option (List FeatureValue)
 features_in s name = option_map (λ (c : Collection). values c.features) (get s.collections name)
 
--- the text of a collection that is there was written
+-- the text of an existing collection was written
 abbrev pub WritesAll : Option (List FeatureValue) → Option (List ℕ) → Option (List ℕ) → Type 0
 WritesAll features old new = IsSomeAnd features (λ fs. Appends old new (export_text fs))
 
--- a beginning of that text was written
+-- a prefix of that text was written
 abbrev pub WritesSome : Option (List FeatureValue) → Option (List ℕ) → Option (List ℕ) → Type 0
 WritesSome features old new =
     IsSomeAnd features (λ fs. AppendsBeginning old new (export_text fs))
 
--- a beginning of that text was written, and not all of it
+-- a prefix of that text was written, and not all of it
 abbrev pub WritesLess : Option (List FeatureValue) → Option (List ℕ) → Option (List ℕ) → Type 0
 WritesLess features old new = IsSomeAnd features (λ fs. AppendsLess old new (export_text fs))
 
--- a beginning of the text, where the collection is there, and else nothing
+-- a prefix of the text, if the collection exists, and otherwise nothing
 abbrev pub WritesSomeIf : Option (List FeatureValue) → Option (List ℕ) → Option (List ℕ) → Type 0
 WritesSomeIf None old new = Keeps old new
 WritesSomeIf (Some fs) old new = AppendsBeginning old new (export_text fs)
 
--- an export from a keeper that stood for this state: what was written, and the state stays
+-- an export from a keeper that represented this state: what was written, and the state stays
 abbrev pub Exports : {T : Type 0} → State → Text → Result T ExportFault → Option (List ℕ)
     → Option (List ℕ) → (State → Type 0) → Type 0
 Exports s name (Ok done) old new stands = WritesAll (features_in s name) old new × stands s
@@ -62,11 +62,11 @@ Exports s name (Err (Stopped Reopen)) old new stands = ⊥
 
 -- ---- its pages
 
--- a page of a thousand features behind an id
+-- a page of a thousand features after an id
 abbrev pub part_query : Option Text → QueryValue
 part_query after = record { bbox = None; datetime = None; limit = 1000; after = after }
 
--- a look at that page in this state
+-- a read of that page in this state
 abbrev pub ShowsPart : State → Text → Option Text → Result Page ExportFault → (State → Type 0)
     → Type 0
 ShowsPart s name after (Ok page) stands = (page_in s name (part_query after)
@@ -82,8 +82,8 @@ ShowsPart s name after (Err (Stopped Reopen)) stands = ⊥
 
 -- ---- its text in parts
 
--- features as they stand in an array, each behind a comma; before the first there is one where
--- others stand before
+-- features as they are in an array, each after a comma; the first has one only if others come
+-- before
 abbrev pub part_text : Bool → List FeatureValue → List ℕ
 part_text later [] = []
 part_text later (f ∷ fs) = comma_if later ++ (compact_text (feature_data f) ++ part_text true fs)

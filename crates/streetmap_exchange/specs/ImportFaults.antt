@@ -1,5 +1,5 @@
 -- Why a text is not read into a batch: the names and sentences of the refusals, and what a reader
--- answers beside what it reads.
+-- returns, compared with what is read.
 use Rattle.std.specs.Prelude.{◌≡◌, ℕ, codes, Option, None, Some, Result, Ok, Err}
 use Rattle.streetmap_geojson.specs.declared.fault.Fault.{Fault}
 use Rattle.streetmap_batch.specs.Text.{Text}
@@ -42,7 +42,7 @@ abbrev pub cause_of : ImportFault → Option Fault
 cause_of (BadFeature place cause) = Some cause
 cause_of _ = None
 
--- the refusal of a batch, told of the text that it is made of
+-- the refusal of a batch, as a refusal of the text that it is made of
 abbrev pub of_batch : BatchFault → ImportFault
 of_batch (batch.BadBatch place) = BadBatch
 of_batch batch.BadKey = BadKey
@@ -50,12 +50,12 @@ of_batch batch.TooManyEdits = TooManyEdits
 of_batch (batch.BadFeature place cause) = BadFeature place cause
 of_batch batch.Memory = Memory
 
--- a fault beside memory is that of what is read
+-- a fault other than memory is that of what is read
 abbrev pub FailsToRead : {Y : Type 0} → ImportFault → Result Y ImportFault → Type 0
 FailsToRead Memory read = Unit {0}
 FailsToRead e read = read ≡ Err e
 
--- what was answered, seen by view, is what is read, unless memory ran out
+-- the result, seen by view, is what is read, unless memory ran out
 abbrev pub IsReadBy : {X Y : Type 0} → (X → Y) → Result X ImportFault → Result Y ImportFault
     → Type 0
 IsReadBy view (Ok x) read = read ≡ Ok (view x)

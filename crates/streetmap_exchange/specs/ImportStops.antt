@@ -27,7 +27,7 @@ stop_place_of (NotRead fault) = place_of fault
 stop_place_of (Refused why place) = place
 stop_place_of (Stopped fault) = None
 
--- what is wrong with it, where it cannot be read
+-- what is wrong with it, if it cannot be read
 abbrev pub stop_cause_of : ImportStop → Option Fault
 stop_cause_of (NotRead fault) = cause_of fault
 stop_cause_of _ = None

@@ -1,5 +1,5 @@
 -- The batch that puts the features of a text into a collection, or its first fault: the lines of
--- `import_of` stand in the order of refusals.
+-- `import_of` are in the order of refusals.
 use Rattle.std.specs.Prelude.{ℕ, Bool, true, List, length, map, None, Result, Ok, Err, nat_le}
 use Rattle.std.specs.Prelude.{if◌then◌else◌}
 use Rattle.serde_json.specs.Data.{Data}
@@ -20,7 +20,7 @@ use Rattle.streetmap_exchange.specs.declared.fault.ImportFault.TheVariants.{Text
 use Rattle.streetmap_exchange.specs.declared.fault.ImportFault.TheVariants.{WrongType, BadFeature}
 use Rattle.streetmap_exchange.specs.declared.fault.ImportFault.TheVariants.{TooManyEdits, Memory}
 
--- one step after another: the first fault is the fault
+-- one step after another: the first fault is the result
 infixl 10 ◌>>=◌
 abbrev pub ◌>>=◌ : {A B : Type 0} → Result A ImportFault → (A → Result B ImportFault)
     → Result B ImportFault
@@ -50,7 +50,7 @@ abbrev pub as_json : Result Data Fault → Result Data ImportFault
 as_json (Ok d) = Ok d
 as_json (Err fault) = Err NotJson
 
--- a fault without a place is that the text is no collection
+-- a fault without a place is that the text is not a collection
 abbrev pub as_feature : Result (List FeatureValue) CollectionFault
     → Result (List FeatureValue) ImportFault
 as_feature (Ok fs) = Ok fs
@@ -59,11 +59,11 @@ as_feature (Err (collections.At place fault)) = Err (BadFeature place fault)
 as_feature (Err collections.Memory) = Err Memory
 
 -- the features of a text, read without a time property: their times are set when their edits act.
--- One without an id takes its place, counted from 1, as id
+-- One without an id has its place, counted from 1, as id
 abbrev pub features_of : List ℕ → Result (List FeatureValue) ImportFault
 features_of text = as_json (json_of text) >>= λ d. as_feature (features None d)
 
--- a text by features that are no more than the edits of a batch
+-- a text by its features, which must be no more than the edits of a batch
 abbrev pub import_text : (replace : Bool) (key collection : Text) → List ℕ
     → Result BatchValue ImportFault
 import_text replace key collection text = do

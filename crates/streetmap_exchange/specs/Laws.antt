@@ -11,7 +11,7 @@ use Rattle.streetmap_exchange.specs.Exports.{export_text}
 use Rattle.streetmap_exchange.specs.Imports.{import_of}
 
 -- what is exported of a collection c, imported into a collection without features that has the same
--- time property, gives it the features of c where it is accepted
+-- time property, gives it the features of c if it is accepted
 abbrev pub ImportOfExport : Type 0
 ImportOfExport =
     (s t : State) (from to key : Text) (c d : Collection) (b : BatchValue) →

@@ -6,7 +6,7 @@ use Rattle.streetmap_ledger.specs.Kept.{batches_behind}
 use Rattle.streetmap_replay.specs.JournalText.{journal_lines}
 use Rattle.streetmap_exchange.specs.Printed.{line_of}
 
--- the lines of the batches behind a serial are the lines of the journal behind so many
+-- the lines of the batches after serial N are the lines of the journal after the first N
 abbrev pub LinesAreOfTheJournal : Type 0
 LinesAreOfTheJournal =
     (s : State) (after : ℕ) → IsState s →

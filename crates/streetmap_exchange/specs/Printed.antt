@@ -21,7 +21,7 @@ line_text b = line_bytes (line_of b) ++ 10 ∷ []
 abbrev pub lines_text : List KeyedBatch → List ℕ
 lines_text bs = text_of_lines (map line_of bs)
 
--- the lines of the batches behind a serial were written, up to the last serial, or a beginning of
+-- the lines of the batches after the serial were written, up to the last serial, or a prefix of
 -- them; and the state stays
 abbrev pub WritesLines : State → ℕ → Result ℕ LinesStop
     → Option (List ℕ) → Option (List ℕ) → (State → Type 0) → Type 0

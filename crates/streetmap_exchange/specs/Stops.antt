@@ -1,4 +1,4 @@
--- Why lines are not written to the end: the names of the stops, and what shut the keeper.
+-- Why lines are not written to the end: the names of the faults, and what closed the keeper.
 use Rattle.std.specs.Prelude.{◌≡◌, Option, None, Result, Ok, Err, codes}
 use Rattle.streetmap_batch.specs.Text.{Text}
 use Rattle.streetmap_ledger.specs.Keep.{ShutsBy}
@@ -13,7 +13,7 @@ unfoldable pub stop_code_of : LinesStop → Text
 stop_code_of (Stopped fault) = fault_code fault
 stop_code_of WriteFailed = codes "write_failed"
 
--- what may come of a write: memory is refused, or the write fails
+-- the faults of a write: memory runs out, or the write fails
 abbrev pub IsWriteStop : LinesStop → Type 0
 IsWriteStop (Stopped Memory) = Unit {0}
 IsWriteStop (Stopped Device) = ⊥
@@ -21,13 +21,13 @@ IsWriteStop (Stopped Damaged) = ⊥
 IsWriteStop (Stopped Reopen) = ⊥
 IsWriteStop WriteFailed = Unit {0}
 
--- a shut keeper answers `Reopen` and no other does; `Device` and `Damaged` shut it
+-- a closed keeper returns `Reopen` and no other does; `Device` and `Damaged` close it
 abbrev pub LinesShut : {T : Type 0} → Result T LinesStop → Option Cause → Option Cause → Type 0
 LinesShut (Ok x) old new = (old ≡ None) × (new ≡ None)
 LinesShut (Err (Stopped fault)) old new = ShutsBy {T = Unit {0}} (Err fault) old new
 LinesShut (Err WriteFailed) old new = new ≡ old
 
--- a keeper that stood for this state does so still, unless its store failed
+-- a keeper that represented this state still does, unless its store failed
 abbrev pub StaysBy : State → LinesStop → (State → Type 0) → Type 0
 StaysBy s (Stopped Memory) stands = stands s
 StaysBy s (Stopped Device) stands = Unit {0}

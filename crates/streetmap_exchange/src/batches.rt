@@ -1,4 +1,4 @@
-//! The lines of the batches behind a serial.
+//! The lines of the batches after a serial.
 ghost use Rattle.std.specs.Prelude.{◌≡◌, Err, Some};
 ghost use Rattle.streetmap_ledger.specs.Keep.{LeavesOnly};
 ghost use Rattle.streetmap_ledger.specs.State.{State};
@@ -12,18 +12,18 @@ use std::alloc::Global;
 use std::io::Write;
 use streetmap_ledger::KeepsBatches;
 
-/// So many bytes of texts, and one text more, are in memory at most.
+/// Memory holds at most this many bytes of texts, and one more text.
 const ROOM: usize = 1 << 20;
 
-/// Writes a line for each batch that is kept behind a serial, in order of their serials: its serial
-/// in decimal, a tab, its text and a line feed. It answers the last serial, or the one given where
-/// none is kept behind it.
+/// Writes a line for each batch that is kept after a serial, in order of their serials: its serial
+/// in decimal, a tab, its text and a line feed. It returns the last serial, or the given one if
+/// none is kept after it.
 ///
 /// # Errors
 ///
-/// `Stopped` with the fault of the keeper, or with `Memory` where a buffer of the writer finds
-/// none; `WriteFailed` where a write failed. A beginning of the lines is written then. After
-/// 2^64 - 1 turns it ends as after a failed write.
+/// `Stopped` with the fault of the keeper, or with `Memory` if a buffer of the writer runs out of
+/// memory; `WriteFailed` if a write failed. Then a prefix of the lines has been written. After 2^64
+/// - 1 rounds it ends as after a failed write.
 pub fn write_batches<K: KeepsBatches, W: Write>(
     alloc: Global,
     keeper: &mut K,

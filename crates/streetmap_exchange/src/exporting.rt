@@ -53,15 +53,15 @@ fn write_pages<K: Keeper, W: Write, P: Progress>(
 }
 
 /// Writes the FeatureCollection (RFC 7946, section 3.3) of all features of a collection, in byte
-/// order of their ids, as compact JSON text with a line feed behind it. It asks the keeper for
-/// pages of a thousand features, and tells `progress` how many are written.
+/// order of their ids, as compact JSON text with a line feed after it. It reads pages of a thousand
+/// features from the keeper, and reports to `progress` how many are written.
 ///
 /// # Errors
 ///
-/// `NoCollection` where the collection is not there, and then nothing is written; a fault of the
-/// keeper or want of memory, and then a beginning of the text is; `WriteFailed` where a write
-/// failed, and then less than the text is, but for a flush, which is `FlushFailed`: then all of it
-/// is. After 2^64 - 1 pages it ends as after a failed write.
+/// `NoCollection` if the collection does not exist, and then nothing is written; a fault of the
+/// keeper, or that memory ran out, and then a prefix of the text is; `WriteFailed` if a write
+/// failed, and then less than the text is, but if a flush failed it is `FlushFailed`: then all of
+/// it is. After 2^64 - 1 pages it ends as after a failed write.
 pub fn export<K: Keeper, W: Write, P: Progress>(
     alloc: Global,
     keeper: &mut K,
@@ -70,14 +70,14 @@ pub fn export<K: Keeper, W: Write, P: Progress>(
     progress: &mut P,
 ) -> Result<(), ExportFault>
     ensures began_clean { K.is_clean keeper.new → K.is_clean keeper.old }
-    // A shut keeper answers `Reopen` and no other does; `Device` and `Damaged` shut it.
+    // A closed keeper returns `Reopen` and no other does; `Device` and `Damaged` close it.
     ensures faults { ExportShuts result (K.cause keeper.old) (K.cause keeper.new) }
-    // What is written is the text of the collection, or a beginning of it, and the state stays. It
-    // is less than the text where a write failed, and the text where only a flush did.
+    // What is written is the text of the collection, or a prefix of it, and the state stays. It is
+    // less than the text if a write failed, and the text if only a flush did.
     ensures exports { K.is_clean keeper.new → (s : State) → K.stands keeper.old s
         → Exports s collection.now result (W.contents writer.old) (W.contents writer.new)
         (K.stands keeper.new) }
-    // A stop may leave the same state alone.
+    // A crash can leave only the same state.
     ensures leaves { K.is_clean keeper.new → (s : State) → K.stands keeper.old s
         → LeavesOnly (K.may_leave keeper.old) (Some s)
         → LeavesOnly (K.may_leave keeper.new) (Some s) }

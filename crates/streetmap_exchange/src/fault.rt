@@ -10,21 +10,21 @@ use streetmap_text_lines::WriteFault;
 /// Why a text is not read into a batch.
 #[derive(Clone, Copy, PartialEq, Drop)]
 pub enum ImportFault {
-    /// The key is none.
+    /// The key is not valid.
     BadKey,
-    /// The id of the collection is none.
+    /// The id of the collection is not valid.
     BadBatch,
     /// The text has more than 8,388,608 bytes.
     TextTooLarge,
-    /// The text is no JSON.
+    /// The text is not JSON.
     NotJson,
-    /// The text is no FeatureCollection (RFC 7946, section 3.3).
+    /// The text is not a FeatureCollection (RFC 7946, section 3.3).
     WrongType,
     /// The feature of that place, counted from 1, cannot be read.
     BadFeature { place: u64, cause: Fault },
     /// There are more than 10,000 features.
     TooManyEdits,
-    /// Memory was refused. The call may be made again.
+    /// Out of memory. The caller may try again.
     Memory,
 }
 
@@ -87,7 +87,7 @@ impl ImportFault {
         }
     }
 
-    /// The refusal of the batch, told of the text that it is made of.
+    /// The refusal of the batch, as a refusal of the text that it is made of.
     pub(crate) fn of_batch(fault: BatchFault) -> ImportFault
         ensures { result ≡ of_batch fault }
     {
@@ -124,12 +124,12 @@ impl<T: Drop> From<AllocFailed<T>> for ImportFault {
 /// Why a text is not imported into a keeper.
 #[derive(Clone, Copy, PartialEq, Drop)]
 pub enum ImportStop {
-    /// The text is not read into a batch, or memory was refused: the keeper was not asked.
+    /// The text is not read into a batch, or memory ran out: the keeper received no request.
     NotRead(ImportFault),
     /// The batch is refused, and nothing changed; with the place of the feature at fault, counted
-    /// from 1, where there is one.
+    /// from 1, if there is one.
     Refused(Refusal, Option<u64>),
-    /// The keeper did not answer.
+    /// The keeper gave no reply.
     Stopped(KeeperFault),
 }
 
@@ -149,7 +149,7 @@ impl ImportStop {
         }
     }
 
-    /// A sentence on it.
+    /// A sentence that describes it.
     #[tactic(auto, unfolding(crate::specs::ImportStops::stop_description_of))]
     pub fn description(&self) -> &'static str
         ensures { result.now ≡ stop_description_of self.now }
@@ -172,7 +172,7 @@ impl ImportStop {
         }
     }
 
-    /// What is wrong with that feature, where it cannot be read.
+    /// What is wrong with that feature, if it cannot be read.
     pub fn cause(&self) -> Option<Fault>
         ensures { result ≡ stop_cause_of self.now }
     {
@@ -196,9 +196,9 @@ impl From<ImportFault> for ImportStop {
 /// Why a collection is not exported to its end.
 #[derive(Clone, Copy, PartialEq, Drop)]
 pub enum ExportFault {
-    /// The collection is not there.
+    /// The collection does not exist.
     NoCollection,
-    /// The keeper did not answer, or memory was refused.
+    /// The keeper gave no reply, or memory ran out.
     Stopped(KeeperFault),
     /// The text could not be written to its end.
     WriteFailed,

@@ -92,7 +92,7 @@ fn make_batch(alloc: Global, key: &str, edits: Vec<Edit>) -> Result<Batch, Impor
     }
 }
 
-/// The batch of a text, where the names are in order.
+/// The batch of a text, if the names are valid.
 fn read_text<P: Progress>(
     alloc: Global,
     text: &[u8],
@@ -139,13 +139,13 @@ fn read_import<P: Progress>(
 
 /// The batch that inserts each feature of a FeatureCollection text (RFC 7946, section 3.3) into the
 /// collection, in the order of the text, or with `replace` puts each in the place of the one with
-/// its id. A feature without `id` takes its place in the text, counted from 1, as id. The features
-/// are read without a time property: their times are set when the batch acts. `progress` is told
-/// how many are read.
+/// its id. A feature without `id` has its place in the text, counted from 1, as id. The features
+/// are read without a time property: their times are set when the batch acts. It reports to
+/// `progress` how many are read.
 ///
 /// # Errors
 ///
-/// The first in this order: `BadKey`, `BadBatch` where `collection` is no collection id,
+/// The first in this order: `BadKey`, `BadBatch` if `collection` is not a collection id,
 /// `TextTooLarge` above 8,388,608 bytes, `NotJson`, `WrongType`, `BadFeature` at the first feature
 /// at fault, `TooManyEdits` above 10,000 features. `Memory` may come in place of any.
 pub fn import_batch<P: Progress>(
@@ -159,7 +159,7 @@ pub fn import_batch<P: Progress>(
     // The batch is the one that the text is imported by.
     ensures found { IfOk result (λ b.
         IsImport replace key.now collection.now text.now (batch_value b)) }
-    // What a text is imported by is made, unless memory runs out.
+    // The batch that the text is imported by is made, unless memory runs out.
     ensures only { (b : BatchValue) → IsImport replace key.now collection.now text.now b
         → IsReadBy batch_value result (Ok b) }
     // Which refusal it is, and where.

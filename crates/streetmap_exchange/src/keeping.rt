@@ -19,10 +19,10 @@ use streetmap_batch::Batch;
 use streetmap_bodies::push_reply_body;
 use streetmap_ledger::{Keeper, Reply};
 
-/// The room that is taken for the body of a reply before its batch is applied, in bytes.
+/// The room that is allocated for the body of a reply before its batch is applied, in bytes.
 const ROOM: usize = 320;
 
-/// An empty text with room for the body of a reply, which then takes no memory.
+/// An empty text with room for the body of a reply, which then allocates no memory.
 fn room(alloc: Global) -> Result<String, ImportFault>
     ensures empty { IfOk result (λ body. string_bytes body ≡ []) }
     ensures wide { IfOk result (λ body. string_len body + 320 ≤ string_capacity body) }
@@ -31,7 +31,7 @@ fn room(alloc: Global) -> Result<String, ImportFault>
     Ok(String::with_capacity(alloc, ROOM)?)
 }
 
-/// What is told of the keeper's reply to a batch, in room that was taken before.
+/// The result for the keeper's reply to a batch, in room that was allocated before.
 fn tell(body: String, batch: &Batch, reply: Reply) -> Result<String, ImportStop>
     requires empty { string_bytes body ≡ [] }
     requires wide { string_len body + 320 ≤ string_capacity body }
@@ -47,7 +47,7 @@ fn tell(body: String, batch: &Batch, reply: Reply) -> Result<String, ImportStop>
     }
 }
 
-/// Asks the keeper to act on a batch, and returns its reply in room that was taken before.
+/// Has the keeper act on a batch, and returns its reply in room that was allocated before.
 fn apply<K: Keeper>(keeper: &mut K, batch: &Batch, body: String) -> Result<String, ImportStop>
     requires empty { string_bytes body ≡ [] }
     requires wide { string_len body + 320 ≤ string_capacity body }
@@ -72,30 +72,30 @@ fn apply<K: Keeper>(keeper: &mut K, batch: &Batch, body: String) -> Result<Strin
 }
 
 /// Applies the batch that a text was imported by (`import_batch`) to a keeper, and returns the body
-/// of its reply, as compact JSON text. The room for it is taken before the keeper is asked, so a
-/// batch that acted is answered.
+/// of its reply, as compact JSON text. The room for it is allocated before the keeper receives the
+/// batch, so a batch that acted is answered.
 ///
 /// # Errors
 ///
-/// `NotRead` with `Memory` where there is no room, and then the keeper was not asked; `Refused`
-/// where the batch is, which changed nothing either; `Stopped` with the fault of the keeper.
+/// `NotRead` with `Memory` if there is no room, and then the keeper received no request; `Refused`
+/// if the batch is, which changed nothing either; `Stopped` with the fault of the keeper.
 pub fn apply_import<K: Keeper>(
     alloc: Global,
     keeper: &mut K,
     batch: &Batch,
 ) -> Result<String, ImportStop>
-    // The keeper was never asked and is as it was, or what is returned is what it replied.
+    // The keeper received no request and is as it was, or what is returned is what it replied.
     ensures told { IsOfReply (batch_value batch.now).key
         (λ r. K.applies keeper.old (batch_value batch.now) r keeper.new)
         (keeper.new ≡ keeper.old) result }
     ensures began_clean { K.is_clean keeper.new → K.is_clean keeper.old }
-    // A shut keeper that is asked answers `Reopen` and no other does; `Device` and `Damaged` shut
-    // it.
+    // A closed keeper that receives the batch returns `Reopen` and no other does; `Device` and
+    // `Damaged` close it.
     ensures faults { ImportShuts result (K.cause keeper.old) (K.cause keeper.new) }
     // What is returned, and the state afterwards, are those of the batch.
     ensures imports { K.is_clean keeper.new → (s : State) → K.stands keeper.old s →
         Imports s (Ok (batch_value batch.now)) result (K.stands keeper.new) }
-    // A stop may leave the state after the batch alone, where it was answered.
+    // A crash can leave only the state after the batch, if there was a reply to it.
     ensures leaves { K.is_clean keeper.new → (s : State) → K.stands keeper.old s →
         LeavesOnly (K.may_leave keeper.old) (Some s) →
         ImportLeaves s (Ok (batch_value batch.now)) result (K.may_leave keeper.new) }
@@ -108,12 +108,12 @@ pub fn apply_import<K: Keeper>(
 }
 
 /// Puts the features of a FeatureCollection text into a collection by one batch: `import_batch`,
-/// and then `apply_import`. `progress` is told how many features are read.
+/// and then `apply_import`. It reports to `progress` how many features are read.
 ///
 /// # Errors
 ///
-/// `NotRead` with the first refusal of `import_batch`, and then nothing changed; `Refused` where
-/// the batch is, which changed nothing either; `Stopped` with the fault of the keeper.
+/// `NotRead` with the first refusal of `import_batch`, and then nothing changed; `Refused` if the
+/// batch is, which changed nothing either; `Stopped` with the fault of the keeper.
 pub fn import<K: Keeper, P: Progress>(
     alloc: Global,
     keeper: &mut K,
@@ -123,19 +123,19 @@ pub fn import<K: Keeper, P: Progress>(
     replace: bool,
     progress: &mut P,
 ) -> Result<String, ImportStop>
-    // The keeper was never asked and is as it was, or what is returned is what it replied to the
-    // batch that the text is.
+    // The keeper received no request and is as it was, or what is returned is what it replied to
+    // the batch that the text means.
     ensures told { (b : BatchValue) → import_of replace key.now collection.now text.now ≡ Ok b
         → IsOfReply b.key (λ r. K.applies keeper.old b r keeper.new) (keeper.new
         ≡ keeper.old) result }
     ensures began_clean { K.is_clean keeper.new → K.is_clean keeper.old }
-    // A shut keeper that is asked answers `Reopen` and no other does; `Device` and `Damaged` shut
-    // it.
+    // A closed keeper that receives the batch returns `Reopen` and no other does; `Device` and
+    // `Damaged` close it.
     ensures faults { ImportShuts result (K.cause keeper.old) (K.cause keeper.new) }
-    // What is returned, and the state afterwards, are those of the batch that the text is.
+    // What is returned, and the state afterwards, are those of the batch that the text means.
     ensures imports { K.is_clean keeper.new → (s : State) → K.stands keeper.old s →
         Imports s (import_of replace key.now collection.now text.now) result (K.stands keeper.new) }
-    // A stop may leave the state after the batch alone, where it was answered.
+    // A crash can leave only the state after the batch, if there was a reply to it.
     ensures leaves { K.is_clean keeper.new → (s : State) → K.stands keeper.old s →
         LeavesOnly (K.may_leave keeper.old) (Some s) →
         ImportLeaves s (import_of replace key.now collection.now text.now)

@@ -2,19 +2,19 @@
 //! lines of kept batches.
 //!
 //! `import_batch` makes of the text of a FeatureCollection the batch that puts its features into a
-//! collection; which batch, and which refusal comes first, is `specs/Imports`. `apply_import`
-//! applies it to a keeper, and returns the body of the reply; what is returned, and what the keeper
-//! stands for then, is `specs/KeeperImports`. `import` is both.
+//! collection; `specs/Imports` defines which batch, and which refusal comes first. `apply_import`
+//! applies it to a keeper, and returns the body of the reply; `specs/KeeperImports` defines what is
+//! returned, and which state the keeper then represents. `import` is both.
 //!
-//! `export` writes the text of a whole collection, page by page, over any keeper; which text, and
-//! what was written where it ends early, is `specs/Exports`.
+//! `export` writes the text of a whole collection, page by page, over any keeper; `specs/Exports`
+//! defines which text, and what was written if it ends early.
 //!
-//! Each tells how far it is to a `Progress`, which can do nothing to the result.
+//! Each reports its progress to a `Progress`, which cannot change the result.
 //!
-//! `write_batches` writes a line for each batch that a keeper keeps behind a serial, in order of
-//! their serials; which bytes, and what was written where it ends early, is `specs/Printed`. It
-//! asks the keeper for a few batches at a time, so that the memory it takes does not grow with how
-//! many there are. These lines are those of the state's journal (`line_laws`).
+//! `write_batches` writes a line for each batch that a keeper keeps after a serial, in order of
+//! their serials; `specs/Printed` defines which bytes, and what was written if it ends early. It
+//! reads a few batches at a time from the keeper, so that the memory it takes does not grow with
+//! their number. These lines are those of the state's journal (`line_laws`).
 //!
 //! Modules, in the order of reading: `fault`, `progress`, `importing`, `keeping`, `part`,
 //! `exporting`, `laws`; `lines_stop`, `batch_lines`, `batches`, `line_laws`.

@@ -8,7 +8,7 @@ use streetmap_text_lines::WriteFault;
 /// Why lines are not written to the end.
 #[derive(Clone, Copy, PartialEq, Drop)]
 pub enum LinesStop {
-    /// The keeper did not answer, or memory was refused.
+    /// The keeper gave no reply, or memory ran out.
     Stopped(Fault),
     /// A line could not be written.
     WriteFailed,
@@ -27,7 +27,7 @@ impl LinesStop {
     }
 }
 
-/// The stop at bytes that were not written.
+/// The fault of bytes that were not written.
 pub(crate) fn of_write(fault: WriteFault) -> LinesStop
     ensures memory { fault ≡ WriteFault.Memory → result ≡ LinesStop.Stopped Fault.Memory }
     ensures other { fault ≢ WriteFault.Memory → result ≡ LinesStop.WriteFailed }

@@ -20,7 +20,7 @@ use streetmap_ledger::{Keeper, Page};
 use streetmap_query::Query;
 use streetmap_text_lines::WriteFault;
 
-/// The page of a thousand features behind an id.
+/// The page of a thousand features after an id.
 pub(crate) fn page_behind<K: Keeper>(
     keeper: &mut K,
     collection: &str,
@@ -50,7 +50,7 @@ pub(crate) fn page_behind<K: Keeper>(
     }
 }
 
-/// The last id of a page, where more features follow.
+/// The last id of a page, if more features follow.
 pub(crate) fn next_id(page: Page) -> Option<Id>
     ensures { result ≡ (page_value page).next }
 {
@@ -64,8 +64,8 @@ pub(crate) fn next_id(page: Page) -> Option<Id>
     }
 }
 
-/// Appends features as they stand in an array, each behind a comma; before the first there is one
-/// where others stand before it.
+/// Appends features as they are in an array, each after a comma; the first has one only if others
+/// come before it.
 fn push_part(
     alloc: Global,
     out: &mut String,
@@ -99,7 +99,7 @@ pub(crate) fn write_bytes<W: Write>(writer: &mut W, bytes: &[u8]) -> Result<(), 
     }
 }
 
-/// Writes features as they stand in an array.
+/// Writes features as they are in an array.
 pub(crate) fn write_part<W: Write>(
     alloc: Global,
     writer: &mut W,
@@ -120,7 +120,7 @@ pub(crate) fn write_part<W: Write>(
     write_bytes(writer, text.as_str().as_bytes())
 }
 
-/// Writes what stands behind the features, and lets the reader of the text see it.
+/// Writes what follows the features, and flushes the writer.
 pub(crate) fn write_end<W: Write>(writer: &mut W) -> Result<(), ExportFault>
     ensures ok { OnOk result (Appends (W.contents writer.old) (W.contents writer.new)
         (codes "],\"type\":\"FeatureCollection\"}\n")) }

@@ -1,17 +1,16 @@
-//! How far an import or an export is.
+//! The progress of an import or an export.
 
-/// After so many features it is told again.
+/// The number of features between two reports.
 const STEP: u64 = 1_000;
 
-/// What is told how far an import or an export is. It changes nothing of what is imported or
-/// written.
+/// Receives the progress of an import or an export. It does not change what is imported or written.
 pub trait Progress {
-    /// So many features were read of the text, or written of the collection: 1,000, 2,000 and so
-    /// on.
+    /// This number of features was read from the text, or written of the collection: 1,000, 2,000
+    /// and so on.
     fn reached(&mut self, features: u64);
 }
 
-/// Tells that there are so many features, at each thousandth.
+/// Reports the number of features, at each thousandth.
 pub(crate) fn tell<P: Progress>(progress: &mut P, features: u64) {
     if features > 0 && features % STEP == 0 {
         progress.reached(features);
