@@ -117,7 +117,7 @@ impl Cells {
         (mixed % self.buckets.len() as u64) as usize
     }
 
-    /// Adds that a chunk has an outline with this extent. After an error only this entry is
+    /// Lists that a chunk has an outline with this extent. After an error only this entry is
     /// missing.
     fn put_envelope(&mut self, chunk: u32, extent: Envelope) -> Result<(), AllocError>
         ensures kept { KeepsListed self.old self.new }
@@ -135,7 +135,7 @@ impl Cells {
         Ok(())
     }
 
-    /// Adds that a chunk has an outline with this extent. After an error only this entry is
+    /// Lists that a chunk has an outline with this extent. After an error only this entry is
     /// missing.
     pub fn put(&mut self, chunk: u32, extent: &GridBox) -> Result<(), AllocError>
         ensures kept { KeepsExtents self.old self.new }

@@ -125,8 +125,8 @@ pub fn check_tables<S: Alter>(alloc: Global, conn: &mut Connection<S>) -> Result
     }
 }
 
-/// If the shown rows are those of a well-formed state, as those of the state whose numbers a check
-/// reports are, then that state is the one that the tables hold, if they hold one.
+/// A well-formed state whose rows are shown is the one that the tables hold, if they hold one. The
+/// state whose numbers a check reports is such a state.
 pub fn shown_state_is_kept<S: Alter>(conn: &Connection<S>)
     ensures { (s t : State) → IsState s → ShowsState s (state S.Store conn.now) →
         Rests (state S.Store conn.now) t → s ≡ t }

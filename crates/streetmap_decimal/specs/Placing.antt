@@ -45,7 +45,7 @@ shifted n (pos k) = limited (n * 10 ^ k)
 shifted n (negsuc k) =
     if (n % 10 ^ suc k) == 0 then limited (n / 10 ^ suc k) else Err TooManyDigits
 
--- how often m * 10 ^ e holds 10 ^ -places
+-- m * 10 ^ e as a count of 10 ^ -places
 abbrev pub count_of : (places : ℕ) → (m e : ℤ) → Result ℤ DecimalFault
 count_of places m e =
     shifted (unsigned_abs m) (e +ℤ pos places) >>= λ u. Ok (with_sign_of m u)

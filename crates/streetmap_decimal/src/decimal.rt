@@ -74,7 +74,7 @@ impl Decimal {
         signed(number.is_exponent_negative, magnitude) - number.fraction.len() as i128
     }
 
-    /// How often the number holds 10^-places.
+    /// The number as a count of 10^-places.
     ///
     /// # Errors
     ///
@@ -87,7 +87,7 @@ impl Decimal {
         Ok(signed(self.mantissa < 0, magnitude))
     }
 
-    // How often the number of a text holds 10^-places.
+    // The number of a text as a count of 10^-places.
     fn count_of_text(text: &[u8], places: u8) -> Result<i128, DecimalFault>
         ensures { ReadsCount places text.now result }
     {
@@ -95,7 +95,7 @@ impl Decimal {
         decimal.count(places)
     }
 
-    /// How often the number of an option's text holds 10^-places, if that is a whole number below
+    /// The number of an option's text as a count of 10^-places, if that is a whole number below
     /// 10^36.
     pub fn count_of_option(text: &[u8], places: u8) -> Option<i128>
         ensures reads { ReadsOption places text.now result }

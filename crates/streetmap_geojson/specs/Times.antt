@@ -11,7 +11,7 @@ use Rattle.streetmap_geojson.specs.declared.fault.Fault.{Fault}
 use Rattle.streetmap_geojson.specs.declared.fault.Fault.TheVariants.{BadTime, EmptyInterval}
 use Rattle.streetmap_geojson.specs.FeatureValue.{FeatureValue}
 
--- the interval that was read, as a time that exists
+-- the interval that was read, as a time that is present
 abbrev pub there : Result IntervalValue TimeFault → Result (Option IntervalValue) TimeFault
 there (Ok i) = Ok (Some i)
 there (Err f) = Err f

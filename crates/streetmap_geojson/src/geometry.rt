@@ -174,7 +174,7 @@ fn read_geometry_collection(
     Ok(Some(Geometry::Collection(NonEmpty::new(members))))
 }
 
-// A geometry that is no collection, or none.
+// A geometry that is not a collection, or none.
 fn single(simple: Option<SimpleGeometry>) -> Option<Geometry>
     ensures { option_map geometry_value result ≡ single_of (option_map simple_value simple) }
 {

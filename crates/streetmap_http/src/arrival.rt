@@ -104,7 +104,7 @@ fn arrival_by(bytes: &[u8], head: Option<usize>) -> Arrival
 }
 
 /// What bytes hold of a request, if their front was scanned before. While bytes of the body are
-/// missing, each call reads the head again: call it again only when that many have arrived.
+/// missing, each call reads the head again, so it is best called when that many have arrived.
 pub fn arrival_after(scan: &mut HeadScan, bytes: &[u8]) -> Arrival
     requires { HasScanned scan.old bytes.now }
     ensures holds { HoldsOf result bytes.now }

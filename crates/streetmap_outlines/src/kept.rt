@@ -18,7 +18,7 @@ pub struct KeptOutline {
     /// The first and the last second of its time, since 1970-01-01T00:00:00Z, as a `FeatureOutline`
     /// has them; none if it has no time.
     pub seconds: Option<(i64, i64)>,
-    /// The rowid of its row, if a store gave one that fits. No clause relies on it.
+    /// The rowid of its row, if a store gave one that fits. Clauses claim nothing of it.
     pub rowid: Option<u32>,
 }
 

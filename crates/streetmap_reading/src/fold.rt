@@ -11,9 +11,9 @@ use sqlite::types::ValueRef;
 use sqlite::{Alter, Connection, Error, ErrorCode, Row, Rows};
 use streetmap_rows::ReadFault;
 
-/// What takes rows one after the other, up to the first with which no good rows begin.
+/// Takes rows one after the other, up to the first with which no good rows begin.
 pub trait RowFold {
-    /// What a value holds of these rows, if the first value is the one it began as.
+    /// The second value holds what these rows say, if it began as the first.
     ghost holds: { Self → Self → List Cells → Type 0 };
 
     /// Rows that are good for a value that begins in this way.

@@ -19,7 +19,7 @@ pub record IsDropText (sql name : List ℕ) : Type 0 where
   pub drops : parsed.statement ≡ statement.DropTable false name
   pub plain : parsed.formats ≡ []
 
--- the text is that alone, and has no parameter; the name is none of SQLite's own
+-- the text is that alone, and has no parameter; the name is not one of SQLite's own
 pub record IsDropAlone (sql name : List ℕ) : Type 0 where
   pub is : IsDropText sql name
   pub whole : length sql ≤ is.parsed.tail
