@@ -15,6 +15,7 @@ from dataclasses import dataclass, field
 from pathlib import Path
 
 from harness import TESTS, Context, free_port
+from theorem import page_faults
 
 PACKAGES = ("curl", "gdal-bin")
 ROOT = TESTS.parent
@@ -193,8 +194,14 @@ def check_man(context: Context) -> None:
     context.check("settings that the manual page lacks", lacking, [])
 
 
+def check_theorem(context: Context) -> None:
+    """What docs/THEOREM.md quotes and counts is so."""
+    context.check("what the theorem's page says that is not so", page_faults(), [])
+
+
 def run(context: Context) -> None:
     check_man(context)
+    check_theorem(context)
     check_sizes(context)
     check_links(context)
     check_api(context)
