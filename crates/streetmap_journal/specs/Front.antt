@@ -13,7 +13,7 @@ abbrev pub GoesOnOtherwise : Option (List ℕ) → (expected : List ℕ) → ℕ
 GoesOnOtherwise input expected n =
     IfSome input (λ bytes. slice_get bytes n ≡ slice_get expected n → ⊥)
 
--- the first n of the bytes expected were taken off, all with which the input begins
+-- the first n of the expected bytes were taken off: as many of them as the input begins with
 abbrev pub TakesFront : (old new : Option (List ℕ)) → (expected : List ℕ) → ℕ → Type 0
 TakesFront old new expected n =
     (n ≤ length expected) × Consumes old new (take n expected)

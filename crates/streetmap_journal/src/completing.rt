@@ -44,7 +44,7 @@ fn kept_line<K: KeepsBatches>(
     }
 }
 
-/// The fault if memory ran out before a batch was requested: a shut keeper answers as always.
+/// The fault if no batch was requested because memory ran out: a shut keeper answers as always.
 pub(crate) fn refuse<K: KeepsBatches>(keeper: &mut K) -> Fault
     ensures spared { K.spares keeper.old keeper.new }
     ensures began_clean { K.is_clean keeper.new → K.is_clean keeper.old }

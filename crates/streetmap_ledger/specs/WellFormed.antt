@@ -19,7 +19,7 @@ pub record IsPlaced (property : Option Text) (id : Text) (f : FeatureValue) : Ty
   pub named : f.id ≡ id
   pub timed : time_of property f.properties ≡ Ok f.time
 
--- every feature of a collection is
+-- this holds for every feature of a collection
 abbrev pub HoldsFeatures : Collection → Type 0
 HoldsFeatures c = (id : Text) (f : FeatureValue) → get c.features id ≡ Some f → IsPlaced c.time id f
 

@@ -1,5 +1,5 @@
--- The faults that may end the answering of lines: their names and sentences, and which of its parts
--- has which.
+-- The faults that may end the answering of lines: their names and sentences, and those
+-- of each part.
 use Rattle.std.specs.Prelude.{◌⊎◌, ⊤, ℕ, List, codes}
 use Rattle.streetmap_lines.specs.declared.fault.LinesFault.{LinesFault}
 use Rattle.streetmap_lines.specs.declared.fault.LinesFault.TheVariants.{LineTooLong, ReadFailed}

@@ -92,9 +92,9 @@ fn read_line<'a>(line: &'a [u8]) -> Option<Request<'a>>
     }
 }
 
-/// The request of a line, without its line feed: `batch TEXT`, `page COLLECTION`, `page COLLECTION
-/// QUERY` or `feature COLLECTION ID`, its words separated by one space; none if it is none of
-/// these, or not UTF-8. Each text may be empty; a collection and a query hold no space.
+/// The request of a line, without its line feed: `batch TEXT`, `page COLLECTION`,
+/// `page COLLECTION QUERY` or `feature COLLECTION ID`, its words separated by one space; none if it
+/// is none of these, or not UTF-8. Each text may be empty; a collection and a query hold no space.
 pub fn read_request<'a>(line: &'a [u8]) -> Option<Request<'a>>
     ensures value { option_map request_value result ≡ request_in line.entry.now }
     // What is read is the request that the line spells.

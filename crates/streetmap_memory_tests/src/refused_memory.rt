@@ -1,4 +1,4 @@
-//! Each allocation fails in turn: the answers are those given with ample memory, or a prefix of
+//! Runs in which an allocation fails: the answers are those given with ample memory, or a prefix of
 //! them and the fixed 503.
 //!
 //! With ample memory this expects all answers; `rt try --test --fail-alloc N` makes the Nth

@@ -20,8 +20,8 @@ IsOfJournal bs lines (Some input) =
     All (IsLineOf bs) lines
     × ((part : List ℕ) × (input ≡ text_of_lines lines ++ part) × HasNoLineFeed part)
 
--- if the first k lines were followed and then some of these lines, in order from the first, the
--- follower then has followed up to the highest serial among them, or is as before
+-- a follower of the journal's first k lines that then followed a prefix of these lines is the
+-- follower up to the highest serial among them, or as before
 abbrev pub FollowerBy : List BatchValue → ℕ → List Line → (count : ℕ) → End → (State → Type 0) →
     Type 0
 FollowerBy bs k lines count ends.NotTold stands =

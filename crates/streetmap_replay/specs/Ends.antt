@@ -86,8 +86,8 @@ FollowingEndsBy t read old new given left ends.NotTold stands =
     × ((o : Outcome) × (line_outcome t line ≡ Ok o) × stands o.state
     × (given → LeavesOnly left (Some o.state)))
 
--- this number of lines, from the start of the input, were followed from this state on and their
--- replies reported, and how it ended then
+-- this number of the first lines of the input were followed from this state on and their replies
+-- reported, and how it ended then
 pub record Follows {T : Type 0} (s : State) (old new : Option (List ℕ))
     (tells : T → Text → Reply → T → Type 0) (first last : T)
     (before left : Option State → Type 0) (result : Followed) (stands : State → Type 0) :

@@ -42,7 +42,7 @@ fn push_post(alloc: Global, requests: &mut String, body: &str) -> Result<(), All
     requests.push_str(body)
 }
 
-/// Appends the requests that post the batches of the state before.
+/// Appends the requests that post the batches applied before.
 fn push_before(alloc: Global, requests: &mut String, row: &Value) -> Result<(), AllocError> {
     if let Some(batches) = row.get("before").and_then(Value::as_array) {
         for batch in batches {

@@ -1,4 +1,4 @@
-//! The rows of HTTP, a JSON object a line: what it shows, the batches of the state before, the
+//! The rows of HTTP, a JSON object a line: what it shows, the batches that are there before, the
 //! bytes of the requests, and all bytes of the answers. `tests/http_table.py` writes this file from
 //! `examples/http.jsonl`: change that one, and write this one again.
 

@@ -19,7 +19,7 @@ const MOST_CLIENTS: usize = 16;
 /// Why nothing is served, or serving ended.
 #[derive(Clone, Copy, Drop)]
 enum TryFault {
-    /// The argument is not a port.
+    /// The arguments do not name a port.
     Usage,
     /// The port is in use, or sockets could not be waited for.
     Net,

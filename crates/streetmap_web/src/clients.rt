@@ -20,9 +20,9 @@ use streetmap_ledger::Keeper;
 
 /// Serves clients of a listener over a keeper, many at once, until `count` of them ended.
 ///
-/// A client that fails, or takes longer than the limits of `clients` allow, ends alone. If memory
-/// runs out for a client's request, the client is sent the fixed answer 503, and its connection
-/// closes. From here on a call of `accept` on the listener does not wait.
+/// If a client fails, or takes longer than the limits of `clients` allow, only that client ends. If
+/// memory runs out for a client's request, the client is sent the fixed answer 503, and its
+/// connection closes. From here on a call of `accept` on the listener does not wait.
 ///
 /// After a crash, before or within any write, the reopened keeper holds the state of a prefix of
 /// the batches of all clients, in the one order in which they were answered, that contains each
