@@ -22,8 +22,8 @@ use Rattle.streetmap_guarantee.specs.Histories.{Event, IsSequential, acknowledge
 abbrev pub exchanges_of : History → List Exchange
 exchanges_of h = h.exchanges
 
--- What was received is these requests, in order, then what was refused and what waits; what was sent
--- and what waits to be sent is their answers, and then the refusal: one at most.
+-- What was received is these requests, in order, then what was refused and what is waiting; what
+-- was sent and what is waiting to be sent is their answers, and then the refusal: one at most.
 abbrev pub IsInOrder : History → Type 0
 IsInOrder h = ∥ FitsStream h ∥₁
 

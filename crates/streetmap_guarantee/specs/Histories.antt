@@ -15,7 +15,7 @@ use Rattle.streetmap_web.specs.Response.{response_in, response_shut, fault_respo
 use Rattle.streetmap_web.specs.Response.{asks_state, closes_with, response_text}
 use Rattle.streetmap_guarantee.specs.Server.{Server, serving, failed}
 
--- what is asked gets the response, and leads from one server to the other
+-- a request gets the response, and leads from one server to the other
 pub data Step (root : Text) (ask : AskValue) (response : ResponseValue) (old new : Server)
     : Type 0 where
   -- the response of the state, which a batch changes
@@ -28,7 +28,7 @@ pub data Step (root : Text) (ask : AskValue) (response : ResponseValue) (old new
   store_failed : (s : State) → old ≡ serving s → asks_state ask ≡ true
       → response ≡ fault_response (Keeper Device) → new ≡ failed s (state_in s ask)
       → Step root ask response old new
-  -- after that: 500 to whatever asks the state
+  -- after that: 500 to each request that needs the state
   still_failed : (before after : State) → old ≡ failed before after
       → response ≡ response_shut root ask → new ≡ old → Step root ask response old new
 
@@ -38,8 +38,8 @@ pub record Event : Type 0 where
   pub request : RequestValue
   pub response : ResponseValue
 
--- the bytes that came say this: a head with its body, or bytes that break a rule of HTTP; or a head
--- alone, if there was no memory for its body
+-- the bytes that came say this: a head with its body, or bytes that break a rule of HTTP; or only a
+-- head, if there was no memory for its body
 pub data Asks (e : Event) : Type 0 where
   whole : (h : HeadValue) (body : Text) → IsRequest e.exchange.request h body
       → e.request ≡ request_of h body → Asks e
@@ -48,7 +48,7 @@ pub data Asks (e : Event) : Type 0 where
   no_room : (h : HeadValue) → IsHead e.exchange.request → Frames e.exchange.request (sized h)
       → e.request ≡ request_of h [] → e.response ≡ fault_response (Keeper Memory) → Asks e
 
--- both texts say so, and the connection closes if it is asked to or something failed
+-- both texts say so, and the connection closes if the request says so or something failed
 pub record IsHttp (e : Event) : Type 0 where
   pub asks : Asks e
   pub closes : e.exchange.closes ≡ closes_with e.request.closes e.response

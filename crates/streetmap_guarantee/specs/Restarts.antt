@@ -25,7 +25,7 @@ pub data Runs {Image : Type 0} (holds : Image → State → Type 0) (root : Text
       → Runs holds root first last
 
 -- From one state the runs led to another: each to the state after the batches that it acknowledged,
--- in the order of its history, and after one more at most, at which its store failed.
+-- in the order of its history, and after at most one more, at which its store failed.
 abbrev pub LeadTo : {Image : Type 0} {holds : Image → State → Type 0} {root : Text}
     {first last : Image} → Runs holds root first last → State → State → Type 0
 LeadTo none s t = t ≡ s

@@ -9,7 +9,7 @@ use Rattle.streetmap_web.specs.declared.serving.End.{End}
 use Rattle.streetmap_guarantee.specs.Guarantee.{Guarantee}
 
 -- A stream was served as one connection: the reader gave its requests, in order, the writer got
--- what was sent, and the stream ended so.
+-- what was sent, and the stream ended in this way.
 pub record GuaranteeOfStream {Image : Type 0} (holds : Image → State → Type 0)
     (leaves : Image → Type 0) (root : Text) (s : State) (end : End)
     (input_before input_after output_before output_after : Option Text) : Type 0 where

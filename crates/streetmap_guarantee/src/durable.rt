@@ -7,7 +7,7 @@ use streetmap_ledger::Keeper;
 /// A keeper whose store can be opened again after a crash.
 ///
 /// An implementer says which images of its store a crash may leave, and which state an image holds,
-/// and owes two laws.
+/// and proves two laws.
 pub trait Durable: Keeper {
     /// What can be found of a store that was open.
     ghost image: { Type 0 };
@@ -15,10 +15,10 @@ pub trait Durable: Keeper {
     /// A crash may leave this image.
     ghost leaves: { Self → image → Type 0 };
 
-    /// The image holds this state: who opens it represents the state again.
+    /// The image holds this state: a keeper that opens it represents the state again.
     ghost holds: { image → State → Type 0 };
 
-    /// Of a keeper that represents a state a crash may leave that state alone.
+    /// After a crash of a keeper that represents a state, only that state may be left.
     ghost leaves_its_state: { (keeper : Self) (s : State) → Self.stands keeper s →
         (o : Option State) → Self.may_leave keeper o → o ≡ Some s };
 

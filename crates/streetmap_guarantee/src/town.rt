@@ -15,7 +15,7 @@ use std::time::Clock;
 use streetmap_connections::{Clients, ServeFault};
 use streetmap_web::{KeeperService, serve_clients};
 
-/// Serves the clients of a listener over a keeper, many at once, until that number of them ended
+/// Serves the clients of a listener over a keeper, many at once, until `count` of them ended
 /// (`streetmap_web::serve_clients`).
 ///
 /// # Errors

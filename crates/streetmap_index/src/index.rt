@@ -15,7 +15,7 @@ use std::collections::BTreeMap;
 use streetmap_batch::Edit;
 use streetmap_ledger::Summary;
 
-/// At how many looks nothing is learnt after memory was refused.
+/// At how many reads nothing is learnt after memory ran out.
 const LOOKS_OFF: u8 = 63;
 
 /// What is known of some collections.
@@ -23,13 +23,13 @@ const LOOKS_OFF: u8 = 63;
 pub struct Index {
     /// What is known of each of them, by its id.
     pub known: BTreeMap<String, OutlinedCollection>,
-    /// Whether these are all collections that are there; `false` where that is not known.
+    /// Whether these are all collections that exist; `false` if that is not known.
     pub is_whole: bool,
-    /// At how many looks more nothing is learnt, since memory was refused.
+    /// At how many further reads nothing is learnt, since memory ran out.
     pub looks_off: u8,
 }
 
-/// The id of the collection that an edit is of.
+/// The id of the collection that an edit changes.
 fn collection_of(edit: &Edit) -> &str
     ensures { result.now ≡ collection_of_value (edit_value edit.now) }
 {
@@ -54,7 +54,7 @@ impl Index {
         }
     }
 
-    /// Forgets all, since memory was refused, and has nothing learnt at the next looks.
+    /// Forgets all, since memory ran out, and learns nothing at the next reads.
     pub fn give_up(&mut self, alloc: Global)
         ensures index { (s : State) → IsIndexOf self.new s }
         ensures off { self.new.looks_off ≡ 63 }
@@ -63,8 +63,8 @@ impl Index {
         self.looks_off = LOOKS_OFF;
     }
 
-    /// Whether a collection is to be learnt at this look: it is not known, and nothing is put off.
-    /// While it is, looks at collections that are not known are counted down.
+    /// Whether a collection is to be learnt at this read: it is not known, and learning is not put
+    /// off. While learning is put off, reads of collections that are not known are counted down.
     pub fn is_due(&mut self, name: &str) -> bool
         ensures index { (s : State) → IsIndexOf self.old s → IsIndexOf self.new s }
         ensures due { known_under name.now self.old.known.entries ≡ None
@@ -82,7 +82,7 @@ impl Index {
         false
     }
 
-    /// Keeps what is known of a collection. Where memory for it is refused, all is forgotten.
+    /// Keeps what is known of a collection. If memory for it runs out, all is forgotten.
     pub fn keep(&mut self, alloc: Global, name: &str, outlined: OutlinedCollection)
         ensures { (s : State) → IsIndexOf self.old s
             → IsOutlinedIf outlined (get s.collections name.now) → IsIndexOf self.new s }
@@ -100,7 +100,7 @@ impl Index {
         }
     }
 
-    /// Notes whether these collections, which are all that are there, are known.
+    /// Records whether these collections, which are all that exist, are known.
     pub fn note(&mut self, summaries: &[Summary])
         ensures { (s : State) → summary_values summaries.now ≡ summaries_in s
             → IsIndexOf self.old s
@@ -128,7 +128,7 @@ impl Index {
         }
     }
 
-    /// Follows edits that were done. Where memory for that is refused, all is forgotten.
+    /// Follows edits that were done. If memory for that runs out, all is forgotten.
     pub fn follow(&mut self, alloc: Global, edits: &[Edit])
         ensures { (s t : State) (place : ℕ) → edited place s (edit_values edits.now) ≡ Ok t
             → IsIndexOf self.old s → IsIndexOf self.new t }

@@ -39,7 +39,7 @@ fn outline_of(
 }
 
 impl OutlinedCollection {
-    /// Puts the outline of a feature in, with the time that the collection's property tells.
+    /// Puts the outline of a feature in, with the time that the collection's property gives.
     fn put(&mut self, alloc: Global, feature: &WrittenFeature) -> Result<(), AllocError>
         ensures { (c : Collection) (g : FeatureValue) → IsOutlined self.old c
             → timed c.time feature.now ≡ Ok g

@@ -1,4 +1,4 @@
--- What a journal that lacks lines is completed by.
+-- How a journal that lacks lines is completed.
 use Rattle.std.specs.Prelude.{◌≡◌, ◌++◌, ◌⊎◌, ℕ, List, [], ◌∷◌, Option, None, Some}
 use Rattle.std.specs.Prelude.{Result, Ok, Err, option_map}
 use Rattle.streetmap_batch.specs.Text.{Text}
@@ -17,11 +17,11 @@ IsKeptLine s serial (Some line) =
     (text : Text) × (option_map kept_text (batch_in s serial) ≡ Some text)
     × (line ≡ line_bytes (numbered serial text) ++ 10 ∷ [])
 
--- a keeper was not shut, neither before nor after, unless it was not asked
+-- a keeper was not called, or it was shut neither before nor after
 abbrev pub StaysUnshut : {K : Type 0} → (K → Option Cause) → K → K → Type 0
 StaysUnshut cause old new = (new ≡ old) ⊎ ((cause old ≡ None) × (cause new ≡ None))
 
--- a keeper that stood for this state does so still, unless its store failed
+-- a keeper that represented this state still does, unless its store failed
 abbrev pub StateStaysBy : State → Result (Unit {0}) Fault → (State → Type 0) → Type 0
 StateStaysBy s (Ok _) stands = stands s
 StateStaysBy s (Err fault) stands = StaysBut s fault stands

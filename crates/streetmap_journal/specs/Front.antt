@@ -1,4 +1,4 @@
--- What is next of an input, beside bytes that are expected.
+-- What comes next in an input, compared with the bytes that are expected.
 use Rattle.std.specs.Prelude.{◌≡◌, ◌≤◌, ◌<◌, ℕ, List, [], Option, None, Some, length, take}
 use Rattle.std.specs.Prelude.{slice_get, IfSome, Bool, true, false, ◌==◌}
 use Rattle.std.specs.List.{list_all}
@@ -13,7 +13,7 @@ abbrev pub GoesOnOtherwise : Option (List ℕ) → (expected : List ℕ) → ℕ
 GoesOnOtherwise input expected n =
     IfSome input (λ bytes. slice_get bytes n ≡ slice_get expected n → ⊥)
 
--- the first n of the bytes expected were taken off, as many as the input begins with
+-- the first n of the expected bytes were taken off: as many of them as the input begins with
 abbrev pub TakesFront : (old new : Option (List ℕ)) → (expected : List ℕ) → ℕ → Type 0
 TakesFront old new expected n =
     (n ≤ length expected) × Consumes old new (take n expected)

@@ -1,4 +1,4 @@
--- Lines beside the journal of a state.
+-- Lines compared with the journal of a state.
 use Rattle.std.specs.Prelude.{◌≡◌, ◌≤◌, ◌<◌, ◌+◌, ◌-◌, ◌^◌, ℕ, min, List, [], ◌∷◌, ◌++◌, true}
 use Rattle.std.specs.Prelude.{Option, None, Some, Result, Ok, Err, IfSome, length, take, drop}
 use Rattle.std.specs.Prelude.{option_map, ◌==◌, if◌then◌else◌}
@@ -22,7 +22,7 @@ use Rattle.streetmap_journal.specs.declared.matching.MatchEnd.{MatchEnd}
 use Rattle.streetmap_journal.specs.declared.matching.MatchEnd.TheVariants.{All, Cut, Other, Ahead}
 use Rattle.streetmap_journal.specs.declared.matching.MatchEnd.TheVariants.{NotRead, Stopped}
 
--- what a crash leaves of a line that was being written: a prefix of it, and then zeros alone
+-- what a crash leaves of a line that was being written: a prefix of it, and then only zeros
 pub record IsCutOf (line bytes : List ℕ) : Type 0 where
   pub part : List ℕ
   pub zeros : List ℕ
@@ -31,12 +31,12 @@ pub record IsCutOf (line bytes : List ℕ) : Type 0 where
   pub alone : are_zeros zeros ≡ true
   pub some : 0 < length bytes
 
--- the bytes of the line of the batch with this serial, its line feed counted, where there is one
+-- the bytes of the line of the batch with this serial, with its line feed, if there is such a batch
 abbrev pub line_of : State → ℕ → Option (List ℕ)
 line_of s serial =
     option_map (λ b. line_bytes (numbered serial (kept_text b)) ++ 10 ∷ []) (batch_in s serial)
 
--- the rest of an input ends so, where this line is due
+-- the rest of an input ends in this way, if this line is due
 abbrev pub EndsWithin : (line rest : List ℕ) → MatchEnd → Type 0
 EndsWithin line rest All = rest ≡ []
 EndsWithin line rest Cut = IsCutOf line rest
@@ -50,7 +50,7 @@ EndsWithin line rest (Stopped fault) = Unit {0}
 abbrev pub line_head : ℕ → List ℕ
 line_head serial = line_bytes (numbered serial [])
 
--- the rest of an input ends so, where no batch is kept with this serial
+-- the rest of an input ends in this way, if no batch is kept with this serial
 abbrev pub EndsAfterLast : (serial : ℕ) → (rest : List ℕ) → MatchEnd → Type 0
 EndsAfterLast serial rest All = rest ≡ []
 EndsAfterLast serial rest Cut = IsCutOf [] rest
@@ -60,12 +60,12 @@ EndsAfterLast serial rest Ahead = StartsWith rest (line_head serial)
 EndsAfterLast serial rest NotRead = Unit {0}
 EndsAfterLast serial rest (Stopped fault) = Unit {0}
 
--- the rest of an input ends so, where a line is due or none is
+-- the rest of an input ends in this way, whether a line is due or none is
 abbrev pub EndsBy : (due : Option (List ℕ)) → (serial : ℕ) → (rest : List ℕ) → MatchEnd → Type 0
 EndsBy None serial rest end = EndsAfterLast serial rest end
 EndsBy (Some line) serial rest end = EndsWithin line rest end
 
--- the end by what is left of an input after so many bytes of a line
+-- the end by what is left of an input after this number of bytes of a line
 abbrev pub ends_of : Left → (count : ℕ) → MatchEnd
 ends_of left.Nothing count = if count == 0 then All else Cut
 ends_of left.Zeros count = Cut
@@ -85,13 +85,13 @@ IsUnread Cut = ⊥
 IsUnread Other = ⊥
 IsUnread Ahead = ⊥
 
--- a keeper that stood for this state does so still, unless its store failed
+-- a keeper that represented this state still does, unless its store failed
 abbrev pub StaysAt : State → MatchEnd → (State → Type 0) → Type 0
 StaysAt s (Stopped fault) stands = StaysBut s fault stands
 StaysAt s end stands = stands s
 
--- the line of the batch with this serial was taken off behind so many bytes, or something else was
--- next
+-- the line of the batch with this serial was taken off after this number of bytes, or something
+-- else was next
 abbrev pub MatchesLine : State → (serial bytes : ℕ) → (old new : Option (List ℕ)) →
     Result ℕ MatchEnd → (State → Type 0) → Type 0
 MatchesLine s serial bytes old new (Ok more) stands =
@@ -100,7 +100,7 @@ MatchesLine s serial bytes old new (Ok more) stands =
 MatchesLine s serial bytes old new (Err end) stands =
     IfSome old (λ rest. EndsBy (line_of s serial) serial rest end) × StaysAt s end stands
 
--- what shut the keeper, by a line
+-- what shut the keeper, by the result for a line
 abbrev pub LineShuts : Result ℕ MatchEnd → (old new : Option Cause) → Type 0
 LineShuts (Err (Stopped fault)) old new = ShutsBy {T = Unit {0}} (Err fault) old new
 LineShuts result old new = (old ≡ None) × (new ≡ None)
@@ -115,20 +115,20 @@ EndShuts cause end old new = StaysUnshut cause old new
 abbrev pub lines_from : State → ℕ → ℕ → List Line
 lines_from s after count = take count (drop after (journal_lines s))
 
--- the first bytes of the input
+-- the input begins with these bytes
 abbrev pub InputBeginsWith : Option (List ℕ) → List ℕ → Type 0
 InputBeginsWith input front = IfSome input (λ bytes. (rest : List ℕ) × (bytes ≡ front ++ rest))
 
--- the serial of the line after so many, as far as one is a number of 64 bits
+-- the serial of the line after this number of lines, as far as it is a number of 64 bits
 abbrev pub serial_behind : (after count : ℕ) → ℕ
 serial_behind after count = min (min (after + count) (2 ^ 64 - 1) + 1) (2 ^ 64 - 1)
 
--- what is behind the first bytes of the input
+-- what follows the first bytes of the input
 abbrev pub RestIs : Option (List ℕ) → (front : List ℕ) → (List ℕ → Type 0) → Type 0
 RestIs input front P =
     IfSome input (λ bytes. (rest : List ℕ) × (bytes ≡ front ++ rest) × P rest)
 
--- that many of the first lines are those of the state's journal after a serial, and what is behind
+-- this number of the first lines are those of the state's journal after a serial, and what follows
 -- them is known by the end
 pub record Matches (s : State) (after : ℕ) (input : Option (List ℕ)) (result : Matched)
     (stands : State → Type 0) : Type 0 where

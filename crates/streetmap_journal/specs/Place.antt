@@ -7,6 +7,6 @@ abbrev pub IsReaderOf : {R : Type 0} → (R → Option (List ℕ)) → Option (L
 IsReaderOf remaining contents None = IfSome contents (λ bytes. bytes ≡ [])
 IsReaderOf remaining contents (Some reader) = Keeps contents (remaining reader)
 
--- it has the first bytes alone, as many as counted
+-- it has only the first bytes, this number of them
 abbrev pub HasFirst : (old new : Option (List ℕ)) → (count : ℕ) → Type 0
 HasFirst old new count = IfSome old (λ bytes. new ≡ Some (take count bytes))

@@ -20,13 +20,13 @@ use Rattle.streetmap_journal.specs.declared.starting.StartFault.{StartFault}
 use Rattle.streetmap_journal.specs.declared.starting.StartFault.TheVariants.{Ahead, Other, NotOpened}
 use Rattle.streetmap_journal.specs.declared.starting.StartFault.TheVariants.{NotRead, Stopped}
 
--- the first line's serial, where bytes begin with one and a tab
+-- the first line's serial, if bytes begin with one and a tab
 abbrev pub HasFirstSerial : List ℕ → Option ℕ → Type 0
 HasFirstSerial bytes (Some serial) = StartsWith bytes (line_head serial) × (serial < 2 ^ 64)
 HasFirstSerial bytes None =
     (serial : ℕ) → serial < 2 ^ 64 → StartsWith bytes (line_head serial) → ⊥
 
--- the serial before a first line's, or the one that was asked for
+-- the serial before a first line's, or the requested one
 abbrev pub serial_after : (first : Option ℕ) → (asked : ℕ) → ℕ
 serial_after None asked = asked
 serial_after (Some serial) asked = if serial == 0 then asked else serial - 1
@@ -66,15 +66,15 @@ BeginsBy s contents old (Ok new) stands =
     (new.after ≡ old.after) × (HoldsIn contents old s → HoldsIn contents new s) × stands s
 BeginsBy s contents old (Err fault) stands = StaysBut s fault stands
 
--- what was there is as it should be, by its lines after the serial where it begins
+-- the bytes found match the state's journal, by the lines after the serial where it begins
 pub record Finds (s : State) (asked after : ℕ) (bytes : Option (List ℕ)) (found : Matched) :
     Type 0 where
   pub begins : IfSome bytes (λ bs. BeginsAfter bs asked after)
   pub matches : Matches s after bytes found (λ _. Unit {0})
 
--- The journal was begun: what was there was its lines, up to the cut of one, and it holds all lines
--- then, or, if it is behind, the first of them. Or it has serials that the state lacks, or another
--- line. The state stays.
+-- The journal was begun: the bytes found were its lines, up to the cut of one, and it holds all
+-- lines then, or, if it is behind, the first of them. Or it has serials that the state lacks, or
+-- another line. The state stays.
 abbrev pub StartsBy : {W : Type 0} → State → (asked : ℕ) → Option (List ℕ) →
     (W → Option (List ℕ)) → Result (Journal W) StartFault → (State → Type 0) → Type 0
 StartsBy s asked bytes contents (Ok journal) stands =
@@ -101,7 +101,7 @@ IsRefused (Ok journal) = ⊥
 IsRefused (Err (Stopped fault)) = ⊥
 IsRefused (Err fault) = Unit {0}
 
--- what shut the keeper, where the start of a journal had this result
+-- what shut the keeper, by the result of starting a journal
 abbrev pub StartShuts : {K W : Type 0} → (K → Option Cause) → Result (Journal W) StartFault →
     (old new : K) → Type 0
 StartShuts cause (Err (Stopped fault)) old new =

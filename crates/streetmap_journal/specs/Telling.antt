@@ -1,11 +1,11 @@
--- What the writer of a journal knows, and what a journal is for a state.
+-- What the writer of a journal knows, and how a journal belongs to a state.
 use Rattle.std.specs.Prelude.{◌≡◌, ◌≤◌, ℕ, Bool, true, false, List, Option, None, Some}
 use Rattle.streetmap_ledger.specs.State.{State}
 use Rattle.streetmap_journal.specs.Written.{TellBytes, HoldsIn}
 use Rattle.streetmap_journal.specs.declared.journal.Journal.{Journal}
 
--- where lines are missing it was told a serial before which none is; where none is it was told
--- that, and all are kept
+-- if lines are missing, the writer was given a serial before which none is; if none is, it was
+-- informed of that, and all are kept
 abbrev pub IsToldBy : (behind : Bool) → (next : ℕ) → (told : Option ℕ) → (kept : Type 0) → Type 0
 IsToldBy false next told kept = (told ≡ None) × kept
 IsToldBy true next told kept = (serial : ℕ) × (told ≡ Some serial) × (serial ≤ next)
@@ -15,24 +15,24 @@ abbrev pub WriterIsTold :
 WriterIsTold told kept journal =
     IsToldBy journal.is_behind journal.next (told journal.writer) (kept journal.writer)
 
--- the journal of a state: its writer knows what is missing; and where writers of its type tell
--- their bytes, these are the lines
+-- the journal of a state: its writer knows what is missing; and if the bytes of all writers of its
+-- type are known, they are the lines
 abbrev pub IsFor : {W : Type 0} → (contents : W → Option (List ℕ)) → (told : W → Option ℕ) →
     (kept : W → Type 0) → Journal W → State → Type 0
 IsFor contents told kept journal s =
     WriterIsTold told kept journal × (TellBytes contents → HoldsIn contents journal s)
 
--- where there is one
+-- the same, if there is a journal
 abbrev pub IsForIf : {W : Type 0} → (contents : W → Option (List ℕ)) → (told : W → Option ℕ) →
     (kept : W → Type 0) → Option (Journal W) → State → Type 0
 IsForIf contents told kept None s = Unit {0}
 IsForIf contents told kept (Some journal) s = IsFor contents told kept journal s
 
--- from one to the other: no line is missing in the end, or the writer failed
+-- from the first to the second: no line is missing in the end, or the writer failed
 abbrev pub IsWholeUnless : {W : Type 0} → (W → W → Type 0) → Journal W → Journal W → Type 0
 IsWholeUnless fails old new = new.is_behind ≡ true → fails old.writer new.writer
 
--- where there is one
+-- the same, if there is a journal
 abbrev pub ReachesUnless :
     {W : Type 0} → (W → W → Type 0) → Option (Journal W) → Option (Journal W) → Type 0
 ReachesUnless fails None None = Unit {0}

@@ -10,8 +10,8 @@ use Rattle.streetmap_replay.specs.Lines.{Line}
 use Rattle.streetmap_replay.specs.JournalText.{journal_lines, text_of_lines}
 use Rattle.streetmap_journal.specs.declared.journal.Journal.{Journal}
 
--- how far a journal is: the serial behind which it begins, that of its next line, how many bytes of
--- that are there, and whether it is behind
+-- how far a journal is: the serial after which it begins, that of its next line, how many bytes of
+-- that line are written, and whether the journal is behind
 pub record Position : Type 0 where
   pub after : ℕ
   pub next : ℕ
@@ -26,19 +26,19 @@ position_of journal = record {
   behind = journal.is_behind;
 }
 
--- each writer of this type tells its bytes
+-- the bytes of each writer of this type are known
 abbrev pub TellBytes : {W : Type 0} → (W → Option (List ℕ)) → Type 0
 TellBytes {W} contents = (w : W) → IsSome (contents w)
 
--- the lines of the state's journal behind one serial and before another
+-- the lines of the state's journal after one serial and before another
 abbrev pub lines_between : State → (after next : ℕ) → List Line
 lines_between s after next = drop after (take (next - 1) (journal_lines s))
 
--- the bytes of the line with this serial, with its line feed: none where no batch has it
+-- the bytes of the line with this serial, with its line feed: none if no batch has it
 abbrev pub line_at : State → ℕ → List ℕ
 line_at s serial = text_of_lines (take 1 (drop (serial - 1) (journal_lines s)))
 
--- the bytes are the lines before the next, and a beginning of that one
+-- the bytes are the lines before the next, and a prefix of that one
 pub record Reaches (p : Position) (bytes : List ℕ) (s : State) : Type 0 where
   pub behind_first : p.after < p.next
   pub within : p.next ≤ length (journal_lines s) + 1
@@ -46,12 +46,12 @@ pub record Reaches (p : Position) (bytes : List ℕ) (s : State) : Type 0 where
       bytes ≡ text_of_lines (lines_between s p.after p.next) ++ take p.part (line_at s p.next)
   pub part : p.part ≤ length (line_at s p.next)
 
--- and they are all lines, where the journal is not behind
+-- and they are all lines, if the journal is not behind
 pub record IsJournalOf (p : Position) (bytes : List ℕ) (s : State) : Type 0 where
   pub reaches : Reaches p bytes s
   pub whole : p.behind ≡ false → p.next ≡ length (journal_lines s) + 1
 
--- where they are known
+-- the bytes are known, and are such a journal
 abbrev pub HoldsJournal : Position → Option (List ℕ) → State → Type 0
 HoldsJournal p None s = ⊥
 HoldsJournal p (Some bytes) s = IsJournalOf p bytes s
@@ -60,7 +60,8 @@ HoldsJournal p (Some bytes) s = IsJournalOf p bytes s
 abbrev pub HoldsIn : {W : Type 0} → (W → Option (List ℕ)) → Journal W → State → Type 0
 HoldsIn contents journal s = HoldsJournal (position_of journal) (contents journal.writer) s
 
--- what lacks of the next line was written, and the next is behind it; or a beginning of that
+-- the missing bytes of the next line were written, and the line after it is next; or a prefix of
+-- them was
 abbrev pub PutsBy : (whole : Bool) → Position → Position → Option (List ℕ) → Option (List ℕ) →
     List ℕ → Type 0
 PutsBy true p q old new line =
@@ -70,13 +71,13 @@ PutsBy false p q old new line =
     (q.after ≡ p.after) × (q.next ≡ p.next) × (p.part ≤ q.part) × (q.part ≤ length line)
     × Appends old new (drop p.part (take q.part line))
 
--- of a line of which no more bytes are there than it has
+-- if no more bytes of the line are written than it has
 abbrev pub PutsLine : (whole : Bool) → Position → Position → Option (List ℕ) → Option (List ℕ) →
     List ℕ → Type 0
 PutsLine whole p q old new line =
     p.part ≤ length line → PutsBy whole p q old new line × (q.behind ≡ p.behind)
 
--- the same, and it is kept where the whole line was written
+-- the same, and it is kept only if the whole line was written
 abbrev pub KeepsLine : (kept : Bool) → Position → Position → Option (List ℕ) →
     Option (List ℕ) → List ℕ → Type 0
 KeepsLine kept p q old new line =
@@ -84,8 +85,8 @@ KeepsLine kept p q old new line =
     (whole : Bool) × PutsBy whole p q old new line × (q.behind ≡ p.behind)
     × (kept ≡ true → whole ≡ true)
 
--- a line was written and kept; or a beginning of it, or it was not kept, and the journal is behind;
--- one that is behind stays as it is
+-- a line was written and kept; or a prefix of it was written, or it was not kept, and the journal
+-- is behind; one that is behind stays as it is
 abbrev pub NotesBy : (behind : Bool) → Position → Position → Option (List ℕ) → Option (List ℕ) →
     List ℕ → Type 0
 NotesBy true p q old new line = (q ≡ p) × (new ≡ old)
@@ -96,7 +97,7 @@ NotesBy false p q old new line =
 abbrev pub NotesLine : Position → Position → Option (List ℕ) → Option (List ℕ) → List ℕ → Type 0
 NotesLine p q old new line = NotesBy p.behind p q old new line
 
--- the reply to a batch is one that came
+-- this holds of the reply to a batch; of a fault nothing is claimed
 abbrev pub OfReply : (Result Reply Fault → Type 0) → Result Reply Fault → Type 0
 OfReply came (Ok reply) = came (Ok reply)
 OfReply came (Err fault) = Unit {0}

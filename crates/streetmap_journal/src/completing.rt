@@ -13,7 +13,7 @@ use crate::journal::{Journal, JournalWriter, whole_line};
 use std::alloc::Global;
 use streetmap_ledger::{Fault, KeepsBatches};
 
-/// The line of the batch with a serial, with its line feed; none where there is no such batch.
+/// The line of the batch with a serial, with its line feed; none if there is no such batch.
 fn kept_line<K: KeepsBatches>(
     alloc: Global,
     keeper: &mut K,
@@ -44,7 +44,7 @@ fn kept_line<K: KeepsBatches>(
     }
 }
 
-/// Why a batch was not asked for, where memory was refused: a shut keeper answers as ever.
+/// The fault if no batch was requested because memory ran out: a shut keeper answers as always.
 pub(crate) fn refuse<K: KeepsBatches>(keeper: &mut K) -> Fault
     ensures spared { K.spares keeper.old keeper.new }
     ensures began_clean { K.is_clean keeper.new → K.is_clean keeper.old }
@@ -67,8 +67,8 @@ pub(crate) fn refuse<K: KeepsBatches>(keeper: &mut K) -> Fault
 }
 
 impl<W: JournalWriter> Journal<W> {
-    /// Has all lines kept, of which none is missing: then it is no longer behind, and the writer is
-    /// told.
+    /// Has all lines kept if none is missing: then the journal is no longer behind, and the writer
+    /// is informed.
     fn settle(&mut self)
         ensures position { (self.new.after ≡ self.old.after) × (self.new.next ≡ self.old.next)
             × (self.new.part ≡ self.old.part) }
@@ -86,7 +86,7 @@ impl<W: JournalWriter> Journal<W> {
         }
     }
 
-    /// Tells the writer where lines are missing.
+    /// Informs the writer from where on lines are missing.
     pub(crate) fn tell_missing(&mut self)
         ensures position { position_of self.new ≡ position_of self.old }
         ensures bytes { Keeps (W.contents self.old.writer) (W.contents self.new.writer) }
@@ -100,12 +100,12 @@ impl<W: JournalWriter> Journal<W> {
     }
 }
 
-/// Writes the lines that a journal lacks, in order of their serials: where a write fails, it stays
+/// Writes the lines that a journal lacks, in order of their serials: if a write fails, it stays
 /// behind.
 ///
 /// # Errors
 ///
-/// Those of the keeper, as it answers them to a look, and `Memory` where a line has no room.
+/// Those of the keeper, as a read of it returns them, and `Memory` if there is no room for a line.
 pub(crate) fn complete<K: KeepsBatches, W: JournalWriter>(
     alloc: Global,
     keeper: &mut K,
@@ -154,6 +154,6 @@ pub(crate) fn complete<K: KeepsBatches, W: JournalWriter>(
             Err(fault) => return Err(fault),
         }
     }
-    // No keeper keeps so many batches.
+    // No keeper keeps this many batches.
     Err(refuse(keeper))
 }

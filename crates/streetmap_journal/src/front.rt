@@ -1,4 +1,4 @@
-//! What is next of a reader, beside the bytes that are expected.
+//! What comes next from a reader, compared with the bytes that are expected.
 ghost use Rattle.std.specs.Prelude.{◌≡◌, ◌≢◌, ◌≤◌, ◌<◌, length, take, slice_index, IfOk, IfSome};
 ghost use Rattle.streetmap_journal.specs.Front.{are_zeros, TakesFront, SeesFront, SeesZeros};
 ghost use Rattle.streetmap_journal.specs.Front.{IsLeft};
@@ -6,12 +6,12 @@ ghost use Rattle.streetmap_journal.specs.Front.{IsLeft};
 use std::io::{BufRead, ErrorKind};
 use streetmap_text_lines::LineFault;
 
-/// What a reader showed, beside the bytes that are expected.
+/// What a reader showed, compared with the bytes that are expected.
 #[derive(Clone, Copy, Drop)]
 enum Seen {
     /// That number of bytes are as expected, one at least, and more may follow.
     Same(usize),
-    /// After that number of bytes the input is another, or ends.
+    /// After that number of bytes the input differs, or ends.
     Other(usize),
     /// Nothing: a signal interrupted the read.
     Interrupted,
@@ -22,9 +22,9 @@ enum Seen {
 pub(crate) enum Left {
     /// No byte.
     Nothing,
-    /// Zero bytes alone, one at least.
+    /// Only zero bytes, one at least.
     Zeros,
-    /// Bytes among which is one that is not zero.
+    /// Bytes of which at least one is not zero.
     Other,
 }
 
@@ -121,7 +121,7 @@ fn take_zeros<R: BufRead>(reader: &mut R) -> Result<Option<Left>, LineFault>
     Ok(Some(Left::Zeros))
 }
 
-/// What is left of an input: nothing, zero bytes alone, or others too.
+/// What is left of an input: nothing, only zero bytes, or others too.
 ///
 /// # Errors
 ///

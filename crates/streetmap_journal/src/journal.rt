@@ -1,4 +1,4 @@
-//! A journal that is written.
+//! A journal, as it is written.
 ghost use Rattle.std.specs.Prelude.{◌≡◌, ◌++◌, ◌∷◌, ℕ, List, [], drop, IfOk, OnOk, IfErr, IsErr};
 ghost use Rattle.std.specs.Prelude.{IsOk, Option, None, Some, true, false, ◌≤◌};
 ghost use Rattle.std.specs.Io.KnownBytes.{Keeps, Appends};
@@ -15,20 +15,20 @@ use std::io::Error;
 use streetmap_batch::Batch;
 use streetmap_text_lines::NotWritten;
 
-/// What a journal is written to.
+/// The writer of a journal.
 ///
-/// An implementer says by five meanings which bytes it has, what it was told last, whether they are
-/// kept, and when a call failed. Over any writer nothing but its own calls gives that one failed.
-/// So a journal cannot be behind where none did.
+/// An implementer says by five meanings which bytes it has, what it was informed of last, whether
+/// they are kept, and when a call failed. For an arbitrary writer, only its own calls can show that
+/// one failed. So a journal cannot be behind if none did.
 pub trait JournalWriter {
-    /// Its bytes, where they are known.
+    /// Its bytes, if they are known.
     ghost contents: { Self → Option (List ℕ) } = { λ _. None };
 
-    /// The serial from which on it was told that lines are missing: none where it was told that no
-    /// line is.
+    /// The serial from which on it was informed that lines are missing: none if it was informed
+    /// that no line is.
     ghost told: { Self → Option ℕ };
 
-    /// The device keeps all that was written, where that is asked for.
+    /// The device keeps all that was written, if that was requested.
     ghost is_kept: { Self → Type 0 };
 
     /// From the first to the second it was called, any number of times.
@@ -41,7 +41,7 @@ pub trait JournalWriter {
     ///
     /// # Errors
     ///
-    /// Where a write fails, or takes none of them: a beginning of the bytes was written.
+    /// If a write fails, or takes none of them: a prefix of the bytes was written.
     fn append(&mut self, bytes: &[u8]) -> Result<(), NotWritten>
         ensures written { OnOk result (Appends (contents self.old) (contents self.new) bytes.now) }
         ensures first { IfErr result (λ stopped. AppendsFirst stopped.written
@@ -50,11 +50,11 @@ pub trait JournalWriter {
         ensures goes { goes self.old self.new }
         ensures failed { IsErr result → fails self.old self.new };
 
-    /// Has the device keep what was written, where that is asked for.
+    /// Has the device keep what was written, if that was requested.
     ///
     /// # Errors
     ///
-    /// Where it may not have been kept.
+    /// If it may not have been kept.
     fn sync(&mut self) -> Result<(), Error>
         ensures bytes { Keeps (contents self.old) (contents self.new) }
         ensures kept { IsOk result → is_kept self.new }
@@ -62,48 +62,48 @@ pub trait JournalWriter {
         ensures goes { goes self.old self.new }
         ensures failed { IsErr result → fails self.old self.new };
 
-    /// Is told that from the line with this serial on lines are missing, or were not kept.
+    /// Informs it that from the line with this serial on lines are missing, or were not kept.
     fn behind(&mut self, serial: u64)
         ensures bytes { Keeps (contents self.old) (contents self.new) }
         ensures kept { is_kept self.old → is_kept self.new }
         ensures told { told self.new ≡ Some serial }
         ensures goes { goes self.old self.new };
 
-    /// Is told that no line is missing up to the one with this serial.
+    /// Informs it that no line is missing up to the one with this serial.
     fn whole(&mut self, serial: u64)
         ensures bytes { Keeps (contents self.old) (contents self.new) }
         ensures kept { is_kept self.old → is_kept self.new }
         ensures told { told self.new ≡ None }
         ensures goes { goes self.old self.new };
 
-    /// Where it is not called it goes on as it is.
+    /// If it is not called, it goes on as it is.
     ghost goes_itself: { (writer : Self) → goes writer writer };
 
     /// Two stretches of calls are one.
     ghost goes_then: { (first mid last : Self) → goes first mid → goes mid last →
         goes first last };
 
-    /// Where it failed in the second of two stretches, it failed in the two together.
+    /// If it failed in the second of two stretches, it failed in the two together.
     ghost fails_later: { (first mid last : Self) → goes first mid → fails mid last →
         fails first last };
 
-    /// Where it failed in the first of two stretches, it failed in the two together.
+    /// If it failed in the first of two stretches, it failed in the two together.
     ghost fails_still: { (first mid last : Self) → fails first mid → goes mid last →
         fails first last };
 }
 
-/// What a journal is written to, and how far it is.
+/// The writer of a journal, and how far the journal is.
 #[derive(Drop)]
 pub struct Journal<W> {
     /// Where its lines are written.
     pub writer: W,
-    /// The serial behind which they begin.
+    /// The serial after which they begin.
     pub after: u64,
     /// The serial of the next line.
     pub next: u64,
-    /// How many bytes of that line are there already.
+    /// How many bytes of that line are written already.
     pub part: usize,
-    /// Lines are missing, or were not kept: none is written behind them before they are completed.
+    /// Lines are missing, or were not kept: none is written after them before they are completed.
     pub is_behind: bool,
 }
 
@@ -137,7 +137,7 @@ pub(crate) fn line_of(alloc: Global, serial: u64, batch: &Batch) -> Result<Vec<u
     whole_line(alloc, serial, text.as_str().as_bytes())
 }
 
-/// What lacks of a line of which so many bytes are there.
+/// The missing bytes of a line of which `part` bytes are written.
 fn lacking(line: &[u8], part: usize) -> &[u8]
     ensures { result.now ≡ drop part line.now }
 {
@@ -149,7 +149,7 @@ fn lacking(line: &[u8], part: usize) -> &[u8]
 }
 
 impl<W: JournalWriter> Journal<W> {
-    /// Writes what lacks of the next line; answers whether the whole line is there then.
+    /// Writes the missing bytes of the next line; returns whether the whole line is written then.
     pub(crate) fn put(&mut self, line: &[u8]) -> bool
         ensures after { self.new.after ≡ self.old.after }
         ensures behind { self.new.is_behind ≡ self.old.is_behind }
@@ -174,7 +174,7 @@ impl<W: JournalWriter> Journal<W> {
         }
     }
 
-    /// Writes what lacks of the next line, and has it kept; answers whether it is.
+    /// Writes the missing bytes of the next line, and has the line kept; returns whether it is.
     fn put_and_keep(&mut self, line: &[u8]) -> bool
         ensures behind { self.new.is_behind ≡ self.old.is_behind }
         ensures next { self.old.next ≤ self.new.next }
@@ -192,7 +192,7 @@ impl<W: JournalWriter> Journal<W> {
         }
     }
 
-    /// Writes the next line, and has it kept. Where that fails, the writer is told, and none is
+    /// Writes the next line, and has it kept. If that fails, the writer is informed, and none is
     /// written until the journal is completed.
     pub(crate) fn note(&mut self, line: &[u8])
         ensures line { NotesLine

@@ -14,8 +14,8 @@ use streetmap_geojson::Feature;
 use streetmap_ledger::{Batch, Fault, FeatureOutline, Keeper, KeepsBatches, Page, Reply, Summary};
 use streetmap_query::Query;
 
-/// A keeper that writes each batch that it accepts as a line of a journal, where there is one,
-/// behind its commit and before its answer.
+/// A keeper that writes each batch that it accepts as a line of a journal, if there is one, after
+/// its commit and before its answer.
 #[derive(Drop)]
 pub struct JournaledKeeper<K, W> {
     pub alloc: Global,
@@ -23,7 +23,7 @@ pub struct JournaledKeeper<K, W> {
     pub journal: Option<Journal<W>>,
 }
 
-/// Applies a batch, and writes its line where it is accepted: the memory for it is taken before.
+/// Applies a batch, and writes its line if it is accepted: memory for the line is allocated before.
 fn apply_and_note<K: KeepsBatches, W: JournalWriter>(
     alloc: Global,
     keeper: &mut K,
@@ -75,7 +75,7 @@ impl<K: KeepsBatches, W: JournalWriter> Keeper for JournaledKeeper<K, W> {
 
     ghost is_clean = { λ k. K.is_clean k.keeper };
 
-    // Lines that are missing are looked up first. Where one is missing behind a reply, a write or a
+    // Lines that are missing are looked up first. If one is missing after a reply, a write or a
     // synchronising of the journal failed in this call.
     ghost applies = { λ k b result after. (looked : K) × K.spares k.keeper looked
         × OfReply (λ r. K.applies looked b r after.keeper

@@ -1,18 +1,19 @@
-//! A keeper whose accepted batches are written to a journal, a line each, behind their commit and
-//! before their answer; and the lines of a journal that is there, beside a keeper's batches.
+//! A keeper whose accepted batches are written to a journal, a line each, after their commit and
+//! before their answer; and the lines of an existing journal, compared with a keeper's batches.
 //!
-//! `JournaledKeeper` stands over any keeper. As long as it stands for a state, what its writer took
-//! is the lines of that state's journal behind the serial at which it began; or, where a write
-//! failed, all bytes of them up to there (`specs/Written`). The line of a batch is made before the
-//! batch is applied, so that a batch that acted is answered. Lines that are missing are written
-//! before the next batch, behind the bytes that are there, or when the journal is begun.
+//! `JournaledKeeper` works over any keeper. As long as it represents a state, the bytes that its
+//! writer took are the lines of that state's journal after the serial at which it began; or, if a
+//! write failed, all bytes of them up to there (`specs/Written`). The line of a batch is made
+//! before the batch is applied, so that a batch that acted is answered. Lines that are missing are
+//! written before the next batch, after the bytes that are written, or when the journal is begun.
 //!
 //! `start_journal` begins a journal where it is kept, over any `JournalPlace` (`specs/Starting`):
-//! what is there must be lines of the batches that a keeper keeps, but for the cut of a last line
-//! that a crash leaves (`match_lines`, `specs/Matching`). All else is refused, and nothing written.
+//! its bytes must be lines of the batches that a keeper keeps, except for the cut of a last line
+//! that a crash leaves (`match_lines`, `specs/Matching`). All else is refused, and nothing is
+//! written.
 //!
 //! Modules, in the order of reading: `journal` (lines), `completing`, `keeper`, `front` (bytes of a
-//! reader beside those expected), `matching`, `place`, `starting`.
+//! reader compared with those expected), `matching`, `place`, `starting`.
 #![tactic(auto)]
 
 mod completing;

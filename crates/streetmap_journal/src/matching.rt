@@ -1,4 +1,4 @@
-//! Lines of a journal, beside the batches that a keeper keeps.
+//! Lines of a journal, compared with the batches that a keeper keeps.
 ghost use Rattle.std.specs.Prelude.{◌≡◌, Some, IfErr, IfSome, OnOk, IsErrOf};
 ghost use Rattle.std.specs.Io.KnownBytes.{Consumes};
 ghost use Rattle.streetmap_ledger.specs.Keep.{AsBefore, LeavesOnly};
@@ -14,12 +14,12 @@ use std::io::BufRead;
 use streetmap_ledger::{Fault, KeepsBatches};
 use streetmap_text_lines::LineFault;
 
-/// By what the matching of lines ended.
+/// How the matching of lines ended.
 #[derive(Clone, Copy, Drop)]
 pub enum MatchEnd {
     /// All lines are those of the batches with their serials.
     All,
-    /// The rest is a prefix of the next line and then zero bytes alone: what a crash leaves of a
+    /// The rest is a prefix of the next line and then only zero bytes: what a crash leaves of a
     /// line that was being written.
     Cut,
     /// The rest begins with another line, and is not what a crash leaves of one.
@@ -28,12 +28,12 @@ pub enum MatchEnd {
     Ahead,
     /// The rest was not read.
     NotRead,
-    /// The keeper answered with a fault, or memory was refused.
+    /// The keeper answered with a fault, or memory ran out.
     Stopped(Fault),
 }
 
-/// How many of the first lines are those of the batches, how many bytes they have, their line feeds
-/// counted, and by what it ended. More bytes than a number of 64 bits can count are not read.
+/// How many of the first lines are those of the batches, how many bytes they have with their line
+/// feeds, and how it ended. More bytes than a number of 64 bits can count are not read.
 #[derive(Clone, Copy, Drop)]
 pub struct Matched {
     pub count: u64,
@@ -41,7 +41,7 @@ pub struct Matched {
     pub end: MatchEnd,
 }
 
-/// The end by a reader that fails.
+/// The end if a reader fails.
 fn not_read(fault: LineFault) -> MatchEnd
     ensures { IsUnread result }
 {
@@ -62,7 +62,7 @@ fn end_by(left: Left, count: usize) -> MatchEnd
     }
 }
 
-/// Takes a line off a reader if it is next, and else says what is.
+/// Takes a line off a reader if it is next, and else returns what is.
 fn take_line<R: BufRead>(reader: &mut R, line: &[u8]) -> Result<(), MatchEnd>
     ensures taken { OnOk result
         (Consumes (R.remaining reader.old) (R.remaining reader.new) line.now) }
@@ -83,7 +83,7 @@ fn take_line<R: BufRead>(reader: &mut R, line: &[u8]) -> Result<(), MatchEnd>
     }
 }
 
-/// What is next of a reader after the line of the last batch, where the next has this serial.
+/// What is next in a reader after the line of the last batch, if the next would have this serial.
 fn end_after_last<R: BufRead>(alloc: Global, serial: u64, reader: &mut R) -> MatchEnd
     ensures ends { IfSome (R.remaining reader.old) (λ rest. EndsAfterLast serial rest result) }
     ensures own { IsOwn result }

@@ -8,9 +8,9 @@ use std::io::{BufRead, Error};
 
 /// Where a journal is kept: a file, which may not be there yet.
 pub trait JournalPlace {
-    /// What reads it.
+    /// Its reader.
     type Reader: BufRead + Drop;
-    /// What its lines are written to.
+    /// The writer of its lines.
     type Writer: JournalWriter + Drop;
 
     /// Its bytes, if they are known: none if nothing is there.
@@ -25,8 +25,8 @@ pub trait JournalPlace {
         ensures kept { Keeps (contents self.old) (contents self.new) }
         ensures whole { IfOk result (IsReaderOf Self.Reader.remaining (contents self.old)) };
 
-    /// Takes off all but its first `bytes` bytes, and writes to its end from there on. It is made
-    /// if nothing is there.
+    /// Takes off all but its first `bytes` bytes, and writes to its end from there on. It is
+    /// created if nothing is there.
     ///
     /// # Errors
     ///

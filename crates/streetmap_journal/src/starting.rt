@@ -28,14 +28,14 @@ const MOST_HEAD: u64 = 21;
 pub enum StartFault {
     /// It has serials that the keeper lacks.
     Ahead,
-    /// It is no journal of the keeper's batches: the line with this serial is another, and is not
-    /// what a crash leaves of it.
+    /// It is not a journal of the keeper's batches: the line with this serial is another, and is
+    /// not what a crash leaves of it.
     Other(u64),
     /// It could not be opened or cut.
     NotOpened(Error),
     /// It could not be read.
     NotRead,
-    /// The keeper answered with a fault, or memory was refused.
+    /// The keeper answered with a fault, or memory ran out.
     Stopped(Fault),
 }
 
@@ -69,7 +69,7 @@ fn first_serial<R: BufRead + Drop>(alloc: Global, reader: R) -> Result<Option<u6
     Ok(line.serial)
 }
 
-/// Why a journal is not begun whose first bytes were not read.
+/// Why a journal whose first bytes were not read is not begun.
 fn unread(error: &Error) -> StartFault
     ensures { IsOwnFault result }
 {
@@ -79,8 +79,8 @@ fn unread(error: &Error) -> StartFault
     }
 }
 
-/// The serial after which a journal begins: the one before that of its first line, or the one that
-/// is asked for if it has no line.
+/// The serial after which a journal begins: the one before that of its first line, or the requested
+/// one if it has no line.
 fn serial_before<P: JournalPlace>(
     alloc: Global,
     place: &mut P,
@@ -101,7 +101,7 @@ fn serial_before<P: JournalPlace>(
     }
 }
 
-/// A journal that is not there.
+/// The result for a journal that does not exist.
 fn nothing() -> Matched
     ensures { result ≡ record { count = 0; bytes = 0; end = MatchEnd.All } }
 {
@@ -158,7 +158,7 @@ fn check_end(after: u64, matched: Matched) -> Result<(), StartFault>
     }
 }
 
-/// A journal whose first `count` lines after a serial are there, and which may lack others.
+/// A journal whose first `count` lines after a serial are written, and which may lack others.
 fn resumed<W>(after: u64, count: u64, writer: W) -> Journal<W>
     ensures { (result.writer ≡ writer) × (result.after ≡ after) × (result.part ≡ 0)
         × (result.next ≡ serial_behind after count) × (result.is_behind ≡ true) }
@@ -208,15 +208,15 @@ fn begin<K: KeepsBatches, W: JournalWriter + Drop>(
 }
 
 /// Begins a journal where it is kept. It must have the lines of the batches that a keeper keeps
-/// after the serial before its first line, or after the one that is asked for if it has none. What
-/// a crash left of its last line is taken off, and the lines that it lacks are written. If not all
-/// of them could be written, its writer is informed.
+/// after the serial before its first line, or after the requested one if it has none. What a crash
+/// left of its last line is taken off, and the lines that it lacks are written. If not all of them
+/// could be written, its writer is informed.
 ///
 /// # Errors
 ///
 /// `Ahead` if the keeper keeps fewer batches, and `Other` if a line is another: nothing is written.
-/// `NotOpened` and `NotRead` if the place fails: nothing is written. `Stopped` with the fault of the
-/// keeper, or with `Memory` if a line has no room.
+/// `NotOpened` and `NotRead` if the place fails: nothing is written. `Stopped` with the fault of
+/// the keeper, or with `Memory` if there is no room for a line.
 pub fn start_journal<K: KeepsBatches, P: JournalPlace>(
     alloc: Global,
     keeper: &mut K,
@@ -234,7 +234,7 @@ pub fn start_journal<K: KeepsBatches, P: JournalPlace>(
     ensures reopen { IsErrOf result (StartFault.Stopped Fault.Reopen) →
         AsBefore (K.stands keeper.old) (K.stands keeper.new)
         (K.may_leave keeper.old) (K.may_leave keeper.new) }
-    // What is there is the journal of the state up to a cut line, and all of it is there then; or
+    // The bytes found are the journal of the state up to a cut line, and it has all of it then; or
     // why it is not begun.
     ensures starts { K.is_clean keeper.new → (s : State) → K.stands keeper.old s →
         StartsBy s asked (P.contents place.old) P.Writer.contents result (K.stands keeper.new) }

@@ -1,4 +1,4 @@
--- What a batch does, and a list of batches.
+-- The effect of a batch, and of a list of batches.
 use Rattle.std.specs.Prelude.{ℕ, ◌+◌, ◌-◌, ◌^◌, List, [], ◌∷◌, Option, None, Some, Result, Ok, Err}
 use Rattle.std.specs.Prelude.{if◌then◌else◌, nat_lt, nat_eq}
 use Rattle.std.specs.Cmp.Lexicographic.{pointwise}
@@ -13,7 +13,7 @@ use Rattle.streetmap_ledger.specs.declared.reply.Refusal.TheVariants.{KeyUsed, F
 use Rattle.streetmap_ledger.specs.declared.reply.Reply.{Reply}
 use Rattle.streetmap_ledger.specs.declared.reply.Reply.TheVariants.{Accepted, Repeated, Refused}
 
--- a refusal is told with the place of its edit
+-- a refusal is returned with the place of its edit
 abbrev pub placed : ℕ → Result State Refusal → Result State (ℕ × Refusal)
 placed place (Ok s) = Ok s
 placed place (Err why) = Err (place, why)
@@ -23,14 +23,14 @@ abbrev pub edited : ℕ → State → List EditValue → Result State (ℕ × Re
 edited place s [] = Ok s
 edited place s (e ∷ es) = placed place (step s e) >>= λ t. edited (place + 1) t es
 
--- with one edit more
+-- with one more edit
 abbrev pub counted : Counts → EditValue → Counts
 counted n (edit.«open» name title time) = record n { opened = n.opened + 1 }
 counted n (edit.insert name f) = record n { inserted = n.inserted + 1 }
 counted n (edit.replace name f) = record n { replaced = n.replaced + 1 }
 counted n (edit.delete name id) = record n { deleted = n.deleted + 1 }
 
--- with these edits more
+-- with these edits added
 abbrev pub counted_all : Counts → List EditValue → Counts
 counted_all n [] = n
 counted_all n (e ∷ es) = counted_all (counted n e) es
@@ -48,7 +48,7 @@ pub record Outcome : Type 0 where
 abbrev pub kept_for : BatchValue → ℕ → AcceptedBatch
 kept_for b serial = record { text = batch_text b; counts = counts_of b.edits; serial = serial }
 
--- a batch whose key is not there, by what its edits came to: accepted with this serial, or refused
+-- a batch whose key is new, by the result of its edits: accepted with this serial, or refused as a
 -- whole
 abbrev pub fresh : State → BatchValue → ℕ → Result State (ℕ × Refusal) → Outcome
 fresh s b serial (Ok t) = record {
@@ -62,8 +62,8 @@ fresh s b serial (Err e) = record { reply = Refused e.1 (Some e.0); state = s }
 abbrev pub most_batches : ℕ
 most_batches = 2 ^ 63 - 1
 
--- a batch by what is kept for its key: a repeat where the texts are one, a key that was used, or a
--- new key
+-- a batch by what is kept for its key: a repeat if the texts are the same, a key that was used, or
+-- a new key
 abbrev pub by_key : State → BatchValue → Option AcceptedBatch → Outcome
 by_key s b (Some kept) =
     if pointwise nat_eq kept.text (batch_text b)

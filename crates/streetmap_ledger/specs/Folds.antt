@@ -21,10 +21,10 @@ pub record HoldsCandidates (q : QueryValue) (fold : PageFold) (fs : List Feature
     pub holds : IsFoldOf q fold (candidates q fs)
     pub whole : selected q (candidates q fs) ≡ selected q fs
 
--- the page shows as many features as the query asks for at most
+-- the page shows as many features as the query's limit
 abbrev pub IsFull : PageFold → Type 0
 IsFull fold = fold.query.now.limit ≤ length fold.features.items
 
--- features that are selected, and of which all are `behind` the id asked, or none is
+-- features that are selected, and either all come after the query's id (`behind`) or none does
 abbrev pub AreHidden : QueryValue → Bool → List FeatureValue → Type 0
 AreHidden q behind fs = All (λ f. (selects q f ≡ true) × (comes_after q.after f ≡ behind)) fs

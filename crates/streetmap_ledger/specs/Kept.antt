@@ -22,12 +22,12 @@ batch_count s = len s.keys
 abbrev pub batch_in : State → ℕ → Option KeyedBatch
 batch_in s n = find (has_serial n) (entries s.keys)
 
--- the batches with the next serials behind one, so many of them, in order
+-- the batches with the next serials after one, this number of them, in order
 abbrev pub batches_next : State → ℕ → ℕ → List KeyedBatch
 batches_next s n zero = []
 batches_next s n (suc k) = batches_next s n k ++ option_to_list (batch_in s (n + suc k))
 
--- all batches behind a serial, in order of their serials
+-- all batches after a serial, in order of their serials
 abbrev pub batches_behind : State → ℕ → List KeyedBatch
 batches_behind s n = batches_next s n (batch_count s - n)
 
@@ -36,8 +36,8 @@ abbrev pub text_bytes : List KeyedBatch → ℕ
 text_bytes [] = 0
 text_bytes (b ∷ bs) = length b.1.text + text_bytes bs
 
--- they are the batches with the next serials behind one: one at least, where one is kept; and
--- without the last of them their texts have no more bytes than there is room for
+-- they are the batches with the next serials after one: at least one, if one is kept; and without
+-- the last of them their texts have no more bytes than there is room for
 pub record AreNext (s : State) (after room : ℕ) (found : List KeyedBatch) : Type 0 where
   pub are : found ≡ batches_next s after (length found)
   pub some : found ≡ [] → batch_count s ≤ after

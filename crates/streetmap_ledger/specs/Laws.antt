@@ -20,7 +20,7 @@ IsAcknowledged (Accepted counts serial) = Unit {0}
 IsAcknowledged (Repeated counts serial) = Unit {0}
 IsAcknowledged (Refused why place) = ⊥
 
--- a batch that comes again, anywhere after it was acknowledged, changes nothing
+-- a batch that is sent again, anywhere after it was acknowledged, changes nothing
 abbrev pub RepeatActsOnce : Type 0
 RepeatActsOnce =
     (s : State) (before between later : List BatchValue) (b : BatchValue) →
@@ -41,14 +41,14 @@ accepted_of s (b ∷ bs) =
     let later = accepted_of (act s b).state bs in
     if is_accepted (act s b).reply then b ∷ later else later
 
--- the state after a list of batches is that after its accepted ones alone, and told again these are
+-- the state after a list of batches is that after only its accepted ones, and given again these are
 -- all accepted
 abbrev pub AcceptedAreEnough : Type 0
 AcceptedAreEnough =
     ((s : State) (bs : List BatchValue) → after_all s bs ≡ after_all s (accepted_of s bs))
     × ((s : State) (bs : List BatchValue) → accepted_of s (accepted_of s bs) ≡ accepted_of s bs)
 
--- a refused batch changes nothing; and where one of its edits was at fault its key is not there, so
+-- a refused batch changes nothing; and if one of its edits was at fault its key is not kept, so
 -- that it may be used again
 abbrev pub RefusedChangesNothing : Type 0
 RefusedChangesNothing =

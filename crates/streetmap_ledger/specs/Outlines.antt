@@ -15,7 +15,7 @@ pub record FeatureOutlineValue : Type 0 where
   pub extent : Option BoxValue
   pub seconds : Option (ℤ × ℤ)
 
--- the outline of the feature that stands under this id
+-- the outline of the feature that is kept under this id
 abbrev pub feature_outline_of : Text → FeatureValue → FeatureOutlineValue
 feature_outline_of id f = record
     { id = id; extent = option_map extent_of f.geometry; seconds = option_map seconds_of f.time }
@@ -24,6 +24,6 @@ feature_outline_of id f = record
 abbrev pub feature_outlines_of : Collection → List FeatureOutlineValue
 feature_outlines_of c = map (λ e. feature_outline_of e.0 e.1) (entries c.features)
 
--- none where the collection is not there
+-- none if the collection does not exist
 abbrev pub outlines_in : State → Text → Option (List FeatureOutlineValue)
 outlines_in s name = option_map feature_outlines_of (get s.collections name)

@@ -4,7 +4,7 @@ use Rattle.std.specs.Option.{option_map}
 use Rattle.streetmap_ledger.specs.Pages.{PageValue}
 use Rattle.streetmap_ledger.specs.declared.page.Page.{Page}
 
--- what a page tells
+-- what a page holds
 abbrev pub page_value : Page → PageValue
 page_value p = record {
   features = p.features.items;

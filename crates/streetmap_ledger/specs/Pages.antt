@@ -1,5 +1,4 @@
--- What a page shows, and looks at one feature and at a run of them. OGC 17-069, sections 7.15 and
--- 7.16.
+-- Pages, and reads of one feature and of a run of them. OGC 17-069, sections 7.15 and 7.16.
 use Rattle.std.specs.Prelude.{ℕ, ◌-◌, ◌^◌, ◌&&◌, List, Option, None, Some, Bool, true, false}
 use Rattle.std.specs.Prelude.{slice_get, filter, length, take, min, if◌then◌else◌, nat_lt}
 use Rattle.std.specs.Option.{option_map, option_and_then}
@@ -15,16 +14,16 @@ use Rattle.streetmap_query.specs.QueryValue.{QueryValue, DatetimeValue}
 use Rattle.streetmap_batch.specs.Text.{Text, text_cmp}
 use Rattle.streetmap_ledger.specs.State.{State, Collection}
 
--- what a page tells: its features, how many are selected, the last id where more follow, and how
--- many were examined
+-- what a page holds: its features, how many are selected, the last id if more follow, and how many
+-- were examined
 pub record PageValue : Type 0 where
   pub features : List FeatureValue
   pub matched : ℕ
   pub next : Option Text
   pub examined : ℕ
 
--- a test of what a feature has against what a query asks: a part that is not asked leaves nothing
--- out, and a feature that has nothing is left out where it is asked
+-- a test of what a feature has against a part of a query: a part that the query lacks excludes
+-- nothing, and a feature that lacks what the query has is excluded
 abbrev pub passes : {A B : Type 0} → (A → B → Bool) → Option A → Option B → Bool
 passes test has None = true
 passes test None (Some asked) = false
@@ -61,11 +60,11 @@ abbrev pub comes_after : Option Text → FeatureValue → Bool
 comes_after None f = true
 comes_after (Some id) f = is_gt (text_cmp f.id id)
 
--- the features whose ids come after
+-- the features whose ids come after this one
 abbrev pub behind : Option Text → List FeatureValue → List FeatureValue
 behind after fs = filter (comes_after after) fs
 
--- the selected features behind `after`
+-- the selected features after `after`
 abbrev pub rest_of : QueryValue → List FeatureValue → List FeatureValue
 rest_of q fs = behind q.after (selected q fs)
 
@@ -77,7 +76,7 @@ last_id fs = option_map (λ (f : FeatureValue). f.id) (slice_get fs (length fs -
 abbrev pub saturated : ℕ → ℕ
 saturated n = min n (2 ^ 64 - 1)
 
--- the page of features that stand in order of ids, of which this many were examined
+-- the page of features in order of ids, of which this number were examined
 abbrev pub page_of : QueryValue → ℕ → List FeatureValue → PageValue
 page_of q examined fs =
     let rest = rest_of q fs in
@@ -92,24 +91,24 @@ page_of q examined fs =
 abbrev pub page_over : QueryValue → List FeatureValue → PageValue
 page_over q fs = page_of q (length (candidates q fs)) fs
 
--- a page in a state: none where the collection is not there
+-- a page in a state: none if the collection does not exist
 abbrev pub page_in : State → Text → QueryValue → Option PageValue
 page_in s name q = option_map (λ (c : Collection). page_over q (values c.features))
     (get s.collections name)
 
--- a feature in a state: none where the collection is not there, or the feature is not in it
+-- a feature in a state: none if the collection does not exist, or the feature is not in it
 abbrev pub feature_in : State → Text → Text → Option FeatureValue
 feature_in s name id = option_and_then (λ (c : Collection).
     get c.features id) (get s.collections name)
 
--- whether the feature's id stands between two in byte order, or is one of them
+-- whether the feature's id is between two in byte order, or is one of them
 abbrev pub is_between : Text → Text → FeatureValue → Bool
 is_between first last f = is_ge (text_cmp f.id first) && is_le (text_cmp f.id last)
 
--- the features of a collection whose ids stand between two, in order of ids
+-- the features of a collection whose ids are between two, or are one of them, in order of ids
 abbrev pub run_of : Text → Text → Collection → List FeatureValue
 run_of first last c = filter (is_between first last) (values c.features)
 
--- a run of features in a state: none where the collection is not there
+-- a run of features in a state: none if the collection does not exist
 abbrev pub run_in : State → Text → Text → Text → Option (List FeatureValue)
 run_in s name first last = option_map (run_of first last) (get s.collections name)

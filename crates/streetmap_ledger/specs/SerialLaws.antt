@@ -15,7 +15,7 @@ KeptBySerial =
     × ((s : State) (n : ℕ) (b : KeyedBatch) → batch_in s n ≡ Some b →
     (get s.keys b.0 ≡ Some b.1) × (b.1.serial ≡ n))
 
--- with each serial from 1 to their number a batch is kept, so that there are as many next ones as
+-- each serial from 1 to the number of batches has a batch, so that there are as many next ones as
 -- their serials reach
 abbrev pub NoSerialIsLeftOut : Type 0
 NoSerialIsLeftOut =

@@ -47,7 +47,7 @@ abbrev pub ◌>>=◌ : {A B E : Type 0} → Result A E → (A → Result B E) �
 Ok x >>= next = next x
 Err why >>= next = Err why
 
--- refused where something is there
+-- refused if there is one already
 abbrev pub absent : {A : Type 0} → Option A → Refusal → Result (Unit {0}) Refusal
 absent None why = Ok tt
 absent (Some x) why = Err why
@@ -57,7 +57,7 @@ abbrev pub or_bad_time : Result FeatureValue TimeFault → Result FeatureValue R
 or_bad_time (Ok f) = Ok f
 or_bad_time (Err fault) = Err BadTime
 
--- the feature with the time that this property of it tells
+-- the feature with the time that this property of it gives
 abbrev pub timed : Option Text → FeatureValue → Result FeatureValue Refusal
 timed property f = or_bad_time (timed_by property f)
 
@@ -84,7 +84,7 @@ replaced s name f c = do
   g ← timed c.time f
   Ok (with_feature s name c g)
 
--- the feature with this id is taken out
+-- the feature with this id is removed
 abbrev pub deleted : State → Text → Text → Collection → Result State Refusal
 deleted s name id c = do
   old ← ok_or (get c.features id) NoFeature

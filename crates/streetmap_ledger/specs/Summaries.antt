@@ -1,4 +1,4 @@
--- What is told of a collection. OGC 17-069, sections 7.13 and 7.14.
+-- The description of a collection. OGC 17-069, sections 7.13 and 7.14.
 use Rattle.std.specs.Prelude.{List, [], ◌∷◌, Option, None, Some, map}
 use Rattle.std.specs.Option.{option_map, option_map_or}
 use Rattle.std.specs.List.{flat_map}
@@ -24,7 +24,7 @@ feature_vertices f = option_map_or vertices f.geometry []
 abbrev pub all_vertices : List FeatureValue → List PositionValue
 all_vertices fs = flat_map feature_vertices fs
 
--- the extent of positions: none where there are none
+-- the extent of positions: none if there are none
 abbrev pub extent_if : List PositionValue → Option BoxValue
 extent_if [] = None
 extent_if (p ∷ ps) = Some (positions_extent (p ∷ ps))
@@ -39,7 +39,7 @@ summary_of id c = record {
       (all_vertices (values c.features));
 }
 
--- none where the collection is not there
+-- none if the collection does not exist
 abbrev pub summary_in : State → Text → Option SummaryValue
 summary_in s id = option_map (summary_of id) (get s.collections id)
 

@@ -5,7 +5,7 @@ use Rattle.streetmap_grid.specs.Views.{box_value}
 use Rattle.streetmap_ledger.specs.Summaries.{SummaryValue}
 use Rattle.streetmap_ledger.specs.declared.summary.Summary.{Summary}
 
--- what a summary tells
+-- what a summary holds
 abbrev pub summary_value : Summary → SummaryValue
 summary_value s = record {
   id = string_bytes s.id;
@@ -15,6 +15,6 @@ summary_value s = record {
   extent = option_map box_value s.extent;
 }
 
--- what summaries tell, in order
+-- what summaries hold, in order
 abbrev pub summary_values : List Summary → List SummaryValue
 summary_values ss = map summary_value ss

@@ -1,4 +1,4 @@
--- A walk over the pages of a collection, from each to the one behind its last id.
+-- A walk over the pages of a collection, from each to the one after its last id.
 use Rattle.std.specs.Prelude.{◌≡◌, ◌≤◌, List, [], ◌∷◌, Option, None, Some, length, All}
 use Rattle.std.specs.List.{flat_map}
 use Rattle.std.specs.FinMap.{get, values}
@@ -9,7 +9,7 @@ use Rattle.streetmap_ledger.specs.State.{State, Collection}
 use Rattle.streetmap_ledger.specs.WellFormed.{IsState}
 use Rattle.streetmap_ledger.specs.Pages.{PageValue, selected, page_over, saturated}
 
--- the query from behind this id on
+-- the query from after this id on
 abbrev pub from_behind : QueryValue → Option Text → QueryValue
 from_behind q after = record {
   bbox = q.bbox;
@@ -19,11 +19,11 @@ from_behind q after = record {
       = after;
 }
 
--- its page of features that stand in order of ids
+-- its page of features in order of ids
 abbrev pub page_behind : QueryValue → List FeatureValue → Option Text → PageValue
 page_behind q fs after = page_over (from_behind q after) fs
 
--- the pages from behind an id on: each is followed from its `next`, and the last has none
+-- the pages from after an id on: each is followed from its `next`, and the last has none
 pub data IsWalk (q : QueryValue) (fs : List FeatureValue) : Option Text → List PageValue
     → Type 0 where
   ends : (after : Option Text) → (page_behind q fs after).next ≡ None
@@ -36,14 +36,14 @@ pub data IsWalk (q : QueryValue) (fs : List FeatureValue) : Option Text → List
 abbrev pub shown : List PageValue → List FeatureValue
 shown pages = flat_map (λ (p : PageValue). p.features) pages
 
--- a walk shows the selected features, each once and in order of ids, and each of its pages tells
+-- a walk shows the selected features, each once and in order of ids, and each of its pages gives
 -- their number
 pub record ShowsAll (q : QueryValue) (fs : List FeatureValue) (pages : List PageValue) : Type 0
   where
     pub whole : shown pages ≡ selected q fs
     pub matched : All (λ (p : PageValue). p.matched ≡ saturated (length (selected q fs))) pages
 
--- in a well-formed state, each walk over a collection shows all that is selected, and there is one
+-- in a well-formed state, each walk over a collection shows all that is selected, and one exists
 abbrev pub WalksShowAll : Type 0
 WalksShowAll =
     (s : State) (name : Text) (c : Collection) (q : QueryValue) →

@@ -13,17 +13,17 @@ use Rattle.streetmap_ledger.specs.State.{State, Collection, AcceptedBatch, openi
 use Rattle.streetmap_ledger.specs.Batches.{act, most_batches}
 use Rattle.streetmap_ledger.specs.declared.reply.Counts.{Counts}
 
--- a feature stands under its id, with the time that its collection's property tells
+-- a feature is kept under its id, with the time that its collection's property gives
 pub record IsPlaced (property : Option Text) (id : Text) (f : FeatureValue) : Type 0 where
   pub is : IsFeature f
   pub named : f.id ≡ id
   pub timed : time_of property f.properties ≡ Ok f.time
 
--- every feature of a collection does
+-- this holds for every feature of a collection
 abbrev pub HoldsFeatures : Collection → Type 0
 HoldsFeatures c = (id : Text) (f : FeatureValue) → get c.features id ≡ Some f → IsPlaced c.time id f
 
--- a collection's id, title and time property are as the rules ask, and it holds features
+-- a collection's id, title and time property follow the rules, and it holds features
 pub record IsCollection (name : Text) (c : Collection) : Type 0 where
   pub named : IsTrue (is_collection_id name)
   pub titled : IsTitle c.title
@@ -37,8 +37,8 @@ pub record AreCounts (n : Counts) : Type 0 where
   pub replaced : n.replaced ≤ most_edits
   pub deleted : n.deleted ≤ most_edits
 
--- collections and keys are as the rules ask; the n keys have the serials 1 to n, one each, and each
--- the counts of a batch
+-- collections and keys follow the rules; the n keys have the serials 1 to n, one each, and each the
+-- counts of a batch
 pub record IsState (s : State) : Type 0 where
   pub made : (name : Text) (c : Collection) → get s.collections name ≡ Some c → IsCollection name c
   pub keyed : (key : Text) (k : AcceptedBatch) → get s.keys key ≡ Some k → IsTrue (is_key key)

@@ -1,4 +1,4 @@
-//! A page, made feature by feature.
+//! A page, built feature by feature.
 ghost use Rattle.std.specs.Prelude.{◌≡◌, ◌≤◌, ◌<◌, ◌||◌, ◌&&◌, nat_lt, IfOk, IsTrue, length};
 ghost use Rattle.std.specs.Prelude.{string_bytes};
 ghost use Rattle.std.specs.Option.{option_map, ForSome};
@@ -37,7 +37,7 @@ impl<'a> PageFold<'a> {
     ghost use Rattle.streetmap_ledger.specs.PageView.{page_value};
     ghost use Rattle.streetmap_ledger.specs.Folds.{IsFoldOf, HoldsCandidates, IsFull, AreHidden};
 
-    /// Holds the page of no feature.
+    /// Holds the page of no features.
     pub fn new(alloc: Global, query: &'a Query) -> Self
         ensures { IsFoldOf (query_value query.now) result [] }
     {
@@ -50,7 +50,7 @@ impl<'a> PageFold<'a> {
         }
     }
 
-    /// Counts one feature more.
+    /// Counts one more feature.
     fn count(&mut self, is_selected: bool)
         ensures matched { self.new.matched ≡ (if is_selected then saturated (self.old.matched + 1)
             else self.old.matched) }
@@ -65,8 +65,8 @@ impl<'a> PageFold<'a> {
         self.examined = self.examined.saturating_add(1);
     }
 
-    /// Takes the feature that comes next, and keeps it where the page shows it. Where memory is
-    /// refused for that, it is not counted.
+    /// Takes the next feature, and keeps it if the page shows it. If memory runs out for that, it
+    /// is not counted.
     pub fn take(&mut self, feature: Feature) -> Result<(), AllocError>
         ensures ok { (q : QueryValue) (fs : List FeatureValue) → IsFoldOf q self.old fs
             → OnOk result (IsFoldOf q self.new (fs ++ feature ∷ [])) }
@@ -79,8 +79,7 @@ impl<'a> PageFold<'a> {
         self.show(feature)
     }
 
-    /// Counts the feature that comes next, where the page does not show it, and answers whether it
-    /// did.
+    /// Counts the next feature if the page does not show it, and returns whether it did.
     fn pass_hidden(&mut self, feature: &Feature) -> bool
         ensures passed { IsTrue result → (q : QueryValue) (fs : List FeatureValue)
             → IsFoldOf q self.old fs → IsFoldOf q self.new (fs ++ feature.now ∷ []) }
@@ -104,7 +103,7 @@ impl<'a> PageFold<'a> {
         true
     }
 
-    /// Shows the feature that comes next.
+    /// Shows the next feature.
     fn show(&mut self, feature: Feature) -> Result<(), AllocError>
         requires { length self.old.features.items < self.old.query.now.limit }
         ensures ok { (q : QueryValue) (fs : List FeatureValue) → IsFoldOf q self.old fs
@@ -118,15 +117,15 @@ impl<'a> PageFold<'a> {
         Ok(())
     }
 
-    /// Whether the page shows as many features as the query asks for at most.
+    /// Whether the page shows as many features as the query's limit.
     pub fn is_full(&self) -> bool
         ensures { IsTrue result ↔ IsFull self.now }
     {
         self.features.len() >= self.query.limit as usize
     }
 
-    /// Counts the feature that comes next, which is selected and not shown: either it is `behind`
-    /// the id asked, and the page is full, or it does not come after that id.
+    /// Counts the next feature, which is selected and not shown: either it comes after the query's
+    /// id (`behind`), and the page is full, or it does not come after that id.
     pub fn count_hidden(&mut self, behind: bool)
         ensures { (q : QueryValue) (fs : List FeatureValue) (f : FeatureValue)
             → IsFoldOf q self.old fs → selects_of q f ≡ true → comes_after_of q.after f ≡ behind
@@ -138,7 +137,7 @@ impl<'a> PageFold<'a> {
         self.count(true);
     }
 
-    /// Counts so many selected features more.
+    /// Counts `count` more selected features.
     fn add(&mut self, count: u64)
         ensures matched { self.new.matched ≡ saturated (self.old.matched + count) }
         ensures examined { self.new.examined ≡ saturated (self.old.examined + count) }
@@ -150,8 +149,8 @@ impl<'a> PageFold<'a> {
         self.examined = self.examined.saturating_add(count);
     }
 
-    /// Counts the features that come next, `count` of them, which are selected and not shown:
-    /// either all are `behind` the id asked, and the page is full, or none comes after that id.
+    /// Counts the next `count` features, which are selected and not shown: either all come after
+    /// the query's id (`behind`), and the page is full, or none comes after that id.
     pub fn count_all_hidden(&mut self, count: u64, behind: bool)
         ensures { (q : QueryValue) (fs gs : List FeatureValue) → IsFoldOf q self.old fs →
             AreHidden q behind gs → length gs ≡ count → (IsTrue behind → IsFull self.old) →
@@ -161,7 +160,7 @@ impl<'a> PageFold<'a> {
         self.add(count);
     }
 
-    /// Counts the feature that comes next, which is not selected.
+    /// Counts the next feature, which is not selected.
     pub fn skip_unselected(&mut self)
         ensures { (q : QueryValue) (fs : List FeatureValue) (f : FeatureValue)
             → IsFoldOf q self.old fs → selects_of q f ≡ false
@@ -170,8 +169,8 @@ impl<'a> PageFold<'a> {
         self.count(false);
     }
 
-    /// Counts the candidate that comes next, where its outline and its id, if that is known, tell
-    /// that the page does not show it, and answers whether it did.
+    /// Counts the next candidate if its outline and its id, if that is known, say that the page
+    /// does not show it, and returns whether it did.
     fn pass_candidate(&mut self, outline: &Outline, id: Option<&[u8]>) -> bool
         ensures passed { IsTrue result
             → (q : QueryValue) (fs : List FeatureValue) (f : FeatureValue)
@@ -195,9 +194,8 @@ impl<'a> PageFold<'a> {
         }
     }
 
-    /// Takes the feature that comes next, where its outline and its id, if that is known, tell
-    /// enough, and answers whether it did. Otherwise the feature is a candidate, and has to be
-    /// taken itself.
+    /// Takes the next feature if its outline and its id, if that is known, say enough, and returns
+    /// whether it did. Otherwise the feature is a candidate, and has to be taken itself.
     pub fn take_unread(&mut self, outline: &Outline, id: Option<&[u8]>) -> bool
         ensures taken { IsTrue result
             → (q : QueryValue) (fs : List FeatureValue) (f : FeatureValue)
@@ -236,7 +234,7 @@ impl<'a> PageFold<'a> {
     }
 }
 
-/// Whether more features follow what a page shows, where `count` hidden ones were met more.
+/// Whether more features follow what a page shows, once `count` more hidden ones were met.
 fn more_after(more: bool, behind: bool, count: u64) -> bool
     ensures { result ≡ (more || (behind && nat_lt 0 count)) }
 {

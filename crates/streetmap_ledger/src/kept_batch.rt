@@ -1,12 +1,13 @@
 //! A batch that is kept.
 use crate::reply::Counts;
 
-/// A batch that was accepted, as it is kept.
+/// An accepted batch, as it is kept.
 #[derive(Drop)]
 pub struct KeptBatch {
     /// Its key.
     pub key: String,
-    /// Its text, as bytes: rows that no batch made may have any there, also none that are UTF-8.
+    /// Its text, as bytes: rows that no batch made may have any bytes here, even ones that are not
+    /// UTF-8.
     pub text: Vec<u8>,
     /// How many edits of each kind it had.
     pub counts: Counts,

@@ -14,19 +14,19 @@ use streetmap_moment::Interval;
 pub struct FeatureOutline {
     /// The id of the feature.
     pub id: String,
-    /// The extent of its geometry, in millimetres; none where it has none.
+    /// The extent of its geometry, in millimetres; none if it has none.
     pub extent: Option<GridBox>,
     /// The first and the last second of its time, since 1970-01-01T00:00:00Z and rounded down; none
-    /// where it has no time. An open start is -1,000,000,000,000 and an open end 1,000,000,000,000.
+    /// if it has no time. An open start is -1,000,000,000,000 and an open end 1,000,000,000,000.
     pub seconds: Option<(i64, i64)>,
-    /// The rowid of its row in SQLite's table, as the store had it when it told this. A store may
-    /// look there first, and nothing is told by it: the row may be gone, or another feature's.
+    /// The rowid of its row in SQLite's table, as it was when the store returned this. A store may
+    /// try that row first, but the rowid proves nothing: the row may be gone, or another feature's.
     pub rowid: Option<i64>,
 }
 
 impl FeatureOutline {
-    /// The outline of a feature with this id, extent (in millimetres) and time, of whose row nothing
-    /// is known. The error is that memory for the id is refused.
+    /// The outline of a feature with this id, extent (in millimetres) and time, of whose row
+    /// nothing is known. The error is that memory for the id runs out.
     pub fn new(
         alloc: Global,
         id: &str,

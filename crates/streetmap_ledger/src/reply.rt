@@ -13,13 +13,13 @@ pub struct Counts {
 /// Why a batch is refused.
 #[derive(Clone, Copy, PartialEq, Eq)]
 pub enum Refusal {
-    /// The collection of an edit is not there.
+    /// The collection of an edit does not exist.
     NoCollection,
-    /// The collection to be opened is there already.
+    /// The collection to be opened exists already.
     CollectionExists,
-    /// The feature to be inserted is there already.
+    /// The feature to be inserted exists already.
     FeatureExists,
-    /// The feature to be replaced or deleted is not there.
+    /// The feature to be replaced or deleted does not exist.
     NoFeature,
     /// The time property of a feature cannot be read.
     BadTime,
@@ -29,15 +29,15 @@ pub enum Refusal {
     Full,
 }
 
-/// What a batch came to.
+/// The result of a batch.
 #[derive(Clone, Copy, PartialEq, Eq)]
 pub enum Reply {
     /// It was accepted: how many edits of each kind it had, and its serial, from 1.
     Accepted(Counts, u64),
-    /// It was accepted before: what was answered then.
+    /// It was accepted before: the reply that was given then.
     Repeated(Counts, u64),
-    /// It was refused, and nothing changed; with the place of the edit at fault, counted from 1,
-    /// where there is one.
+    /// It was refused, and nothing changed; with the place of the edit at fault, counted from 1, if
+    /// there is one.
     Refused(Refusal, Option<u64>),
 }
 
@@ -53,7 +53,7 @@ pub enum Cause {
 /// Why a call was not answered.
 #[derive(Clone, Copy, Debug, PartialEq, Eq)]
 pub enum Fault {
-    /// Memory was refused; nothing changed, and the call may be made again.
+    /// Memory ran out; nothing changed, and the call may be made again.
     Memory,
     /// The device failed; the keeper is shut.
     Device,

@@ -1,4 +1,4 @@
-//! What a query asks of a feature.
+//! How a query selects a feature.
 ghost use Rattle.std.specs.Prelude.{◌≡◌, Option, IfSome, IsTrue, true, option_map};
 ghost use Rattle.streetmap_grid.specs.Extent.{extent_of};
 ghost use Rattle.streetmap_grid.specs.Values.{GeometryValue};
@@ -20,7 +20,7 @@ use streetmap_grid::GridBox;
 use streetmap_moment::Interval;
 use streetmap_query::Query;
 
-/// Whether the feature's geometry meets the box, where one is asked.
+/// Whether the feature's geometry meets the query's box, if there is one.
 fn meets_box(query: &Query, feature: &Feature) -> bool
     ensures { result ≡ passes geometry_meets feature.now.geometry (query_value query.now).bbox }
 {
@@ -33,7 +33,7 @@ fn meets_box(query: &Query, feature: &Feature) -> bool
     }
 }
 
-/// Whether a feature's time meets the interval, where one is asked.
+/// Whether a feature's time meets the query's interval, if there is one.
 fn meets_interval(query: &Query, time: Option<Interval>) -> bool
     ensures { result ≡ passes meets (option_map interval_value time)
         (interval_asked (query_value query.now)) }
@@ -54,7 +54,7 @@ pub fn selects(query: &Query, feature: &Feature) -> bool
     meets_box(query, feature) && meets_interval(query, feature.time())
 }
 
-/// Whether the feature's id comes after the one asked.
+/// Whether the feature's id comes after the query's, if there is one.
 pub fn comes_after(query: &Query, feature: &Feature) -> bool
     ensures { result ≡ comes_after_of (query_value query.now).after feature.now }
 {
@@ -64,8 +64,8 @@ pub fn comes_after(query: &Query, feature: &Feature) -> bool
     }
 }
 
-/// Whether the extent overlaps the box, where one is asked: that of a geometry, or none. Both are
-/// in millimetres.
+/// Whether the extent overlaps the query's box, if there is one: that of a geometry, or none. Both
+/// are in millimetres.
 pub fn overlaps_box(query: &Query, extent: Option<GridBox>) -> bool
     ensures { (geometry : Option GeometryValue)
         → option_map box_value extent ≡ option_map extent_of geometry
@@ -80,8 +80,8 @@ pub fn overlaps_box(query: &Query, extent: Option<GridBox>) -> bool
     }
 }
 
-/// Whether the extent lies within the box, where one is asked: then the geometry that it is of
-/// meets it. Both are in millimetres.
+/// Whether the extent lies within the query's box, if there is one: then the geometry that it
+/// belongs to meets it. Both are in millimetres.
 pub fn lies_within_box(query: &Query, extent: Option<GridBox>) -> bool
     ensures { IsTrue result → (geometry : Option GeometryValue)
         → option_map box_value extent ≡ option_map extent_of geometry → IsGeometryIf geometry
@@ -96,7 +96,7 @@ pub fn lies_within_box(query: &Query, extent: Option<GridBox>) -> bool
     }
 }
 
-/// Whether the seconds of the time overlap those of the interval, where one is asked.
+/// Whether the seconds of the time overlap those of the query's interval, if there is one.
 fn overlaps_interval(query: &Query, outline: &Outline) -> bool
     ensures { (f : FeatureValue) → outline.now ≡ outline_of f
         → result ≡ passes seconds_overlap f.time (interval_asked (query_value query.now)) }
@@ -118,7 +118,7 @@ pub fn is_candidate(query: &Query, outline: &Outline) -> bool
     overlaps_box(query, outline.extent()) && overlaps_interval(query, outline)
 }
 
-/// Whether the query selects the feature with this outline, where the outline tells.
+/// Whether the query selects the feature with this outline, if the outline decides it.
 pub fn selects_unread(query: &Query, outline: &Outline) -> Option<bool>
     ensures { (f : FeatureValue) → outline.now ≡ outline_of f → IsFeature f
         → IfSome result (λ known. known ≡ selects_of (query_value query.now) f) }
@@ -132,7 +132,7 @@ pub fn selects_unread(query: &Query, outline: &Outline) -> Option<bool>
     None
 }
 
-/// Whether a feature with this id comes after the one asked, where the id is known.
+/// Whether a feature with this id comes after the query's, if that can be decided.
 pub fn comes_after_unread(query: &Query, id: Option<&[u8]>) -> Option<bool>
     ensures { (f : FeatureValue) → IfSome id.entry (λ known. known.now ≡ f.id)
         → IfSome result (λ known. known ≡ comes_after_of (query_value query.now).after f) }

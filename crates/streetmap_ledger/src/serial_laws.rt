@@ -1,8 +1,7 @@
 //! Laws of the definitions.
 ghost use Rattle.streetmap_ledger.specs.SerialLaws.{KeptBySerial, NoSerialIsLeftOut};
 
-/// What a well-formed state keeps under a key is what it keeps with its serial, and the other way
-/// round.
+/// What a well-formed state keeps under a key is what it keeps with its serial, and vice versa.
 pub fn kept_by_serial()
     ensures { KeptBySerial }
 {}

@@ -1,4 +1,4 @@
-//! What is told of a collection.
+//! The description of a collection.
 use streetmap_grid::GridBox;
 
 /// A collection as it is described (OGC 17-069, section 7.14).
@@ -8,6 +8,6 @@ pub struct Summary {
     pub title: String,
     /// The property that the times of its features are read from.
     pub time: Option<String>,
-    /// The box of all positions of its features, in millimetres; none where there is none.
+    /// The box of all positions of its features, in millimetres; none if there are none.
     pub extent: Option<GridBox>,
 }

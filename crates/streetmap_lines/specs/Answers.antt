@@ -1,4 +1,4 @@
--- What a line is answered in a state, and the state after it.
+-- The answer to a line in a state, and the state after it.
 use Rattle.std.specs.Prelude.{Option, None, Some, Result, Ok, Err, codes}
 use Rattle.serde_json.specs.Data.{Data}
 use Rattle.streetmap_geojson.specs.FeatureValue.{FeatureValue}
@@ -21,16 +21,16 @@ use Rattle.streetmap_bodies.specs.declared.request_fault.RequestFault.TheVariant
 use Rattle.streetmap_batch.specs.Text.{Text}
 use Rattle.streetmap_lines.specs.Request.{LineRequest, batch, page, feature}
 
--- the JSON value that is answered, and the state after it
+-- the JSON value of the answer, and the state after it
 pub record Answer : Type 0 where
   pub body : Data
   pub state : State
 
--- what a line that asks for nothing is answered
+-- the answer to a line that is not a request
 abbrev pub unknown_command : Data
 unknown_command = error_data (codes "bad_command") (codes "The command is not known.") None None
 
--- nothing is there
+-- no such resource exists
 abbrev pub not_found : Data
 not_found = fault_body NotFound
 
@@ -43,24 +43,24 @@ batch_answer s (Err fault) = record { body = fault_body (Batch fault); state = s
 
 -- ---- pages and features
 
--- a page, where its collection is there
+-- a page, if its collection exists
 abbrev pub found_page : Option PageValue → Data
 found_page None = not_found
 found_page (Some p) = line_page_data p
 
--- the query is read before the collection is looked for
+-- the query is read before the collection is looked up
 abbrev pub page_body : State → Text → Result QueryValue QueryFault → Data
 page_body s collection (Err fault) = fault_body (Query fault)
 page_body s collection (Ok q) = found_page (page_in s collection q)
 
--- a feature, where it is there
+-- a feature, if it exists
 abbrev pub found_feature : Option FeatureValue → Data
 found_feature None = not_found
 found_feature (Some f) = feature_data f
 
 -- ---- lines
 
--- what a request is answered, in this state; where there is no request, the command is not known
+-- the answer to a request, in this state; if there is no request, the command is not known
 unfoldable pub answer_to : State → Option LineRequest → Answer
 answer_to s None = record { body = unknown_command; state = s }
 answer_to s (Some (batch text)) = batch_answer s (batch_of text)

@@ -1,4 +1,5 @@
--- What may end the answering of lines: the names and sentences, and what comes of its parts.
+-- The faults that may end the answering of lines: their names and sentences, and those
+-- of each part.
 use Rattle.std.specs.Prelude.{◌⊎◌, ⊤, ℕ, List, codes}
 use Rattle.streetmap_lines.specs.declared.fault.LinesFault.{LinesFault}
 use Rattle.streetmap_lines.specs.declared.fault.LinesFault.TheVariants.{LineTooLong, ReadFailed}
@@ -19,7 +20,7 @@ description_of WriteFailed = codes "An answer could not be written."
 description_of FlushFailed = codes "An answer could not be written."
 description_of Memory = codes "Memory was refused; the call may be made again."
 
--- what may come of a write: memory is refused, or the write fails
+-- the faults of a write: memory runs out, or the write fails
 abbrev pub IsWriteFault : LinesFault → Type 0
 IsWriteFault LineTooLong = ⊥
 IsWriteFault ReadFailed = ⊥
@@ -27,7 +28,7 @@ IsWriteFault WriteFailed = ⊤
 IsWriteFault FlushFailed = ⊥
 IsWriteFault Memory = ⊤
 
--- what may come of a flush: memory is refused, or the flush fails
+-- the faults of a flush: memory runs out, or the flush fails
 abbrev pub IsFlushFault : LinesFault → Type 0
 IsFlushFault LineTooLong = ⊥
 IsFlushFault ReadFailed = ⊥
@@ -35,11 +36,11 @@ IsFlushFault WriteFailed = ⊥
 IsFlushFault FlushFailed = ⊤
 IsFlushFault Memory = ⊤
 
--- what may come of an answer: that of a write, or of the flush behind it
+-- the faults of an answer: that of a write, or of the flush after it
 abbrev pub IsAnswerFault : LinesFault → Type 0
 IsAnswerFault fault = IsWriteFault fault ⊎ IsFlushFault fault
 
--- what may come of reading a line: it is too long, memory is refused, or the read fails
+-- the faults of reading a line: it is too long, memory runs out, or the read fails
 abbrev pub IsLineFault : LinesFault → Type 0
 IsLineFault LineTooLong = ⊤
 IsLineFault ReadFailed = ⊤

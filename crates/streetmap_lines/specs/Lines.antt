@@ -10,7 +10,7 @@ use Rattle.streetmap_lines.specs.Request.{request_in}
 
 -- ---- answers
 
--- what a line is answered in this state; an empty line is passed over
+-- the answer to a line in this state; an empty line is skipped
 abbrev pub line_answer : State → List ℕ → Option Data
 line_answer s [] = None
 line_answer s (b ∷ bs) = Some (answer_to s (request_in (b ∷ bs))).body
@@ -33,13 +33,13 @@ answers_of s (line ∷ lines) = answer_text (line_answer s line)
 
 -- ---- too long lines
 
--- how many lines stand before the first of more than 8,388,608 bytes, its line feed not counted,
--- where there is one
+-- how many lines there are before the first of more than 8,388,608 bytes, without its line feed, if
+-- there is one
 abbrev pub first_too_long : List ℕ → Option ℕ
 first_too_long input = bounded.first_too_long 8388608 input
 
 -- ---- writing that ends early
 
--- the answers to the first of these lines were written, and nothing else
+-- the answers to a prefix of these lines were written, and nothing else
 abbrev pub AnswersFirst : Option (List ℕ) → Option (List ℕ) → State → List (List ℕ) → Type 0
 AnswersFirst old new s lines = (count : ℕ) × Appends old new (answers_of s (take count lines))

@@ -1,4 +1,4 @@
--- What a line of input asks for.
+-- The request of a line of input.
 use Rattle.std.specs.Prelude.{◌≡◌, ℕ, false, List, ◌∷◌, ◌++◌, Option, Some, None, option_map}
 use Rattle.std.specs.Prelude.{option_and_then, codes, length, nat_lt, IsUtf8, ◌==◌, if◌then◌else◌}
 use Rattle.std.specs.List.{position_or_len, before_first, after_first, list_any}
@@ -13,7 +13,7 @@ pub data LineRequest : Type 0 where
 abbrev pub HasNoSpace : Text → Type 0
 HasNoSpace text = list_any (λ b. b == 32) text ≡ false
 
--- how a request is spelled: its word, and its texts behind one space each
+-- how a request is spelled: its word, and its texts, each after one space
 abbrev pub SpellsRequest : Text → LineRequest → Type 0
 SpellsRequest line (batch text) = line ≡ codes "batch " ++ text
 SpellsRequest line (page collection None) =
@@ -24,13 +24,13 @@ SpellsRequest line (page collection (Some query)) =
 SpellsRequest line (feature collection id) = (line ≡ codes "feature " ++ (collection ++ 32 ∷ id))
     × HasNoSpace collection
 
--- a line is text in UTF-8 that asks for a request
+-- a line is UTF-8 text that spells a request
 abbrev pub AsksFor : List ℕ → LineRequest → Type 0
 AsksFor line request = IsUtf8 line × SpellsRequest line request
 
--- ---- the request of a text, where there is one
+-- ---- the request of a text, if there is one
 
--- what stands before the first space and behind it
+-- the text before the first space and the text after it
 abbrev pub split_space : Text → Option (Text × Text)
 split_space text =
     if nat_lt (position_or_len (λ b. b == 32) text) (length text)
@@ -59,6 +59,6 @@ request_by word text =
 abbrev pub request_of : Text → Option LineRequest
 request_of line = option_and_then (λ p. request_by p.0 p.1) (split_space line)
 
--- the request of a line: none where it is no text
+-- the request of a line: none if it is not UTF-8 text
 abbrev pub request_in : List ℕ → Option LineRequest
 request_in line = if is_utf8 line then request_of line else None

@@ -1,4 +1,4 @@
-//! Why lines are not answered to their end.
+//! Why lines are not answered to the end.
 ghost use Rattle.std.specs.Prelude.{◌≡◌, ◌≢◌};
 ghost use Rattle.streetmap_lines.specs.Faults.{code_of, description_of};
 ghost use Rattle.streetmap_lines.specs.Faults.{IsLineFault, IsWriteFault, IsFlushFault};
@@ -9,15 +9,15 @@ use streetmap_text_lines::{LineFault, WriteFault};
 /// Why the answering of lines ends before the input does.
 #[derive(Clone, Copy, PartialEq, Eq)]
 pub enum LinesFault {
-    /// `line_too_long`: a line of input has more than 8,388,608 bytes, its line feed not counted.
+    /// `line_too_long`: a line of input has more than 8,388,608 bytes, without its line feed.
     LineTooLong,
     /// `read_failed`: the input could not be read.
     ReadFailed,
-    /// `write_failed`: an answer could not be written to its end.
+    /// `write_failed`: an answer could not be written to the end.
     WriteFailed,
     /// `write_failed`: an answer was written, and a flush of the writer failed.
     FlushFailed,
-    /// `memory`: memory was refused.
+    /// `memory`: memory ran out.
     Memory,
 }
 

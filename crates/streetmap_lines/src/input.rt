@@ -18,7 +18,7 @@ use std::io::{BufRead, Write};
 use streetmap_memory::PlainKeeper;
 use streetmap_text_lines::{Line, WriteFault};
 
-/// The most bytes that a line may have, its line feed not counted.
+/// The most bytes that a line may have, without its line feed.
 pub const MAX_LINE: usize = 8_388_608;
 
 /// The next line of the input. The last one may lack its line feed.
@@ -50,7 +50,7 @@ fn write_bytes<W: Write>(writer: &mut W, bytes: &[u8]) -> Result<(), LinesFault>
     }
 }
 
-/// Writes an answer and a line feed, and lets the reader of the answers see them.
+/// Writes an answer and a line feed, and flushes the writer.
 fn write_line<W: Write>(writer: &mut W, answer: &str) -> Result<(), LinesFault>
     ensures ok { OnOk result (Appends (W.contents writer.old) (W.contents writer.new)
         (answer.now ++ 10 ∷ [])) }
@@ -70,7 +70,7 @@ fn write_line<W: Write>(writer: &mut W, answer: &str) -> Result<(), LinesFault>
     }
 }
 
-/// Answers a line, by one line of the writer.
+/// Answers a line, by one line to the writer.
 fn write_answer<W: Write>(
     alloc: Global,
     keeper: &mut PlainKeeper,
@@ -101,16 +101,15 @@ fn write_answer<W: Write>(
     }
 }
 
-/// Answers the lines of the reader in order, each by one line of the writer, over a ledger in
-/// memory that begins empty. Empty lines are passed over.
+/// Answers the lines of the reader in order, each by one line to the writer, over a ledger in
+/// memory that begins empty. Empty lines are skipped.
 ///
 /// # Errors
 ///
-/// `LineTooLong` at a line of more than 8,388,608 bytes, where the answers to all lines before it
-/// are written; `ReadFailed`, and `FlushFailed` where a flush failed, where those to some of the
-/// first lines are; `WriteFailed`, where what was written is a beginning of the answers, and not
-/// all of them; `Memory`, where it is a beginning. After 2^64 - 1 lines it ends as after a failed
-/// read.
+/// `LineTooLong` at a line of more than 8,388,608 bytes: the answers to all lines before it are
+/// written. `ReadFailed`, and `FlushFailed` if a flush failed: the answers to a prefix of the lines
+/// are written. `WriteFailed`: a prefix of the answers is written, and not all of them. `Memory`: a
+/// prefix is written. After 2^64 - 1 lines it ends as after a failed read.
 pub fn lines<R: BufRead, W: Write>(
     alloc: Global,
     reader: &mut R,
@@ -124,29 +123,29 @@ pub fn lines<R: BufRead, W: Write>(
     // No line is too long.
     ensures short { OnOk result (IfSome (R.remaining reader.old) (λ input. first_too_long input
         ≡ None)) }
-    // The whole input is taken.
+    // The whole input is read.
     ensures whole { OnOk result (OnSome (R.remaining reader.old)
         (IsAtEnd (R.remaining reader.new))) }
-    // There is a line that is too long, and the lines before the first of them are answered.
+    // There is a line that is too long, and the lines before the first such line are answered.
     ensures too_long { result ≡ Err LinesFault.LineTooLong
         → IfSome (R.remaining reader.old) (λ input.
         IsSomeAnd (first_too_long input) (λ count.
         Appends (W.contents writer.old) (W.contents writer.new)
         (answers_of opening_state (take count (lines input))))) }
-    // Some of the first lines are answered, each whole, and no other.
+    // A prefix of the lines is answered, each whole, and no other line.
     ensures read_failed { result ≡ Err LinesFault.ReadFailed
         → IfSome (R.remaining reader.old) (λ input.
         AnswersFirst (W.contents writer.old) (W.contents writer.new) opening_state (lines input)) }
-    // Some of the answers are not written, or not to their end.
+    // Some of the answers are not written, or not to the end.
     ensures write_failed { result ≡ Err LinesFault.WriteFailed →
         IfSome (R.remaining reader.old) (λ input.
         AppendsLess (W.contents writer.old) (W.contents writer.new)
         (answers_of opening_state (lines input))) }
-    // Some of the first lines are answered, each whole, and no other.
+    // A prefix of the lines is answered, each whole, and no other line.
     ensures flush_failed { result ≡ Err LinesFault.FlushFailed →
         IfSome (R.remaining reader.old) (λ input.
         AnswersFirst (W.contents writer.old) (W.contents writer.new) opening_state (lines input)) }
-    // What was written is the beginning of the answers.
+    // What was written is a prefix of the answers.
     ensures err { OnErr result (IfSome (R.remaining reader.old) (λ input.
         AppendsBeginning (W.contents writer.old) (W.contents writer.new)
         (answers_of opening_state (lines input)))) }

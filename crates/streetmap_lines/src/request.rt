@@ -1,17 +1,17 @@
-//! What a line of input asks for.
+//! The request of a line of input.
 ghost use Rattle.std.specs.Prelude.{◌≡◌, Option, Some, None, option_map, IfSome, IsSome, IsUtf8};
 ghost use Rattle.streetmap_lines.specs.Request.{LineRequest, split_space, page_request_of};
 ghost use Rattle.streetmap_lines.specs.Request.{request_by, request_of, request_in, AsksFor};
 ghost use Rattle.streetmap_lines.specs.RequestView.{request_value};
 
-/// What a line of input asks for, by texts of the line.
+/// The request of a line of input, by texts of the line.
 #[derive(Clone, Copy)]
 pub enum Request<'a> {
     /// A batch of edits to be applied.
     Batch {
         text: &'a str,
     },
-    /// A page of a collection, by a query text where there is one.
+    /// A page of a collection, by a query text if there is one.
     Page {
         collection: &'a str,
         query: Option<&'a str>,
@@ -30,7 +30,7 @@ fn split_at_space(text: &str) -> Option<(&str, &str)>
     text.split_once(' ')
 }
 
-/// What stands behind `page `.
+/// The request of the text after `page `.
 fn read_page_request<'a>(text: &'a str) -> Option<Request<'a>>
     ensures { option_map request_value result ≡ page_request_of text.entry.now }
 {
@@ -49,7 +49,7 @@ fn read_page_request<'a>(text: &'a str) -> Option<Request<'a>>
     }
 }
 
-/// What stands behind `feature `.
+/// The request of the text after `feature `.
 fn read_feature_request<'a>(text: &'a str) -> Option<Request<'a>>
     ensures { option_map request_value result
         ≡ option_map (λ p. LineRequest.feature p.0 p.1) (split_space text.entry.now) }
@@ -58,7 +58,7 @@ fn read_feature_request<'a>(text: &'a str) -> Option<Request<'a>>
     Some(Request::Feature { collection, id })
 }
 
-/// What a line's first word and the text behind it ask for.
+/// The request of a line's first word and the text after it.
 #[tactic(auto, unfolding(crate::specs::Request::request_by))]
 fn read_by_word<'a>(word: &str, text: &'a str) -> Option<Request<'a>>
     ensures { option_map request_value result ≡ request_by word.now text.entry.now }
@@ -79,7 +79,7 @@ fn read_words<'a>(line: &'a str) -> Option<Request<'a>>
     read_by_word(word, text)
 }
 
-/// The request of a line, where it is text.
+/// The request of a line, if it is text.
 fn read_line<'a>(line: &'a [u8]) -> Option<Request<'a>>
     ensures text { IsUtf8 line.entry.now
         → option_map request_value result ≡ request_of line.entry.now }
@@ -92,14 +92,14 @@ fn read_line<'a>(line: &'a [u8]) -> Option<Request<'a>>
     }
 }
 
-/// What a line asks for, without its line feed: `batch TEXT`, `page COLLECTION`,
-/// `page COLLECTION QUERY` or `feature COLLECTION ID`, its words parted by one space; none where it
-/// is none of these, or no UTF-8. Each text may be empty; a collection and a query hold no space.
+/// The request of a line, without its line feed: `batch TEXT`, `page COLLECTION`,
+/// `page COLLECTION QUERY` or `feature COLLECTION ID`, its words separated by one space; none if it
+/// is none of these, or not UTF-8. Each text may be empty; a collection and a query hold no space.
 pub fn read_request<'a>(line: &'a [u8]) -> Option<Request<'a>>
     ensures value { option_map request_value result ≡ request_in line.entry.now }
-    // What is read is what the line asks for.
+    // What is read is the request that the line spells.
     ensures found { IfSome result (λ r. AsksFor line.entry.now (request_value r)) }
-    // What the line asks for is read.
+    // The request that the line spells is read.
     ensures only { (r : LineRequest) → AsksFor line.entry.now r
         → option_map request_value result ≡ Some r }
 {

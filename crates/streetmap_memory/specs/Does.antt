@@ -1,4 +1,4 @@
--- What edits of the plain keeper's collections do to the state that they stand for.
+-- The effect of edits of the plain keeper's collections on the state that they represent.
 use Rattle.std.specs.Prelude.{◌≡◌, ℕ, List, Option, Some, None, Ok, Err}
 use Rattle.std.specs.FinMap.{FinMap}
 use Rattle.streetmap_batch.specs.Text.{text_cmp}

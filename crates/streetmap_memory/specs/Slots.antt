@@ -50,7 +50,7 @@ map_of es = from_entries (by_text es)
 abbrev pub SlotCollections : Type 0
 SlotCollections = FinMap text_cmp SlotCollection
 
--- with this in the slot at the id, which is taken out where it is empty
+-- with this in the slot at the id, or without the slot if this is empty
 abbrev pub filled : Features → Text → Option FeatureValue → Features
 filled features id None = remove features id
 filled features id (Some f) = insert features id f
@@ -60,7 +60,7 @@ abbrev pub live_of : List (Text × Option FeatureValue) → Features
 live_of [] = empty
 live_of (e ∷ es) = filled (live_of es) e.0 e.1
 
--- with the feature of a slot before them, under its id, where it holds one
+-- with the feature of a slot before them, under its id, if it holds one
 abbrev pub with_live : Text → Option FeatureValue → List (Text × FeatureValue)
     → List (Text × FeatureValue)
 with_live id None es = es
@@ -71,11 +71,11 @@ abbrev pub live_entries : List (Text × Option FeatureValue) → List (Text × F
 live_entries [] = []
 live_entries (e ∷ es) = with_live e.0 e.1 (live_entries es)
 
--- whether an entry's id stands between two in byte order, or is one of them
+-- whether an entry's id is between two in byte order, or is one of them
 abbrev pub is_under : Text → Text → Text × FeatureValue → Bool
 is_under first last e = is_ge (text_cmp e.0 first) && is_le (text_cmp e.0 last)
 
--- the features of entries whose ids stand between two, in their order
+-- the features of entries whose ids are between two, or are one of them, in their order
 abbrev pub run_under : Text → Text → List (Text × FeatureValue) → List FeatureValue
 run_under first last es = map (λ e. e.1) (filter (is_under first last) es)
 
@@ -83,7 +83,7 @@ run_under first last es = map (λ e. e.1) (filter (is_under first last) es)
 abbrev pub live : Slots → Features
 live slots = live_of (entries slots)
 
--- the collection that the slots stand for
+-- the collection that the slots represent
 abbrev pub collected : SlotCollection → Collection
 collected c = record { title = c.title; time = c.time; features = live c.slots }
 
@@ -92,7 +92,7 @@ abbrev pub collected_of : List (Text × SlotCollection) → FinMap text_cmp Coll
 collected_of [] = empty
 collected_of (e ∷ es) = insert (collected_of es) e.0 (collected e.1)
 
--- the collections that these stand for
+-- the collections that these represent
 abbrev pub collections_of : SlotCollections → FinMap text_cmp Collection
 collections_of t = collected_of (entries t)
 
@@ -108,13 +108,13 @@ put_slot c id slot = record c { slots = insert c.slots id slot }
 abbrev pub cut_slot : SlotCollection → Text → SlotCollection
 cut_slot c id = record c { slots = remove c.slots id }
 
--- with this collection changed, where it is there
+-- with this collection changed, if it exists
 abbrev pub changed_collection : SlotCollections → Text → (SlotCollection → SlotCollection)
     → Option SlotCollection → SlotCollections
 changed_collection t name f None = t
 changed_collection t name f (Some c) = insert t name (f c)
 
--- with one of the collections changed, where it is there
+-- with one of the collections changed, if it exists
 abbrev pub with_collection : SlotCollections → Text → (SlotCollection → SlotCollection)
     → SlotCollections
 with_collection t name f = changed_collection t name f (get t name)
@@ -127,11 +127,11 @@ put_in t name id slot = with_collection t name (λ c. put_slot c id slot)
 abbrev pub cut_in : SlotCollections → Text → Text → SlotCollections
 cut_in t name id = with_collection t name (λ c. cut_slot c id)
 
--- a slot that is there takes this
+-- an existing slot takes this
 abbrev pub reset_slot : SlotCollection → Text → Option FeatureValue → SlotCollection
 reset_slot c id slot = if is_some (get c.slots id) then put_slot c id slot else c
 
--- with this in a slot of a collection that is there
+-- with this in an existing slot of a collection
 abbrev pub reset_in : SlotCollections → Text → Text → Option FeatureValue → SlotCollections
 reset_in t name id slot = with_collection t name (λ c. reset_slot c id slot)
 
@@ -141,20 +141,20 @@ live_values [] = []
 live_values (None ∷ os) = live_values os
 live_values (Some f ∷ os) = f ∷ live_values os
 
--- the slot is there and empty
+-- the slot exists and is empty
 abbrev pub is_emptied : Option (Option FeatureValue) → Bool
 is_emptied (Some None) = true
 is_emptied _ = false
 
--- the slot is taken out where it is empty
+-- the slot is removed if it is empty
 abbrev pub swept_slot : SlotCollection → Text → SlotCollection
 swept_slot c id = if is_emptied (get c.slots id) then cut_slot c id else c
 
--- without a slot of a collection, where it is empty
+-- without a slot of a collection, if it is empty
 abbrev pub swept_in : SlotCollections → Text → Text → SlotCollections
 swept_in t name id = with_collection t name (λ c. swept_slot c id)
 
--- what is told of an entry of the map of collections
+-- the description of an entry of the map of collections
 abbrev pub summary_at : String Global × SlotCollection → SummaryValue
 summary_at e = summary_of (string_bytes e.0) (collected e.1)
 

@@ -29,21 +29,21 @@ abbrev pub found_slot : Option FeatureValue → Found
 found_slot None = NoFeature
 found_slot (Some f) = There
 
--- by what stands under the name
+-- by the collection under the name
 abbrev pub found_on : Option SlotCollection → Text → Found
 found_on None id = NoCollection
 found_on (Some c) id = found_slot (option_flatten (get c.slots id))
 
--- whether the collection and the feature are there
+-- whether the collection and the feature exist
 abbrev pub found_in : SlotCollections → Text → Text → Found
 found_in t name id = found_on (get t name) id
 
--- the feature with its time by the collection's property: none where the time cannot be read
+-- the feature with its time by the collection's property: none if the time cannot be read
 abbrev pub timed_in : SlotCollections → Text → FeatureValue → Option FeatureValue
 timed_in t name f = option_and_then (λ (c : SlotCollection). result_ok (timed c.time f))
     (get t name)
 
--- the slot that an edit wrote is taken out where it is empty
+-- the slot that an edit wrote is removed if it is empty
 abbrev pub swept_by : Undo → SlotCollections → SlotCollections
 swept_by (Open name) t = t
 swept_by (Add name id) t = swept_in t name.now id.now

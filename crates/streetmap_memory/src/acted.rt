@@ -1,4 +1,4 @@
-//! What became of an edit.
+//! The result of an edit.
 use crate::undo::Undo;
 use streetmap_ledger::Refusal;
 

@@ -94,7 +94,7 @@ impl PlainCollection {
         }
     }
 
-    /// The feature packed with its text and its time; none where the time cannot be read.
+    /// The feature packed with its text and its time; none if the time cannot be read.
     pub fn packed(
         &self,
         alloc: Global,
@@ -111,7 +111,7 @@ impl PlainCollection {
         }
     }
 
-    /// Puts a feature into the slot at the id, and answers what that was.
+    /// Puts a feature into the slot at the id, and returns what that was.
     pub fn put(
         &mut self,
         id: String,
@@ -124,7 +124,7 @@ impl PlainCollection {
         Ok(self.slots.insert(id, Some(feature))?)
     }
 
-    /// Puts this into the slot at the id, where there is one, and answers what that was.
+    /// Puts this into the slot at the id, if there is one, and returns what that was.
     pub fn replace_slot(
         &mut self,
         id: &str,
@@ -142,14 +142,14 @@ impl PlainCollection {
         }
     }
 
-    /// Takes the slot out.
+    /// Removes the slot.
     pub fn remove_slot(&mut self, id: &str)
         ensures { self.new ≡ cut_slot self.old id.now }
     {
         let _ = self.slots.remove(id);
     }
 
-    /// Whether the slot at the id is there and empty.
+    /// Whether the slot at the id exists and is empty.
     fn is_emptied(&self, id: &str) -> bool
         ensures { result ≡ is_emptied_of (get self.now.slots id.now) }
     {
@@ -159,7 +159,7 @@ impl PlainCollection {
         }
     }
 
-    /// Takes the slot out, where it is empty.
+    /// Removes the slot if it is empty.
     pub fn sweep(&mut self, id: &str)
         ensures { self.new ≡ swept_slot self.old id.now }
     {
@@ -168,7 +168,7 @@ impl PlainCollection {
         }
     }
 
-    /// What is told of the collection under its id.
+    /// The description of the collection under its id.
     pub fn summary(&self, alloc: Global, id: &str) -> Result<Summary, AllocError>
         ensures { IfOk result (λ summary. summary_value summary
             ≡ summary_of id.now (collected self.now)) }
@@ -217,7 +217,7 @@ impl PlainCollection {
     }
 }
 
-/// A text of its own, where there is one.
+/// A text of its own, if there is one.
 pub fn owned(alloc: Global, text: Option<&str>) -> Result<Option<String>, AllocError>
     ensures { IfOk result (λ own. option_map string_bytes own ≡ option_copied text.entry) }
 {
@@ -241,7 +241,7 @@ fn bounds_of(slots: &BTreeMap<String, Option<PackedFeature>>) -> Option<GridBox>
     bounds
 }
 
-/// The outline of the feature that stands under an id.
+/// The outline of the feature that is kept under an id.
 fn outline_of(
     alloc: Global,
     id: &str,
@@ -271,7 +271,7 @@ fn outlines_of(
     Ok(outlines)
 }
 
-/// Takes the feature that comes next, read from its text.
+/// Takes the next feature, read from its text.
 fn take_unpacked(
     alloc: Global,
     fold: &mut PageFold<'_>,
@@ -283,7 +283,7 @@ fn take_unpacked(
     fold.take(feature.unpack(alloc)?)
 }
 
-/// Takes the feature that comes next, where it is a candidate of the query.
+/// Takes the next feature, if it is a candidate of the query.
 fn examine(
     alloc: Global,
     fold: &mut PageFold<'_>,

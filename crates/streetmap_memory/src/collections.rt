@@ -21,7 +21,7 @@ use std::collections::BTreeMap;
 use streetmap_feature_text::{PackedFeature, WrittenFeature};
 use streetmap_ledger::Summary;
 
-/// Takes a slot out of a collection.
+/// Removes a slot from a collection.
 fn remove_slot(collections: &mut BTreeMap<String, PlainCollection>, name: &str, id: &str)
     ensures { map_of collections.new.entries
         ≡ cut_in (map_of collections.old.entries) name.now id.now }
@@ -31,7 +31,7 @@ fn remove_slot(collections: &mut BTreeMap<String, PlainCollection>, name: &str, 
     }
 }
 
-/// Puts this into a slot that is there, and answers what that was.
+/// Puts this into a slot if it exists, and returns what that was.
 pub fn replace_slot(
     collections: &mut BTreeMap<String, PlainCollection>,
     name: &str,
@@ -48,8 +48,8 @@ pub fn replace_slot(
     }
 }
 
-/// The feature packed with its text, and with its time by the collection's property; none where
-/// that cannot be read.
+/// The feature packed with its text, and with its time by the collection's property; none if that
+/// cannot be read.
 pub fn packed(
     alloc: Global,
     collections: &BTreeMap<String, PlainCollection>,
@@ -67,7 +67,7 @@ pub fn packed(
     }
 }
 
-/// Puts a feature into a collection that is there, and answers what its slot was.
+/// Puts a feature into a collection if it exists, and returns what its slot was.
 pub fn put(
     alloc: Global,
     collections: &mut BTreeMap<String, PlainCollection>,
@@ -88,7 +88,7 @@ pub fn put(
     }
 }
 
-/// What takes back that a slot was written which was this before.
+/// The undo of a write to a slot that was this before.
 pub fn undo_of<'a>(name: &'a str, id: &'a str, was: Option<Option<PackedFeature>>) -> Undo<'a>
     ensures { (t : SlotCollections) (slot : Option FeatureValue)
         → slot_in t name.now id.now ≡ was
@@ -100,7 +100,7 @@ pub fn undo_of<'a>(name: &'a str, id: &'a str, was: Option<Option<PackedFeature>
     }
 }
 
-/// Opens a collection that is not there.
+/// Opens a new collection.
 pub fn open(
     alloc: Global,
     collections: &mut BTreeMap<String, PlainCollection>,
@@ -150,7 +150,7 @@ pub fn rewind(collections: &mut BTreeMap<String, PlainCollection>, mut log: Vec<
     }
 }
 
-/// Takes a slot out of a collection, where it is empty.
+/// Removes a slot from a collection, if it is empty.
 fn sweep_slot(collections: &mut BTreeMap<String, PlainCollection>, name: &str, id: &str)
     ensures { map_of collections.new.entries
         ≡ swept_in (map_of collections.old.entries) name.now id.now }
@@ -160,7 +160,7 @@ fn sweep_slot(collections: &mut BTreeMap<String, PlainCollection>, name: &str, i
     }
 }
 
-/// Takes out the slot that an edit wrote, where it left that empty.
+/// Removes the slot that an edit wrote, if it left that empty.
 fn sweep_edit(collections: &mut BTreeMap<String, PlainCollection>, edit: Undo<'_>)
     ensures { map_of collections.new.entries
         ≡ swept_by edit.entry (map_of collections.old.entries) }
@@ -175,7 +175,7 @@ fn sweep_edit(collections: &mut BTreeMap<String, PlainCollection>, edit: Undo<'_
     }
 }
 
-/// Takes out the slots that edits wrote and left empty.
+/// Removes the slots that edits wrote and left empty.
 pub fn sweep(collections: &mut BTreeMap<String, PlainCollection>, mut log: Vec<Undo<'_>>)
     ensures { map_of collections.new.entries
         ≡ all_swept log.entry.items (map_of collections.old.entries) }
@@ -185,7 +185,7 @@ pub fn sweep(collections: &mut BTreeMap<String, PlainCollection>, mut log: Vec<U
     }
 }
 
-/// What is told of all collections, in the order of their ids.
+/// The descriptions of all collections, in the order of their ids.
 pub fn summaries(
     alloc: Global,
     collections: &BTreeMap<String, PlainCollection>,

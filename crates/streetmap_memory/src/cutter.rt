@@ -21,7 +21,7 @@ impl<'a> Cutter<'a> {
         Cutter { whole, from: 0 }
     }
 
-    /// Where the text begins and ends in the rest of the whole. The next one is looked for behind
+    /// Where the text begins and ends in the rest of the whole. The next one is searched for after
     /// it.
     fn find(&mut self, text: &[u8]) -> Option<(usize, usize)>
         ensures whole { self.new.whole ≡ self.old.whole }
@@ -41,8 +41,7 @@ impl<'a> Cutter<'a> {
         }
     }
 
-    /// The compact text of a feature: a part of the whole where it stands there, else one of its
-    /// own.
+    /// The compact text of a feature: a part of the whole if it is there, else one of its own.
     pub fn cut(&mut self, alloc: Global, feature: &WrittenFeature) -> Result<Bytes, AllocError>
         ensures { IfOk result (λ text. text ≡ compact_text (feature_data feature.now)) }
     {

@@ -1,4 +1,4 @@
-//! Edits of the plain keeper's collections, one and all.
+//! Edits of the plain keeper's collections, one by one and all together.
 ghost use Rattle.std.specs.Prelude.{◌≡◌, Option, Some, None, IfOk, OnErr, map};
 ghost use Rattle.std.specs.Option.{option_copied};
 ghost use Rattle.streetmap_memory.specs.Slots.{map_of};
@@ -19,7 +19,7 @@ use streetmap_batch::{Edit, TimeProperty};
 use streetmap_feature_text::WrittenFeature;
 use streetmap_ledger::Refusal;
 
-/// Whether a feature and its collection are there.
+/// Whether a feature and its collection exist.
 #[derive(Clone, Copy)]
 pub enum Found {
     NoCollection,
@@ -137,7 +137,7 @@ fn act_delete<'a>(
     }
 }
 
-/// The name of a time property, where there is one.
+/// The name of a time property, if there is one.
 fn name_of(time: &Option<TimeProperty>) -> Option<&str>
     ensures { option_copied result ≡ time.now }
 {
@@ -186,8 +186,8 @@ fn act<'a>(
     }
 }
 
-/// Acts on edits in order; the texts of their features are cut from that of the batch. Where an
-/// edit is refused, or memory is, what was done is taken back.
+/// Applies edits in order; the texts of their features are cut from that of the batch. If an edit
+/// is refused, or memory runs out, what was done is taken back.
 pub fn act_all(
     alloc: Global,
     collections: &mut BTreeMap<String, PlainCollection>,

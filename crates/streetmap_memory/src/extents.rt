@@ -7,7 +7,7 @@ ghost use Rattle.streetmap_ledger.specs.Summaries.{feature_vertices};
 use streetmap_feature_text::PackedFeature;
 use streetmap_grid::GridBox;
 
-/// The bounds so far, with those of one feature more.
+/// The bounds so far, with those of one more feature.
 pub fn grown(bounds: Option<GridBox>, feature: &PackedFeature) -> Option<GridBox>
     ensures { (ps : List PositionValue) → AreBounds ps bounds
         → AreBounds (ps ++ feature_vertices feature.now) result }

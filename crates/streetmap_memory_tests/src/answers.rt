@@ -1,12 +1,12 @@
-//! Want of memory, that no clause rules out: the ledger is as it was, and the line is answered when
-//! it comes again. The group `refusals` refuses each allocation in turn.
+//! Running out of memory, which no clause excludes: the ledger is as it was, and the line is
+//! answered when it is sent again. The group `refusals` makes each allocation fail in turn.
 use std::alloc::{AllocError, Global};
 use std::test::Fail;
 use streetmap_lines::answer_line;
 use streetmap_memory::PlainKeeper;
 
-/// A line over the ledger that the lines before it left, and what it is answered; and a line that
-/// looks at the ledger, with what that is answered before.
+/// A line over the ledger that the lines before it left, and its answer; and a line that reads the
+/// ledger, with its answer before.
 struct Row {
     line: &'static str,
     answer: &'static str,
@@ -114,7 +114,7 @@ fn rows() -> &'static [Row] {
     ROWS
 }
 
-/// Whether a line is answered so.
+/// Whether a line has this answer.
 fn is_answered(
     alloc: Global,
     keeper: &mut PlainKeeper,
@@ -125,7 +125,8 @@ fn is_answered(
     Ok(answer.is_some_and(|text| text.as_str() == wanted))
 }
 
-/// Whether a line that was refused for memory changed nothing, and is answered when it comes again.
+/// Whether a line that failed for lack of memory changed nothing, and is answered when it is sent
+/// again.
 fn is_answered_again(
     alloc: Global,
     keeper: &mut PlainKeeper,

@@ -1,10 +1,10 @@
-//! Readers and a writer that fail where a test asks for it.
+//! Readers and a writer that fail when a test says so.
 ghost use Rattle.std.specs.Counts.{IsPrefixLen};
 ghost use Rattle.std.specs.Result.{IfOk};
 
 use std::io::{self, ErrorKind, Read, Write};
 
-/// Gives a byte at a read, and fails at the read that `reads` others came before.
+/// Gives a byte per read, and fails at the read after `reads` others.
 #[derive(Drop)]
 pub(crate) struct Steps<'a> {
     pub(crate) rest: &'a [u8],
@@ -38,7 +38,7 @@ impl Read for Interrupted<'_> {
     }
 }
 
-/// Gives at most so many of the bytes that are left.
+/// Gives at most `most` of the bytes that are left.
 fn give(rest: &mut &[u8], buf: &mut [u8], most: usize) -> io::Result<usize>
     ensures { IfOk result (λ n. IsPrefixLen n buf.new) }
 {
@@ -48,8 +48,8 @@ fn give(rest: &mut &[u8], buf: &mut [u8], most: usize) -> io::Result<usize>
     Ok(count)
 }
 
-/// Is interrupted before each write, takes a byte at a write, and none behind `room`; then it
-/// fails, or takes no byte.
+/// Is interrupted before each write, takes a byte per write, and none after `room`; then it fails,
+/// or takes no byte.
 #[derive(Drop)]
 pub(crate) struct Sink {
     pub(crate) taken: [u8; 8],

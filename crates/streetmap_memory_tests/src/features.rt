@@ -1,4 +1,4 @@
-//! Ids of features that are known unread.
+//! Ids of features that are known without reading them.
 use bytes::Bytes;
 use std::alloc::Global;
 use std::test::Fail;
@@ -11,7 +11,7 @@ fn feature(alloc: Global, text: &str) -> Result<Feature, JsonFault> {
     read_feature(alloc, &value, Some("when"))
 }
 
-/// A text of a feature, and its id where that stands in the feature's text as it is.
+/// A text of a feature, and its id if that is in the feature's text without escapes.
 const IDS: &[(&str, Option<&str>)] = &[
     (r#"{"type":"Feature","id":"way/7"}"#, Some("way/7")),
     (r#"{"type":"Feature","id":17}"#, Some("17")),
@@ -34,7 +34,7 @@ fn packed(alloc: Global, feature: &Feature) -> Result<PackedFeature, Fail> {
     Ok(PackedFeature::new(alloc, text, &written, feature.time())?)
 }
 
-/// Whether this is known of a feature's id, unread.
+/// Whether this is known of a feature's id without reading it.
 fn is_known(alloc: Global, feature: &Feature, id: Option<&str>) -> Result<bool, Fail> {
     let packed = packed(alloc, feature)?;
     Ok(packed.unescaped_id() == id.map(str::as_bytes))

@@ -1,4 +1,4 @@
-//! How many features a page examines, which no answer tells, and runs of features.
+//! How many features a page examines, which no answer shows, and runs of features.
 use std::alloc::Global;
 use std::test::Fail;
 use streetmap_ledger::{Keeper, read_batch};
@@ -30,7 +30,7 @@ const EXAMINED: &[(&str, u64)] = &[
     ("bbox=0,6,3,9&datetime=2024-05-01T12:00:00Z", 2),
 ];
 
-/// The ids that a run of the street stands between, and those of its features.
+/// The ids that bound a run of the street, and those of its features.
 const RUNS: &[(&str, &str, &str)] = &[
     ("B", "D", "BCD"),
     ("A", "F", "ABCDEF"),
@@ -41,14 +41,14 @@ const RUNS: &[(&str, &str, &str)] = &[
     ("BB", "BC", ""),
 ];
 
-/// How many features a page of the street examines; none where it is not open.
+/// How many features a page of the street examines; none if it is not open.
 fn examined(alloc: Global, keeper: &mut PlainKeeper, query: &str) -> Result<Option<u64>, Fail> {
     let query = read_query(alloc, Some(query))?;
     let page = keeper.page("street", &query)?;
     Ok(page.map(|page| page.examined))
 }
 
-/// The ids of the features of a run, one behind the other; none where the collection is not open.
+/// The ids of the features of a run, one after the other; none if the collection is not open.
 fn run_ids(
     alloc: Global,
     keeper: &mut PlainKeeper,
@@ -66,7 +66,7 @@ fn run_ids(
     Ok(Some(ids))
 }
 
-/// Acts on the batch of the street.
+/// Applies the batch of the street.
 fn fill(alloc: Global, keeper: &mut PlainKeeper) -> Result<(), Fail> {
     let batch = read_batch(alloc, STREET.as_bytes())?;
     keeper.apply(&batch)?;

@@ -1,8 +1,8 @@
-//! Memory that is refused in its turn: the answers of ample memory come, or a beginning of them and
-//! the fixed 503.
+//! Runs in which an allocation fails: the answers are those given with ample memory, or a prefix of
+//! them and the fixed 503.
 //!
-//! Run with ample memory this wants the answers; `rt try --test --fail-alloc N` refuses the Nth
-//! growth.
+//! With ample memory this expects all answers; `rt try --test --fail-alloc N` makes the Nth
+//! allocation fail.
 use std::io;
 use std::io::Write;
 use std::test::Fail;
@@ -10,7 +10,7 @@ use streetmap_memory::PlainKeeper;
 use streetmap_routes::Base;
 use streetmap_web::serve;
 
-/// A batch, what is told of all collections and of one, and a page of it.
+/// A batch, requests for all collections and for one, and one for a page of it.
 const STREAM: &[u8] =
     b"POST /batches HTTP/1.1\r\nHost: localhost\r\nContent-Length: 57\r\n\r\n{\"key\":\"b1\",\"edits\":[{\"op\":\"open\",\"collection\":\"lamps\"}]}GET /collections HTTP/1.1\r\nHost: localhost\r\n\r\nGET /collections/lamps HTTP/1.1\r\nHost: localhost\r\n\r\nGET /collections/lamps/items HTTP/1.1\r\nHost: localhost\r\n\r\n";
 
@@ -22,11 +22,11 @@ const ANSWERS: [&[u8]; 4] = [
     b"HTTP/1.1 200 OK\r\nContent-Type: application/geo+json\r\nContent-Length: 193\r\n\r\n{\"features\":[],\"links\":[{\"href\":\"http://localhost/collections/lamps/items?limit=10\",\"rel\":\"self\",\"type\":\"application/geo+json\"}],\"numberMatched\":0,\"numberReturned\":0,\"type\":\"FeatureCollection\"}",
 ];
 
-/// The answer where memory is refused.
+/// The answer if memory runs out.
 const STARVED: &[u8] =
     b"HTTP/1.1 503 Service Unavailable\r\nContent-Type: application/json\r\nContent-Length: 81\r\nConnection: close\r\n\r\n{\"code\":\"memory\",\"description\":\"Memory was refused; the call may be made again.\"}";
 
-/// A writer that takes no memory.
+/// A writer that allocates no memory.
 #[derive(Drop)]
 struct Fixed {
     bytes: [u8; 2048],
@@ -53,8 +53,8 @@ impl Write for Fixed {
     }
 }
 
-/// How many answers a text is: the whole of them, or a beginning and then that memory was refused;
-/// none where it is neither.
+/// How many answers a text is: all of them, or a prefix and then that memory ran out; none if it is
+/// neither.
 fn answered(text: &[u8]) -> Option<u64> {
     let mut rest = text;
     let mut count = 0u64;

@@ -2,8 +2,8 @@
 use crate::fakes::Sink;
 use streetmap_http::{Sent, send};
 
-/// What is told of an answer that is sent to a writer with so much room, and whether it took the
-/// beginning that fits.
+/// The result of sending an answer to a writer with this much room, and whether it took the prefix
+/// that fits.
 fn sent(room: usize, fails: bool) -> (Sent, bool) {
     let mut sink = Sink {
         taken: [0; 8],

@@ -16,12 +16,13 @@ use Rattle.streetmap_replay.specs.declared.line_stop.LineStop.{LineStop}
 use Rattle.streetmap_replay.specs.declared.line_stop.LineStop.TheVariants.{Unread, NotNext, Refused}
 use Rattle.streetmap_replay.specs.declared.line_stop.LineStop.TheVariants.{Stopped}
 
--- the outcome of a batch that was read, with a serial where there is one
+-- the outcome of a batch that was read, with a serial if there is one
 abbrev pub acted_with : State → Option ℕ → Result BatchValue BatchFault → Result Outcome LineFault
 acted_with s None read = acted s read
 acted_with s (Some serial) read = acted_next s serial read
 
--- a shut keeper that is asked answers `Reopen` and no other does; `Device` and `Damaged` shut it
+-- a shut keeper answers a call with `Reopen` and no other keeper does; `Device` and `Damaged` shut
+-- it
 abbrev pub LineShuts : {T : Type 0} → Result T LineStop → Option Cause → Option Cause → Type 0
 LineShuts (Ok _) old new = (old ≡ None) × (new ≡ None)
 LineShuts (Err (Unread fault)) old new = new ≡ old
@@ -36,7 +37,7 @@ KeepsBut s Device stands = Unit {0}
 KeepsBut s Damaged stands = ⊥
 KeepsBut s Reopen stands = ⊥
 
--- what was told of an outcome, and what is stood for
+-- what was returned of an outcome, and the state that is then represented
 abbrev pub TellsOutcome : State → Result Outcome LineFault → Result Reply LineStop →
     (State → Type 0) → Type 0
 TellsOutcome s outcome (Ok reply) stands =
@@ -48,19 +49,19 @@ TellsOutcome s outcome (Err (Refused why place)) stands =
     (outcome ≡ Err (refused why place)) × stands s
 TellsOutcome s outcome (Err (Stopped fault)) stands = KeepsBut s fault stands
 
--- the state behind an outcome
+-- the state after an outcome
 abbrev pub state_behind : State → Result Outcome LineFault → State
 state_behind s (Ok o) = o.state
 state_behind s (Err why) = s
 
--- what a stop may leave behind a keeper's fault
+-- what a crash may leave after a keeper's fault
 abbrev pub FaultLeaves : State → Result Outcome LineFault → Fault → (Option State → Type 0) → Type 0
 FaultLeaves s outcome Memory left = LeavesOnly left (Some s)
 FaultLeaves s outcome Device left = LeavesEither left (Some s) (Some (state_behind s outcome))
 FaultLeaves s outcome Damaged left = ⊥
 FaultLeaves s outcome Reopen left = ⊥
 
--- what a stop may leave then
+-- what a crash may leave after this result
 abbrev pub OutcomeLeaves : State → Result Outcome LineFault → Result Reply LineStop →
     (Option State → Type 0) → Type 0
 OutcomeLeaves s outcome (Ok reply) left = LeavesOnly left (Some (state_behind s outcome))

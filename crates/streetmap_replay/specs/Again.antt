@@ -10,7 +10,7 @@ use Rattle.streetmap_batch.specs.BatchText.{batch_text}
 use Rattle.streetmap_ledger.specs.State.{State}
 use Rattle.streetmap_ledger.specs.Batches.{act}
 
--- an edit with the time of its feature left out: what its text tells
+-- an edit without the time of its feature: what its text holds
 abbrev pub untimed_edit : EditValue → EditValue
 untimed_edit (edit.«open» name title time) = edit.«open» name title time
 untimed_edit (edit.insert name f) = edit.insert name (untimed f)
@@ -20,16 +20,16 @@ untimed_edit (edit.delete name id) = edit.delete name id
 abbrev pub untimed_batch : BatchValue → BatchValue
 untimed_batch b = record { key = b.key; edits = map untimed_edit b.edits }
 
--- what its text reads as
+-- what the text of a batch reads as
 abbrev pub BatchTextReadsAgain : Type 0
 BatchTextReadsAgain = (b : BatchValue) → IsSoundBatch b →
     IsBatchText (batch_text b) (untimed_batch b) × (batch_of (batch_text b) ≡ Ok (untimed_batch b))
 
--- a batch that was read from a text has no times, so that its text reads as that very batch
+-- a batch that was read from a text has no times, so its text reads as exactly that batch
 abbrev pub ReadBatchIsUntimed : Type 0
 ReadBatchIsUntimed = (bytes : List ℕ) (b : BatchValue) → IsBatchText bytes b → untimed_batch b ≡ b
 
--- a batch does what it does without times, and has the same text
+-- a batch has the same effect without times, and the same text
 abbrev pub TimesAreNotTold : Type 0
 TimesAreNotTold = ((s : State) (b : BatchValue) → act s (untimed_batch b) ≡ act s b) ×
     ((b : BatchValue) → batch_text (untimed_batch b) ≡ batch_text b)

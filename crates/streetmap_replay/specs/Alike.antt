@@ -22,16 +22,16 @@ use Rattle.streetmap_replay.specs.declared.features.PageEnd.TheVariants.{Unlike,
 
 -- ---- pages
 
--- a page of a thousand features behind an id
+-- a page of a thousand features after an id
 abbrev pub part_query : Option Text → QueryValue
 part_query after = record { bbox = None; datetime = None; limit = 1000; after = after }
 
--- the features of two pages have one text
+-- the features of two pages have the same text
 abbrev pub SameText : PageValue → PageValue → Type 0
 SameText p q =
     compact_text (collection_data p.features) ≡ compact_text (collection_data q.features)
 
--- two pages are not the same; or their features have one text, and the same follows them
+-- two pages differ; or their features have the same text, and the same id follows them
 abbrev pub PagesEndAs : PageValue → PageValue → PageEnd → Type 0
 PagesEndAs p q Unlike = p ≡ q → ⊥
 PagesEndAs p q Last = SameText p q × (p.next ≡ None) × (q.next ≡ None)
@@ -39,7 +39,7 @@ PagesEndAs p q (Next id) = SameText p q × (p.next ≡ Some id) × (q.next ≡ S
 
 -- ---- collections
 
--- two collections have one title and one time property
+-- two collections have the same title and the same time property
 abbrev pub AreAlike : SummaryValue → SummaryValue → Type 0
 AreAlike a b = (a.title ≡ b.title) × (a.time ≡ b.time)
 
@@ -50,8 +50,8 @@ IsSame s t name = get s.collections name ≡ get t.collections name
 abbrev pub AreSame : State → State → List (Text × Collection) → Type 0
 AreSame s t named = All (λ (e : Text × Collection). IsSame s t e.0) named
 
--- a collection of the first state is another in the second, and those before it are the same; or
--- all of the first are the same, and the second has it alone
+-- a collection of the first state differs in the second, and those before it are the same; or all
+-- of the first are the same, and only the second has it
 pub record Differs (s t : State) (name : Text) : Type 0 where
   pub other : IsSame s t name → ⊥
   pub place : ℕ
@@ -62,7 +62,7 @@ pub record Differs (s t : State) (name : Text) : Type 0 where
 abbrev pub is_named : Text → List Summary → Bool
 is_named name summaries = list_any (λ (a : Summary). bytes_eq (string_bytes a.id) name) summaries
 
--- the fault that the collection of this name is another, or a want of memory
+-- the fault that the collection of this name differs, or that memory ran out
 abbrev pub IsUnlike : Text → ReplayFault → Type 0
 IsUnlike name (Stopped (Kept fault)) = ⊥
 IsUnlike name (Stopped (Fresh fault)) = ⊥
@@ -70,9 +70,9 @@ IsUnlike name (Stopped Memory) = Unit {0}
 IsUnlike name (Batch serial) = ⊥
 IsUnlike name (Other text) = string_bytes text ≡ name
 
--- ---- looks at two keepers
+-- ---- reads of two keepers
 
--- a look at two keepers that stood for these states: what was seen is so, and both states stay
+-- a read of two keepers that represented these states: the result holds, and both states stay
 abbrev pub LooksBoth : {T : Type 0} → State → State → (T → Type 0) → Result T ReplayStop →
     (State → Type 0) → (State → Type 0) → Type 0
 LooksBoth s t Is (Ok seen) kept fresh = Is seen × kept s × fresh t
@@ -80,7 +80,7 @@ LooksBoth s t Is (Err (Kept fault)) kept fresh = StaysBut s fault kept × fresh 
 LooksBoth s t Is (Err (Fresh fault)) kept fresh = kept s × StaysBut t fault fresh
 LooksBoth s t Is (Err Memory) kept fresh = kept s × fresh t
 
--- a comparison of their collections: this is so, or which collection is another
+-- a comparison of their collections: all are the same, or which collection differs
 abbrev pub Compares : {T : Type 0} → State → State → Type 0 → Result T ReplayFault →
     (State → Type 0) → (State → Type 0) → Type 0
 Compares s t Same (Ok done) kept fresh = Same × kept s × fresh t

@@ -12,16 +12,16 @@ use Rattle.streetmap_replay.specs.declared.line_stop.LineStop.TheVariants as sto
 use Rattle.streetmap_replay.specs.declared.following.End.{End}
 use Rattle.streetmap_replay.specs.declared.following.End.TheVariants as ends
 
--- the input is known: lines of the journal of these batches, in any order and any of them again,
--- and maybe a beginning of a line behind them
+-- the input is known: lines of the journal of these batches, in any order and repeated at will, and
+-- maybe a prefix of a line after them
 abbrev pub IsOfJournal : List BatchValue → List Line → Option (List ℕ) → Type 0
 IsOfJournal bs lines None = ⊥
 IsOfJournal bs lines (Some input) =
     All (IsLineOf bs) lines
     × ((part : List ℕ) × (input ≡ text_of_lines lines ++ part) × HasNoLineFeed part)
 
--- the follower of the first k lines that followed some first of these lines is then the follower of
--- as many as the highest serial among them, or as before
+-- a follower of the journal's first k lines that then followed a prefix of these lines is the
+-- follower up to the highest serial among them, or as before
 abbrev pub FollowerBy : List BatchValue → ℕ → List Line → (count : ℕ) → End → (State → Type 0) →
     Type 0
 FollowerBy bs k lines count ends.NotTold stands =

@@ -1,4 +1,4 @@
--- What a replay of a keeper's batches comes to.
+-- The result of a replay of a keeper's batches.
 use Rattle.std.specs.Prelude.{Result, Ok, Err, map, string_bytes}
 use Rattle.streetmap_ledger.specs.State.{State, opening_state}
 use Rattle.streetmap_replay.specs.Following.{follow}
@@ -19,14 +19,14 @@ use Rattle.streetmap_replay.specs.declared.fault.ReplayFault.TheVariants.{Collec
 abbrev pub replayed : State → State
 replayed s = (follow opening_state (map bare (journal s))).state
 
--- what a stop leaves known of the first keeper's state
+-- what is known of the first keeper's state after a replay that did not complete
 abbrev pub StopLeaves : State → ReplayStop → (State → Type 0) → Type 0
 StopLeaves s (Kept fault) kept = StaysBut s fault kept
 StopLeaves s (Fresh fault) kept = IsForeseen fault × kept s
 StopLeaves s Memory kept = kept s
 
--- all batches were given again by their texts, and the second keeper stands for the state that they
--- give; or which is the first that is not. The first keeper's state stays
+-- all batches were reproduced from their texts, and the second keeper represents the state that
+-- they give; or which is the first that was not. The first keeper's state stays
 abbrev pub GivesBatches : {T : Type 0} → State → Result T ReplayFault → (State → Type 0) →
     (State → Type 0) → Type 0
 GivesBatches s (Ok done) kept fresh = kept s × ((t : State) × GivesAll s t × fresh t)
@@ -35,9 +35,9 @@ GivesBatches s (Err (Batch serial)) kept fresh =
     (Replays s → ⊥) × BreaksAt s serial × kept s
 GivesBatches s (Err (Collection name)) kept fresh = ⊥
 
--- it ended well: the state is the one that its texts give, and both keepers stand for it. Or it is
--- not, and which is the first batch that its text does not give again, or, where all are given
--- again, the first collection that is another. The first keeper's state stays
+-- it succeeded: the state is the one that its texts give, and both keepers represent it. Or it is
+-- not, and which is the first batch that its text does not reproduce, or, if all are reproduced,
+-- the first collection that differs. The first keeper's state stays
 abbrev pub Checks : {T : Type 0} → State → Result T ReplayFault → (State → Type 0) →
     (State → Type 0) → Type 0
 Checks s (Ok done) kept fresh = Replays s × kept s × fresh s

@@ -1,4 +1,4 @@
--- What following the lines of a reader comes to.
+-- The result of following the lines of a reader.
 use Rattle.std.specs.Prelude.{◌≡◌, ◌≤◌, ◌<◌, ℕ, List, [], ◌∷◌, ◌++◌, length, All, Option, None}
 use Rattle.std.specs.Prelude.{Some}
 use Rattle.std.specs.Prelude.{Result, Ok, Err, IfSome}
@@ -28,7 +28,7 @@ use Rattle.streetmap_replay.specs.declared.following.Followed.{Followed}
 abbrev pub most_bytes : ℕ
 most_bytes = 16777216
 
--- the bytes of a line are one line, not too long, and are read as it
+-- the bytes of a line are one line, not too long, and read as that line
 pub record IsInputLine (line : Line) : Type 0 where
   pub is : IsJournalLine (line_bytes line) line
   pub one : HasNoLineFeed (line_bytes line)
@@ -46,21 +46,21 @@ answers (line ∷ lines) [] = []
 answers (line ∷ lines) (reply ∷ replies) =
     (key_in (batch_of (line_text line)), reply) ∷ answers lines replies
 
--- from the first to the last these replies were told, in order
+-- from the first value to the last these replies were reported, in order
 abbrev pub ToldAll : {T : Type 0} → (T → Text → Reply → T → Type 0) → T → List (Text × Reply) → T →
     Type 0
 ToldAll tells first [] last = first ≡ last
 ToldAll {T} tells first (r ∷ rs) last = (mid : T) × tells first r.0 r.1 mid ×
     ToldAll tells mid rs last
 
--- the replies were told, and no other; but where one was not told, nothing is known of that one
+-- the replies were reported, and no other; if one was not reported, nothing is known of that one
 abbrev pub TellsBy : {T : Type 0} → (T → Text → Reply → T → Type 0) → T → T → List (Text × Reply) →
     End → Type 0
 TellsBy {T} tells first last replies ends.NotTold = (mid : T) × ToldAll tells first replies mid
 TellsBy tells first last replies end = ToldAll tells first replies last
 
--- it ended in this state, behind these lines of the input; what a stop may leave is known where it
--- was the state before
+-- it ended in this state, after these lines of the input; what a crash may leave is known if it was
+-- the state before
 abbrev pub FollowingEndsBy : State → List Line → Option (List ℕ) → Option (List ℕ)
     → (given : Type 0) → (Option State → Type 0) → End → (State → Type 0) → Type 0
 FollowingEndsBy t read old new given left ends.All stands =
@@ -86,8 +86,8 @@ FollowingEndsBy t read old new given left ends.NotTold stands =
     × ((o : Outcome) × (line_outcome t line ≡ Ok o) × stands o.state
     × (given → LeavesOnly left (Some o.state)))
 
--- so many of the first lines of the input were followed from this state on and their replies told,
--- and how it ended then
+-- this number of the first lines of the input were followed from this state on and their replies
+-- reported, and how it ended then
 pub record Follows {T : Type 0} (s : State) (old new : Option (List ℕ))
     (tells : T → Text → Reply → T → Type 0) (first last : T)
     (before left : Option State → Type 0) (result : Followed) (stands : State → Type 0) :

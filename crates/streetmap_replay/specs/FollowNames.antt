@@ -1,4 +1,4 @@
--- The names of why lines are not followed.
+-- The names of the faults by which lines are not followed.
 use Rattle.std.specs.Prelude.{ℕ, Option, None, Some, codes}
 use Rattle.streetmap_geojson.specs.declared.fault.Fault.{Fault}
 use Rattle.streetmap_batch.specs.BatchFaults.{code_of, place_of, cause_of}
@@ -26,7 +26,7 @@ stop_place stops.NotNext = None
 stop_place (stops.Refused why place) = place
 stop_place (stops.Stopped fault) = None
 
--- what is wrong with its feature, where it cannot be read
+-- what is wrong with its feature, if that cannot be read
 abbrev pub stop_cause : LineStop → Option Fault
 stop_cause (stops.Unread fault) = cause_of fault
 stop_cause stops.NotNext = None
@@ -38,7 +38,7 @@ read_code LineTooLong = codes "line_too_long"
 read_code ReadFailed = codes "read_failed"
 read_code Memory = codes "memory"
 
--- the name of the fault that it ended by, where it is one
+-- the name of the fault that it ended by, if it ended by one
 unfoldable pub end_code : End → Option Text
 end_code All = None
 end_code (Stopped stop) = Some (stop_code stop)

@@ -18,8 +18,8 @@ use Rattle.streetmap_replay.specs.Journal.{journal}
 use Rattle.streetmap_replay.specs.Lines.{Line, bare, numbered}
 use Rattle.streetmap_replay.specs.JournalText.{journal_lines}
 
--- why a line is not followed: it is no batch; its serial is not the next one, nor that of its key;
--- or its batch is refused, at the place of an edit where one is at fault
+-- why a line is not followed: it is not a batch; its serial is neither the next one nor that of its
+-- key; or its batch is refused, with the place of the edit at fault if there is one
 pub data LineFault : Type 0 where
   unread : BatchFault → LineFault
   not_next : LineFault
@@ -30,7 +30,7 @@ abbrev pub is_under : ℕ → Option AcceptedBatch → Bool
 is_under serial None = false
 is_under serial (Some kept) = kept.serial == serial
 
--- the serial is the next one, or a batch with this key is there under it
+-- the serial is the next one, or a batch with this key was accepted with it
 abbrev pub is_next : State → ℕ → BatchValue → Bool
 is_next s serial b = (serial == len s.keys + 1) || is_under serial (get s.keys b.key)
 
@@ -57,13 +57,13 @@ abbrev pub line_outcome : State → Line → Result Outcome LineFault
 line_outcome s (bare text) = acted s (batch_of text)
 line_outcome s (numbered serial text) = acted_next s serial (batch_of text)
 
--- the replies to the lines that were followed, the state behind them, and why the next was not
+-- the replies to the lines that were followed, the state after them, and why the next was not
 pub record Followed : Type 0 where
   pub replies : List Reply
   pub state : State
   pub fault : Option LineFault
 
--- behind one line
+-- after one line
 abbrev pub goes_on : State → Result Outcome LineFault → (State → Followed) → Followed
 goes_on s (Ok o) next =
     let rest = next o.state in
@@ -80,36 +80,36 @@ pub record Arrives (f : Followed) (t : State) : Type 0 where
   pub there : f.state ≡ t
   pub whole : f.fault ≡ None
 
--- the state behind the first k accepted batches
+-- the state after the first k accepted batches
 abbrev pub follower : List BatchValue → ℕ → State
 follower bs k = after_all opening_state (take k (accepted_of opening_state bs))
 
--- the lines of the journal behind the first j, up to the m-th
+-- the lines of the journal after the first j, up to the m-th
 abbrev pub lines_between : List BatchValue → ℕ → ℕ → List Line
 lines_between bs j m = drop j (take m (journal_lines (after_all opening_state bs)))
 
--- a follower of the first k lines that is told those behind the j-th, where j is not behind k, up
--- to the m-th, follows all of them, and is then a follower of the first m, or as it was
+-- a follower of the first k lines that is given those after the j-th, with j at most k, up to the
+-- m-th, follows all of them, and is then a follower of the first m, or as it was
 abbrev pub FollowersGoOn : Type 0
 FollowersGoOn =
     (bs : List BatchValue) (k j m : ℕ) → All IsSoundBatch bs → j ≤ k →
     Arrives (follow (follower bs k) (lines_between bs j m)) (follower bs (max k m))
 
--- its state is that of a beginning of the batches
+-- its state is that of a prefix of the batches
 abbrev pub FollowersAreBeginnings : Type 0
 FollowersAreBeginnings =
     (bs : List BatchValue) (k : ℕ) →
     (n : ℕ) × (n ≤ length bs) × (follower bs k ≡ after_all opening_state (take n bs))
 
--- and behind all lines it is that of all batches
+-- and after all lines it is that of all batches
 abbrev pub FollowersArrive : Type 0
 FollowersArrive =
     (bs : List BatchValue) (k : ℕ) → All IsSoundBatch bs →
     length (journal (after_all opening_state bs)) ≤ k →
     follower bs k ≡ after_all opening_state bs
 
--- a line of the journal is followed by who has those before it, and adds nothing where it was
--- followed before; to who lacks one before it, it is not the next
+-- a follower that has the lines before a line of the journal follows it, and it adds nothing if it
+-- was followed before; for one that lacks a line before it, it is not the next
 abbrev pub LinesComeInOrder : Type 0
 LinesComeInOrder =
     (bs : List BatchValue) (k n : ℕ) (line : Line) → All IsSoundBatch bs →

@@ -1,4 +1,4 @@
--- What the texts of kept batches give again.
+-- What the texts of kept batches reproduce.
 use Rattle.std.specs.Prelude.{◌≡◌, ◌≤◌, ◌+◌, ℕ, Bool, true, false, Option, None, Some}
 use Rattle.std.specs.Prelude.{Result, Ok, Err, map, take, if◌then◌else◌}
 use Rattle.std.specs.FinMap.{get}
@@ -20,7 +20,7 @@ use Rattle.streetmap_replay.specs.declared.fault.ReplayFault.{ReplayFault}
 use Rattle.streetmap_replay.specs.declared.fault.ReplayFault.TheVariants.{Stopped, Batch}
 use Rattle.streetmap_replay.specs.declared.fault.ReplayFault.TheVariants.{Collection}
 
--- the batch that a text is, where it is one
+-- the batch that a text is, if it is one
 abbrev pub found_of : Result BatchValue BatchFault → Option BatchValue
 found_of (Ok b) = Some b
 found_of (Err fault) = None
@@ -28,13 +28,13 @@ found_of (Err fault) = None
 abbrev pub read_of : Text → Option BatchValue
 read_of text = found_of (batch_of text)
 
--- what is kept of a batch, where this state accepts it
+-- what is kept of a batch, if this state accepts it
 abbrev pub given_by : State → Option BatchValue → Option KeyedBatch
 given_by t (Some b) =
     if is_accepted (act t b).reply then Some (b.key, kept_for b (batch_count t + 1)) else None
 given_by t None = None
 
--- the state behind it
+-- the state after it
 abbrev pub state_by : State → Option BatchValue → State
 state_by t (Some b) = (act t b).state
 state_by t None = t
@@ -57,7 +57,7 @@ pub record GivesAll (s t : State) : Type 0 where
   pub followed : Arrives (follow opening_state (map bare (journal s))) t
   pub keys : t.keys ≡ s.keys
 
--- the batches before this serial are given again by their texts, and the one with it is not
+-- the batches before this serial are reproduced by their texts, and the one with it is not
 pub record BreaksAt (s : State) (serial : ℕ) : Type 0 where
   pub before : ℕ
   pub next : serial ≡ before + 1
@@ -67,7 +67,7 @@ pub record BreaksAt (s : State) (serial : ℕ) : Type 0 where
   pub there : batch_in s serial ≡ Some batch
   pub other : given_again state batch ≡ Some batch → ⊥
 
--- whether the text of a kept batch gave it again to who stood for this state
+-- whether the text of a kept batch reproduced it in a keeper that represented this state
 abbrev pub GivesRow : State → KeyedBatch → Result Bool ReplayStop → (State → Type 0) → Type 0
 GivesRow t batch (Ok true) stands =
     (given_again t batch ≡ Some batch) × stands (state_by t (read_of batch.1.text))
@@ -76,7 +76,8 @@ GivesRow t batch (Err (Kept fault)) stands = ⊥
 GivesRow t batch (Err (Fresh fault)) stands = IsForeseen fault
 GivesRow t batch (Err Memory) stands = Unit {0}
 
--- whether the texts up to the n-th gave their batches again to who stood for the state behind some
+-- whether the texts up to the n-th reproduced their batches in a keeper that represented the state
+-- after some of them
 abbrev pub GivesPart : {T : Type 0} → State → ℕ → Result T ReplayFault → (State → Type 0) → Type 0
 GivesPart s n (Ok done) stands = (t : State) × GivesFirst s n t × stands t
 GivesPart s n (Err (Stopped (Kept fault))) stands = ⊥

@@ -1,4 +1,4 @@
--- A journal as bytes: its lines, a line feed behind each.
+-- A journal as bytes: its lines, a line feed after each.
 use Rattle.std.specs.Prelude.{◌≡◌, ◌≤◌, ◌+◌, ℕ, List, [], ◌∷◌, ◌++◌, All, length, map, take, drop}
 use Rattle.std.specs.Prelude.{false, ◌==◌}
 use Rattle.std.specs.Io.{StartsWith}
@@ -12,7 +12,7 @@ use Rattle.streetmap_ledger.specs.Batches.{after_all}
 use Rattle.streetmap_replay.specs.Journal.{journal}
 use Rattle.streetmap_replay.specs.Lines.{Line, numbered, line_bytes, IsJournalLine}
 
--- texts with serials, the first with the one behind n
+-- texts with serials, the first with n + 1
 abbrev pub numbered_after : ℕ → List Text → List Line
 numbered_after n [] = []
 numbered_after n (t ∷ ts) = numbered (n + 1) t ∷ numbered_after (n + 1) ts
@@ -38,8 +38,8 @@ JournalReadsInLines =
     (lines (journal_text s) ≡ map line_bytes (journal_lines s))
     × All (λ line. IsJournalLine (line_bytes line) line) (journal_lines s)
 
--- what is found of lines of which a beginning was written: some first lines, whole, and a
--- beginning of the next, which has no line feed; with that cut off, the other lines complete it
+-- a prefix of the bytes of lines: some of the lines from the first on, whole, and a prefix of the
+-- next, which has no line feed; with that cut off, the other lines complete it
 pub record IsTorn (whole : List Line) (bytes : List ℕ) : Type 0 where
   pub count : ℕ
   pub within : count ≤ length whole
@@ -49,8 +49,8 @@ pub record IsTorn (whole : List Line) (bytes : List ℕ) : Type 0 where
   pub completed :
       text_of_lines (take count whole) ++ text_of_lines (drop count whole) ≡ text_of_lines whole
 
--- a beginning of the journal of a state that batches made is such bytes; and a beginning of a
--- state's journal begins the journal of each later state
+-- a prefix of the journal of a state that batches made is such bytes; and a prefix of a state's
+-- journal is a prefix of the journal of each later state
 abbrev pub BeginningsAreTorn : Type 0
 BeginningsAreTorn =
     ((bs : List BatchValue) (bytes : List ℕ) → All IsSoundBatch bs →

@@ -16,13 +16,13 @@ abbrev pub line_text : Line → Text
 line_text (bare text) = text
 line_text (numbered serial text) = text
 
--- the reply alone
+-- only the reply
 abbrev pub reply_of : Result Acknowledged LineStop → Result Reply LineStop
 reply_of (Ok it) = Ok it.reply
 reply_of (Err stop) = Err stop
 
--- the outcome of the line is told, and of one that is followed the batch; what a stop may leave is
--- known where it was the state before
+-- the outcome of the line is returned, with the batch if the line was followed; what a crash may
+-- leave is known if it was the state before
 pub record FollowsLine (s : State) (bytes : List ℕ) (result : Result Acknowledged LineStop)
     (stands : State → Type 0) (given : Type 0) (left : Option State → Type 0) : Type 0 where
   pub line : Line

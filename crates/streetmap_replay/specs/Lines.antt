@@ -15,7 +15,7 @@ abbrev pub line_bytes : Line → List ℕ
 line_bytes (bare text) = text
 line_bytes (numbered serial text) = decimal serial ++ 9 ∷ text
 
--- what bytes are as a line: a batch with its serial where they have that form, else a batch alone
+-- bytes as a line: a batch with its serial if they have that form, else a batch alone
 abbrev pub IsJournalLine : List ℕ → Line → Type 0
 IsJournalLine bytes (numbered serial text) =
     (line_bytes (numbered serial text) ≡ bytes) × (serial < 2 ^ 64)
@@ -23,7 +23,7 @@ IsJournalLine bytes (bare text) =
     (text ≡ bytes)
     × ((serial : ℕ) (rest : Text) → serial < 2 ^ 64 → line_bytes (numbered serial rest) ≡ bytes → ⊥)
 
--- bytes are one line, and the text of a batch is a batch alone
+-- the same bytes are only one line, and the text of a batch is a batch alone
 abbrev pub LinesAreOne : Type 0
 LinesAreOne =
     ((bytes : List ℕ) (x y : Line) → IsJournalLine bytes x → IsJournalLine bytes y → x ≡ y)

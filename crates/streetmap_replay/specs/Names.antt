@@ -1,4 +1,4 @@
--- The names of why a replay is not the state.
+-- The names of the faults by which a replay fails.
 use Rattle.std.specs.Prelude.{ℕ, Option, None, Some, codes, string_bytes}
 use Rattle.streetmap_batch.specs.Text.{Text}
 use Rattle.streetmap_ledger.specs.Refusals.{fault_code}
@@ -18,13 +18,13 @@ replay_code (Stopped stop) = stop_code stop
 replay_code (Batch serial) = codes "not_replayed"
 replay_code (Collection name) = codes "not_replayed"
 
--- the serial of the batch that is not given again
+-- the serial of the batch that is not reproduced
 abbrev pub replay_serial : ReplayFault → Option ℕ
 replay_serial (Stopped stop) = None
 replay_serial (Batch serial) = Some serial
 replay_serial (Collection name) = None
 
--- the id of the collection that is another
+-- the id of the collection that differs
 abbrev pub replay_collection : ReplayFault → Option Text
 replay_collection (Stopped stop) = None
 replay_collection (Batch serial) = None

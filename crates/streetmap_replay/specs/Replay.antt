@@ -1,4 +1,4 @@
--- A state that its own journal gives again.
+-- A state that its own journal reproduces.
 use Rattle.std.specs.Prelude.{◌≡◌, List, All, map}
 use Rattle.streetmap_batch.specs.BatchValue.{BatchValue}
 use Rattle.streetmap_ledger.specs.State.{State, opening_state}

@@ -8,7 +8,7 @@ use Rattle.streetmap_replay.specs.Lines.{Line, bare, numbered}
 use Rattle.streetmap_replay.specs.JournalText.{journal_lines}
 use Rattle.streetmap_replay.specs.Following.{follow, follower}
 
--- the state behind sittings: in each, lines are followed up to the first that is not, and the next
+-- the state after sittings: in each, lines are followed up to the first that is not, and the next
 -- goes on with the state that it left
 abbrev pub after_sittings : State → List (List Line) → State
 after_sittings s [] = s
@@ -24,7 +24,7 @@ followed_in s [] = []
 followed_in s (lines ∷ later) =
     followed_of s lines ++ followed_in (follow s lines).state later
 
--- the highest serial of lines, 0 where there is none
+-- the highest serial of lines, 0 if there is none
 abbrev pub highest : List Line → ℕ
 highest [] = 0
 highest (bare text ∷ lines) = highest lines
@@ -35,8 +35,8 @@ abbrev pub IsLineOf : List BatchValue → Line → Type 0
 IsLineOf bs line =
     (n : ℕ) × (slice_get (journal_lines (after_all opening_state bs)) n ≡ Some line)
 
--- who followed lines of a journal, from the opening state on, in any number of sittings, any line
--- again at any time, has the state behind the first k accepted batches, where k is the highest
+-- a follower of lines of a journal, from the opening state on, in any number of sittings, with any
+-- line again at any time, has the state after the first k accepted batches, where k is the highest
 -- serial that was followed
 abbrev pub SittingsAddUp : Type 0
 SittingsAddUp =

@@ -1,4 +1,4 @@
--- What shut the keepers of a replay, and what a fault leaves.
+-- What shuts the keepers of a replay, and what a fault leaves.
 use Rattle.std.specs.Prelude.{◌≡◌, Option, Result, Ok, Err}
 use Rattle.streetmap_ledger.specs.Keep.{ShutsBy}
 use Rattle.streetmap_ledger.specs.State.{State}
@@ -12,14 +12,14 @@ use Rattle.streetmap_replay.specs.declared.fault.ReplayFault.{ReplayFault}
 use Rattle.streetmap_replay.specs.declared.fault.ReplayFault.TheVariants.{Stopped, Batch}
 use Rattle.streetmap_replay.specs.declared.fault.ReplayFault.TheVariants.{Collection}
 
--- a keeper that stands for a state is neither damaged nor shut
+-- the faults of a keeper that represents a state: it is neither damaged nor shut
 abbrev pub IsForeseen : Fault → Type 0
 IsForeseen faults.Memory = Unit {0}
 IsForeseen faults.Device = Unit {0}
 IsForeseen faults.Damaged = ⊥
 IsForeseen faults.Reopen = ⊥
 
--- of the first keeper: it answers `Reopen` where it was shut; `Device` and `Damaged` shut it; and
+-- of the first keeper: it answers `Reopen` if it was shut; `Device` and `Damaged` shut it; and
 -- nothing else does
 abbrev pub KeptStops : {T : Type 0} → Result T ReplayStop → Option Cause → Option Cause → Type 0
 KeptStops (Ok x) old new = new ≡ old
@@ -48,7 +48,7 @@ FreshEnds (Err (Stopped stop)) old new = FreshStops {T = Unit {0}} (Err stop) ol
 FreshEnds (Err (Batch serial)) old new = new ≡ old
 FreshEnds (Err (Collection name)) old new = new ≡ old
 
--- what a call that asks the second keeper alone comes to
+-- the result of a call that uses only the second keeper
 abbrev pub IsFreshStop : {T : Type 0} → Result T ReplayStop → Type 0
 IsFreshStop (Ok x) = Unit {0}
 IsFreshStop (Err (Kept fault)) = ⊥

@@ -3,7 +3,7 @@ use Rattle.std.specs.Prelude.{ℕ, List, Option, None, Some}
 use Rattle.streetmap_replay.specs.Lines.{Line as LineValue, bare, numbered}
 use Rattle.streetmap_replay.specs.declared.reading.Line.{Line}
 
--- a text with its serial, where it has one
+-- a text with its serial, if it has one
 abbrev pub line_with : Option ℕ → List ℕ → LineValue
 line_with None text = bare text
 line_with (Some serial) text = numbered serial text

@@ -41,7 +41,7 @@ fn apply<K: Keeper>(keeper: &mut K, batch: &Batch) -> Result<Reply, LineStop>
     }
 }
 
-/// Applies a batch where its serial is the next one, or that of its key.
+/// Applies a batch if its serial is the next one, or that of its key.
 fn apply_next<K: KeepsBatches>(
     keeper: &mut K,
     serial: u64,
@@ -94,9 +94,9 @@ fn apply_line<K: KeepsBatches>(
 ///
 /// # Errors
 ///
-/// `Unread` where the line is no batch, or memory to read it was refused, `NotNext` where its
-/// serial is another, and `Refused` where its batch is: nothing changed; `Stopped` with the fault
-/// of the keeper.
+/// `Unread` if the line is not a batch, or memory runs out while it is read, `NotNext` if its
+/// serial is another, and `Refused` if its batch is: nothing changed; `Stopped` with the fault of
+/// the keeper.
 pub fn follow_line<K: KeepsBatches>(
     alloc: Global,
     keeper: &mut K,

@@ -1,4 +1,4 @@
-//! Kept batches, given again by their texts.
+//! Kept batches, reproduced from their texts.
 ghost use Rattle.std.specs.Prelude.{◌≡◌, ◌+◌, ℕ, Err, Some, IfOk, option_map, length};
 ghost use Rattle.std.specs.Bool.{Decides};
 ghost use Rattle.streetmap_batch.specs.BatchText.{batch_text};
@@ -19,7 +19,7 @@ use std::alloc::{AllocError, Global};
 use streetmap_batch::{Batch, BatchFault, read_batch};
 use streetmap_ledger::{Counts, Keeper, KeepsBatches, KeptBatch, Reply};
 
-/// So many bytes of texts, and one text more, are in memory at most, beside both keepers.
+/// At most this many bytes of texts, and one more text, are in memory besides both keepers.
 const ROOM: usize = 1 << 20;
 
 /// Whether two counts of edits are the same.
@@ -63,7 +63,7 @@ fn is_kept(
     Ok(kept.text.as_slice() == text.as_str().as_bytes())
 }
 
-/// The batch that a text is; none where it is none.
+/// The batch that a text is; none if it is not one.
 fn read_kept(alloc: Global, text: &[u8]) -> Result<Option<Batch>, ReplayStop>
     ensures { IfOk result (λ found. option_map batch_value found ≡ read_of text.now) }
 {
@@ -77,7 +77,7 @@ fn read_kept(alloc: Global, text: &[u8]) -> Result<Option<Batch>, ReplayStop>
     }
 }
 
-/// Applies the text of a kept batch, and answers whether it gives that batch again.
+/// Applies the text of a kept batch, and returns whether it reproduces that batch.
 fn give_again<L: Keeper>(alloc: Global, fresh: &mut L, kept: &KeptBatch) -> Result<bool, ReplayStop>
     ensures spared { L.spares fresh.old fresh.new }
     ensures began_clean { L.is_clean fresh.new → L.is_clean fresh.old }
@@ -104,7 +104,7 @@ fn give_again<L: Keeper>(alloc: Global, fresh: &mut L, kept: &KeptBatch) -> Resu
     }
 }
 
-/// Applies the texts of kept batches, in order, up to the first that does not give its batch again.
+/// Applies the texts of kept batches, in order, up to the first that does not reproduce its batch.
 fn give_each<L: Keeper>(alloc: Global, fresh: &mut L, part: &[KeptBatch]) -> Result<(), ReplayFault>
     ensures spared { L.spares fresh.old fresh.new }
     ensures began_clean { L.is_clean fresh.new → L.is_clean fresh.old }
@@ -125,8 +125,8 @@ fn give_each<L: Keeper>(alloc: Global, fresh: &mut L, part: &[KeptBatch]) -> Res
     Ok(())
 }
 
-/// Replays the batches that a keeper keeps, in order of their serials, in a keeper that stands for
-/// the opening state, up to the first that its text does not give again.
+/// Replays the batches that a keeper keeps, in order of their serials, in a keeper that represents
+/// the opening state, up to the first that its text does not reproduce.
 pub fn replay<K: KeepsBatches, L: Keeper>(
     alloc: Global,
     keeper: &mut K,

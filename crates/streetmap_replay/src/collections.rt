@@ -19,7 +19,7 @@ use crate::features::has_same_features;
 use std::alloc::Global;
 use streetmap_ledger::{Keeper, Summary};
 
-/// Whether two time properties are one.
+/// Whether two time properties are the same.
 fn is_same_property(ours: &Option<String>, theirs: &Option<String>) -> bool
     ensures { Decides result (option_map string_bytes ours.now ≡
         option_map string_bytes theirs.now) }
@@ -38,7 +38,7 @@ fn is_declared_alike(ours: &Summary, theirs: &Summary) -> bool
     ours.title.as_str() == theirs.title.as_str() && is_same_property(&ours.time, &theirs.time)
 }
 
-/// Whether a collection of the first keeper, which told this of it, is the same in the second.
+/// Whether a collection of the first keeper, of which it returned this, is the same in the second.
 fn is_alike<K: Keeper, L: Keeper>(
     alloc: Global,
     keeper: &mut K,
@@ -78,7 +78,7 @@ fn is_alike<K: Keeper, L: Keeper>(
     }
 }
 
-/// The fault that a collection is another, unless memory for its id is refused.
+/// The fault that a collection differs, unless memory for its id runs out.
 fn unlike(alloc: Global, name: &str) -> ReplayFault
     ensures { IsUnlike name.now result }
 {
@@ -88,8 +88,8 @@ fn unlike(alloc: Global, name: &str) -> ReplayFault
     }
 }
 
-/// Compares the collections of the first keeper, which told these, with those of the second, in
-/// order, up to the first that is another.
+/// Compares the collections of the first keeper, which returned these, with those of the second, in
+/// order, up to the first that differs.
 fn compare_each<K: Keeper, L: Keeper>(
     alloc: Global,
     keeper: &mut K,
@@ -132,7 +132,7 @@ fn is_among(name: &str, summaries: &[Summary]) -> bool
     summaries.iter().any(|summary| summary.id.as_str() == name)
 }
 
-/// Where a collection stands that is none of the others.
+/// The place of a collection that is none of the others.
 fn find_other(theirs: &[Summary], ours: &[Summary]) -> Option<usize>
     ensures found { IfSome result (λ place. (other : Summary) × (slice_get theirs.now place ≡
         Some other) × (is_named (string_bytes other.id) ours.now ≡ false)) }
@@ -151,9 +151,8 @@ fn find_other(theirs: &[Summary], ours: &[Summary]) -> Option<usize>
 ///
 /// # Errors
 ///
-/// `Collection` with the id of the first collection of the first keeper that is another in the
-/// second, or else of one that the second has alone; `Stopped` with the fault of a keeper, or with
-/// `Memory`.
+/// `Collection` with the id of the first collection of the first keeper that differs in the second,
+/// or else of one that only the second has; `Stopped` with the fault of a keeper, or with `Memory`.
 pub fn compare_collections<K: Keeper, L: Keeper>(
     alloc: Global,
     keeper: &mut K,

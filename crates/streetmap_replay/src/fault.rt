@@ -1,18 +1,18 @@
-//! Why a replay does not come to its end, or is another.
+//! Why a replay does not complete, or differs.
 ghost use Rattle.std.specs.Prelude.{◌≡◌, option_map};
 ghost use Rattle.streetmap_replay.specs.Names.{stop_code, replay_code, replay_serial};
 ghost use Rattle.streetmap_replay.specs.Names.{replay_collection};
 
 use streetmap_ledger::Fault;
 
-/// Why a replay does not come to its end.
+/// Why a replay does not complete.
 #[derive(Clone, Copy, Drop)]
 pub enum ReplayStop {
     /// The keeper whose batches are replayed answered with a fault.
     Kept(Fault),
-    /// The keeper that they are replayed in did.
+    /// The keeper in which they are replayed answered with a fault.
     Fresh(Fault),
-    /// Memory to read or to compare was refused.
+    /// Memory ran out while batches were read or compared.
     Memory,
 }
 
@@ -30,15 +30,15 @@ impl ReplayStop {
     }
 }
 
-/// Why a state is not found to be its own replay.
+/// Why a state is not found to be the result of its own replay.
 #[derive(Drop)]
 pub enum ReplayFault {
-    /// The replay did not come to its end.
+    /// The replay did not complete.
     Stopped(ReplayStop),
-    /// The first batch that its text does not give again: the text is no batch, or its batch is not
-    /// accepted, or has another key, serial, text or other counts.
+    /// The first batch that its text does not reproduce: the text is not a batch, or its batch is
+    /// not accepted, or has another key, serial, text or other counts.
     Batch(u64),
-    /// The first collection that is another in the replay.
+    /// The first collection that differs in the replay.
     Collection(String),
 }
 
@@ -55,7 +55,7 @@ impl ReplayFault {
         }
     }
 
-    /// The serial of the batch that is not given again.
+    /// The serial of the batch that is not reproduced.
     pub fn serial(&self) -> Option<u64>
         ensures { result ≡ replay_serial self.now }
     {
@@ -65,7 +65,7 @@ impl ReplayFault {
         }
     }
 
-    /// The id of the collection that is another.
+    /// The id of the collection that differs.
     pub fn collection(&self) -> Option<&str>
         ensures { option_map (λ name. name.now) result ≡ replay_collection self.now }
     {

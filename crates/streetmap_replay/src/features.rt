@@ -17,18 +17,18 @@ use streetmap_geojson::Id;
 use streetmap_ledger::{Keeper, Page};
 use streetmap_query::Query;
 
-/// What two pages of one place come to.
+/// The result of comparing two pages from the same place.
 #[derive(Drop)]
 enum PageEnd {
-    /// They are not the same.
+    /// They differ.
     Unlike,
     /// They are the same, and the last.
     Last,
-    /// They are the same, and more features follow behind this id.
+    /// They are the same, and more features follow after this id.
     Next(Id),
 }
 
-/// What is asked for a page of a thousand features behind an id.
+/// The query for a page of a thousand features after an id.
 fn query_behind(after: Option<Id>) -> Query
     ensures { query_value result ≡ part_query after }
 {
@@ -40,7 +40,7 @@ fn query_behind(after: Option<Id>) -> Query
     }
 }
 
-/// The last id of a page, where more features follow.
+/// The last id of a page, if more features follow.
 fn next_id(page: Page) -> Option<Id>
     ensures { result ≡ (page_value page).next }
 {
@@ -54,7 +54,7 @@ fn next_id(page: Page) -> Option<Id>
     }
 }
 
-/// Whether the features of two pages have one text, as a collection.
+/// Whether the features of two pages have the same text, as a collection.
 fn has_same_text(alloc: Global, ours: &Page, theirs: &Page) -> Result<bool, AllocError>
     ensures { IfOk result (λ same. Decides same (SameText (page_value ours.now)
         (page_value theirs.now))) }
@@ -64,7 +64,7 @@ fn has_same_text(alloc: Global, ours: &Page, theirs: &Page) -> Result<bool, Allo
     Ok(first.as_str() == second.as_str())
 }
 
-/// Compares two pages of one place: the texts of their features, and what follows them.
+/// Compares two pages from the same place: the texts of their features, and what follows them.
 fn compare_pages(alloc: Global, ours: Page, theirs: Page) -> Result<PageEnd, AllocError>
     ensures { IfOk result (PagesEndAs (page_value ours) (page_value theirs)) }
 {
@@ -84,8 +84,9 @@ fn compare_pages(alloc: Global, ours: Page, theirs: Page) -> Result<PageEnd, All
     }
 }
 
-/// Whether a collection that both keepers have, with one time property, has the same features in
-/// both: ids, geometries, properties and times. It asks each for pages of a thousand features.
+/// Whether a collection that both keepers have, with the same time property, has the same features
+/// in both: ids, geometries, properties and times. It requests pages of a thousand features from
+/// each.
 pub(crate) fn has_same_features<K: Keeper, L: Keeper>(
     alloc: Global,
     keeper: &mut K,

@@ -17,7 +17,7 @@ use std::io::BufRead;
 use streetmap_ledger::KeepsBatches;
 use streetmap_text_lines::{LineFault, WholeLine, next_whole_line};
 
-/// By what following ended.
+/// How following ended.
 #[derive(Clone, Copy, Drop)]
 pub enum End {
     /// All lines were followed.
@@ -26,14 +26,14 @@ pub enum End {
     Stopped(LineStop),
     /// The next line lacks its line feed.
     CutLine,
-    /// The next line was not read: it is too long, a read failed or memory was refused.
+    /// The next line was not read: it is too long, a read failed or memory ran out.
     NotRead(LineFault),
-    /// The next line was followed, and its reply was not told.
+    /// The next line was followed, and its reply was not reported.
     NotTold,
 }
 
-/// How many lines were followed and their replies told, and by what it ended: the line at fault has
-/// the number behind theirs.
+/// How many lines were followed and their replies reported, and how it ended: the line at fault has
+/// the number after theirs.
 #[derive(Clone, Copy, Drop)]
 pub struct Followed {
     pub count: u64,
@@ -41,9 +41,9 @@ pub struct Followed {
 }
 
 /// Follows the lines of a reader, in order, up to the first that is not followed (`follow_line`),
-/// has more than `MAX_LINE` bytes or lacks its line feed, and tells the reply to each. A batch that
-/// was accepted before is repeated, and changes nothing: so the same lines again go on where this
-/// ended.
+/// has more than `MAX_LINE` bytes or lacks its line feed, and reports the reply to each. A batch
+/// that was accepted before is repeated, and changes nothing: so the same lines, given again, go on
+/// where this ended.
 pub fn follow_lines<K: KeepsBatches, R: BufRead, T: Replies>(
     alloc: Global,
     keeper: &mut K,
@@ -55,7 +55,7 @@ pub fn follow_lines<K: KeepsBatches, R: BufRead, T: Replies>(
     ensures follows { K.is_clean keeper.new → (s : State) → K.stands keeper.old s →
         Follows s (R.remaining reader.old) (R.remaining reader.new) T.tells replies.old replies.new
         (K.may_leave keeper.old) (K.may_leave keeper.new) result (K.stands keeper.new) }
-    // Of a journal's lines: a follower goes on, or is as before.
+    // If the lines are a journal's, a follower goes on, or is as before.
     ensures beginnings { K.is_clean keeper.new → (bs : List BatchValue) (k : ℕ)
         (lines : List Line) → AllOf IsSoundBatch bs → K.stands keeper.old (follower bs k) →
         IsOfJournal bs lines (R.remaining reader.old) →

@@ -9,8 +9,8 @@ ghost use Rattle.streetmap_replay.specs.Following.{FollowersArrive, LinesComeInO
 ghost use Rattle.streetmap_replay.specs.Sittings.{SittingsAddUp};
 ghost use Rattle.streetmap_replay.specs.Replay.{StatesReplay};
 
-/// The text of a batch is a batch's, and reads as the batch with the times of its features left
-/// out; a batch that was read from a text has no times; and a batch acts as one without times.
+/// The text of a batch is a batch's, and reads as the batch without the times of its features; a
+/// batch that was read from a text has no times; and a batch acts as one without times.
 pub fn batch_text_reads_again()
     ensures again { BatchTextReadsAgain }
     ensures untimed { ReadBatchIsUntimed }
@@ -28,7 +28,8 @@ pub fn journal_is_whole()
     ensures { JournalIsWhole }
 {}
 
-/// Bytes are one line, with its serial or without; the text of a batch is one without.
+/// The same bytes are only one line, with its serial or without; the text of a batch is one
+/// without.
 pub fn lines_are_one()
     ensures { LinesAreOne }
 {}
@@ -38,15 +39,15 @@ pub fn journal_reads_in_lines()
     ensures { JournalReadsInLines }
 {}
 
-/// A beginning of a journal's bytes is some of its first lines and a torn one, and begins each
+/// A prefix of a journal's bytes is some of its first lines and a torn one, and is a prefix of each
 /// later journal too.
 pub fn beginnings_are_torn()
     ensures { BeginningsAreTorn }
 {}
 
-/// A follower that is told lines of the journal, from one that it has or the next on, follows them,
-/// and has the state of a beginning of the batches. One line it follows where it has those before,
-/// and else it is not the next.
+/// A follower that is given lines of the journal, from one that it has or the next on, follows
+/// them, and has the state of a prefix of the batches. It follows a single line if it has those
+/// before; else the line is not the next.
 pub fn followers_go_on()
     ensures go_on { FollowersGoOn }
     ensures beginnings { FollowersAreBeginnings }
@@ -54,8 +55,8 @@ pub fn followers_go_on()
     ensures in_order { LinesComeInOrder }
 {}
 
-/// A follower of a journal's lines up to the serial k, in any number of sittings, any line again at
-/// any time, has the state of the beginning with k accepted batches.
+/// A follower of a journal's lines up to the serial k, in any number of sittings, with any line
+/// again at any time, has the state after the first k accepted batches.
 pub fn sittings_add_up()
     ensures { SittingsAddUp }
 {}

@@ -1,5 +1,5 @@
-//! What the kept texts of accepted batches give again: the journal of a state, who follows it, and
-//! whether they give what a keeper shows.
+//! What the kept texts of accepted batches reproduce: the journal of a state, its followers, and
+//! whether the texts give what a keeper shows.
 //!
 //! The text of a batch reads again as the batch (`specs/Again`). The journal of a state is the
 //! texts of its accepted batches in order of their serials (`specs/Journal`), each a line with its
@@ -7,21 +7,21 @@
 //! state that it was kept in (`specs/Following`, `specs/Replay`), in one sitting or in many
 //! (`specs/Sittings`).
 //!
-//! `follow_lines` takes lines of a journal, or batches alone, off a reader, in order, and applies
-//! the batch of each to any keeper that tells the batches it keeps: of a journal's line where its
-//! serial is the next one, or that of its key. It tells the reply to each, and ends at the first
-//! line that is not followed. So the same lines again go on where it ended, since a batch that is
-//! there is repeated. What it comes to is `specs/Ends`.
+//! `follow_lines` reads lines of a journal, or batches alone, from a reader, in order, and applies
+//! the batch of each to any keeper that returns the batches it keeps: of a journal's line if its
+//! serial is the next one, or that of its key. It reports the reply to each, and ends at the first
+//! line that is not followed. So the same lines, given again, go on where it ended, since a batch
+//! that was accepted before is repeated. `specs/Ends` is its result.
 //!
 //! `check_replay` follows the texts of the batches that a keeper keeps, in order of their serials,
 //! in a second keeper that begins with nothing; then it compares the collections of both. It
-//! answers that all is well exactly where the replay of the state is the state, and else the first
-//! batch or the first collection that the texts do not give again (`specs/Given`, `specs/Checked`).
+//! returns success exactly if the replay of the state is the state, and else the first batch or the
+//! first collection that the texts do not reproduce (`specs/Given`, `specs/Checked`).
 //!
-//! Modules, in the order of reading: `length`, `laws`; for following `line_stop`,
-//! `reading` (bytes as a line), `serial` (which serial is the next), `acting` (one line), `replies`
-//! (where replies are told), `following`, `writing` (replies as text), `names` (of faults); for
-//! replaying `fault`, `batches` (each text given again), `features` and `collections` (what two
+//! Modules, in the order of reading: `length`, `laws`; for following `line_stop`, `reading` (bytes
+//! as a line), `serial` (which serial is the next), `acting` (one line), `replies` (where replies
+//! are reported), `following`, `writing` (replies as text), `names` (of faults); for replaying
+//! `fault`, `batches` (each reproduced from its text), `features` and `collections` (what two
 //! keepers show), `replaying` (the whole).
 #![tactic(auto)]
 

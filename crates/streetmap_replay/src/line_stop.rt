@@ -5,11 +5,11 @@ use streetmap_ledger::{Fault, Refusal};
 /// Why a line is not followed.
 #[derive(Clone, Copy, Drop)]
 pub enum LineStop {
-    /// It is no batch, or memory to read it was refused.
+    /// It is not a batch, or memory ran out while it was read.
     Unread(BatchFault),
     /// Its serial is neither the next one nor that of its key.
     NotNext,
-    /// Its batch is refused, with the place of the edit at fault, where there is one.
+    /// Its batch is refused, with the place of the edit at fault, if there is one.
     Refused(Refusal, Option<u64>),
     /// The keeper answered with a fault.
     Stopped(Fault),

@@ -1,4 +1,4 @@
-//! The names of why lines are not followed.
+//! The names of the faults by which lines are not followed.
 ghost use Rattle.std.specs.Prelude.{◌≡◌, option_map};
 ghost use Rattle.streetmap_replay.specs.FollowNames.{stop_code, stop_place, stop_cause, read_code};
 ghost use Rattle.streetmap_replay.specs.FollowNames.{end_code, end_place, end_cause};
@@ -9,7 +9,7 @@ use streetmap_geojson::Fault as FeatureFault;
 use streetmap_text_lines::LineFault;
 
 impl LineStop {
-    /// Its name: that of the refusal of the batch, or of the keeper's fault, or `not_the_next`.
+    /// Its name: that of the batch's fault or refusal, or of the keeper's fault, or `not_the_next`.
     #[tactic(auto, unfolding(crate::specs::FollowNames::stop_code))]
     pub fn code(&self) -> &'static str
         ensures { result.now ≡ stop_code self.now }
@@ -33,7 +33,7 @@ impl LineStop {
         }
     }
 
-    /// What is wrong with the feature of that edit, where it cannot be read.
+    /// What is wrong with the feature of that edit, if it cannot be read.
     pub fn cause(&self) -> Option<FeatureFault>
         ensures { result ≡ stop_cause self.now }
     {
@@ -44,7 +44,7 @@ impl LineStop {
     }
 }
 
-/// The name of why a line was not read.
+/// The name of the fault by which a line was not read.
 #[tactic(auto, unfolding(crate::specs::FollowNames::read_code))]
 fn code_of_read(fault: LineFault) -> &'static str
     ensures { result.now ≡ read_code fault }
@@ -57,8 +57,8 @@ fn code_of_read(fault: LineFault) -> &'static str
 }
 
 impl End {
-    /// The name of the fault that following ended by: of a line that is not followed its own,
-    /// `cut_line`, `line_too_long`, `read_failed`, `memory` or `write_failed`. None where all lines
+    /// The name of the fault that following ended by: that of the line that is not followed,
+    /// `cut_line`, `line_too_long`, `read_failed`, `memory` or `write_failed`. None if all lines
     /// were followed.
     #[tactic(auto, unfolding(crate::specs::FollowNames::end_code))]
     pub fn code(&self) -> Option<&'static str>
@@ -83,7 +83,7 @@ impl End {
         }
     }
 
-    /// What is wrong with the feature of that edit, where it cannot be read.
+    /// What is wrong with the feature of that edit, if it cannot be read.
     pub fn cause(&self) -> Option<FeatureFault>
         ensures { result ≡ end_cause self.now }
     {

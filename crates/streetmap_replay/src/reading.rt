@@ -15,14 +15,14 @@ pub struct Line<'a> {
     pub text: &'a [u8],
 }
 
-/// Where the first tab stands.
+/// The place of the first tab.
 fn find_tab(bytes: &[u8]) -> Option<usize>
     ensures { result ≡ position_from (λ b. b == 9) 0 bytes.now }
 {
     bytes.iter().position(|byte| *byte == b'\t')
 }
 
-/// How many bytes stand before the first tab.
+/// How many bytes there are before the first tab; all if there is none.
 fn field_length(bytes: &[u8]) -> usize
     ensures { result ≡ position_or_len (λ b. b == 9) bytes.now }
 {
@@ -32,7 +32,7 @@ fn field_length(bytes: &[u8]) -> usize
     }
 }
 
-/// Whether bytes are a number as it is written.
+/// Whether bytes are this number in decimal.
 fn is_written(number: u64, bytes: &[u8]) -> bool
     ensures found { result ≡ true → decimal number ≡ bytes.now }
     ensures other { result ≡ false → decimal number ≡ bytes.now → ⊥ }
@@ -41,7 +41,7 @@ fn is_written(number: u64, bytes: &[u8]) -> bool
     buffer.format(number).as_bytes() == bytes
 }
 
-/// The number that bytes are, written as a number is.
+/// The number that bytes are in decimal, if they are one.
 fn read_serial(bytes: &[u8]) -> Option<u64>
     ensures found { IfSome result (λ serial. decimal serial ≡ bytes.now) }
     ensures fits { IfSome result (λ serial. serial < 2 ^ 64) }

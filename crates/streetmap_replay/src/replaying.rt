@@ -1,4 +1,4 @@
-//! A keeper's state, beside what its kept texts give.
+//! A keeper's state, compared with what its kept texts give.
 ghost use Rattle.std.specs.Prelude.{◌≡◌, Err, Some};
 ghost use Rattle.streetmap_ledger.specs.Keep.{LeavesOnly};
 ghost use Rattle.streetmap_ledger.specs.State.{State, opening_state};
@@ -13,16 +13,16 @@ use std::alloc::Global;
 use streetmap_ledger::{Keeper, KeepsBatches};
 
 /// Replays the batches that a keeper keeps, by their texts and in order of their serials, in a
-/// second keeper that stands for the opening state, and compares what both show. It ends well
-/// exactly where the replay is the state: each batch with its key, serial, text and counts, and
-/// each collection with its title, time property and features.
+/// second keeper that represents the opening state, and compares what both show. It succeeds
+/// exactly if the replay is the state: each batch with its key, serial, text and counts, and each
+/// collection with its title, time property and features.
 ///
 /// # Errors
 ///
-/// `Batch` with the first serial whose text is no batch, or whose batch is not accepted or is
-/// another than the kept one; `Collection` with the id of the first collection that is another;
+/// `Batch` with the first serial whose text is not a batch, or whose batch is not accepted or is
+/// another than the kept one; `Collection` with the id of the first collection that differs;
 /// `Stopped` with the fault of a keeper, or with `Memory`. Nothing changes in the first keeper.
-/// After 2^64 - 1 batches, or as many pages of a collection, it ends as where memory is refused.
+/// After 2^64 - 1 batches, or as many pages of a collection, it ends as if memory had run out.
 pub fn check_replay<K: KeepsBatches, L: Keeper>(
     alloc: Global,
     keeper: &mut K,

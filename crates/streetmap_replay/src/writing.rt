@@ -14,8 +14,8 @@ use streetmap_text_lines::write_bytes;
 /// The room that the body of a reply needs, in bytes.
 const ROOM: usize = 320;
 
-/// A writer that is told replies: of each the body that HTTP answers, compact JSON, and a line
-/// feed, in room that was taken before.
+/// A writer that receives replies and writes for each the body that HTTP answers, compact JSON, and
+/// a line feed, in room that was allocated before.
 #[derive(Drop)]
 pub struct ReplyLines<W> {
     pub writer: W,
@@ -24,7 +24,7 @@ pub struct ReplyLines<W> {
 }
 
 impl<W: Write + Drop> ReplyLines<W> {
-    /// Takes the room for a reply.
+    /// Allocates the room for a reply.
     pub fn new(alloc: Global, writer: W) -> Result<ReplyLines<W>, AllocError>
         ensures { IfOk result (λ lines. lines.writer ≡ writer) }
     {

@@ -1,5 +1,5 @@
-//! Files in memory whose calls stop after so many, and what is done over a connection to them. Here
-//! alone their store is named.
+//! Files in memory that stop after a number of calls, and what is done over a connection to them.
+//! Only here is their store named.
 ghost use Rattle.std.specs.Prelude.{◌≡◌, false, IfOk, IsTrue};
 ghost use Rattle.sqlite_disk.specs.Memory.{memory_is_usable};
 
@@ -19,7 +19,7 @@ pub(crate) struct Calls {
     pub(crate) db: u64,
 }
 
-/// As many as there are.
+/// No limit.
 pub(crate) const ALL_CALLS: Calls = Calls {
     log: u64::MAX,
     db: u64::MAX,
@@ -27,10 +27,10 @@ pub(crate) const ALL_CALLS: Calls = Calls {
 
 /// What is done over a connection, whatever its store.
 pub(crate) trait Visit {
-    /// What comes of it.
+    /// Its result.
     type Told;
 
-    /// Does it, and gives the store back, where it is not let go of.
+    /// Does it, and gives the store back, unless it was dropped.
     fn visit<S: Alter + Drop>(self, alloc: Global, conn: Connection<S>) -> (Self::Told, Option<S>)
         requires { conn.in_transaction ≡ false };
 }
@@ -45,8 +45,8 @@ fn file(alloc: Global, bytes: &[u8]) -> Result<Memory, Fail>
     Ok(file)
 }
 
-/// Opens two files for a visit. Answers what came of it, nothing where they were not opened; and
-/// what is left of them, nothing where their store was let go of.
+/// Opens two files for a visit. Returns its result, nothing if they were not opened; and what is
+/// left of them, nothing if their store was dropped.
 fn visit_fused<V: Visit + Drop>(
     alloc: Global,
     log: Memory,
@@ -77,7 +77,7 @@ pub(crate) fn visit_new<V: Visit + Drop>(
     visit_fused(alloc, Memory::new(alloc), Memory::new(alloc), calls, visit)
 }
 
-/// What comes of a visit to new files, whose calls are all taken.
+/// The result of a visit to new files that take all calls.
 pub(crate) fn told_of_new<V: Visit + Drop>(alloc: Global, visit: V) -> Option<V::Told> {
     visit_new(alloc, ALL_CALLS, visit).0
 }

@@ -18,7 +18,8 @@ fn rows() -> &'static str {
     ROWS
 }
 
-/// What is sent to a new keeper: first what makes the state, and then what is answered so.
+/// What is sent to a new keeper: first what makes the state, and then the requests with their
+/// answers.
 #[derive(Clone, Copy)]
 struct Row<'a> {
     first: &'a str,
@@ -41,7 +42,7 @@ fn push_post(alloc: Global, requests: &mut String, body: &str) -> Result<(), All
     requests.push_str(body)
 }
 
-/// Appends the requests that post the batches which are there before.
+/// Appends the requests that post the batches applied before.
 fn push_before(alloc: Global, requests: &mut String, row: &Value) -> Result<(), AllocError> {
     if let Some(batches) = row.get("before").and_then(Value::as_array) {
         for batch in batches {
@@ -51,7 +52,7 @@ fn push_before(alloc: Global, requests: &mut String, row: &Value) -> Result<(), 
     Ok(())
 }
 
-/// Whether a new keeper answers so to the requests of a row.
+/// Whether a new keeper gives these answers to the requests of a row.
 fn is_answered_so<K: Keeper>(alloc: Global, keeper: &mut K, row: Row<'_>) -> bool {
     answers(alloc, keeper, row.first).is_some()
         && answers(alloc, keeper, row.sent).is_some_and(|text| text.as_slice()
@@ -61,13 +62,13 @@ fn is_answered_so<K: Keeper>(alloc: Global, keeper: &mut K, row: Row<'_>) -> boo
 impl Task for Row<'_> {
     type Told = bool;
 
-    /// Whether a new keeper answers so to the requests of the row.
+    /// Whether a new keeper gives these answers to the requests of the row.
     fn run<K: Keeper>(self, alloc: Global, keeper: &mut K) -> bool {
         is_answered_so(alloc, keeper, self)
     }
 }
 
-/// A row is sent to an index over a keeper over new tables: whether it is answered so.
+/// A row is sent to an index over a keeper over new tables: whether it has these answers.
 #[derive(Clone, Copy)]
 struct OverIndexedTables<'a>(Row<'a>);
 
@@ -85,7 +86,7 @@ impl Visit for OverIndexedTables<'_> {
     }
 }
 
-/// Which keeper answers otherwise to the requests of a row; none where all answer so.
+/// Which keeper answers differently to the requests of a row; none if no keeper does.
 fn differing(alloc: Global, row: Row<'_>) -> Option<&'static str> {
     if !is_answered_so(alloc, &mut PlainKeeper::new(alloc), row) {
         return Some("in memory");
@@ -103,7 +104,7 @@ fn differing(alloc: Global, row: Row<'_>) -> Option<&'static str> {
     None
 }
 
-/// The same of the row of a line.
+/// The same for the row of a line.
 fn differing_at(alloc: Global, line: &str) -> Result<Option<&'static str>, Fail> {
     let row = Value::from_str(alloc, line)?;
     let mut first = String::new(alloc);

@@ -1,4 +1,4 @@
-//! What is done over a keeper of tables, which are made or opened for it.
+//! What is done over a keeper of tables, which are created or opened for it.
 ghost use Rattle.std.specs.Prelude.{◌≡◌, false};
 
 use crate::files::Visit;
@@ -10,19 +10,19 @@ use streetmap_tables::TablesFault;
 
 /// What is done over a keeper, whatever it is.
 pub(crate) trait Task {
-    /// What comes of it.
+    /// Its result.
     type Told;
 
     /// Does it.
     fn run<K: Keeper>(self, alloc: Global, keeper: &mut K) -> Self::Told;
 }
 
-/// What comes of a task over tables.
+/// The result of a task over tables.
 #[derive(Clone, Copy, PartialEq)]
 pub(crate) enum Came<T> {
-    /// There was a keeper, and this came of it.
+    /// There was a keeper, and this is the result.
     Told(T),
-    /// The tables are none of this product.
+    /// The tables are not this product's.
     NotOurs,
     /// There was no keeper, for another reason.
     Refused,
@@ -51,7 +51,7 @@ impl<T: Task + Drop> Visit for OverNew<T> {
     }
 }
 
-/// A task over the keeper of the tables that are there.
+/// A task over the keeper of the existing tables.
 #[derive(Clone, Copy)]
 pub(crate) struct OverOpened<T>(pub(crate) T);
 

@@ -1,7 +1,7 @@
-//! What no clause says of the tables and of the keeper over them: that they are made beside others,
-//! that each keeper answers the rows of HTTP, and what a stop at each call of the files leaves, of
-//! batches and of carrying format 1 over. What the built program shows of a file stands in
-//! `tests/groups/`.
+//! What no clause says of the tables and of the keeper over them: that they are created beside
+//! others, that each keeper answers the rows of HTTP, and what a crash at each call of the files
+//! leaves, for batches and for the migration of format 1. Tests of what the built program shows of
+//! a file are in `tests/groups/`.
 #![tactic(auto)]
 
 #[cfg(test)]

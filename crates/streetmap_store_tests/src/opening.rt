@@ -1,11 +1,11 @@
-//! Tables of a connection, made beside others.
+//! Tables of a connection, created beside others.
 use crate::files::{Visit, told_of_new};
 use sqlite::{Alter, Connection};
 use std::alloc::Global;
 use std::test::Fail;
 use streetmap_tables::{MakeFault, adopt_tables, make_tables};
 
-/// Whether the tables were made.
+/// Whether the tables were created.
 fn made<S: Alter>(conn: &mut Connection<S>) -> bool {
     conn.is_autocommit() && make_tables(conn).is_ok()
 }
@@ -25,7 +25,7 @@ fn ran<S: Alter>(conn: &mut Connection<S>, statements: &str) -> bool {
     conn.execute_batch(statements).is_ok()
 }
 
-/// How many notes another table has; none where it is not there.
+/// How many notes another table has; none if it does not exist.
 fn notes<S: Alter>(conn: &mut Connection<S>) -> Option<i64> {
     let row = conn.query_row("SELECT count(*) FROM notes", &[]).ok()?;
     row.get(0).ok()
@@ -35,8 +35,8 @@ fn notes<S: Alter>(conn: &mut Connection<S>) -> Option<i64> {
 const BESIDE: &str =
     "CREATE TABLE notes (id INTEGER PRIMARY KEY AUTOINCREMENT, text TEXT) STRICT; INSERT INTO notes (text) VALUES ('a'); CREATE VIEW Streetmap_Batches AS SELECT 1";
 
-/// The tables are made beside others, where none of their names is used, and opened: what was seen,
-/// and whether the other table's row is there.
+/// The tables are created beside others once none of their names is taken, and opened: what was
+/// seen, and whether the other table's row is still there.
 #[derive(Clone, Copy)]
 struct MakeBeside;
 

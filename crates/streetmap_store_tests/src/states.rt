@@ -21,11 +21,11 @@ const BATCHES: [&str; COUNT] = [
 /// How many batches there are.
 pub(crate) const COUNT: usize = 5;
 
-/// What is looked at of a state.
+/// The requests that read a state.
 const LOOKS: &str =
     "GET /collections/lamps/items HTTP/1.1\r\nHost: localhost\r\n\r\nGET /collections/works/items?datetime=1970-01-01T00:00:00Z HTTP/1.1\r\nHost: localhost\r\n\r\nGET /collections HTTP/1.1\r\nHost: localhost\r\n\r\n";
 
-/// Acts on the batches up to the first that is not answered. Answers how many were.
+/// Applies the batches up to the first that is not answered. Returns how many were.
 pub(crate) fn act<K: Keeper>(alloc: Global, keeper: &mut K) -> usize {
     let mut acknowledged: usize = 0;
     for text in BATCHES {
@@ -49,7 +49,7 @@ fn push_state<K: Keeper>(
     }
 }
 
-/// What is seen behind none of the batches, and behind each of them.
+/// What is seen before the first of the batches, and after each of them.
 pub(crate) fn states(alloc: Global) -> Result<Vec<Vec<u8>>, Fail> {
     let mut keeper = PlainKeeper::new(alloc);
     let mut states = Vec::new(alloc);
@@ -64,26 +64,26 @@ pub(crate) fn states(alloc: Global) -> Result<Vec<Vec<u8>>, Fail> {
 /// What is seen of files that are opened again.
 #[derive(Clone, Copy, PartialEq, Eq)]
 pub(crate) enum Seen {
-    /// The tables are none of this product.
+    /// The tables are not this product's.
     NotOurs,
-    /// The state behind so many batches; and where all act again, then that behind all.
+    /// The state after this number of batches; and if all act again, then that after all.
     Behind(usize),
     /// Anything else.
     Other,
 }
 
-/// Behind how many batches a keeper is; none where it is in no such state.
+/// How many batches a keeper's state is after; none if it is in no such state.
 fn place<K: Keeper>(alloc: Global, keeper: &mut K, states: &[Vec<u8>]) -> Option<usize> {
     let text = answers(alloc, keeper, LOOKS)?;
     states.iter().position(|state| *state == text)
 }
 
-/// Whether a keeper is behind all batches once all have acted again.
+/// Whether a keeper is after all batches once all have acted again.
 fn acts_again<K: Keeper>(alloc: Global, keeper: &mut K, states: &[Vec<u8>]) -> bool {
     act(alloc, keeper) == COUNT && place(alloc, keeper, states) == Some(COUNT)
 }
 
-/// Tables are opened and looked at, and all batches act again where that is asked.
+/// Tables are opened and read, and all batches act again if requested.
 #[derive(Clone, Copy)]
 pub(crate) struct Look<'a> {
     pub(crate) states: &'a [Vec<u8>],
@@ -113,7 +113,7 @@ fn reopened(alloc: Global, files: &Files<Fused>, look: Look<'_>) -> Result<Seen,
     }
 }
 
-/// What is seen of what was written, and then of what was synchronised alone.
+/// What is seen of all that was written, and then of only what was synchronised.
 pub(crate) fn seen_twice(
     alloc: Global,
     files: &mut Files<Fused>,

@@ -1,5 +1,5 @@
-//! A stop at each call of the files in turn. Of batches, what opens again is the state of a
-//! beginning of them, with each acknowledged one; of carrying format 1 over, it is the state that
+//! A crash at each call of the files in turn. For batches, what opens again is the state of a
+//! prefix of them, with each acknowledged one; for the migration of format 1, it is the state that
 //! was there.
 use crate::files::{ALL_CALLS, Calls, Fused, Visit, visit_again, visit_new};
 use crate::keepers::{Came, OverNew, OverOpened, Task};
@@ -13,7 +13,7 @@ use streetmap_ledger::Keeper;
 /// More calls than any run makes.
 const MOST_CALLS: u64 = 10_000;
 
-/// So many calls of the log, or of the database, and all of the other.
+/// This number of calls of the log, or of the database, and all of the other.
 fn calls(of_log: bool, count: u64) -> Calls {
     if of_log {
         Calls {
@@ -28,7 +28,7 @@ fn calls(of_log: bool, count: u64) -> Calls {
     }
 }
 
-/// The batches are acted on: how many were answered.
+/// The batches are applied: how many were answered.
 #[derive(Clone, Copy)]
 struct ActOnAll;
 
@@ -40,8 +40,8 @@ impl Task for ActOnAll {
     }
 }
 
-/// Makes tables in new files that take so many calls, and acts on the batches. Answers how many
-/// were answered, none where the tables were not made; and what is left of the files.
+/// Creates tables in new files that take this number of calls, and applies the batches. Returns how
+/// many were answered, none if the tables were not created; and what is left of the files.
 fn acted(alloc: Global, calls: Calls) -> Result<(Option<usize>, Files<Fused>), Fail> {
     match visit_new(alloc, calls, OverNew(ActOnAll)) {
         (Some(Came::Told(acknowledged)), Some(files)) => Ok((Some(acknowledged), files)),
@@ -50,7 +50,7 @@ fn acted(alloc: Global, calls: Calls) -> Result<(Option<usize>, Files<Fused>), F
     }
 }
 
-/// Whether this may be seen where so many batches were acknowledged, or no tables made.
+/// Whether this may be seen if this number of batches were acknowledged, or no tables created.
 fn may_be_left(seen: Seen, acknowledged: Option<usize>) -> bool {
     match seen {
         Seen::NotOurs => acknowledged.is_none(),
@@ -62,8 +62,8 @@ fn may_be_left(seen: Seen, acknowledged: Option<usize>) -> bool {
     }
 }
 
-/// Acts on the batches in new files that take so many calls. Answers whether all were acknowledged;
-/// none where what is left may not be.
+/// Applies the batches in new files that take this number of calls. Returns whether all were
+/// acknowledged; none if what is left is not allowed.
 fn stopped(alloc: Global, calls: Calls, states: &[Vec<u8>]) -> Result<Option<bool>, Fail> {
     let (acknowledged, mut files) = acted(alloc, calls)?;
     let look = Look {
@@ -75,7 +75,7 @@ fn stopped(alloc: Global, calls: Calls, states: &[Vec<u8>]) -> Result<Option<boo
     Ok(is_right.then_some(acknowledged == Some(COUNT)))
 }
 
-/// After how many calls the batches came to their end, where each stop before left what it may.
+/// After how many calls all batches were acknowledged, if each crash before left what it may.
 fn calls_of_batches(alloc: Global, of_log: bool, states: &[Vec<u8>]) -> Result<Option<u64>, Fail> {
     for count in 0..MOST_CALLS {
         match stopped(alloc, calls(of_log, count), states)? {
@@ -97,11 +97,11 @@ fn a_stop_at_each_call_leaves_a_beginning(rt: HostRuntime) -> Result<(), Fail> {
     Ok(())
 }
 
-/// Makes of the tables of format 2 those of format 1.
+/// Turns the tables of format 2 into those of format 1.
 const TO_FORMAT_1: &str =
     "CREATE TABLE old (collection TEXT, id TEXT, body TEXT); INSERT INTO old SELECT collection, id, body FROM streetmap_features; DROP TABLE streetmap_features; CREATE TABLE streetmap_features (collection TEXT NOT NULL REFERENCES streetmap_collections(id), id TEXT NOT NULL, body TEXT NOT NULL, PRIMARY KEY (collection, id)) STRICT; INSERT INTO streetmap_features SELECT collection, id, body FROM old; DROP TABLE old; UPDATE streetmap_meta SET value = 1";
 
-/// The tables are made those of format 1: whether they were.
+/// The tables are turned into those of format 1: whether they were.
 #[derive(Clone, Copy)]
 struct ToFormat1;
 
@@ -134,8 +134,8 @@ impl Task for Nothing {
     fn run<K: Keeper>(self, _: Global, _: &mut K) {}
 }
 
-/// Opens copies of files of format 1 that take so many calls. Answers whether they were opened;
-/// none where what is left is another state.
+/// Opens copies of files of format 1 that take this number of calls. Returns whether they were
+/// opened; none if what is left is another state.
 fn carried(
     alloc: Global,
     old: &Files<Fused>,
@@ -155,7 +155,7 @@ fn carried(
     Ok(is_right.then_some(opened == Some(Came::Told(()))))
 }
 
-/// After how many calls the files were opened, where each stop before left their state.
+/// After how many calls the files were opened, if each crash before left their state.
 fn calls_of_carrying(
     alloc: Global,
     old: &Files<Fused>,

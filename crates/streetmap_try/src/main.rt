@@ -1,7 +1,7 @@
 //! The program `streetmap_try`: a first look. It serves a port of this host over a keeper in
-//! memory, with no file, so that what it was sent is gone when it ends. `make try` runs it before
-//! any proof: without SQLite it is compiled in a third of the time. It is proved as the other
-//! crates are.
+//! memory, without a file, so that what was sent to it is gone when it ends. `make try` runs it
+//! before any proof: without SQLite it is compiled in a third of the time. It is proved as the
+//! other crates are.
 #![tactic(auto)]
 
 use std::alloc::AllocError;
@@ -16,14 +16,14 @@ use streetmap_web::{KeeperService, Watch, serve_clients};
 /// How many clients are served at once.
 const MOST_CLIENTS: usize = 16;
 
-/// Why nothing is served, or no more.
+/// Why nothing is served, or serving ended.
 #[derive(Clone, Copy, Drop)]
 enum TryFault {
-    /// No port of this host was asked for.
+    /// The arguments do not name a port.
     Usage,
     /// The port is in use, or sockets could not be waited for.
     Net,
-    /// Memory was refused.
+    /// Memory ran out.
     Memory,
     /// Standard output could not be written.
     WriteFailed,
@@ -64,7 +64,7 @@ impl TryFault {
         }
     }
 
-    /// The status that the program ends with.
+    /// The program's exit status.
     fn status(self) -> u8 {
         match self {
             TryFault::Usage => 2,
@@ -73,7 +73,7 @@ impl TryFault {
     }
 }
 
-/// The port that the only word asks for.
+/// The port that the only argument names.
 fn read_port(rt: &HostRuntime) -> Result<u16, TryFault> {
     let mut words = env::args(rt).map_err(|_| TryFault::Memory)?.skip(1);
     let port = words.next().and_then(|word| word.parse::<u16>().ok());
@@ -83,7 +83,7 @@ fn read_port(rt: &HostRuntime) -> Result<u16, TryFault> {
     }
 }
 
-/// Serves clients at the port that is asked for, until the program is ended.
+/// Serves clients at the port that the argument names, until the program is ended.
 fn run(rt: &HostRuntime) -> Result<(), TryFault> {
     let port = read_port(rt)?;
     let root = format!(in rt.alloc(); "http://localhost:{port}/")?;

@@ -1,4 +1,4 @@
--- What a keeper is as a service: each request answered for what it stands for.
+-- A keeper as a service: each request is answered according to the keeper's condition.
 use Rattle.streetmap_batch.specs.Text.{Text}
 use Rattle.streetmap_http.specs.Framing.{HeadValue, IsRequest}
 use Rattle.streetmap_web.specs.Standing.{Standing}
@@ -7,7 +7,8 @@ use Rattle.streetmap_web.specs.Response.{AnswerSent, request_of}
 use Rattle.streetmap_web.specs.Coming.{AnswersRequest}
 use Rattle.streetmap_web.specs.Responds.{TellsBatch}
 
--- one request was answered over the first keeper, this was sent for it, and the second was left
+-- one request was answered by the first keeper, this was sent for it, and the second is the keeper
+-- after it
 pub record AnswersOne {K : Type 0} (sight : Sight K) (root : Text) (old : K) (bytes : Text)
     (sent : AnswerSent) (new : K) : Type 0 where
   pub answered : sight.is_clean new → (x : Standing) → StandsSo sight old x

@@ -1,4 +1,4 @@
--- The batches of a stream, and the states that a stop may leave of them.
+-- The batches of a stream, and the states that a crash may leave of them.
 use Rattle.std.specs.Prelude.{◌≡◌, ℕ, ◌≤◌, ◌++◌, List, [], ◌∷◌, length, take, Option, Some}
 use Rattle.streetmap_batch.specs.Text.{Text}
 use Rattle.streetmap_batch.specs.BatchValue.{BatchValue}
@@ -12,8 +12,8 @@ use Rattle.streetmap_web.specs.Exchanges.{batches_of}
 use Rattle.streetmap_web.specs.Exchanges.{last_of}
 use Rattle.streetmap_web.specs.declared.serving.End.{End}
 
--- a batch before others, where the keeper acted on it: it was answered without a fault, or the
--- device failed at it
+-- a batch before others, if the keeper acted on it: it was answered without a fault, or the device
+-- failed at it
 abbrev pub with_acted : AskValue → RequestOutcome → List BatchValue → List BatchValue
 with_acted ask as_asked others = with_batch ask others
 with_acted ask no_memory others = others
@@ -24,20 +24,19 @@ abbrev pub batches_acted : List HttpExchange → List BatchValue
 batches_acted [] = []
 batches_acted (e ∷ es) = with_acted e.request.ask e.outcome (batches_acted es)
 
--- the state after a beginning of the batches that contains each acknowledged one, of which there
--- are so many
+-- the state after a prefix of the batches that contains each acknowledged one; this is their number
 pub record IsAfterBeginning (s : State) (batches : List BatchValue) (acknowledged : ℕ)
     (t : State) : Type 0 where
   pub len : ℕ
   pub contains : acknowledged ≤ len
   pub is : t ≡ after_all s (take len batches)
 
--- a stop may leave such states alone
+-- a crash may leave only such states
 abbrev pub LeavesBeginning : State → List BatchValue → ℕ → (Option State → Type 0) → Type 0
 LeavesBeginning s batches acknowledged left = (o : Option State) → left o → (t : State)
     × (o ≡ Some t) × IsAfterBeginning s batches acknowledged t
 
--- Over what was served a stop may leave the state of a beginning of the batches acted on that
+-- After these exchanges a crash may leave the state of a prefix of the batches acted on that
 -- contains each that was answered without a fault.
 abbrev pub ServedLeaves : (root : Text) (end : End) (count : ℕ) (s : State) (a : Around)
     → ServesExchanges root end count (of_state s) a → (Option State → Type 0) → Type 0

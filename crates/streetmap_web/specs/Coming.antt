@@ -1,4 +1,4 @@
--- How a keeper came along requests, and what it is between them.
+-- How one keeper became another by requests, and what lies between the two.
 use Rattle.std.specs.Prelude.{◌≡◌, List, [], ◌∷◌, Option}
 use Rattle.streetmap_batch.specs.Text.{Text}
 use Rattle.streetmap_web.specs.Standing.{Standing, IsKnown}
@@ -25,7 +25,7 @@ ComesAll {K} sight root x old (e ∷ es) new =
     (mid : K) × ComesOut sight root x e.request e.outcome (sent_for root x e) old mid
     × ComesAll sight root (standing_after x e) mid es new
 
--- two keepers, with what a reader has left and a writer holds before and after
+-- two keepers, with what a reader has left and what a writer holds before and after
 abbrev pub around :
     {K : Type 0} (sight : Sight K) (root : Text) (x : Standing)
     (input_before input_after output_before output_after : Option Text) (old new : K) → Around

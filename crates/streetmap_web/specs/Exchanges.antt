@@ -24,14 +24,14 @@ use Rattle.streetmap_web.specs.declared.serving.Turn.{Turn}
 use Rattle.streetmap_web.specs.declared.serving.Turn.TheVariants.{Open, Closed, Ended, Truncated}
 use Rattle.streetmap_web.specs.declared.serving.Turn.TheVariants.{ReadFailed, WriteFailed}
 
--- one request of the stream: its bytes, what it says, and how it came out
+-- one request of the stream: its bytes, what it says, and its outcome
 pub record HttpExchange : Type 0 where
   pub bytes : Text
   pub request : RequestValue
   pub outcome : RequestOutcome
 
--- the bytes are this request: a head with its body, or bytes that break a rule of framing; where
--- memory was refused for the body, they are the head alone
+-- the bytes are this request: a head with its body, or bytes that break a rule of framing; if
+-- memory ran out for the body, they are only the head
 pub data Asks (e : HttpExchange) : Type 0 where
   whole : (h : HeadValue) (body : Text) → IsRequest e.bytes h body → e.request ≡ request_of h body
       → Asks e
@@ -40,11 +40,11 @@ pub data Asks (e : HttpExchange) : Type 0 where
   no_room : (h : HeadValue) → IsHead e.bytes → Frames e.bytes (sized h)
       → e.request ≡ request_of h [] → e.outcome ≡ no_memory → Asks e
 
--- the answer, over a keeper that stands so
+-- the answer of a keeper in this condition
 abbrev pub response : Text → Standing → HttpExchange → ResponseValue
 response root x e = answer_by root x e.request.ask e.outcome
 
--- whether the connection closes behind it
+-- whether the connection closes after it
 abbrev pub closes : Text → Standing → HttpExchange → Bool
 closes root x e = closes_with e.request.closes (response root x e)
 
@@ -52,15 +52,15 @@ closes root x e = closes_with e.request.closes (response root x e)
 abbrev pub answer_bytes : Text → Standing → HttpExchange → Text
 answer_bytes root x e = response_text (closes root x e) e.request.bare (response root x e)
 
--- the same two as they are sent
+-- both as they are sent
 abbrev pub sent_for : Text → Standing → HttpExchange → AnswerSent
 sent_for root x e = sent_as e.request (response root x e)
 
--- what the keeper stands for afterwards
+-- the keeper's condition afterwards
 abbrev pub standing_after : Standing → HttpExchange → Standing
 standing_after x e = after x e.request.ask e.outcome
 
--- the request is one of the stream, and came out as it can
+-- the request is one of the stream, and has a possible outcome
 pub record IsExchange (x : Standing) (e : HttpExchange) : Type 0 where
   pub asks : Asks e
   pub can : CanBe x e.request.ask e.outcome
@@ -80,7 +80,7 @@ abbrev pub all_answers : Text → Standing → List HttpExchange → Text
 all_answers root x [] = []
 all_answers root x (e ∷ es) = answer_bytes root x e ++ all_answers root (standing_after x e) es
 
--- what the keeper stands for after them
+-- the keeper's condition after them
 abbrev pub standing_after_all : Standing → List HttpExchange → Standing
 standing_after_all x [] = x
 standing_after_all x (e ∷ es) = standing_after_all (standing_after x e) es
@@ -90,7 +90,7 @@ abbrev pub with_batch : AskValue → List BatchValue → List BatchValue
 with_batch (batch b) others = b ∷ others
 with_batch _ others = others
 
--- the same, where it was answered as asked
+-- the same, if it was answered as requested
 abbrev pub with_answered : AskValue → RequestOutcome → List BatchValue → List BatchValue
 with_answered ask as_asked others = with_batch ask others
 with_answered ask no_memory others = others
@@ -102,7 +102,7 @@ abbrev pub batches_of : List HttpExchange → List BatchValue
 batches_of [] = []
 batches_of (e ∷ es) = with_answered e.request.ask e.outcome (batches_of es)
 
--- what the keeper stands for after batches
+-- the keeper's condition after batches
 abbrev pub after_batches : Standing → List BatchValue → Standing
 after_batches (of_state s) bs = of_state (after_all s bs)
 after_batches (shut why) bs = shut why
@@ -110,8 +110,8 @@ after_batches unknown bs = unknown
 
 -- ---- ends
 
--- what a keeper, a reader and a writer are before and after; what was known of the states that a
--- stop may leave; and along which exchanges the keeper came from the one to the other
+-- a keeper, a reader and a writer before and after; what was known of the states that a crash may
+-- leave; and by which exchanges the first keeper became the second
 pub record Around : Type 1 where
   pub input_before : Option Text
   pub input_after : Option Text
@@ -123,8 +123,8 @@ pub record Around : Type 1 where
   pub crash_after : Option State → Type 0
   pub comes : List HttpExchange → Type 0
 
--- a request was read and acted on: its bytes are off the reader, the keeper stands for what is
--- after it, and a stop may leave that
+-- a request was read and acted on: its bytes are off the reader, the keeper is in the condition
+-- after it, and a crash leaves what `Leaves` allows
 pub record Acted (x : Standing) (e : HttpExchange) (a : Around) : Type 0 where
   pub is : IsExchange x e
   pub read : Consumes a.input_before a.input_after e.bytes
@@ -152,7 +152,7 @@ TurnSays Truncated root x a = AnswersNothing x a × (bytes : Text) × IsUnfinish
     × Consumes a.input_before a.input_after bytes × IsAtEnd a.input_after
 TurnSays ReadFailed root x a = AnswersNothing x a
 
--- the request that was answered in a turn, where one was
+-- the request that was answered in a turn, if one was
 abbrev pub last_of :
     (turn : Turn) (root : Text) (x : Standing) (a : Around) → TurnSays turn root x a
     → List HttpExchange
@@ -163,13 +163,13 @@ last_of Ended root x a says = []
 last_of Truncated root x a says = []
 last_of ReadFailed root x a says = []
 
--- what a turn did, and that the keeper came along its request
+-- what a turn did, and that its request led from the first keeper to the second
 abbrev pub TurnComes : Turn → Text → Standing → Around → Type 0
 TurnComes turn root x a =
     (says : TurnSays turn root x a) × a.comes (last_of turn root x a says)
 
--- what was served: exchanges that leave the connection open, and then the turn that ends it; the
--- keeper came along all of them
+-- what was served: exchanges that leave the connection open, and then the turn that ends it; all of
+-- them together led from the first keeper to the second
 pub record ServesExchanges (root : Text) (end : End) (count : ℕ) (x : Standing) (a : Around)
     : Type 0 where
   pub exchanges : List HttpExchange

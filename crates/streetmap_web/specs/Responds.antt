@@ -1,4 +1,4 @@
--- What the functions that answer say of their results.
+-- The results of the functions that answer.
 use Rattle.std.specs.Prelude.{◌≡◌, ◌≢◌, ◌⊎◌, Bool, true, false, Option, Some, IsSome, Result, Ok}
 use Rattle.std.specs.Prelude.{Err}
 use Rattle.std.specs.Prelude.{string_bytes, ⊤}
@@ -36,7 +36,7 @@ response_value b = record {
       b.body;
 }
 
--- a fault over a keeper that stood for a state: memory was refused and it stands so, or the device
+-- a fault of a keeper that represented a state: memory ran out and it still does, or the device
 -- failed and shut it
 abbrev pub FaultsIn : State → AskValue → Fault → (State → Type 0) → Option Cause → Type 0
 FaultsIn s ask faults.Memory stands cause = stands s
@@ -44,7 +44,7 @@ FaultsIn s ask faults.Device stands cause = (asks_state ask ≡ true) × (cause 
 FaultsIn s ask faults.Damaged stands cause = ⊥
 FaultsIn s ask faults.Reopen stands cause = ⊥
 
--- over a keeper that stood for a state: the answer of the state, or the fault that is to be
+-- of a keeper that represented a state: the answer of the state, or the fault that is to be
 -- answered
 abbrev pub RespondsIn : Text → State → AskValue → Result Response Fault → (State → Type 0)
     → Option Cause → Type 0
@@ -52,39 +52,39 @@ RespondsIn root s ask (Ok response) stands cause = (response_value response
     ≡ response_in root s ask) × stands (state_in s ask)
 RespondsIn root s ask (Err fault) stands cause = FaultsIn s ask fault stands cause
 
--- a fault over a shut keeper: memory was refused, or it is the answer
+-- a fault with a shut keeper: memory ran out, or it is the answer
 abbrev pub FaultsShut : Text → AskValue → Fault → Type 0
 FaultsShut root ask faults.Memory = ⊤
 FaultsShut root ask faults.Device = ⊥
 FaultsShut root ask faults.Damaged = ⊥
 FaultsShut root ask faults.Reopen = response_shut root ask ≡ fault_response (Keeper faults.Reopen)
 
--- over a shut keeper
+-- the same with a shut keeper
 abbrev pub RespondsShut : Text → AskValue → Result Response Fault → Type 0
 RespondsShut root ask (Ok response) = response_value response ≡ response_shut root ask
 RespondsShut root ask (Err fault) = FaultsShut root ask fault
 
--- an answer where nothing is known of the keeper: what asks no state is answered as ever, and what
--- asks it is answered by no failure
+-- an answer if nothing is known of the keeper: a request that needs no state is answered as always,
+-- and one that needs it is not answered with status 500
 abbrev pub IsShown : Text → AskValue → ResponseValue → Type 0
 IsShown root ask shown =
     (asks_state ask ≡ false → shown ≡ response_shut root ask)
     × (asks_state ask ≡ true → shown.status ≢ 500)
 
--- a fault: memory was refused, or the state was asked, and the keeper is shut
+-- a fault: memory ran out, or the request needs the state and the keeper is shut
 abbrev pub FaultsAny : AskValue → Fault → Option Cause → Type 0
 FaultsAny ask faults.Memory cause = ⊤
 FaultsAny ask faults.Device cause = (asks_state ask ≡ true) × IsSome cause
 FaultsAny ask faults.Damaged cause = (asks_state ask ≡ true) × IsSome cause
 FaultsAny ask faults.Reopen cause = (asks_state ask ≡ true) × IsSome cause
 
--- over a keeper of which nothing is known
+-- the same with a keeper of which nothing is known
 abbrev pub RespondsAny : Text → AskValue → Result Response Fault → Option Cause → Type 0
 RespondsAny root ask (Ok response) cause = IsShown root ask (response_value response)
 RespondsAny root ask (Err fault) cause = FaultsAny ask fault cause
 
--- what a stop may leave behind an answer or a fault, where the keeper stood for a state and a stop
--- could leave it and no other
+-- what a crash may leave after an answer or a fault, if the keeper represented a state and a crash
+-- could leave only that
 abbrev pub AnswerLeaves : {A : Type 0} → State → AskValue → Result A Fault → (Option State → Type 0)
     → Type 0
 AnswerLeaves s ask (Ok answer) left = LeavesOnly left (Some (state_in s ask))
@@ -93,7 +93,7 @@ AnswerLeaves s ask (Err faults.Device) left = LeavesEither left (Some s) (Some (
 AnswerLeaves s ask (Err faults.Damaged) left = LeavesOnly left (Some s)
 AnswerLeaves s ask (Err faults.Reopen) left = LeavesOnly left (Some s)
 
--- an answer, or the fault that is to be answered, over a keeper that stood for a state
+-- an answer, or the fault that is to be answered, of a keeper that represented a state
 abbrev pub TriesIn : Text → State → AskValue → Bool → Bool → Result (Answer × Bool) Fault
     → (State → Type 0) → Option Cause → Type 0
 TriesIn root s ask asked bare (Ok r) stands cause =
@@ -102,13 +102,13 @@ TriesIn root s ask asked bare (Ok r) stands cause =
     × stands (state_in s ask)
 TriesIn root s ask asked bare (Err fault) stands cause = FaultsIn s ask fault stands cause
 
--- over a shut keeper
+-- the same with a shut keeper
 abbrev pub TriesShut : Text → AskValue → Bool → Bool → Result (Answer × Bool) Fault → Type 0
 TriesShut root ask asked bare (Ok r) = (r.1 ≡ closes_with asked (response_shut root ask))
     × (answer_text r.0 ≡ response_text r.1 bare (response_shut root ask))
 TriesShut root ask asked bare (Err fault) = FaultsShut root ask fault
 
--- over a keeper of which nothing is known
+-- the same with a keeper of which nothing is known
 abbrev pub TriesAny : Text → AskValue → Bool → Bool → Result (Answer × Bool) Fault → Option Cause
     → Type 0
 TriesAny root ask asked bare (Ok r) cause =
@@ -118,8 +118,8 @@ TriesAny root ask asked bare (Err fault) cause = FaultsAny ask fault cause
 
 -- ---- batches
 
--- a batch by what the keeper answered: its reply is the answer, and its fault is to be answered;
--- `unasked` says that the keeper was never asked, and then memory was refused
+-- a batch by what the keeper returned: its reply is the answer, and its fault is to be answered;
+-- `unasked` says that the keeper was never called, and then memory ran out
 abbrev pub BatchResponds : Text → Result Response Fault → (applies : Result Reply Fault → Type 0)
     → (unasked : Type 0) → Type 0
 BatchResponds key (Ok response) applies unasked = (reply : Reply) × applies (Ok reply)
@@ -136,8 +136,8 @@ BatchTries key asked bare (Ok r) applies unasked =
 BatchTries key asked bare (Err fault) applies unasked = applies (Err fault)
     ⊎ (unasked × (fault ≡ faults.Memory))
 
--- The answer to a batch: the reply of the keeper, whatever it is, or its fault; or that memory was
--- refused, where the keeper was never asked. The connection closes behind a fault, by its status.
+-- The answer to a batch: the reply of the keeper, whatever it is, or its fault; or that memory ran
+-- out, if the keeper was never called. The connection closes after a fault, by its status.
 pub data BatchAnswers (key : Text) (request : RequestValue) (sent : AnswerSent)
     (applies : Result Reply Fault → Type 0) (unasked : Type 0) : Type 0 where
   by_reply : (reply : Reply) → applies (Ok reply) → sent ≡ sent_as request (replied key reply)
@@ -148,8 +148,8 @@ pub data BatchAnswers (key : Text) (request : RequestValue) (sent : AnswerSent)
   unasked_of : unasked → sent ≡ sent_as request (fault_response (Keeper faults.Memory))
       → BatchAnswers key request sent applies unasked
 
--- where a batch is asked between two keepers: it is answered as the first answered it, and was left
--- so; or the keeper was never asked, is as it was, and memory was refused
+-- if the request is a batch: it is answered as the first keeper answered it, and the second is the
+-- keeper after that; or the keeper was never called, is as it was, and memory ran out
 abbrev pub TellsBatch :
     {K : Type 0} (applies : K → BatchValue → Result Reply Fault → K → Type 0)
     (request : RequestValue) (sent : AnswerSent) (old new : K) → Type 0
@@ -159,11 +159,11 @@ TellsBatch applies request sent old new =
 
 -- ---- a request
 
--- A request was answered between two keepers, of which the first stood so, and came out so: what
--- was sent is the answer, the second keeper stands for what is after it, and a stop may leave that.
--- A batch was answered by what `apply` came to between them, or the keeper was never asked and is
--- as it was. Where the answer is that the device failed, the store failed; and where what asks the
--- state is answered by a failure (status 500), the second keeper is shut.
+-- A request was answered between two keepers, the first in this condition, with this outcome: what
+-- was sent is the answer, the second keeper is in the condition after it, and a crash leaves what
+-- `Leaves` allows. A batch was answered by the result of `apply` between them, or the keeper was
+-- never called and is as it was. If the answer is that the device failed, the store failed; and if
+-- a request that needs the state is answered with status 500, the second keeper is shut.
 pub record ComesOut {K : Type 0} (sight : Sight K) (root : Text) (x : Standing)
     (request : RequestValue) (outcome : RequestOutcome) (sent : AnswerSent) (old new : K)
     : Type 0 where
@@ -179,7 +179,7 @@ pub record ComesOut {K : Type 0} (sight : Sight K) (root : Text) (x : Standing)
       asks_state request.ask ≡ true → (answer_by root x request.ask outcome).status ≡ 500
       → IsSome (sight.cause new)
 
--- what is asked was answered: the request came out in some way
+-- the request was answered, with some outcome
 abbrev pub AnswersAsk :
     {K : Type 0} (sight : Sight K) (root : Text) (x : Standing) (request : RequestValue)
     (sent : AnswerSent) (old new : K) → Type 0
@@ -188,7 +188,7 @@ AnswersAsk sight root x request sent old new =
 
 -- ---- broken rules
 
--- the answer to a request that breaks this rule of framing, or that memory was refused for it
+-- the answer to a request that breaks this rule of framing, or that memory ran out for it
 abbrev pub RefusesBy : Text → Bool → FramingFault → Type 0
 RefusesBy text bare fault = (answer : RequestFault)
     × ((answer ≡ Framing fault) ⊎ (answer ≡ Keeper faults.Memory))

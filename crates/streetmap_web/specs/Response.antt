@@ -1,4 +1,4 @@
--- What a request is answered, and the state after it.
+-- The answer to a request, and the state after it.
 use Rattle.std.specs.Prelude.{ℕ, ◌++◌, [], Bool, true, false, ◌||◌, Option, None, Some}
 use Rattle.std.specs.Prelude.{if◌then◌else◌, length, ◌==◌}
 use Rattle.serde_json.specs.Written.{compact_text}
@@ -47,25 +47,25 @@ fault_response fault = record {
       = compact_text (fault_body fault);
 }
 
--- a resource that is there
+-- a resource that exists
 abbrev pub found : MediaType → Text → ResponseValue
 found kind body = record { status = 200; kind = kind; allow = None; body = body }
 
--- nothing is there
+-- no such resource exists
 abbrev pub not_found : ResponseValue
 not_found = fault_response faults.NotFound
 
--- a page, where its collection is there
+-- a page, if its collection exists
 abbrev pub found_page : Text → Text → QueryValue → Option PageValue → ResponseValue
 found_page root name q None = not_found
 found_page root name q (Some p) = found GeoJson (compact_text (page_data root name q p))
 
--- a feature, where it is there
+-- a feature, if it exists
 abbrev pub found_feature : Text → Text → Option FeatureValue → ResponseValue
 found_feature root name None = not_found
 found_feature root name (Some f) = found GeoJson (compact_text (linked_feature_data root name f))
 
--- a collection, where it is there
+-- a collection, if it exists
 abbrev pub found_collection : Text → Option SummaryValue → ResponseValue
 found_collection root None = not_found
 found_collection root (Some s) = found Json (compact_text (collection_data root s))
@@ -86,7 +86,7 @@ replied key reply = record {
       = compact_text (reply_body key reply);
 }
 
--- what is answered in a state; root is the base of links without its last slash
+-- the answer in a state; root is the base of links without its last slash
 abbrev pub response_in : Text → State → AskValue → ResponseValue
 response_in root s (faulty fault) = fault_response fault
 response_in root s landing_page = found Json (compact_text (landing_data root))
@@ -99,7 +99,7 @@ response_in root s (page name q) = found_page root name q (page_in s name q)
 response_in root s (feature name id) = found_feature root name (feature_in s name id)
 response_in root s (batch b) = replied b.key (act s b).reply
 
--- what is answered where the keeper is shut: what asks no state as ever, and for the others that it
+-- the answer of a shut keeper: as always if the request needs no state, and else that the keeper
 -- must be opened again
 abbrev pub response_shut : Text → AskValue → ResponseValue
 response_shut root (faulty fault) = fault_response fault
@@ -112,7 +112,7 @@ response_shut root (page name q) = fault_response (faults.Keeper Reopen)
 response_shut root (feature name id) = fault_response (faults.Keeper Reopen)
 response_shut root (batch b) = fault_response (faults.Keeper Reopen)
 
--- whether the state is asked
+-- whether the request needs the state
 abbrev pub asks_state : AskValue → Bool
 asks_state (faulty fault) = false
 asks_state landing_page = false
@@ -124,12 +124,12 @@ asks_state (page name q) = true
 asks_state (feature name id) = true
 asks_state (batch b) = true
 
--- the state afterwards: that of the batch, and else the same
+-- the state afterwards: that after the batch, or else the same
 abbrev pub state_in : State → AskValue → State
 state_in s (batch b) = (act s b).state
 state_in s _ = s
 
--- whether the connection closes behind an answer; asked tells whether the request closes it
+-- whether the connection closes after an answer; asked says whether the request closes it
 abbrev pub closes_with : Bool → ResponseValue → Bool
 closes_with asked p = asked || (p.status == 500 || p.status == 503)
 
@@ -143,11 +143,11 @@ head_of closes p = record {
   closes = closes;
 }
 
--- the body that is sent: none where the answer is bare
+-- the body that is sent: none if the answer is bare
 abbrev pub body_of : Bool → Text → Text
 body_of bare body = if bare then [] else body
 
--- the bytes of an answer, without its body where it is bare
+-- the bytes of an answer, without its body if it is bare
 unfoldable pub response_text : Bool → Bool → ResponseValue → Text
 response_text closes bare p = head_text (head_of closes p) ++ body_of bare p.body
 
@@ -169,7 +169,7 @@ request_of h body = record {
       h.method;
 }
 
--- one that breaks a rule of framing; the connection closes behind its answer
+-- one that breaks a rule of framing; the connection closes after its answer
 abbrev pub broken_request : Bool → FramingFault → RequestValue
 broken_request bare fault = record {
   ask = faulty (faults.Framing fault);
@@ -177,7 +177,7 @@ broken_request bare fault = record {
   bare = bare;
 }
 
--- what was sent for a request: the bytes of the answer, and whether the connection closes behind
+-- what was sent for a request: the bytes of the answer, and whether the connection closes after
 -- them
 pub record AnswerSent : Type 0 where
   pub text : Text

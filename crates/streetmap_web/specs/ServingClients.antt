@@ -16,7 +16,7 @@ use Rattle.streetmap_web.specs.Refusing.{IsRefusal}
 use Rattle.streetmap_web.specs.Sight.{Sight, StandsSo}
 use Rattle.streetmap_web.specs.Standing.{Standing}
 
--- the exchange is this request of the web, answered over a keeper that stands so
+-- the exchange is this request of the web, answered by a keeper in this condition
 pub record IsAnswerTo (root : Text) (x : Standing) (e : Exchange) (w : web.HttpExchange)
     : Type 0 where
   pub is : web.IsExchange x w
@@ -24,8 +24,8 @@ pub record IsAnswerTo (root : Text) (x : Standing) (e : Exchange) (w : web.HttpE
   pub text : e.text ≡ web.answer_bytes root x w
   pub closes : e.closes ≡ web.closes root x w
 
--- The exchanges are these requests of the web, one by one, and each was answered for what the
--- keeper stood for behind the one before.
+-- The exchanges are these requests of the web, one by one, and each was answered according to the
+-- keeper's condition after the one before.
 abbrev pub AnsweredInTurn : Text → Standing → List Exchange → List web.HttpExchange → Type 0
 AnsweredInTurn root x [] [] = ⊤
 AnsweredInTurn root x [] (w ∷ ws) = ⊥
@@ -33,14 +33,15 @@ AnsweredInTurn root x (e ∷ es) [] = ⊥
 AnsweredInTurn root x (e ∷ es) (w ∷ ws) = IsAnswerTo root x e w
     × AnsweredInTurn root (web.standing_after x w) es ws
 
--- There is one list of requests with their answers, each answered for what the keeper stood for
--- behind the one before. It is an interleaving of the clients' own lists: it goes on from those
--- before as one of those after. The clients of each slot were answered in turn: each to its end
--- before the next was answered at all. They were answered so along one timeline of all that was
--- read and written. What a client sent is, in order, the requests of its list
--- and what was not answered; what it was sent are their answers, as far as they were sent, and then
--- at most the refusal of a request for which there was no memory: the fixed answer 503. The keeper
--- came along these requests: each batch was answered by what `apply` came to, or was never asked.
+-- There is one list of requests with their answers, each answered according to the keeper's
+-- condition after the one before. It is an interleaving of the clients' own lists: it goes on from
+-- those before as one of those after. The clients of each slot were answered in turn: each to its
+-- end before the next was answered at all. They were answered in this way along one timeline of all
+-- that was read and written. What a client sent is, in order, the requests of its list and what was
+-- not answered; what was sent to it are their answers, as far as they were sent, and then at most
+-- the refusal of a request for which memory ran out: the fixed answer 503. These requests led from
+-- the first keeper to the second: each batch was answered by the result of `apply`, or the keeper
+-- was never called for it.
 pub record ServesClients {K : Type 0} (sight : Sight K) (root : Text) (x : Standing) (old new : K)
     (before after : List (Slot TcpStream)) : Type 0 where
   pub exchanges : List Exchange
@@ -56,9 +57,9 @@ pub record ServesClients {K : Type 0} (sight : Sight K) (root : Text) (x : Stand
   pub standing : StandsSo sight new (web.standing_after_all x requests)
   pub comes : ComesAll sight root x old requests new
 
--- The clients of one place, where nobody was before: they were served one after the other. The
+-- The clients of one place that was empty before: they were served one after the other. The
 -- requests are those of the clients' own lists, one list after the other, in the order in which the
--- clients were let in. If the call is done, that number of them ended.
+-- clients were admitted. If the call is done, at least that number of them ended.
 pub record ServesInRow {K : Type 0} (sight : Sight K) (root : Text) (x : Standing) (old new : K)
     (count : ℕ) (Done : Type 0) : Type 0 where
   pub before : List (Slot TcpStream)

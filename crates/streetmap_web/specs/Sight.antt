@@ -1,4 +1,4 @@
--- What is seen of keepers.
+-- A view of keepers.
 use Rattle.std.specs.Prelude.{Option, Result}
 use Rattle.streetmap_batch.specs.BatchValue.{BatchValue}
 use Rattle.streetmap_ledger.specs.State.{State}
@@ -7,8 +7,8 @@ use Rattle.streetmap_ledger.specs.declared.reply.Fault.{Fault}
 use Rattle.streetmap_ledger.specs.declared.reply.Reply.{Reply}
 use Rattle.streetmap_web.specs.Standing.{Standing, KeeperStands}
 
--- the states that a keeper stands for, what shut it, what a stop may leave, and whether its store
--- is clean; what `apply` came to from one keeper to another, what their store kept, and that it
+-- the states that a keeper represents, what shut it, what a crash may leave, and whether its store
+-- is clean; the result of `apply` from one keeper to another, what their store kept, and that it
 -- failed
 pub record Sight (K : Type 0) : Type 1 where
   pub stands : K → State → Type 0
@@ -34,6 +34,6 @@ sight_of stands cause may_leave is_clean applies spares fails = record {
   fails = fails;
 }
 
--- the keeper stands so
+-- the keeper is in this condition
 abbrev pub StandsSo : {K : Type 0} → Sight K → K → Standing → Type 0
 StandsSo sight keeper x = KeeperStands (sight.stands keeper) (sight.cause keeper) x

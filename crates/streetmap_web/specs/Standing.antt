@@ -1,4 +1,4 @@
--- What a keeper stands for, what becomes of it, and what a stop may leave.
+-- The condition of a keeper, how requests change it, and what a crash may leave.
 use Rattle.std.specs.Prelude.{◌≡◌, ◌↔◌, true, false, Option, Some, ⊤}
 use Rattle.streetmap_batch.specs.Text.{Text}
 use Rattle.streetmap_ledger.specs.State.{State}
@@ -11,29 +11,30 @@ use Rattle.streetmap_web.specs.Response.{ResponseValue, fault_response, response
 use Rattle.streetmap_web.specs.Response.{asks_state, state_in}
 use Rattle.streetmap_bodies.specs.declared.request_fault.RequestFault.TheVariants.{Keeper}
 
--- a keeper stands for a state, or it is shut; or nothing is known of what it stands for
+-- a keeper represents a state, or it is shut; or nothing is known of it
 pub data Standing : Type 0 where
   of_state : State → Standing
   shut : Cause → Standing
   unknown : Standing
 
--- the keeper that stands for these states, and that this shut, stands so; each one stands for
--- something unknown
+-- the keeper that represents these states, and that this shut, is in this condition; every keeper
+-- is in the unknown one
 abbrev pub KeeperStands : (State → Type 0) → Option Cause → Standing → Type 0
 KeeperStands stands cause (of_state s) = stands s
 KeeperStands stands cause (shut why) = cause ≡ Some why
 KeeperStands stands cause unknown = ⊤
 
--- how a request came out: it was answered as asked, memory was refused, or the device failed; or
--- the keeper answered so, of which nothing is known
+-- the outcome of a request: it was answered as requested, memory ran out, or the device failed; or
+-- this is the answer of a keeper of which nothing is known
 pub data RequestOutcome : Type 0 where
   as_asked : RequestOutcome
   no_memory : RequestOutcome
   device_failed : RequestOutcome
   of_keeper : (shown : ResponseValue) → RequestOutcome
 
--- A device fails only where the state is asked of a keeper that is not shut. Where nothing is known
--- of the keeper, what asks no state is answered as ever, and what asks it somehow.
+-- A device fails only if the request needs the state and the keeper is not shut. If nothing is
+-- known of the keeper, a request that needs no state is answered as always, and one that needs it
+-- in some way.
 abbrev pub CanBe : Standing → AskValue → RequestOutcome → Type 0
 CanBe (of_state s) ask as_asked = ⊤
 CanBe (of_state s) ask no_memory = ⊤
@@ -57,7 +58,7 @@ answer_by root x ask no_memory = fault_response (Keeper Memory)
 answer_by root x ask device_failed = fault_response (Keeper Device)
 answer_by root x ask (of_keeper shown) = shown
 
--- what the keeper stands for afterwards
+-- the condition of the keeper afterwards
 abbrev pub after : Standing → AskValue → RequestOutcome → Standing
 after (of_state s) ask as_asked = of_state (state_in s ask)
 after (of_state s) ask no_memory = of_state s
@@ -66,7 +67,7 @@ after (of_state s) ask (of_keeper shown) = of_state s
 after (shut why) ask outcome = shut why
 after unknown ask outcome = unknown
 
--- what a stop may leave behind a request, where it could leave the state and no other before
+-- what a crash may leave after a request, if before it could leave only the state
 abbrev pub StateLeaves : State → AskValue → RequestOutcome → (Option State → Type 0) → Type 0
 StateLeaves s ask as_asked left = LeavesOnly left (Some (state_in s ask))
 StateLeaves s ask no_memory left = LeavesOnly left (Some s)
@@ -77,14 +78,14 @@ StateLeaves s ask (of_keeper shown) left = LeavesOnly left (Some s)
 abbrev pub LeavesAsBefore : (old new : Option State → Type 0) → Type 0
 LeavesAsBefore old new = (o : Option State) → new o ↔ old o
 
--- what is known before: where the keeper stands for a state, a stop may leave it and no other
+-- what is known before: if the keeper represents a state, a crash may leave only that
 abbrev pub IsKnown : Standing → (Option State → Type 0) → Type 0
 IsKnown (of_state s) left = LeavesOnly left (Some s)
 IsKnown (shut why) left = ⊤
 IsKnown unknown left = ⊤
 
--- what a stop may leave behind a request, where this was known before; behind one over a shut
--- keeper exactly what it could leave before
+-- what a crash may leave after a request, if this was known before; after one to a shut keeper
+-- exactly what it could leave before
 abbrev pub Leaves :
     Standing → AskValue → RequestOutcome → (known : Type 0) → (old new : Option State → Type 0)
     → Type 0
@@ -92,7 +93,7 @@ Leaves (of_state s) ask outcome known old new = known → StateLeaves s ask outc
 Leaves (shut why) ask outcome known old new = LeavesAsBefore old new
 Leaves unknown ask outcome known old new = ⊤
 
--- what a stop may leave where nothing was acted on
+-- what a crash may leave if nothing was acted on
 abbrev pub LeavesUntouched : Standing → (known : Type 0) → (old new : Option State → Type 0)
     → Type 0
 LeavesUntouched (of_state s) known old new = known → LeavesOnly new (Some s)

@@ -12,9 +12,10 @@ use Rattle.streetmap_web.specs.declared.serving.End.TheVariants.{ReadFailed, Wri
 abbrev pub EndsWith : (Text → Type 0) → (left now : Option Text) → Type 0
 EndsWith Is left now = (bytes : Text) × Is bytes × Consumes left now bytes × IsAtEnd now
 
--- Of a stream of requests: whether the last answer closed it, what was not written of that, and
--- what the reader had left after the requests and has now. The input ended after whole requests, or
--- an answer closed the stream; or the input ended within a request; or a read failed, or a write.
+-- Of a stream of requests: whether the last answer closed it, what was not written of that answer,
+-- and what the reader had left after the requests and has now. The input ended after whole
+-- requests, or an answer closed the stream; or the input ended within a request; or a read failed,
+-- or a write.
 abbrev pub EndsSo : End → (closes : Bool) → (unsent : Text) → (left now : Option Text) → Type 0
 EndsSo Ended closes unsent left now = (unsent ≡ [])
     × (((closes ≡ true) × (now ≡ left)) ⊎ EndsWith IsBlank left now)

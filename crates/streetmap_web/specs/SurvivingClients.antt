@@ -1,4 +1,4 @@
--- The batches of many clients, and the states that a stop may leave of them.
+-- The batches of many clients, and the states that a crash may leave of them.
 use Rattle.std.specs.Prelude.{◌≡◌, List, [], ◌∷◌, length, take, flat_map}
 use Rattle.mio.specs.declared.net.stream.TcpStream.{TcpStream}
 use Rattle.streetmap_batch.specs.Text.{Text}
@@ -12,7 +12,7 @@ use Rattle.streetmap_web.specs.Beginnings.{LeavesBeginning, batches_acted}
 use Rattle.streetmap_web.specs.Sight.{Sight}
 use Rattle.streetmap_web.specs.ServingClients.{ServesClients}
 
--- those of them that came while the keeper was not shut
+-- those requests that came while the keeper was not shut
 abbrev pub while_open : Standing → List web.HttpExchange → List web.HttpExchange
 while_open (shut why) ws = []
 while_open unknown ws = []
@@ -28,10 +28,10 @@ acted_over x ws = batches_acted (while_open x ws)
 abbrev pub answered_over : Standing → List web.HttpExchange → List BatchValue
 answered_over x ws = web.batches_of (while_open x ws)
 
--- There is one list of exchanges, an interleaving of the clients' own lists, each answered for what
--- the keeper stood for behind the one before. Afterwards a stop leaves the state of a beginning of
--- the batches of all clients that the keeper acted on, in the order of that list. It contains each
--- that is acknowledged: that was answered without a fault.
+-- There is one list of exchanges, an interleaving of the clients' own lists, each answered
+-- according to the keeper's condition after the one before. Afterwards a crash leaves the state of
+-- a prefix of the batches of all clients that the keeper acted on, in the order of that list. It
+-- contains each that is acknowledged: that was answered without a fault.
 pub record SurvivesClients {K : Type 0} (sight : Sight K) (root : Text) (s : State) (old new : K)
     (before after : List (Slot TcpStream)) : Type 0 where
   pub serves : ServesClients sight root (of_state s) old new before after
@@ -42,7 +42,7 @@ pub record SurvivesClients {K : Type 0} (sight : Sight K) (root : Text) (s : Sta
   pub acknowledged_first : take (length acknowledged) acted ≡ acknowledged
   pub leaves : LeavesBeginning s acted (length acknowledged) (sight.may_leave new)
 
--- the same of the clients of one place, where nobody was before
+-- the same of the clients of one place that was empty before
 pub record SurvivesInRow {K : Type 0} (sight : Sight K) (root : Text) (s : State) (old new : K)
     : Type 0 where
   pub before : List (Slot TcpStream)

@@ -48,7 +48,7 @@ FillSays bodies.Truncated room a b = (part : List ℕ) × (length part < length 
     × Consumes a b part × IsAtEnd b
 FillSays bodies.Failed room a b = Unit {0}
 
--- the answer to a broken rule, or that memory was refused for it, was sent
+-- the answer to a broken rule, or that memory ran out for it, was sent
 abbrev pub RefuseSays : Turn → Bool → FramingFault → Option (List ℕ) → Option (List ℕ) → Type 0
 RefuseSays turn bare fault a b =
     (answer : RequestFault) × ((answer ≡ Framing fault) ⊎ (answer ≡ Keeper Memory)) × (sent : Sent)

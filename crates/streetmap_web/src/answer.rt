@@ -32,10 +32,10 @@ use streetmap_http::{AnswerHead, FramingFault, RequestHead, is_bare, push_head};
 use streetmap_ledger::{Fault, Keeper};
 use streetmap_routes::Base;
 
-/// The room that is taken for the head of an answer.
+/// The room that is allocated for the head of an answer.
 const HEAD_ROOM: usize = 256;
 
-/// Puts the head before a body, in room that was taken before.
+/// Puts the head before a body, in room that was allocated before.
 #[tactic(auto, unfolding(crate::specs::Response::response_text))]
 fn finish(room: String, response: Response, closes: bool, bare: bool) -> Answer
     requires room { 256 ≤ string_capacity room }
@@ -99,7 +99,7 @@ fn fixed_body(fault: Fault) -> &'static str
     }
 }
 
-/// The answer with a keeper's fault. It takes no memory.
+/// The answer with a keeper's fault. It allocates no memory.
 #[tactic(auto, unfolding(crate::specs::Response::response_text))]
 pub(crate) fn fixed(fault: Fault, bare: bool) -> Answer
     ensures { answer_text result
@@ -116,7 +116,7 @@ fn closes(status: StatusCode) -> bool
     status.as_u16() == 500 || status.as_u16() == 503
 }
 
-/// Answers a request, unless a fault keeps it from that.
+/// Answers a request, unless a fault prevents it.
 fn try_answer<K: Keeper>(
     alloc: Global,
     keeper: &mut K,
@@ -169,7 +169,7 @@ fn try_answer<K: Keeper>(
     }
 }
 
-/// Answers a request. Answers the bytes, and whether the connection closes.
+/// Answers a request. Returns the bytes, and whether the connection closes.
 pub(crate) fn answer_to<K: Keeper>(
     alloc: Global,
     keeper: &mut K,
@@ -194,7 +194,7 @@ pub(crate) fn answer_to<K: Keeper>(
     }
 }
 
-/// The answer to a request that breaks a rule of framing, unless memory is refused for it.
+/// The answer to a request that breaks a rule of framing, unless memory runs out for it.
 fn framing_answer(alloc: Global, fault: FramingFault, bare: bool) -> Result<Answer, AllocError>
     ensures { IfOk result (λ a. answer_text a ≡
         response_text true bare (fault_response (Framing fault))) }
@@ -204,7 +204,7 @@ fn framing_answer(alloc: Global, fault: FramingFault, bare: bool) -> Result<Answ
     Ok(finish(room, response, true, bare))
 }
 
-/// The answer to a request that breaks a rule of framing. The connection closes behind it.
+/// The answer to a request that breaks a rule of framing. The connection closes after it.
 pub(crate) fn refused(alloc: Global, fault: FramingFault, bare: bool) -> Answer
     ensures { RefusesBy (answer_text result) bare fault }
 {

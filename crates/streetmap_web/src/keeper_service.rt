@@ -21,8 +21,8 @@ use streetmap_http::{Arrival, FIELD_LIMIT, Framed, HeadScan, arrival_of, frame_o
 use streetmap_ledger::{Fault, Keeper};
 use streetmap_routes::Base;
 
-/// A keeper, the base of the links in its answers, where a line is written for each answer, if one
-/// is, and what is done once the keeper's store has failed.
+/// A keeper, the base of the links in its answers, the writer of a line for each answer, if there
+/// is one, and what is done once the keeper's store has failed.
 #[derive(Drop)]
 pub struct KeeperService<K, W> {
     pub alloc: Global,

@@ -1,20 +1,20 @@
 //! HTTP from bytes to bytes, over any keeper.
 //!
 //! One request in a state has one of three outcomes: the answer of that state with the state of the
-//! batch; the fixed 503 with the state as it was, where memory was refused; or the 500 of the fault
-//! that shut the keeper. `serve` reads requests one after the other and writes their answers, in
-//! order, up to the first that closes the connection. Its contract says so for any keeper, reader
-//! and writer that show their bytes (`specs/Exchanges`, `ServesExchanges`), and what a stop may
-//! leave. Of each batch it says that what was answered is what the keeper answered
-//! (`specs/Responds`, `ComesOut`).
+//! batch; the fixed 503 with the state as it was, if memory ran out; or the 500 of the fault that
+//! shut the keeper. `serve` reads requests one after the other and writes their answers, in order,
+//! up to the first that closes the connection. Its contract says so for any keeper, reader and
+//! writer that show their bytes (`specs/Exchanges`, `ServesExchanges`), and what a crash may leave.
+//! Of each batch it says that it was answered as the keeper answered it (`specs/Responds`,
+//! `ComesOut`).
 //!
 //! For an edge with many connections there are the two halves of a turn: `streetmap_http` says what
-//! bytes that came hold of a request, and `answer_request` answers the bytes of one.
-//! `serve_clients` serves the clients of a listener so: many at once, or one after the other, as
+//! received bytes hold of a request, and `answer_request` answers the bytes of one. `serve_clients`
+//! serves the clients of a listener in this way: many at once, or one after the other, as
 //! `serve_count` does.
 //!
-//! Modules, in the order of reading: `response`, `respond` (what is answered in a state), `answer`
-//! (with its head), `requests` (the bytes of one), `serving` (a stream); `log`, `watch`, `keeper_service`
+//! Modules, in the order of reading: `response`, `respond` (the answer in a state), `answer` (with
+//! its head), `requests` (the bytes of one), `serving` (a stream); `log`, `watch`, `keeper_service`
 //! (a request of a client), `clients`.
 #![tactic(auto)]
 

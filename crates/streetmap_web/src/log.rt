@@ -9,10 +9,10 @@ use std::io::Write;
 use std::str;
 use streetmap_connections::Answer;
 
-/// The most bytes of a request line that are told.
+/// The most bytes of a request line that is logged.
 const MOST_TOLD: usize = 2_048;
 
-/// Whether a byte can be told between double quotes.
+/// Whether a byte can be logged between double quotes.
 fn is_told(byte: &u8) -> bool
     ensures { result ≡ is_told_byte byte.now }
 {
@@ -34,7 +34,7 @@ fn without_return(line: &[u8]) -> &[u8]
     line.strip_suffix(b"\r").unwrap_or(line)
 }
 
-/// The request line: empty lines before it are passed over, as they are in reading it.
+/// The request line: empty lines before it are skipped, as in reading it.
 fn request_line(request: &[u8]) -> &[u8]
     ensures { result.now ≡ request_line_of request.now }
 {
@@ -47,14 +47,14 @@ fn request_line(request: &[u8]) -> &[u8]
     }
 }
 
-/// Whether a line is told as it is.
+/// Whether a line is logged as it is.
 fn is_plain(line: &[u8]) -> bool
     ensures { result ≡ is_plain_text line.now }
 {
     (1..=MOST_TOLD).contains(&line.len()) && line.iter().all(|byte| is_told(byte))
 }
 
-/// A request line, or `-` where it is empty, too long, or has bytes that are not told.
+/// A request line, or `-` if it is empty, too long, or has bytes that are not logged.
 fn shown(line: &[u8]) -> &str
     ensures { result.now ≡ (if is_plain_text line.now then line.now else codes "-") }
 {
@@ -64,7 +64,7 @@ fn shown(line: &[u8]) -> &str
     }
 }
 
-/// The status in the head of an answer: three digits behind the version.
+/// The status in the head of an answer: three digits after the version.
 fn status(head: &[u8]) -> &str {
     match head.get(9..12).map(|bytes| str::from_utf8(bytes)) {
         Some(Ok(status)) => status,
@@ -72,9 +72,9 @@ fn status(head: &[u8]) -> &str {
     }
 }
 
-/// Writes what was asked and answered as one line, where there is a log: the request line, the
-/// status and the bytes of the body, as in the common log format
-/// (`"GET /collections HTTP/1.1" 200 1234`). A line that cannot be written is left out.
+/// Writes a request and its answer as one line, if there is a log: the request line, the status and
+/// the bytes of the body, as in the common log format (`"GET /collections HTTP/1.1" 200 1234`). A
+/// line that cannot be written is left out.
 pub(crate) fn tell<W: Write>(alloc: Global, log: &mut Option<W>, request: &[u8], answer: &Answer) {
     let Some(log) = log else {
         return;

@@ -19,11 +19,11 @@ use streetmap_http::{FIELD_LIMIT, Framed, split_request};
 use streetmap_ledger::Keeper;
 use streetmap_routes::Base;
 
-/// Answers the bytes of one request over a keeper: hands out the answer, and whether the connection
-/// closes behind it. Nothing is asked of memory after a batch was applied; who writes the answer
-/// may write it piece by piece.
+/// Answers the bytes of one request over a keeper: returns the answer, and whether the connection
+/// closes after it. No memory is allocated after a batch was applied; the caller may write the
+/// answer piece by piece.
 ///
-/// What bytes that came are one request, `streetmap_http::arrival_of` tells.
+/// `streetmap_http::arrival_of` says which received bytes are one request.
 pub fn answer_request<K: Keeper>(
     alloc: Global,
     keeper: &mut K,
@@ -31,19 +31,19 @@ pub fn answer_request<K: Keeper>(
     request: &[u8],
 ) -> (Answer, bool)
     requires { IsAnswered request.now }
-    // Over a keeper that stands so: the answer of what stands there, and what stands there
-    // afterwards. Want of memory (503) leaves the state as it was, and a 500 a keeper that is shut.
+    // Over a keeper in this condition: the answer in that condition, and the condition afterwards.
+    // After a 503 for lack of memory the state is as it was, and after a 500 the keeper is shut.
     ensures answers { K.is_clean keeper.new → (x : Standing) →
         KeeperStands (K.stands keeper.old) (K.cause keeper.old) x →
         AnswersRequest (sight_of K.stands K.cause K.may_leave K.is_clean K.applies K.spares K.fails)
         (root_of base.now) x request.now (sent_so (answer_text result.0) result.1)
         keeper.old keeper.new }
-    // A batch is answered as the keeper answered it, whatever the reply is; 503 comes where the
-    // keeper answered so, or was never asked.
+    // A batch is answered as the keeper answered it, whatever the reply is; 503 is sent if the
+    // keeper answered so, or was never called.
     ensures batch_answered { (h : HeadValue) (body : Text) → IsRequest request.now h body →
         TellsBatch K.applies (request_of h body) (sent_so (answer_text result.0) result.1)
         keeper.old keeper.new }
-    // What else the store has is kept.
+    // All else that the store has is kept.
     ensures spared { K.spares keeper.old keeper.new }
     ensures began_clean { K.is_clean keeper.new → K.is_clean keeper.old }
 {

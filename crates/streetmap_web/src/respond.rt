@@ -1,4 +1,4 @@
-//! What is answered to what is asked, over any keeper.
+//! The answer to a request, over any keeper.
 ghost use Rattle.std.specs.Prelude.{◌≡◌, ◌≤◌, Some, None, IfOk, IfErr, IsErrOf, OnErr, [], ⊤};
 ghost use Rattle.std.specs.Prelude.{string_bytes, string_len, string_capacity};
 ghost use Rattle.std.specs.Option.{option_map};
@@ -37,11 +37,11 @@ use streetmap_ledger::{Fault, Keeper, Page, Reply, Summary};
 use streetmap_query::Query;
 use streetmap_routes::Ask;
 
-/// The room that is taken for the body of the answer to a batch before the batch is applied. With
-/// that of the head, 256 bytes, it is 1,024.
+/// The room that is allocated for the body of the answer to a batch before the batch is applied.
+/// With that of the head, 256 bytes, it is 1,024.
 const BODY_ROOM: usize = 768;
 
-/// An answer of a body.
+/// An answer with a body.
 fn found(kind: MediaType, body: String) -> Response
     ensures { response_value result ≡ spec_response.found kind (string_bytes body) }
 {
@@ -53,7 +53,7 @@ fn found(kind: MediaType, body: String) -> Response
     }
 }
 
-/// An answer that names a fault, in room that was taken before.
+/// An answer that names a fault, in room that was allocated before.
 #[tactic(auto, unfolding(crate::specs::Response::fault_response))]
 fn faulty_in(body: String, fault: RequestFault) -> Response
     requires room { 320 ≤ string_capacity body }
@@ -79,7 +79,7 @@ pub(crate) fn faulty(alloc: Global, fault: RequestFault) -> Result<Response, All
     Ok(faulty_in(body, fault))
 }
 
-/// The same, where want of memory is the fault that is to be answered.
+/// The same, with lack of memory as the fault that is to be answered.
 fn or_starved(response: Result<Response, AllocError>) -> Result<Response, Fault>
     ensures ok { IfOk response (λ b. result ≡ Ok b) }
     ensures err { OnErr response (result ≡ Err Fault.Memory) }
@@ -100,8 +100,8 @@ fn reply_status(reply: Reply) -> StatusCode
     }
 }
 
-/// The answer to a batch that the keeper answered without a fault, in room that was taken before:
-/// there is one whatever the reply is, and no memory is taken for it.
+/// The answer to a batch that the keeper answered without a fault, in room that was allocated
+/// before: there is one whatever the reply is, and no memory is allocated for it.
 fn replied(body: String, batch: &Batch, reply: Reply) -> Response
     requires room { 320 ≤ string_capacity body }
     requires blank { string_bytes body ≡ [] }
@@ -118,7 +118,7 @@ fn replied(body: String, batch: &Batch, reply: Reply) -> Response
     }
 }
 
-/// Applies a batch. Once it was applied no memory is taken: what the keeper replied is the answer.
+/// Applies a batch. Once it was applied no memory is allocated: the keeper's reply is the answer.
 fn respond_batch<K: Keeper>(alloc: Global, keeper: &mut K, batch: &Batch) -> Result<Response, Fault>
     ensures batch_answered { BatchResponds (batch_value batch.now).key result
         (λ r. K.applies keeper.old (batch_value batch.now) r keeper.new) (keeper.new ≡ keeper.old) }
@@ -148,7 +148,7 @@ fn respond_batch<K: Keeper>(alloc: Global, keeper: &mut K, batch: &Batch) -> Res
     }
 }
 
-/// The answer with a page, where its collection is there.
+/// The answer with a page, if its collection exists.
 fn found_page(
     alloc: Global,
     root: &str,
@@ -200,7 +200,7 @@ fn respond_page<K: Keeper>(
     }
 }
 
-/// The answer with a feature, where it is there.
+/// The answer with a feature, if it exists.
 fn found_feature(
     alloc: Global,
     root: &str,
@@ -250,7 +250,7 @@ fn respond_feature<K: Keeper>(
     }
 }
 
-/// The answer with a collection, where it is there.
+/// The answer with a collection, if it exists.
 fn found_collection(
     alloc: Global,
     root: &str,
@@ -371,7 +371,7 @@ fn found_conformance(alloc: Global) -> Result<Response, AllocError>
     found_text(alloc, MediaType::Json, conformance_text())
 }
 
-/// Answers what is asked.
+/// Answers a request.
 pub(crate) fn respond_to<K: Keeper>(
     alloc: Global,
     keeper: &mut K,

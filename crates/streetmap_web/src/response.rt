@@ -7,7 +7,7 @@ use streetmap_http::{MediaType, Methods};
 pub struct Response {
     pub status: StatusCode,
     pub kind: MediaType,
-    /// The methods of the path, where the request has another.
+    /// The methods of the path, if the request has another.
     pub allow: Option<Methods>,
     pub body: String,
 }

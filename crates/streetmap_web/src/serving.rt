@@ -34,7 +34,7 @@ enum Turn {
     Open,
     /// An answer was written, and the connection closes.
     Closed,
-    /// The input ended behind a whole request, empty lines aside.
+    /// The input ended after a whole request, apart from empty lines.
     Ended,
     /// The input ended within a request.
     Truncated,
@@ -47,7 +47,7 @@ enum Turn {
 /// How serving ended.
 #[derive(Clone, Copy, PartialEq, Eq)]
 pub enum End {
-    /// The connection closed behind an answer, or the input ended behind a whole request.
+    /// The connection closed after an answer, or the input ended after a whole request.
     Ended,
     /// The input ended within a request.
     Truncated,
@@ -98,7 +98,7 @@ fn is_begun(turn: Turn) -> bool
     }
 }
 
-/// How many answers are begun, where so many were before the last turn.
+/// How many answers are begun, if `answers` were before the last turn.
 fn count_after(answers: u64, turn: Turn) -> u64
     requires { answers < 2 ^ 64 - 1 }
     ensures { result ≡ (if begun_in turn then answers + 1 else answers) }
@@ -106,7 +106,7 @@ fn count_after(answers: u64, turn: Turn) -> u64
     if is_begun(turn) { answers + 1 } else { answers }
 }
 
-/// Writes an answer, and flushes the writer. A flush that fails is passed over.
+/// Writes an answer, and flushes the writer. A failed flush is ignored.
 fn write_answer<W: Write>(writer: &mut W, answer: &Answer) -> Sent
     ensures { SentSays result (answer_text answer.now)
         (W.contents writer.old) (W.contents writer.new) }
@@ -133,7 +133,7 @@ fn refuse_turn<W: Write>(alloc: Global, writer: &mut W, fault: FramingFault, bar
     turn_after(write_answer(writer, &answer), true)
 }
 
-/// Fills the room with a body. Answers how that ended.
+/// Fills the room with a body. Returns how that ended.
 fn fill<R: Read>(reader: &mut R, room: &mut [u8]) -> BodyEnd
     ensures len { length room.new ≡ length room.old }
     ensures says { FillSays result room.new (R.remaining reader.old) (R.remaining reader.new) }
@@ -142,7 +142,7 @@ fn fill<R: Read>(reader: &mut R, room: &mut [u8]) -> BodyEnd
     end
 }
 
-/// Reads a body into room for it. Answers how that ended.
+/// Reads a body into room for it. Returns how that ended.
 fn read_all<R: Read>(reader: &mut R, room: Vec<u8>) -> (BodyEnd, Vec<u8>)
     ensures len { length result.1.items ≡ length room.items }
     ensures says { FillSays result.0 result.1.items
@@ -224,12 +224,12 @@ fn take_turn<K: Keeper, R: Read, W: Write>(
 }
 
 /// Serves a stream of requests over a keeper: reads them from the reader, and writes their answers
-/// to the writer, in order, up to the first that closes the connection. Behind each answer the
-/// writer is flushed; a flush that fails is passed over.
+/// to the writer, in order, up to the first that closes the connection. After each answer the
+/// writer is flushed; a failed flush is ignored.
 ///
-/// It ends where an answer closed the connection or the input ended (`Ended`), where the input
-/// ended within a request (`Truncated`), or where a read or a write failed; of a request that did
-/// not come whole nothing is applied.
+/// It ends if an answer closed the connection or the input ended (`Ended`), if the input ended
+/// within a request (`Truncated`), or if a read or a write failed; of a request that did not arrive
+/// whole nothing is applied.
 pub fn serve<K: Keeper, R: BufRead, W: Write>(
     alloc: Global,
     keeper: &mut K,
@@ -237,21 +237,21 @@ pub fn serve<K: Keeper, R: BufRead, W: Write>(
     reader: &mut R,
     writer: &mut W,
 ) -> Served
-    // Where the store was clean: for what the keeper stood for there is a list of requests with
-    // their answers, each of which leaves the connection open, and a last turn. The reader lost
-    // exactly the bytes of the requests, the writer got exactly the answers, and the keeper stands
-    // for the state after their batches. Each batch was answered by what `apply` came to, or was
-    // never asked. The last turn says how serving ends, and nothing was applied or written in one
-    // without an answer; so many answers are told as were begun. Where a stop could leave only the
-    // state before, it may leave only the state afterwards, or where the device failed at the last
-    // request that state or the one before it.
+    // If the store was clean: for the keeper's condition there is a list of requests with their
+    // answers, each of which leaves the connection open, and a last turn. The reader lost exactly
+    // the bytes of the requests, the writer got exactly the answers, and the keeper represents the
+    // state after their batches. Each batch was answered by the result of `apply`, or the keeper
+    // was never called for it. The last turn says how serving ends, and nothing was applied or
+    // written in one without an answer; the number of answers returned is the number begun. If a
+    // crash could leave only the state before, it may leave only the state afterwards, or, if the
+    // device failed at the last request, that state or the one before it.
     ensures serves { K.is_clean keeper.new → (x : Standing) →
         KeeperStands (K.stands keeper.old) (K.cause keeper.old) x →
         ServesExchanges (root_of base.now) result.end result.answers x
         (around (sight_of K.stands K.cause K.may_leave K.is_clean K.applies K.spares K.fails)
         (root_of base.now) x (R.remaining reader.old) (R.remaining reader.new)
         (W.contents writer.old) (W.contents writer.new) keeper.old keeper.new) }
-    // What else the store has is kept.
+    // All else that the store has is kept.
     ensures spared { K.spares keeper.old keeper.new }
     ensures began_clean { K.is_clean keeper.new → K.is_clean keeper.old }
 {

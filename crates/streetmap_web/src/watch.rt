@@ -9,20 +9,20 @@ use std::io::Write;
 use streetmap_connections::Answer;
 use streetmap_ledger::Fault;
 
-/// Looks out for the first answer that says that the store of a keeper failed.
+/// Watches for the first answer that says that the store of a keeper failed.
 #[derive(Drop)]
 pub struct Watch<W> {
-    /// Where the name of the fault is written then, once.
+    /// Where the name of the fault is then written, once.
     messages: W,
-    /// No request is answered any more then.
+    /// No request is answered any more after that.
     ends: bool,
     /// The store has failed.
     failed: bool,
 }
 
 impl<W: Write> Watch<W> {
-    /// A store that has not failed. Its fault is written to `messages`; `ends` says whether requests
-    /// are answered on.
+    /// A store that has not failed. Its fault is written to `messages`; `ends` says whether
+    /// requests are no longer answered then.
     pub fn new(messages: W, ends: bool) -> Watch<W>
         ensures { (result.ends ≡ ends) × (result.failed ≡ false) }
     {
@@ -33,8 +33,8 @@ impl<W: Write> Watch<W> {
         }
     }
 
-    /// Notes an answer: if it is the first that says that the store failed, a line has the fault's
-    /// name. A line that cannot be written is left out.
+    /// Records an answer: if it is the first that says that the store failed, a line has the
+    /// fault's name. A line that cannot be written is left out.
     pub(crate) fn note(&mut self, answer: &Answer)
         ensures ends { self.new.ends ≡ self.old.ends }
         ensures failed { self.new.failed ≡
@@ -57,7 +57,7 @@ impl<W: Write> Watch<W> {
     }
 }
 
-/// Whether the head of an answer is that of a fault, which takes no memory.
+/// Whether the head of an answer is that of a fault, which allocates no memory.
 fn has_head(answer: &Answer, fault: Fault) -> bool
     ensures { result ≡ bytes_eq (head_bytes answer.now) (fault_head fault) }
 {
