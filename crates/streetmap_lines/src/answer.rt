@@ -71,7 +71,8 @@ fn apply_batch<K: Keeper>(
     ensures answered { AsKeeper (λ reply. K.applies keeper.old (batch_value batch.now) reply
         keeper.new) (batch_value batch.now) result }
     ensures says { K.is_clean keeper.new → (s : State) → K.stands keeper.old s →
-        SaysOf s (batch_answer s (Ok (batch_value batch.now))) result (K.stands keeper.new) }
+        SaysOf s (batch_answer s (Ok (batch_value batch.now))) result (K.stands keeper.new)
+        (K.cause keeper.new) }
 {
     let reply = keeper.apply(batch)?;
     push_reply_body(&mut answer, batch, reply);
@@ -87,7 +88,8 @@ fn answer_batch_over<K: Keeper>(alloc: Global, keeper: &mut K, text: &str) -> Re
     ensures answered { AnswersBatch (λ b reply. K.applies keeper.old b reply keeper.new)
         (keeper.new ≡ keeper.old) (batch_of text.now) result }
     ensures says { K.is_clean keeper.new → (s : State) → K.stands keeper.old s →
-        SaysOf s (batch_answer s (batch_of text.now)) result (K.stands keeper.new) }
+        SaysOf s (batch_answer s (batch_of text.now)) result (K.stands keeper.new)
+        (K.cause keeper.new) }
 {
     let Ok(mut answer) = room(alloc) else {
         return Err(Fault::Memory);
