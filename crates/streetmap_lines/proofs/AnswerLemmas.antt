@@ -1,7 +1,7 @@
 -- What is written for lines.
 use Rattle.std.proofs.Common.{◌≡◌, ◌≢◌, ℕ, ◌+◌, List, [], ◌∷◌, ◌++◌, length, take, refl, sym, ap}
 use Rattle.std.proofs.Common.{subst, ◌∙◌, arith, append_assoc, append-nil, length-append, Option}
-use Rattle.std.proofs.Common.{Some, None, option_map, IfSome, OnSome, IsSomeAnd, Result, Ok, String}
+use Rattle.std.proofs.Common.{Some, None, option_map, IfSome, OnSome, IsSomeAnd, Result, Ok, Err, String}
 use Rattle.std.proofs.Common.{string_bytes, Global}
 use Rattle.std.proofs.Math.Seq.{take-append_seam}
 use Rattle.std.proofs.KnownBytes.{Appends-nil, Appends-trans}
@@ -13,8 +13,11 @@ use Rattle.serde_json.specs.Written.{compact_text}
 use Rattle.streetmap_memory.specs.Plain.{IsPlainState, plain_state}
 use Rattle.streetmap_memory.specs.declared.plain.PlainKeeper.{PlainKeeper}
 use Rattle.std.specs.declared.alloc.AllocError.{AllocError}
-use Rattle.streetmap_lines.specs.AnswerView.{LineSays}
-use Rattle.streetmap_lines.specs.Answers.{answer_to}
+use Rattle.streetmap_ledger.specs.declared.reply.Cause.{Cause}
+use Rattle.streetmap_ledger.specs.declared.reply.Fault.{Fault}
+use Rattle.streetmap_ledger.specs.declared.reply.Fault.TheVariants.{Memory, Device, Damaged, Reopen}
+use Rattle.streetmap_lines.specs.AnswerView.{LineSays, SaysOf}
+use Rattle.streetmap_lines.specs.Answers.{Answer, answer_to}
 use Rattle.streetmap_lines.specs.Request.{request_in}
 use Rattle.streetmap_lines.specs.Lines.{line_answer, state_after, answer_text, answers_of, first_too_long}
 use Rattle.streetmap_lines.specs.Lines.{AnswersFirst}
@@ -224,3 +227,10 @@ answered_less (Some input) (Some rest) (Some later) old w v line s h f p =
     (subst (λ ls. AppendsLess w v (answers_of s ls)) (sym f.first)
     (less_longer w v (answer_text (line_answer s line))
     (answers_of (state_after s line) (lines later)) p))
+
+-- the one fault of a keeper that nothing shut is `Memory`, and then its state is as before
+pub says_before : (s : State) (answer : Answer) (fault : Fault) (stands : State → Type 0) (shut : Option Cause) → shut ≡ None → SaysOf s answer (Err fault) stands shut → stands s
+says_before s answer Memory stands shut unshut h = h
+says_before s answer Device stands shut unshut h = absurd cc
+says_before s answer Damaged stands shut unshut h = absurd h
+says_before s answer Reopen stands shut unshut h = absurd h

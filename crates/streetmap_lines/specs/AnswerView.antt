@@ -3,12 +3,13 @@ use Rattle.std.specs.Prelude.{◌≡◌, Option, None, Some, Result, Ok, Err, St
 use Rattle.std.specs.declared.alloc.Global.{Global}
 use Rattle.std.specs.declared.alloc.AllocError.{AllocError}
 use Rattle.serde_json.specs.Written.{compact_text}
-use Rattle.streetmap_batch.specs.BatchValue.{BatchValue}
 use Rattle.streetmap_ledger.specs.State.{State}
-use Rattle.streetmap_ledger.specs.Batches.{act}
 use Rattle.streetmap_memory.specs.Plain.{IsPlainState}
 use Rattle.streetmap_memory.specs.declared.plain.PlainKeeper.{PlainKeeper}
-use Rattle.streetmap_ledger.specs.declared.reply.Reply.{Reply}
+use Rattle.streetmap_ledger.specs.declared.reply.Cause.{Cause}
+use Rattle.streetmap_ledger.specs.declared.reply.Cause.TheVariants as causes
+use Rattle.streetmap_ledger.specs.declared.reply.Fault.{Fault}
+use Rattle.streetmap_ledger.specs.declared.reply.Fault.TheVariants.{Memory, Device, Damaged, Reopen}
 use Rattle.streetmap_lines.specs.Answers.{Answer}
 
 -- the text is the compact text of the answer's body, and the keeper stands for the answer's state
@@ -28,7 +29,13 @@ LineSays s answer (Ok None) keeper = ⊥
 LineSays s answer (Ok (Some text)) keeper = Says answer text keeper
 LineSays s answer (Err e) keeper = IsPlainState keeper s
 
--- a batch acted, or memory was refused and the keeper stands for the state as before
-abbrev pub ActsOr : State → BatchValue → Result Reply AllocError → PlainKeeper → Type 0
-ActsOr s b (Ok reply) keeper = (reply ≡ (act s b).reply) × IsPlainState keeper (act s b).state
-ActsOr s b (Err e) keeper = IsPlainState keeper s
+-- it says so of a keeper that represents these states; or memory ran out, and the state is as
+-- before; or the keeper's store failed, which shut it
+abbrev pub SaysOf : State → Answer → Result (String Global) Fault → (stands : State → Type 0)
+    → Option Cause → Type 0
+SaysOf s answer (Ok text) stands shut = (string_bytes text ≡ compact_text answer.body)
+    × stands answer.state
+SaysOf s answer (Err Memory) stands shut = stands s
+SaysOf s answer (Err Device) stands shut = shut ≡ Some causes.Device
+SaysOf s answer (Err Damaged) stands shut = ⊥
+SaysOf s answer (Err Reopen) stands shut = ⊥

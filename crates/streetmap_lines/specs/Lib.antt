@@ -1,3 +1,4 @@
+pub mod BatchAnswers
 pub mod AnswerView
 pub mod Answers
 pub mod Lines

@@ -12,7 +12,8 @@ ghost use Rattle.streetmap_ledger.specs.Pages.{feature_in};
 ghost use Rattle.streetmap_bodies.specs.RequestFaults.{fault_body};
 ghost use Rattle.streetmap_lines.specs.Answers.{answer_to, batch_answer, page_body, found_feature};
 ghost use Rattle.streetmap_lines.specs.Answers.{unknown_command};
-ghost use Rattle.streetmap_lines.specs.AnswerView.{SaysOr, LineSays, ActsOr};
+ghost use Rattle.streetmap_lines.specs.AnswerView.{SaysOf, SaysOr, LineSays};
+ghost use Rattle.streetmap_lines.specs.BatchAnswers.{AsKeeper, AnswersBatch};
 ghost use Rattle.streetmap_lines.specs.Request.{request_in};
 ghost use Rattle.streetmap_lines.specs.RequestView.{request_value};
 
@@ -21,7 +22,7 @@ use std::alloc::{AllocError, Global};
 use streetmap_bodies::{
     RequestFault, line_feature_text, line_page_text, push_error, push_fault, push_reply_body,
 };
-use streetmap_ledger::{Batch, BatchFault, Fault, Keeper, Reply, read_batch};
+use streetmap_ledger::{Batch, BatchFault, Fault, Keeper, read_batch};
 use streetmap_memory::PlainKeeper;
 use streetmap_query::{QueryFault, read_query};
 
@@ -59,34 +60,58 @@ fn unknown_command_text(alloc: Global) -> Result<String, AllocError>
     Ok(answer)
 }
 
-/// Applies a batch. In memory nothing but memory can be wanting.
-fn apply(keeper: &mut PlainKeeper, batch: &Batch) -> Result<Reply, AllocError>
-    ensures { (s : State) → IsPlainState keeper.old s
-        → ActsOr s (batch_value batch.now) result keeper.new }
+/// Applies a batch, and answers what the keeper answered, in room that was taken before.
+fn apply_batch<K: Keeper>(
+    keeper: &mut K,
+    batch: &Batch,
+    mut answer: String,
+) -> Result<String, Fault>
+    requires empty { string_bytes answer ≡ [] }
+    requires wide { string_len answer + 1024 ≤ string_capacity answer }
+    ensures answered { AsKeeper (λ reply. K.applies keeper.old (batch_value batch.now) reply
+        keeper.new) (batch_value batch.now) result }
+    ensures says { K.is_clean keeper.new → (s : State) → K.stands keeper.old s →
+        SaysOf s (batch_answer s (Ok (batch_value batch.now))) result (K.stands keeper.new)
+        (K.cause keeper.new) }
 {
-    match keeper.apply(batch) {
-        Ok(reply) => Ok(reply),
-        Err(_) => Err(AllocError),
-    }
+    let reply = keeper.apply(batch)?;
+    push_reply_body(&mut answer, batch, reply);
+    Ok(answer)
 }
 
-/// The answer to a batch, in room that was taken before it is applied.
-fn answer_batch(alloc: Global, keeper: &mut PlainKeeper, text: &str) -> Result<String, AllocError>
-    ensures { (s : State) → IsPlainState keeper.old s
-        → SaysOr s (batch_answer s (batch_of text.now)) result keeper.new }
+/// The answer to a batch over any keeper, in room that is taken before the batch is applied.
+///
+/// # Errors
+///
+/// The fault of the keeper, or `Memory`, if the keeper was not called.
+fn answer_batch_over<K: Keeper>(alloc: Global, keeper: &mut K, text: &str) -> Result<String, Fault>
+    ensures answered { AnswersBatch (λ b reply. K.applies keeper.old b reply keeper.new)
+        (keeper.new ≡ keeper.old) (batch_of text.now) result }
+    ensures says { K.is_clean keeper.new → (s : State) → K.stands keeper.old s →
+        SaysOf s (batch_answer s (batch_of text.now)) result (K.stands keeper.new)
+        (K.cause keeper.new) }
 {
-    let mut answer = room(alloc)?;
+    let Ok(mut answer) = room(alloc) else {
+        return Err(Fault::Memory);
+    };
     match read_batch(alloc, text.as_bytes()) {
-        Ok(batch) => {
-            let reply = apply(keeper, &batch)?;
-            push_reply_body(&mut answer, &batch, reply);
-            Ok(answer)
-        }
-        Err(BatchFault::Memory) => Err(AllocError),
+        Ok(batch) => apply_batch(keeper, &batch, answer),
+        Err(BatchFault::Memory) => Err(Fault::Memory),
         Err(fault) => {
             push_fault(&mut answer, &RequestFault::Batch(fault));
             Ok(answer)
         }
+    }
+}
+
+/// The answer to a batch. In memory no fault but `Memory` comes.
+fn answer_batch(alloc: Global, keeper: &mut PlainKeeper, text: &str) -> Result<String, AllocError>
+    ensures { (s : State) → IsPlainState keeper.old s
+        → SaysOr s (batch_answer s (batch_of text.now)) result keeper.new }
+{
+    match answer_batch_over(alloc, keeper, text) {
+        Ok(answer) => Ok(answer),
+        Err(_) => Err(AllocError),
     }
 }
 
