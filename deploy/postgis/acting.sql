@@ -90,7 +90,7 @@ RETURNS void LANGUAGE plpgsql AS $$
 BEGIN
     PERFORM streetmap_read(after, up_to);
 EXCEPTION
-    WHEN data_exception OR internal_error THEN
+    WHEN data_exception OR internal_error OR not_null_violation THEN
         IF up_to - after = 1 THEN
             PERFORM streetmap_fault(format('refused %s bad_batch', up_to));
         END IF;
