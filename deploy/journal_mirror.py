@@ -21,7 +21,7 @@ FOLDER = Path(__file__).resolve().parent / "postgis"
 # What makes the tables and functions, in this order; and the indexes, for which there is time once
 # the mirror has come up to the journal's end.
 PARTS = ("tables.sql", "reading.sql", "acting.sql", "views.sql")
-INDEXES = "indexes.sql"
+INDEXES, MEMORY = "indexes.sql", "SET LOCAL maintenance_work_mem = '256MB'"
 # No two may install it at once, and no line may be put in meanwhile.
 LOCK = "LOCK TABLE streetmap_journal IN SHARE ROW EXCLUSIVE MODE"
 SYSTEM = "SELECT srid, easting, northing FROM streetmap_mirror"
@@ -132,6 +132,7 @@ class MirroredTable(JournalTable):
         """Makes the indexes and the views that are missing, once all lines are in."""
         if not self.is_indexed:
             with self.transaction() as cursor:
+                cursor.execute(MEMORY)
                 cursor.execute((FOLDER / INDEXES).read_text())
             self.is_indexed = True
         if self.views_at is not None and time.monotonic() >= self.views_at:

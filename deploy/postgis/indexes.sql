@@ -1,5 +1,5 @@
--- Indexes that the state alone does not need. They are made once all lines of a journal are in, since
--- a table is filled faster without them.
+-- Indexes that the state alone does not need. They are made once all lines of a journal are in,
+-- since a table is filled faster without them.
 
 CREATE INDEX IF NOT EXISTS streetmap_features_geometry
     ON streetmap_features USING gist (geometry);

@@ -26,8 +26,8 @@ CREATE TABLE IF NOT EXISTS streetmap_collections (
 );
 
 -- A feature: the serial of its last change; its text, as an export has it; and of that text the
--- properties, the geometry in the grid's whole millimetres with heights, and the time. `geometry`,
--- which ADD_GEOMETRY of journal_mirror.py adds, is the same in the office's system, without heights.
+-- properties, the geometry in the grid's whole millimetres with heights, and the time. `geometry`
+-- is the same in the office's system, without heights: ADD_GEOMETRY of journal_mirror.py adds it.
 CREATE TABLE IF NOT EXISTS streetmap_features (
     collection text COLLATE "C" NOT NULL,
     id text COLLATE "C" NOT NULL,
@@ -65,6 +65,15 @@ CREATE TABLE IF NOT EXISTS streetmap_due_views (
 );
 
 CREATE INDEX IF NOT EXISTS streetmap_journal_key ON streetmap_journal (key);
+
+-- Long batch texts are packed and unpacked in less time, if this PostgreSQL was built so.
+DO $$
+BEGIN
+    ALTER TABLE streetmap_journal ALTER COLUMN batch SET COMPRESSION lz4;
+EXCEPTION
+    WHEN feature_not_supported THEN NULL;
+END
+$$;
 
 -- The schema of the views, one for each collection.
 CREATE SCHEMA IF NOT EXISTS streetmap;

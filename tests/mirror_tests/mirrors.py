@@ -41,7 +41,8 @@ def filled(geometry: Geometry | None) -> Geometry | None:
     found = list(vertices(geometry))
     if geometry is None or not any(len(it) == 3 for it in found):
         return geometry
-    return raised(geometry)
+    whole: Geometry = raised(geometry)
+    return whole
 
 
 def raised(value: Any) -> Any:

@@ -9,7 +9,7 @@ from followers_tests.processes import Script
 from followers_tests.rows import ENDED, LINES, OPENED, lamp, lines_of, text_of
 from harness import Context
 from messages import feature, open_collection, point, put
-from mirror_tests.mirrors import Line, Mirror, batch_text
+from mirror_tests.mirrors import Mirror, batch_text
 
 SCRIPT = "journal_to_postgres.py"
 SYSTEM = ("--system", "EPSG:25832", "--shift", "565000,5934000.125")
@@ -33,8 +33,9 @@ def check_bad_texts(mirror: Mirror) -> None:
     good = [mirror.line(batch_text(f"g{at}", [lamp(at + 50)]), mirror.serial + at) for at in (1, 2)]
     before = mirror.state()
     for text in BAD_TEXTS:
-        for lines in ([], good):
-            line = Line(mirror.serial + len(lines) + 1, text)
+        for number in (0, len(good)):
+            lines = good[:number]
+            line = mirror.line(text, mirror.serial + len(lines) + 1)
             fault = mirror.put(*lines, line)
             wanted = f"refused {line.serial} bad_batch"
             said = (fault or "").removesuffix(" 1")
@@ -168,6 +169,24 @@ def check_made_later(context: Context, cluster: Database) -> None:
     row("another table", (), None, None)
     database.ask("DELETE FROM streetmap_journal WHERE serial < 4 OR serial = 6")
     row("its mirror", ("--features",), "lines_missing 1 3", None)
+
+
+def check_owner(context: Context, cluster: Database) -> None:
+    """A mirror that is made by its database's owner, who may make neither roles nor extensions."""
+    cluster.ask("CREATE ROLE office LOGIN")
+    cluster.ask_alone("CREATE DATABASE mirror_owned OWNER office")
+    owned = replace(cluster, name="mirror_owned")
+    journal, script = context.folder / "owned.journal", Script(context, SCRIPT)
+    journal.write_bytes(b"".join(LINES))
+    dsn = owned.dsn.replace("//postgres@", "//office@")
+    words = (journal, dsn, "--once", "--features", *SYSTEM)
+    got = script.ends(*words)
+    context.check("without PostGIS", (got[0], got[1][:1]), (1, ["bad_source 42501"]))
+    owned.ask("CREATE EXTENSION postgis")
+    context.check("with it", script.ends(*words), ENDED)
+    found = owned.ask("SELECT serial FROM streetmap_mirror")
+    context.check("the owner's mirror", found, [(len(LINES),)])
+    context.check("its reader", refused_code(owned, "SELECT id FROM streetmap.lamps"), None)
 
 
 def check_words(context: Context, database: Database) -> None:

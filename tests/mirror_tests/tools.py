@@ -65,6 +65,11 @@ def office(box: Box) -> str:
     )
 
 
+def number_of(feature: Feature) -> int:
+    """The property `no`."""
+    return int(feature.value["properties"]["no"])
+
+
 @dataclass(frozen=True)
 class Tools:
     """A mirror of the collections of the gateway's tests."""
@@ -143,7 +148,6 @@ def check_qgis(tools: Tools) -> None:
     printed = tools.run(PYTHON, script, *words, *map(office, BOXES))
     found = json.loads(printed.splitlines()[-1])
     check = tools.context.check
-    number = lambda it: it.value["properties"]["no"]
     for name in KINDS:
         layer = found[name]
         check(f"QGIS opens {name}", (layer["valid"], layer["crs"]), (True, "EPSG:25832"))
@@ -153,10 +157,10 @@ def check_qgis(tools: Tools) -> None:
         for box in BOXES:
             got = layer["boxes"][office(box)]
             check(f"QGIS asks {name} in {box}", got, sorted(tools.meeting(name, box)))
-        few = tools.ids(name, lambda it: number(it) < 10)
+        few = tools.ids(name, lambda it: number_of(it) < 10)
         check(f"QGIS filters {name}", layer["filtered"], few)
         check(f"QGIS counts the filtered {name}", layer["filtered count"], len(few))
-        one = tools.ids(name, lambda it: number(it) == 7)
+        one = tools.ids(name, lambda it: number_of(it) == 7)
         check(f"QGIS finds in {name}", layer["expression"], one)
     check("QGIS draws", found["drawn"] > 1000, True)
     check("QGIS keeps a project", found["project"], True)

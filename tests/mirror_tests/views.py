@@ -34,8 +34,9 @@ SEEN: dict[str, tuple[object, object, str, object, object]] = {
 }
 
 
-def columns_of(mirror: Mirror, view: str) -> list[tuple[object, ...]]:
-    return mirror.database.ask(COLUMNS, view)
+def columns_of(mirror: Mirror, view: str) -> list[tuple[str, str]]:
+    """The columns of a view, with their types."""
+    return [(str(name), str(kind)) for name, kind in mirror.database.ask(COLUMNS, view)]
 
 
 def item(identity: str, properties: Value) -> Value:
