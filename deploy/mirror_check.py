@@ -16,7 +16,7 @@ standard error one of these, is for a person to look at:
     columns_differ COLLECTION ID   a column of the feature is not what its text says
     no_mirror                      the database has no mirror
     lines_missing FROM TO          the lines from serial 1 on are not all there
-    program_failed WORDS           PROGRAM ended with a fault, which is on standard error
+    program_failed COMMAND         PROGRAM is not there, or ended with a fault of its own
     bad_source CODE                the database refuses what is asked of it
 
 `usage` has status 2, and a database that does not answer 3.
@@ -135,21 +135,27 @@ class Server:
     program: str
     file: Path
 
-    def run(self, *words: str, **options: Any) -> None:
-        status = subprocess.run([self.program, *words], check=False, **options).returncode
-        if status != 0:
-            raise Fault("program_failed", *words[:1])
+    def started(self, word: str, *words: str, **options: Any) -> "subprocess.Popen[bytes]":
+        """A command over the file."""
+        try:
+            return subprocess.Popen([self.program, word, str(self.file), *words], **options)
+        except OSError as error:
+            raise Fault("program_failed", word, more=(str(error),)) from error
+
+    def run(self, word: str, *words: str, **options: Any) -> None:
+        """Runs a command over the file to its end."""
+        if self.started(word, *words, **options).wait() != 0:
+            raise Fault("program_failed", word)
 
     def make(self, lines: Iterator[Line]) -> None:
-        self.run("create", str(self.file))
-        words = [self.program, "apply", str(self.file)]
-        with subprocess.Popen(
-            words, stdin=subprocess.PIPE, stdout=subprocess.DEVNULL
-        ) as applying, contextlib.suppress(BrokenPipeError):
+        """Makes the file, and applies lines to it."""
+        self.run("create")
+        with self.started("apply", stdin=subprocess.PIPE, stdout=subprocess.DEVNULL) as applying:
             assert applying.stdin is not None
-            for line in lines:
-                applying.stdin.write(b"%d\t%b\n" % (line.serial, line.text))
-            applying.stdin.close()
+            with contextlib.suppress(BrokenPipeError):
+                for line in lines:
+                    applying.stdin.write(b"%d\t%b\n" % (line.serial, line.text))
+                applying.stdin.close()
         if applying.returncode != 0:
             raise Fault("program_failed", "apply")
 
@@ -160,7 +166,7 @@ class Server:
 
     def export(self, collection: str, path: Path) -> None:
         with path.open("wb") as file:
-            self.run("export", str(self.file), "--collection", collection, stdout=file)
+            self.run("export", "--collection", collection, stdout=file)
 
 
 def compare(mirrored: Mirrored, server: Server, folder: Path) -> None:

@@ -243,7 +243,7 @@ $$;
 
 -- Lines that were put in act in the same transaction, whoever put them in.
 CREATE OR REPLACE FUNCTION streetmap_lines_put_in()
-RETURNS trigger LANGUAGE plpgsql AS $$
+RETURNS trigger LANGUAGE plpgsql SET search_path FROM CURRENT AS $$
 BEGIN
     WHILE streetmap_act(100) < (SELECT max(serial) FROM streetmap_journal) LOOP
     END LOOP;

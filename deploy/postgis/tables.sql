@@ -75,8 +75,9 @@ EXCEPTION
 END
 $$;
 
--- The schema of the views, one for each collection.
-CREATE SCHEMA IF NOT EXISTS streetmap;
+-- The schema of the views, one for each collection. It has no name that a role may have who puts
+-- lines in: its views would come before the tables then.
+CREATE SCHEMA IF NOT EXISTS collections;
 
 -- The role that only reads. Whoever may not make roles has it made by another (README.md).
 DO $$
@@ -92,10 +93,10 @@ $$;
 DO $$
 BEGIN
     IF EXISTS (SELECT FROM pg_roles WHERE rolname = 'streetmap_reader') THEN
-        EXECUTE format('GRANT USAGE ON SCHEMA %I, streetmap TO streetmap_reader', current_schema);
+        EXECUTE format('GRANT USAGE ON SCHEMA %I, collections TO streetmap_reader', current_schema);
         GRANT SELECT ON streetmap_mirror, streetmap_collections, streetmap_features,
             streetmap_properties, streetmap_columns TO streetmap_reader;
-        GRANT SELECT ON ALL TABLES IN SCHEMA streetmap TO streetmap_reader;
+        GRANT SELECT ON ALL TABLES IN SCHEMA collections TO streetmap_reader;
     END IF;
 END
 $$;

@@ -83,14 +83,14 @@ DECLARE
         'FROM streetmap_features WHERE collection = %L', streetmap_columns_of(asked), asked);
 BEGIN
     BEGIN
-        EXECUTE format('CREATE OR REPLACE VIEW streetmap.%I %s', name, query);
+        EXECUTE format('CREATE OR REPLACE VIEW collections.%I %s', name, query);
     EXCEPTION
         WHEN invalid_table_definition THEN
-            EXECUTE format('DROP VIEW streetmap.%I', name);
-            EXECUTE format('CREATE VIEW streetmap.%I %s', name, query);
+            EXECUTE format('DROP VIEW collections.%I', name);
+            EXECUTE format('CREATE VIEW collections.%I %s', name, query);
     END;
     IF EXISTS (SELECT FROM pg_roles WHERE rolname = 'streetmap_reader') THEN
-        EXECUTE format('GRANT SELECT ON streetmap.%I TO streetmap_reader', name);
+        EXECUTE format('GRANT SELECT ON collections.%I TO streetmap_reader', name);
     END IF;
     RETURN true;
 EXCEPTION

@@ -33,6 +33,7 @@ def run(context: Context) -> None:
         acting.check_acting(context, cluster, SLOW_GROUPS if context.slow else GROUPS)
         rows.check_rows(context, cluster)
         rows.check_made_later(context, cluster)
+        rows.check_made_late(context, cluster)
         rows.check_owner(context, cluster)
         views.check_views(context, cluster)
         tools.check_tools(context, cluster)

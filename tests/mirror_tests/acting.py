@@ -6,7 +6,7 @@ from typing import Any
 
 from followers_tests.postgres import Database
 from harness import Context
-from messages import delete, feature, open_collection, point, put
+from messages import delete, feature, open_collection, put
 from mirror_tests.mirrors import Mirror, batch_text
 from model import Refused, Value
 

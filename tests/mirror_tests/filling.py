@@ -56,7 +56,7 @@ def check_filling(context: Context, cluster: Database) -> None:
     context.check(
         "the journal is in", (ended.returncode, ended.stderr[-300:].count(b"away")), (0, 0)
     )
-    found = database.ask("SELECT count(*) FROM streetmap.assets")
+    found = database.ask("SELECT count(*) FROM collections.assets")
     context.check("all features", found, [(count,)])
     indexes = database.ask("SELECT count(*) FROM pg_indexes WHERE tablename = 'streetmap_features'")
     context.check("their indexes", indexes, [(4,)])

@@ -13,6 +13,7 @@ from dataclasses import dataclass, field
 from pathlib import Path
 
 import psycopg2
+from followers_tests import postgres
 from followers_tests.load import Client, Load, batch_text
 from followers_tests.postgres import Database
 from followers_tests.processes import Process, Script, running, wait_until
@@ -105,9 +106,9 @@ class MirrorSite:
         there = lambda: self.mirrored() >= wanted
         wait_until("the mirror has all lines", there, self.context.seconds)
 
-    def checked(self) -> tuple[int, str]:
+    def checked(self, dsn: str | None = None) -> tuple[int, str]:
         """How mirror_check.py over the journal ends, and what it says first."""
-        words = Script(self.context, CHECK).command(self.database.dsn, self.journal)
+        words = Script(self.context, CHECK).command(dsn or self.database.dsn, self.journal)
         words += ["--program", str(self.context.program)]
         ended = subprocess.run(
             words, capture_output=True, text=True, timeout=self.context.seconds, check=False
@@ -220,6 +221,23 @@ def check_end(made: MirrorSite) -> None:
         made.context.check(f"the export of {name}", found == wanted, True)
 
 
+def check_standby(made: MirrorSite) -> None:
+    """A standby has the mirror too, and goes on with it."""
+    standby = postgres.standby(made.context, made.database)
+    with running(standby.process):
+        writer = Client(made.port)
+        reply = writer.post(batch_text("standby", open_collection("on-the-standby")))
+        writer.close()
+
+        def there() -> bool:
+            with contextlib.suppress(psycopg2.Error):
+                return standby.ask(SERIAL) >= [(reply["serial"],)]
+            return False
+
+        wait_until("the standby has the batch", there, made.context.seconds)
+        made.context.check("the standby", made.checked(standby.dsn), (0, "the same"))
+
+
 def check_wrong(made: MirrorSite) -> None:
     """mirror_check.py finds what was changed by hand."""
     ((collection, name),) = made.database.ask(
@@ -261,6 +279,7 @@ def check_kills(context: Context, cluster: Database, rounds: int) -> None:
         made.transport.kill()
         check_seen(made, reader)
         made.transport.start()
+        check_standby(made)
         check_end(made)
         made.transport.kill()
         check_wrong(made)

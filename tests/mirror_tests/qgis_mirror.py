@@ -1,10 +1,10 @@
 """Opens views of a mirror with QGIS's own provider of PostGIS, and draws them to a picture.
 
-    QT_QPA_PLATFORM=offscreen python3 qgis_mirror.py HOST PORT DATABASE PICTURE PROJECT GROUND NAME:KIND.. BOX..
+    python3 qgis_mirror.py HOST PORT DATABASE PICTURE PROJECT GROUND WORD..
 
-Prints what it found as JSON, and leaves PROJECT, which QGIS Server serves. A kind is that of a
-view's geometries; a box is four numbers with commas between, in the office's system, and GROUND is
-the one that is drawn.
+A WORD is NAME:KIND, a view and the kind of its geometries, or a box: four numbers with commas
+between, in the office's system. GROUND is the box that is drawn. It prints what it found as JSON,
+and leaves PROJECT, which QGIS Server serves. Without a box it only draws.
 """
 
 import json
@@ -33,7 +33,7 @@ def layer_of(database: tuple[str, str, str], name: str, kind: str) -> Any:
     """The view of a collection as a layer."""
     source = QgsDataSourceUri()
     source.setConnection(*database, "streetmap_reader", "")
-    source.setDataSource("streetmap", name, "geometry", "", "id")
+    source.setDataSource("collections", name, "geometry", "", "id")
     source.setSrid("25832")
     source.setWkbType(getattr(QgsWkbTypes, kind))
     return QgsVectorLayer(source.uri(), name, "postgres")
@@ -102,7 +102,7 @@ def main() -> None:
     application = QgsApplication([], False)
     application.initQgis()
     layers = [layer_of((host, port, database), *word.split(":")) for word in rest if ":" in word]
-    found: dict[str, Any] = {layer.name(): look(layer, boxes) for layer in layers}
+    found: dict[str, Any] = {layer.name(): look(layer, boxes) for layer in layers if boxes}
     for layer in layers:
         style(layer)
     found["drawn"] = draw(layers, ground, picture)

@@ -1,11 +1,12 @@
 """Lines that act once, that are refused by name, and that others put in; the role that only reads;
 how a mirror is made over a table that has lines, and its words."""
 
-from dataclasses import replace
+from dataclasses import dataclass, replace
+from pathlib import Path
 
 import psycopg2
 from followers_tests.postgres import Database
-from followers_tests.processes import Script
+from followers_tests.processes import DEPLOY, Script
 from followers_tests.rows import ENDED, LINES, OPENED, lamp, lines_of, text_of
 from harness import Context
 from messages import feature, open_collection, point, put
@@ -95,7 +96,7 @@ def refused_code(database: Database, query: str) -> str | None:
 
 def check_reader(mirror: Mirror) -> None:
     """The role reads state and views, and changes nothing."""
-    reads = ("streetmap_mirror", "streetmap_collections", "streetmap_features", "streetmap.lamps")
+    reads = ("streetmap_mirror", "streetmap_collections", "streetmap_features", "collections.lamps")
     for name in reads:
         got = refused_code(mirror.database, f"SELECT count(*) FROM {name}")
         mirror.context.check(f"the reader reads {name}", got, None)
@@ -107,7 +108,7 @@ def check_reader(mirror: Mirror) -> None:
         "SELECT batch FROM streetmap_journal",
         "SELECT streetmap_act(1)",
         "CREATE TABLE own (a integer)",
-        "DROP VIEW streetmap.lamps",
+        "DROP VIEW collections.lamps",
     ):
         got = refused_code(mirror.database, query)
         mirror.context.check(f"the reader may not: {query}", got, "42501")
@@ -130,63 +131,101 @@ def check_rows(context: Context, cluster: Database) -> None:
     check_reader(mirror)
 
 
+@dataclass(frozen=True)
+class Journal:
+    """A journal, a database, and the transport between them."""
+
+    context: Context
+    database: Database
+    path: Path
+
+    @classmethod
+    def new(cls, context: Context, cluster: Database, name: str) -> "Journal":
+        cluster.ask_alone(f"CREATE DATABASE {name}")
+        return cls(context, replace(cluster, name=name), context.folder / f"{name}.journal")
+
+    def write(self, lines: list[bytes]) -> None:
+        self.path.write_bytes(b"".join(lines))
+
+    def row(self, what: str, words: tuple[str, ...], ends: str | None, serial: int | None) -> None:
+        """Puts the journal in. Wanted: the fault, and the serial of the mirror, if there is one."""
+        script = Script(self.context, SCRIPT)
+        status, said = script.ends(self.path, self.database.dsn, "--once", *words)
+        said = [it for it in said if not it.startswith("the mirror acts")]
+        self.context.check(what, (status, said[:1]), (1, [ends]) if ends else ENDED)
+        if serial is not None:
+            found = self.database.ask("SELECT serial FROM streetmap_mirror")
+            self.context.check(f"{what}: the mirror", found, [(serial,)])
+
+
 def check_made_later(context: Context, cluster: Database) -> None:
     """A mirror over a table that has lines; its words; a journal that lacks its first lines."""
-    cluster.ask_alone("CREATE DATABASE mirror_later")
-    database = replace(cluster, name="mirror_later")
-    journal, script = context.folder / "later.journal", Script(context, SCRIPT)
-    journal.write_bytes(b"".join(LINES))
-
-    def row(what: str, words: tuple[str, ...], ends: str | None, serial: int | None) -> None:
-        got = script.ends(journal, database.dsn, "--once", *words)
-        status, lines = got[0], [it for it in got[1] if not it.startswith("the mirror acts")]
-        context.check(what, (status, lines[:1]), (1, [ends]) if ends else ENDED)
-        if serial is not None:
-            found = database.ask("SELECT serial FROM streetmap_mirror")
-            context.check(f"{what}: the mirror", found, [(serial,)])
-
+    journal = Journal.new(context, cluster, "mirror_later")
+    row, mirrored = journal.row, ("--features", *SYSTEM)
+    journal.write(LINES)
     row("the table alone", (), None, None)
-    row(
-        "an unknown system",
-        ("--features", "--system", "EPSG:99", "--shift", "0,0"),
-        "no_system 99",
-        None,
-    )
-    row("the mirror", ("--features", *SYSTEM), None, 8)
+    unknown = ("--features", "--system", "EPSG:99", "--shift", "0,0")
+    row("an unknown system", unknown, "no_system 99", None)
+    row("the mirror", mirrored, None, 8)
     row("the mirror again", ("--features",), None, 8)
     moved = ("--features", *SYSTEM[:3], "565000,5934000")
     row("another place", moved, "other_system 25832 565000000 5934000125", 8)
-    journal.write_bytes(b"".join([*LINES, *lines_of([text_of("b9", lamp(9))], 9)]))
+    longer = [*LINES, *lines_of([text_of("b9", lamp(9))], 9)]
+    journal.write(longer)
     row("a line without the word", (), None, 9)
     edits = put("insert", "trees", feature("T", point(1, 1))), lamp(10)
-    journal.write_bytes(b"".join(lines_of([text_of("b10", *edits)], 10)))
+    refused = [*longer, *lines_of([text_of("b10", *edits)], 10)]
+    journal.write(refused)
     row("a line that is refused", (), "refused 10 no_collection 1", 9)
+    check_made_anew(context, journal.database)
+    journal.write(longer)
+    row("made anew", mirrored, None, 9)
+    journal.write(refused)
     row("the same with the word", ("--features",), "refused 10 no_collection 1", 9)
-    check_words(context, database)
-    cluster.ask_alone("CREATE DATABASE mirror_late")
-    database = replace(cluster, name="mirror_late")
-    journal.write_bytes(b"".join(LINES))
-    row("another table", (), None, None)
-    database.ask("DELETE FROM streetmap_journal WHERE serial < 4 OR serial = 6")
-    row("its mirror", ("--features",), "lines_missing 1 3", None)
+    check_words(context, journal.database)
+
+
+def check_made_late(context: Context, cluster: Database) -> None:
+    """A mirror over a table that lacks lines."""
+    journal = Journal.new(context, cluster, "mirror_late")
+    journal.write(LINES)
+    journal.row("another table", (), None, None)
+    journal.database.ask("DELETE FROM streetmap_journal WHERE serial < 4 OR serial = 6")
+    journal.row("its mirror", ("--features",), "lines_missing 1 3", None)
+
+
+def check_made_anew(context: Context, database: Database) -> None:
+    """What README.md runs to make a mirror anew leaves the journal's table alone."""
+    text = (DEPLOY / "postgis" / "README.md").read_text().partition("**To make it anew**")[2]
+    database.ask(text.partition("```sql\n")[2].partition("```")[0])
+    there = database.ask(
+        "SELECT relname FROM pg_class WHERE relname LIKE 'streetmap%%' AND relkind IN ('r', 'v')"
+    )
+    context.check("the tables that are left", there, [("streetmap_journal",)])
 
 
 def check_owner(context: Context, cluster: Database) -> None:
-    """A mirror that is made by its database's owner, who may make neither roles nor extensions."""
-    cluster.ask("CREATE ROLE office LOGIN")
-    cluster.ask_alone("CREATE DATABASE mirror_owned OWNER office")
+    """A mirror that is made by its database's owner, who may make neither roles nor extensions, and
+    has the name of OPERATING.md."""
+    cluster.ask("CREATE ROLE streetmap LOGIN")
+    cluster.ask_alone("CREATE DATABASE mirror_owned OWNER streetmap")
     owned = replace(cluster, name="mirror_owned")
     journal, script = context.folder / "owned.journal", Script(context, SCRIPT)
     journal.write_bytes(b"".join(LINES))
-    dsn = owned.dsn.replace("//postgres@", "//office@")
+    dsn = owned.dsn.replace("//postgres@", "//streetmap@")
     words = (journal, dsn, "--once", "--features", *SYSTEM)
     got = script.ends(*words)
     context.check("without PostGIS", (got[0], got[1][:1]), (1, ["bad_source 42501"]))
     owned.ask("CREATE EXTENSION postgis")
-    context.check("with it", script.ends(*words), ENDED)
-    found = owned.ask("SELECT serial FROM streetmap_mirror")
-    context.check("the owner's mirror", found, [(len(LINES),)])
-    context.check("its reader", refused_code(owned, "SELECT id FROM streetmap.lamps"), None)
+    names = ("streetmap_features", "streetmap_mirror")
+    opening = [open_collection(name, title=name) for name in names]
+    shadows = lines_of([text_of("shadows", *opening), text_of("b9", lamp(9))], 9)
+    for lines in (LINES, [*LINES, shadows[0]], [*LINES, *shadows]):
+        journal.write_bytes(b"".join(lines))
+        context.check(f"with it, {len(lines)} lines", script.ends(*words), ENDED)
+        found = owned.ask("SELECT serial FROM streetmap_mirror")
+        context.check(f"the owner's mirror of {len(lines)}", found, [(len(lines),)])
+    context.check("its reader", refused_code(owned, "SELECT id FROM collections.lamps"), None)
 
 
 def check_words(context: Context, database: Database) -> None:

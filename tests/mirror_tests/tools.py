@@ -48,7 +48,7 @@ MAP
     NAME "lamps" TYPE POINT STATUS ON
     CONNECTIONTYPE POSTGIS
     CONNECTION "host=127.0.0.1 port={port} dbname={name} user=streetmap_reader"
-    DATA "geometry FROM streetmap.lamps USING UNIQUE id USING SRID=25832"
+    DATA "geometry FROM collections.lamps USING UNIQUE id USING SRID=25832"
     PROJECTION "init=epsg:25832" END
     METADATA "ows_title" "lamps" "gml_include_items" "all" "gml_featureid" "id" END
     CLASS STYLE COLOR 255 0 0 SYMBOL "dot" SIZE 6 END END
@@ -111,7 +111,7 @@ class Tools:
 
 def check_psql(tools: Tools) -> None:
     for name in tools.mirror.ledger.collections:
-        query = f'SELECT id FROM streetmap."{name}" ORDER BY id'
+        query = f'SELECT id FROM collections."{name}" ORDER BY id'
         got = tools.run("psql", "-Atc", query, tools.source()).decode().splitlines()
         tools.context.check(f"psql reads {name}", got, tools.ids(name))
 
@@ -120,7 +120,7 @@ def check_ogr(tools: Tools) -> None:
     """ogr2ogr writes each view to a file; its coordinates are exact."""
     for name in KINDS:
         file = tools.context.folder / f"{name}.geojsonl"
-        source = f"PG:{tools.source()} schemas=streetmap"
+        source = f"PG:{tools.source()} schemas=collections"
         words = ["-f", "GeoJSONSeq", "-lco", "COORDINATE_PRECISION=3", str(file), source, name]
         tools.run("ogr2ogr", *words, "-oo", "LIST_ALL_TABLES=YES")
         made = [json.loads(line) for line in file.read_text().splitlines()]
@@ -130,7 +130,15 @@ def check_ogr(tools: Tools) -> None:
         wanted = {it.value["id"]: it.value["properties"]["no"] for it in tools.features(name)}
         tools.context.check(f"ogr2ogr: numbers of {name}", numbers, wanted)
     box = office(BOXES[0]).split(",")
-    words = ["-ro", "-al", "-so", "-spat", *box, f"PG:{tools.source()} schemas=streetmap", "lamps"]
+    words = [
+        "-ro",
+        "-al",
+        "-so",
+        "-spat",
+        *box,
+        f"PG:{tools.source()} schemas=collections",
+        "lamps",
+    ]
     printed = tools.run("ogrinfo", *words).decode()
     count = re.search(r"Feature Count: (\d+)", printed)
     wanted_count = str(len(tools.meeting("lamps", BOXES[0])))

@@ -51,20 +51,20 @@ def check_seen(mirror: Mirror) -> None:
     edits = [opened, item("1", one | {"set": "2024-05-01"}), item("2", other)]
     mirror.context.check("items act", mirror.put(mirror.accept("v1", edits)), None)
     wanted = {name: row[2] for name, row in SEEN.items()} | {"set": "text"}
-    found = columns_of(mirror, "streetmap.items")
+    found = columns_of(mirror, "collections.items")
     mirror.context.check("first columns", found[:5], FIRST)
     mirror.context.check("columns of properties", dict(found[5:]), wanted)
     for name, (_, _, _, *shown) in SEEN.items():
-        got = mirror.database.ask(f'SELECT "{name}" FROM streetmap.items ORDER BY id')
+        got = mirror.database.ask(f'SELECT "{name}" FROM collections.items ORDER BY id')
         mirror.context.check(f"the column {name}", [row[0] for row in got], shown)
     days = mirror.database.ask(
         "SELECT starts::text, ends::text FROM (SELECT set_config('timezone', 'UTC', false)) AS it"
-        " CROSS JOIN streetmap.items ORDER BY id"
+        " CROSS JOIN collections.items ORDER BY id"
     )
     wanted_days = [("2024-05-01 00:00:00+00", "2024-05-02 00:00:00+00"), (None, None)]
     mirror.context.check("starts and ends", days, wanted_days)
     systems = mirror.database.ask(
-        "SELECT srid, type FROM geometry_columns WHERE f_table_schema = 'streetmap'"
+        "SELECT srid, type FROM geometry_columns WHERE f_table_schema = 'collections'"
     )
     mirror.context.check("the geometry's system", systems, [(25832, "GEOMETRY")])
 
@@ -74,15 +74,17 @@ def check_names(mirror: Mirror) -> None:
     properties = {"id": 1, "ID": 2, "": 3, "a": 4, "A": 5, "property_3": 6, 'q"%s': 7}
     edits = [open_collection(LONG), put("insert", LONG, feature("1", None, properties))]
     mirror.context.check("names act", mirror.put(mirror.accept("v2", edits)), None)
-    query = "SELECT relname FROM pg_class WHERE relnamespace = 'streetmap'::regnamespace ORDER BY 1"
+    query = (
+        "SELECT relname FROM pg_class WHERE relnamespace = 'collections'::regnamespace ORDER BY 1"
+    )
     ((view,), *_) = mirror.database.ask(query)
     mirror.context.check("a long name", (len(str(view)), str(view)[:55]), (63, "c" * 54 + "_"))
-    found = columns_of(mirror, f"streetmap.{view}")[5:]
+    found = columns_of(mirror, f"collections.{view}")[5:]
     names = [str(name) for name, _ in found]
     mirror.context.check("each property has a column", len(names), len(properties))
     mirror.context.check("names differ", len({it.lower() for it in names}), len(names))
     listed = ", ".join(f'"{name.replace(chr(34), chr(34) * 2)}"' for name in names)
-    (row,) = mirror.database.ask(f'SELECT {listed.replace("%", "%%")} FROM streetmap.{view}')
+    (row,) = mirror.database.ask(f'SELECT {listed.replace("%", "%%")} FROM collections.{view}')
     mirror.context.check("their values", sorted(map(int, map(str, row))), list(range(1, 8)))
 
 
@@ -92,10 +94,10 @@ def check_settings(mirror: Mirror) -> None:
     for name, kind in set_to:
         mirror.database.ask("INSERT INTO streetmap_columns VALUES ('items', %s, %s)", name, kind)
     mirror.database.ask("SELECT streetmap_make_views()")
-    kinds = dict(columns_of(mirror, "streetmap.items"))
+    kinds = dict(columns_of(mirror, "collections.items"))
     got = [kinds[name] for name, _ in set_to]
     mirror.context.check("types that are set", got, [kind for _, kind in set_to])
-    query = "SELECT text, set::text, number, mixed FROM streetmap.items ORDER BY id"
+    query = "SELECT text, set::text, number, mixed FROM collections.items ORDER BY id"
     wanted = [(7, "2024-05-01", "7", None), (None, None, str(-(2**63)), 5)]
     mirror.context.check("their values", mirror.database.ask(query), wanted)
 
@@ -103,24 +105,24 @@ def check_settings(mirror: Mirror) -> None:
 def check_readers(mirror: Mirror) -> None:
     """A view that is read is made again later; one that another view is on stays as it was."""
     reading = psycopg2.connect(mirror.database.dsn)
-    reading.cursor().execute("SELECT count(*) FROM streetmap.items")
+    reading.cursor().execute("SELECT count(*) FROM collections.items")
     begun = time.monotonic()
     line = mirror.accept("v3", [item("3", {"is": "no"})])
     mirror.context.check("a line while a view is read", mirror.put(line), None)
     mirror.context.check("nobody waits long", time.monotonic() - begun < 5, True)
-    kind = dict(columns_of(mirror, "streetmap.items"))["is"]
+    kind = dict(columns_of(mirror, "collections.items"))["is"]
     mirror.context.check("the view that is read", kind, "boolean")
     reading.close()
     mirror.context.check("a later line", mirror.put(mirror.accept("v4", [])), None)
-    kind = dict(columns_of(mirror, "streetmap.items"))["is"]
+    kind = dict(columns_of(mirror, "collections.items"))["is"]
     mirror.context.check("the view is made again", kind, "text")
-    mirror.database.ask('CREATE VIEW on_it AS SELECT "is" FROM streetmap.items')
+    mirror.database.ask('CREATE VIEW on_it AS SELECT "is" FROM collections.items')
     line = mirror.accept("v5", [item("4", {"is": [1], "new": 1})])
     mirror.context.check("a line with a view on a view", mirror.put(line), None)
-    kinds = dict(columns_of(mirror, "streetmap.items"))
+    kinds = dict(columns_of(mirror, "collections.items"))
     mirror.context.check("the view stays", (kinds["is"], "new" in kinds), ("text", False))
     mirror.database.ask("DROP VIEW on_it; SELECT streetmap_make_views()")
-    kinds = dict(columns_of(mirror, "streetmap.items"))
+    kinds = dict(columns_of(mirror, "collections.items"))
     mirror.context.check("the view, by hand", (kinds["is"], kinds.get("new")), ("jsonb", "bigint"))
     mirror.check("after all views")
 
@@ -131,7 +133,7 @@ def check_many(mirror: Mirror) -> None:
     mirror.context.check("many collections", mirror.put(mirror.accept("v6", edits)), None)
     for number in range(3):
         mirror.put(mirror.accept(f"v7-{number}", []))
-    query = "SELECT count(*) FROM pg_views WHERE schemaname = 'streetmap'"
+    query = "SELECT count(*) FROM pg_views WHERE schemaname = 'collections'"
     mirror.context.check("their views", mirror.database.ask(query), [(122,)])
     mirror.check("many collections")
 
@@ -148,7 +150,7 @@ def check_indexes(mirror: Mirror) -> None:
         plan = mirror.database.ask(f"SET enable_seqscan = off; SET enable_indexscan = on; {query}")
         mirror.context.check(f"by {name}", name in str(plan), True)
     plan = mirror.database.ask(
-        f"SET enable_seqscan = off; EXPLAIN SELECT id, number FROM streetmap.items WHERE {box}"
+        f"SET enable_seqscan = off; EXPLAIN SELECT id, number FROM collections.items WHERE {box}"
     )
     found = "streetmap_features_geometry" in str(plan) or "streetmap_features_pkey" in str(plan)
     mirror.context.check("a box of a view by an index", found, True)
