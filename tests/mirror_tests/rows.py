@@ -1,6 +1,7 @@
 """Lines that act once, that are refused by name, and that others put in; the role that only reads;
 how a mirror is made over a table that has lines, and its words."""
 
+import re
 from dataclasses import dataclass, replace
 from pathlib import Path
 
@@ -11,6 +12,7 @@ from followers_tests.rows import ENDED, LINES, OPENED, lamp, lines_of, text_of
 from harness import Context
 from messages import feature, open_collection, point, put
 from mirror_tests.mirrors import Mirror, batch_text
+from units import unit_lines
 
 SCRIPT = "journal_to_postgres.py"
 SYSTEM = ("--system", "EPSG:25832", "--shift", "565000,5934000.125")
@@ -204,6 +206,16 @@ def check_made_anew(context: Context, database: Database) -> None:
     context.check("the tables that are left", there, [("streetmap_journal",)])
 
 
+def documented_words(context: Context) -> list[str]:
+    """The words of MIRROR in README.md, which the settings show and the unit takes."""
+    (words,) = re.findall(r"(?m)^MIRROR=(.*)$", (DEPLOY / "postgis" / "README.md").read_text())
+    settings = (DEPLOY / "town.conf").read_text()
+    context.check("the words in the settings", f"{words}." in settings, True)
+    (command,) = unit_lines(DEPLOY / "streetmap-journal@.service")["ExecStart"]
+    context.check("the words in the unit", command.split()[-1], "$MIRROR")
+    return str(words).split()
+
+
 def check_owner(context: Context, cluster: Database) -> None:
     """A mirror that is made by its database's owner, who may make neither roles nor extensions, and
     has the name of OPERATING.md."""
@@ -213,7 +225,7 @@ def check_owner(context: Context, cluster: Database) -> None:
     journal, script = context.folder / "owned.journal", Script(context, SCRIPT)
     journal.write_bytes(b"".join(LINES))
     dsn = owned.dsn.replace("//postgres@", "//streetmap@")
-    words = (journal, dsn, "--once", "--features", *SYSTEM)
+    words: list[str | Path] = [journal, dsn, "--once", *documented_words(context)]
     got = script.ends(*words)
     context.check("without PostGIS", (got[0], got[1][:1]), (1, ["bad_source 42501"]))
     owned.ask("CREATE EXTENSION postgis")
