@@ -190,11 +190,10 @@ $$;
 CREATE OR REPLACE FUNCTION streetmap_next_serial(after bigint, most_lines integer)
 RETURNS bigint LANGUAGE plpgsql AS $$
 DECLARE
-    first bigint;
     last bigint;
     number bigint;
 BEGIN
-    SELECT min(serial), max(serial), count(*) INTO first, last, number
+    SELECT max(serial), count(*) INTO last, number
     FROM (SELECT serial, sum(octet_length(batch)) OVER (ORDER BY serial) - octet_length(batch)
           FROM streetmap_journal WHERE serial > after ORDER BY serial LIMIT most_lines
     ) AS line (serial, bytes_before)

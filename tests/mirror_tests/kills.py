@@ -171,7 +171,7 @@ def check_killed(made: MirrorSite, rounds: int) -> MirrorReader:
     mirror's state is that of the server at its serial."""
     chance, reader = random.Random(rounds), MirrorReader(made.database)
     reader.start()
-    with Load(made.port, COLLECTIONS, 0):
+    with Load(made.port, COLLECTIONS, 0) as load:
         for at in range(rounds):
             for process in (made.server, made.transport, made.database.process):
                 process.kill()
@@ -181,6 +181,8 @@ def check_killed(made: MirrorSite, rounds: int) -> MirrorReader:
             wait_until("PostgreSQL answers", made.database.answers, made.context.seconds)
             made.context.check(f"round {at}", made.checked(), (0, "the same"))
     made.catch_up()
+    acknowledged = max(load.serials().values())
+    made.context.check("what was acknowledged", made.mirrored() >= acknowledged, True)
     reader.stop.set()
     reader.join()
     return reader
