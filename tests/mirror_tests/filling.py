@@ -8,7 +8,7 @@ from dataclasses import replace
 
 from followers_tests.postgres import Database
 from followers_tests.processes import Script
-from followers_tests.rows import lines_of, text_of
+from followers_tests.rows import text_of
 from harness import Context
 from messages import feature, open_collection, put
 from mirror_tests.kills import SCRIPT, SYSTEM
@@ -48,7 +48,9 @@ def check_filling(context: Context, cluster: Database) -> None:
     count = SLOW_FEATURES if context.slow else FEATURES
     cluster.ask_alone("CREATE DATABASE filling")
     database, journal = replace(cluster, name="filling"), context.folder / "filling.journal"
-    journal.write_bytes(b"".join(lines_of(list(texts(count)))))
+    with journal.open("wb") as file:
+        for serial, text in enumerate(texts(count), 1):
+            file.write(b"%d\t%b\n" % (serial, text))
     begun = time.monotonic()
     words = Script(context, SCRIPT).command(journal, database.dsn, *SYSTEM, "--once")
     ended = subprocess.run(words, capture_output=True, check=False, timeout=4000)
