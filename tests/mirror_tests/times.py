@@ -15,6 +15,10 @@ NONE = (True, None, None, False)
 
 
 def check_times(mirror: Mirror) -> None:
+    """In a database with another time zone, and another order of dates."""
+    name = mirror.database.name
+    mirror.database.ask(f"ALTER DATABASE {name} SET timezone = 'America/St_Johns'")
+    mirror.database.ask(f"ALTER DATABASE {name} SET datestyle = 'SQL, DMY'")
     rows = [row for row in rows_of("times.jsonl") if "property" in row]
     wanted = [
         (row["time"], None if row["property"] is None else Interval(*row["property"]))
