@@ -25,8 +25,11 @@ CREATE TABLE IF NOT EXISTS streetmap_journal
 IS_THERE = "SELECT to_regclass('streetmap_journal') IS NOT NULL"
 LAST = "SELECT coalesce(max(serial), 0) FROM streetmap_journal"
 BEHIND = "SELECT serial, batch FROM streetmap_journal WHERE serial > %s ORDER BY serial LIMIT %s"
-PUT = "INSERT INTO streetmap_journal VALUES (%s, %s, %s) ON CONFLICT (serial) DO NOTHING"
-OF_SERIAL = "SELECT batch FROM streetmap_journal WHERE serial = %s"
+PUT = """
+INSERT INTO streetmap_journal SELECT * FROM unnest(%s::bigint[], %s::text[], %s::text[])
+ON CONFLICT (serial) DO NOTHING
+"""
+OF_SERIALS = "SELECT serial, batch FROM streetmap_journal WHERE serial = ANY (%s)"
 NOTIFY = "SELECT pg_notify('streetmap_journal', %s)"
 # Lines that are taken at once: each may have 16 MiB.
 AT_ONCE = 8
@@ -45,6 +48,8 @@ KEPT_ALIVE = {
 # Classes of SQLSTATE that pass by themselves: connections, transactions that were undone (also by a
 # standby that recovers), resources, an administrator, the system, and a standby that may not write.
 PASSING = ("08", "25", "40", "53", "55", "57", "58")
+# The SQLSTATE of a fault of a line by itself, which the mirror raises (postgis/acting.sql).
+FAULT_OF_LINE = "SM001"
 
 
 class JournalTable:
@@ -73,6 +78,8 @@ class JournalTable:
         except psycopg2.Error as error:
             self.close()
             code, said = error.pgcode, str(error).strip()
+            if code == FAULT_OF_LINE:
+                raise Fault(error.diag.message_primary) from error
             if code is None or code.startswith(PASSING):
                 raise SourceAway(f"the database: {said or code}") from error
             raise Fault("bad_source", code, more=(said,)) from error
@@ -107,17 +114,26 @@ class JournalTable:
         """Puts lines in, all or none. Ends as `other_text SERIAL` at a serial that is there with
         another text; the same text is passed over."""
         with self.transaction() as cursor:
-            for line in lines:
-                cursor.execute(PUT, (line.serial, line.key, decoded(line)))
-                if cursor.rowcount == 0:
-                    self.compare(cursor, line)
+            there = self.compare(cursor, lines)
+            new = [line for line in lines if line.serial not in there]
+            columns = ([it.serial for it in new], [it.key for it in new], [*map(decoded, new)])
+            cursor.execute(PUT, columns)
+            if cursor.rowcount < len(new):
+                # Another has put some of them in meanwhile.
+                self.compare(cursor, new)
             cursor.execute(NOTIFY, (str(lines[-1].serial),))
 
-    def compare(self, cursor: Any, line: Line) -> None:
-        cursor.execute(OF_SERIAL, (line.serial,))
-        found = cursor.fetchone()
-        if found is None or found[0].encode() != line.text:
-            raise Fault("other_text", line.serial)
+    def complete(self) -> None:
+        """What is done each time once all lines that are there are put in."""
+
+    def compare(self, cursor: Any, lines: Sequence[Line]) -> set[int]:
+        """Compares lines with those of the table; the serials of those that are there."""
+        cursor.execute(OF_SERIALS, ([line.serial for line in lines],))
+        found = {serial: text.encode() for serial, text in cursor.fetchall()}
+        for line in lines:
+            if found.get(line.serial, line.text) != line.text:
+                raise Fault("other_text", line.serial)
+        return set(found)
 
 
 def decoded(line: Line) -> str:

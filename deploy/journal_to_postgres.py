@@ -1,12 +1,16 @@
 """Puts the lines of a journal into a table of PostgreSQL, as the journal grows.
 
-    python3 deploy/journal_to_postgres.py J DSN [--once]
+    python3 deploy/journal_to_postgres.py J DSN [--features [--system S --shift E,N]] [--once]
 
 J is the journal that `streetmap serve --journal J` writes, or the path that all its files share
 (journal_files.py): once a file has ended, the next one is read. DSN is that of a database
 (`postgresql://..`), in which it makes the table `streetmap_journal` where that is missing:
 journal_table.py says what it has. PostgreSQL carries the table to other sites by its own
 replication, and follow.py reads it there.
+
+With `--features` each line acts in the same transaction on the mirror beside the table
+(postgis/README.md): PostGIS tables of the collections and features, in the office's system S
+(`EPSG:25832`), where the grid's 0,0 is at E,N. The mirror keeps S, E and N from its first start.
 
 It runs until it is stopped, at any time and in any way, and then goes on behind the last serial of
 the table. It begins by comparing the last line that both have. A database that is away, and a J
@@ -19,6 +23,9 @@ to look at, and puts nothing in behind it:
     bad_line SERIAL          J has no line there, or a zero byte amid others;
                              line_too_long SERIAL likewise
     bad_source CODE          the database refuses what is asked of it
+    refused SERIAL CODE ..   the mirror refuses the line, with the place of its edit
+    other_system S E N       the mirror that is there has another system; E and N in thousandths
+    no_system S              PostGIS does not know the system
 
 `usage` has status 2.
 """
@@ -30,6 +37,7 @@ from pathlib import Path
 
 from journal_files import JournalFiles, last_line
 from journal_lines import Away, Fault, Line, Pauses, end, not_empty, tell
+from journal_mirror import MirroredTable, OfficeSystem, shift_of, system_of
 from journal_table import JournalTable
 
 NAME = "journal_to_postgres"
@@ -55,10 +63,10 @@ class Copying:
     """A journal, a table, and the serial behind which lines are put in or compared. It is not known
     before both were looked at."""
 
-    def __init__(self, path: Path, dsn: str) -> None:
+    def __init__(self, path: Path, table: JournalTable) -> None:
         self.path = path
         self.journal = JournalFiles(path)
-        self.table = JournalTable(dsn)
+        self.table = table
         self.serial: int | None = None
 
     def begin(self) -> int:
@@ -78,6 +86,7 @@ class Copying:
                 self.check_next(group[0].serial)
             self.table.put(group)
             self.serial = group[-1].serial
+        self.table.complete()
 
     def check_next(self, serial: int) -> None:
         """A journal that begins behind a serial may go on where the table ends."""
@@ -104,14 +113,28 @@ def run(copying: Copying, once: bool) -> None:
             pauses.wait(str(away))
 
 
+def table_of(asked: argparse.Namespace) -> JournalTable:
+    """The table, or that with the mirror, which the words of the command line ask for."""
+    if not asked.features:
+        return JournalTable(asked.dsn)
+    given = asked.system is not None
+    system = OfficeSystem(asked.system, *asked.shift) if given else None
+    return MirroredTable(asked.dsn, NAME, system)
+
+
 def main() -> int:
     words = argparse.ArgumentParser(prog=NAME, description=(__doc__ or "").splitlines()[0])
     words.add_argument("journal", type=not_empty, help="the journal's path")
     words.add_argument("dsn", type=not_empty, help="the database, as postgresql://..")
+    words.add_argument("--features", action="store_true", help="keeps the mirror too")
+    words.add_argument("--system", type=system_of, metavar="S", help="as EPSG:25832")
+    words.add_argument("--shift", type=shift_of, metavar="E,N", help="where the grid's 0,0 is in S")
     words.add_argument("--once", action="store_true", help="ends with the lines that are there")
     asked = words.parse_args()
+    if (asked.system is None) != (asked.shift is None) or asked.system and not asked.features:
+        words.error("--system and --shift belong together, and to --features")
     try:
-        run(Copying(Path(asked.journal), asked.dsn), asked.once)
+        run(Copying(Path(asked.journal), table_of(asked)), asked.once)
     except Fault as fault:
         return end(NAME, fault)
     return 0

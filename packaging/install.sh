@@ -53,7 +53,9 @@ if [ -d map ]; then
 fi
 
 put "$prefix/share/streetmap/deploy" \
-    deploy/{follow,journal_files,journal_lines,journal_table,journal_to_postgres}.py
+    deploy/{follow,journal_files,journal_lines,journal_mirror,journal_table,journal_to_postgres}.py \
+    deploy/mirror_check.py
+put "$prefix/share/streetmap/deploy/postgis" deploy/postgis/*
 install -m 755 -t "$root$prefix/share/streetmap/deploy" deploy/rotate_journal.py
 install -d "$root$prefix/sbin"
 ln -sf ../share/streetmap/deploy/rotate_journal.py "$root$prefix/sbin/streetmap-rotate-journal"

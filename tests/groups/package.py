@@ -52,8 +52,15 @@ sbin/streetmap-rotate-journal
 share/streetmap/deploy/follow.py
 share/streetmap/deploy/journal_files.py
 share/streetmap/deploy/journal_lines.py
+share/streetmap/deploy/journal_mirror.py
 share/streetmap/deploy/journal_table.py
 share/streetmap/deploy/journal_to_postgres.py
+share/streetmap/deploy/mirror_check.py
+share/streetmap/deploy/postgis/acting.sql
+share/streetmap/deploy/postgis/indexes.sql
+share/streetmap/deploy/postgis/reading.sql
+share/streetmap/deploy/postgis/tables.sql
+share/streetmap/deploy/postgis/views.sql
 """.split()
 MANUALS = ["streetmap", "streetmap-rotate-journal"]
 # A purge as a machine does it that nobody sits at.

@@ -1,0 +1,139 @@
+"""The mirror of a journal in PostGIS: its collections and features, as they are after one serial.
+
+The SQL in postgis/ makes the tables, and the functions by which each line that is put into
+`streetmap_journal` acts in the same transaction (postgis/README.md). A line that the ledger would
+refuse ends as the fault `refused SERIAL CODE PLACE`, and nothing of its transaction is kept.
+"""
+
+import argparse
+import re
+import time
+from collections.abc import Sequence
+from dataclasses import dataclass
+from decimal import Decimal, InvalidOperation
+from pathlib import Path
+from typing import Any
+
+from journal_lines import Fault, Line, tell
+from journal_table import JournalTable
+
+FOLDER = Path(__file__).resolve().parent / "postgis"
+# What makes the tables and functions, in this order; and the indexes, for which there is time once
+# the mirror has come up to the journal's end.
+PARTS = ("tables.sql", "reading.sql", "acting.sql", "views.sql")
+INDEXES, MEMORY = "indexes.sql", "SET LOCAL maintenance_work_mem = '256MB'"
+# No two may install it at once, and no line may be put in meanwhile.
+LOCK = "LOCK TABLE streetmap_journal IN SHARE ROW EXCLUSIVE MODE"
+SYSTEM = "SELECT srid, easting, northing FROM streetmap_mirror"
+SET_SYSTEM = "INSERT INTO streetmap_mirror (srid, easting, northing) VALUES (%s, %s, %s)"
+IS_SYSTEM = "SELECT EXISTS (SELECT FROM spatial_ref_sys WHERE srid = %s)"
+ADD_GEOMETRY = "ALTER TABLE streetmap_features ADD COLUMN geometry geometry(Geometry, {})"
+ACT, MAKE_VIEWS = "SELECT streetmap_act(%s)", "SELECT streetmap_make_due_views(%s)"
+MIRRORED = "SELECT serial FROM streetmap_mirror"
+# In one transaction at most: lines that act, and views that are made.
+MOST_LINES, MOST_VIEWS = 100, 50
+# In seconds: between two tries at a view that somebody reads.
+AGAIN_SECONDS = 1.0
+# Thousandths in one unit of the office's system, and the bound of a false origin, in units.
+STEPS, FARTHEST = 1000, 10**9
+
+
+@dataclass(frozen=True)
+class OfficeSystem:
+    """The office's reference system, by its number of EPSG, and where the grid's 0,0 is in it, in
+    thousandths of its unit. Number 0 is none."""
+
+    srid: int = 0
+    easting: int = 0
+    northing: int = 0
+
+
+def system_of(text: str) -> int:
+    """The number of a system that is written as `EPSG:25832`."""
+    found = re.fullmatch(r"EPSG:([1-9][0-9]{0,5})", text)
+    if found is None:
+        raise argparse.ArgumentTypeError(f"{text} is no system as EPSG:25832")
+    return int(found[1])
+
+
+def shift_of(text: str) -> tuple[int, int]:
+    """The thousandths of both numbers of a shift, such as `565000,5934000.125`."""
+    try:
+        numbers = [Decimal(it) for it in text.split(",")]
+    except InvalidOperation:
+        numbers = []
+    is_exact = all(it.is_finite() and not it * STEPS % 1 and abs(it) <= FARTHEST for it in numbers)
+    if len(numbers) != 2 or not is_exact:
+        raise argparse.ArgumentTypeError(f"{text} is no easting,northing of 3 decimal places")
+    return int(numbers[0] * STEPS), int(numbers[1] * STEPS)
+
+
+class MirroredTable(JournalTable):
+    """A journal's table with the mirror beside it. A system that is None is that of the mirror
+    which is there, else none."""
+
+    def __init__(self, dsn: str, name: str, system: OfficeSystem | None) -> None:
+        super().__init__(dsn)
+        self.name = name
+        self.system = system
+        self.is_indexed = False
+        # When views that are due are to be made, by the monotonic clock; None if none is.
+        self.views_at: float | None = 0.0
+
+    def make(self) -> None:
+        """Makes the mirror where it is missing, and lets it come up to the table's last line."""
+        super().make()
+        with self.transaction() as cursor:
+            cursor.execute(LOCK)
+            for part in PARTS:
+                cursor.execute((FOLDER / part).read_text())
+            self.settle(cursor)
+        self.is_indexed, self.views_at = False, 0.0
+        self.catch_up()
+
+    def settle(self, cursor: Any) -> None:
+        """Gives a new mirror its system, and compares that of one that is there."""
+        cursor.execute(SYSTEM)
+        if (found := cursor.fetchone()) is not None:
+            if self.system is not None and OfficeSystem(*found) != self.system:
+                raise Fault("other_system", *found)
+            return
+        system = self.system or OfficeSystem()
+        cursor.execute(IS_SYSTEM, (system.srid,))
+        if system.srid and not cursor.fetchone()[0]:
+            raise Fault("no_system", system.srid)
+        cursor.execute(SET_SYSTEM, (system.srid, system.easting, system.northing))
+        cursor.execute(ADD_GEOMETRY.format(int(system.srid)))
+
+    def catch_up(self) -> None:
+        """Lets all lines of the table act that have not, some at a time."""
+        last, serial = self.last(), self.ask_number(MIRRORED)
+        if serial < last:
+            tell(self.name, f"the mirror acts from serial {serial + 1} to {last}")
+        while serial < last:
+            serial = self.ask_number(ACT, MOST_LINES)
+
+    def ask_number(self, query: str, *values: object) -> int:
+        """The number that a query answers, in a transaction of its own."""
+        with self.transaction() as cursor:
+            cursor.execute(query, values)
+            return int(cursor.fetchone()[0])
+
+    def put(self, lines: Sequence[Line]) -> None:
+        super().put(lines)
+        self.make_views()
+
+    def make_views(self) -> None:
+        """Makes some of the views that are due; others, and one that is read just now, later."""
+        due = self.ask_number(MAKE_VIEWS, MOST_VIEWS)
+        self.views_at = time.monotonic() + AGAIN_SECONDS if due else None
+
+    def complete(self) -> None:
+        """Makes the indexes and the views that are missing, once all lines are in."""
+        if not self.is_indexed:
+            with self.transaction() as cursor:
+                cursor.execute(MEMORY)
+                cursor.execute((FOLDER / INDEXES).read_text())
+            self.is_indexed = True
+        if self.views_at is not None and time.monotonic() >= self.views_at:
+            self.make_views()

@@ -1,0 +1,173 @@
+-- What the texts of a batch say: edits, times, geometries.
+
+-- Whether a day exists in the Gregorian calendar, which goes back to the year 0.
+CREATE OR REPLACE FUNCTION streetmap_is_day(year integer, month integer, day integer)
+RETURNS boolean LANGUAGE sql IMMUTABLE PARALLEL SAFE AS $$
+    SELECT month BETWEEN 1 AND 12 AND day BETWEEN 1 AND CASE
+        WHEN month IN (4, 6, 9, 11) THEN 30
+        WHEN month <> 2 THEN 31
+        WHEN year % 4 = 0 AND (year % 100 <> 0 OR year % 400 = 0) THEN 29
+        ELSE 28
+    END
+$$;
+
+-- A clock of UTC on a day. PostgreSQL writes the year 0 as -1, the first before Christ.
+CREATE OR REPLACE FUNCTION streetmap_clock(
+    year integer, month integer, day integer, hour integer, minute integer, second integer
+) RETURNS timestamp LANGUAGE sql IMMUTABLE PARALLEL SAFE AS $$
+    SELECT make_timestamp(CASE year WHEN 0 THEN -1 ELSE year END, month, day, hour, minute, second)
+$$;
+
+-- A date-time (RFC 3339, section 5.6) in UTC, down to the microsecond, and the nanoseconds beyond;
+-- NULL where the text is none.
+CREATE OR REPLACE FUNCTION streetmap_moment(given text, OUT clock timestamp, OUT beyond integer)
+LANGUAGE plpgsql IMMUTABLE PARALLEL SAFE AS $$
+DECLARE
+    part text[] := regexp_match(given,
+        '^([0-9]{4})-([0-9]{2})-([0-9]{2})'
+        '[Tt]([01][0-9]|2[0-3]):([0-5][0-9]):([0-5][0-9])(?:\.([0-9]{1,9}))?'
+        '(?:[Zz]|([-+ ])([01][0-9]|2[0-3]):([0-5][0-9]))$');
+    nanoseconds integer;
+    minutes_east integer;
+BEGIN
+    IF part IS NULL OR NOT streetmap_is_day(part[1]::integer, part[2]::integer, part[3]::integer)
+    THEN
+        RETURN;
+    END IF;
+    nanoseconds := rpad(coalesce(part[7], ''), 9, '0')::integer;
+    minutes_east := coalesce(part[9]::integer * 60 + part[10]::integer, 0)
+        * CASE part[8] WHEN '-' THEN -1 ELSE 1 END;
+    clock := streetmap_clock(part[1]::integer, part[2]::integer, part[3]::integer,
+                             part[4]::integer, part[5]::integer, part[6]::integer)
+        - minutes_east * interval '1 minute' + nanoseconds / 1000 * interval '1 microsecond';
+    beyond := nanoseconds % 1000;
+END
+$$;
+
+-- The time of a day, from its first to its last nanosecond; empty where the text is none.
+CREATE OR REPLACE FUNCTION streetmap_day(given text)
+RETURNS tstzrange LANGUAGE plpgsql IMMUTABLE PARALLEL SAFE AS $$
+DECLARE
+    year integer := substr(given, 1, 4)::integer;
+    month integer := substr(given, 6, 2)::integer;
+    day integer := substr(given, 9, 2)::integer;
+    begun timestamp;
+BEGIN
+    IF NOT streetmap_is_day(year, month, day) THEN
+        RETURN 'empty';
+    END IF;
+    begun := streetmap_clock(year, month, day, 0, 0, 0);
+    RETURN tstzrange(begun AT TIME ZONE 'UTC', (begun + interval '1 day') AT TIME ZONE 'UTC');
+END
+$$;
+
+-- The time from one date-time to another, of which one may be open: the least range of
+-- microseconds that holds it. Empty where a text is no date-time, or the start is after the end.
+CREATE OR REPLACE FUNCTION streetmap_span(first text, last text)
+RETURNS tstzrange LANGUAGE plpgsql IMMUTABLE PARALLEL SAFE AS $$
+DECLARE
+    start record := streetmap_moment(first);
+    stop record := streetmap_moment(last);
+    is_open_before boolean := first IN ('', '..');
+    is_open_after boolean := last IN ('', '..');
+BEGIN
+    IF is_open_before AND is_open_after
+        OR start.clock IS NULL AND NOT is_open_before
+        OR stop.clock IS NULL AND NOT is_open_after
+        OR (start.clock, start.beyond) > (stop.clock, stop.beyond)
+    THEN
+        RETURN 'empty';
+    END IF;
+    IF stop.beyond > 0 THEN
+        RETURN tstzrange(start.clock AT TIME ZONE 'UTC',
+                         (stop.clock + interval '1 microsecond') AT TIME ZONE 'UTC', '[)');
+    END IF;
+    RETURN tstzrange(start.clock AT TIME ZONE 'UTC', stop.clock AT TIME ZONE 'UTC', '[]');
+END
+$$;
+
+-- The time that a time property holds: a date-time, an interval, or a date. NULL where there is
+-- none; empty where it cannot be read (bad_time).
+CREATE OR REPLACE FUNCTION streetmap_time(held jsonb)
+RETURNS tstzrange LANGUAGE plpgsql IMMUTABLE PARALLEL SAFE AS $$
+DECLARE
+    given text := held #>> '{}';
+    slash integer := strpos(given, '/');
+BEGIN
+    IF given IS NULL THEN
+        RETURN NULL;
+    ELSIF jsonb_typeof(held) <> 'string' THEN
+        RETURN 'empty';
+    ELSIF given ~ '^[0-9]{4}-[0-9]{2}-[0-9]{2}$' THEN
+        RETURN streetmap_day(given);
+    ELSIF slash > 0 THEN
+        RETURN streetmap_span(left(given, slash - 1), substr(given, slash + 1));
+    ELSIF given IN ('', '..') THEN
+        RETURN 'empty';
+    END IF;
+    RETURN streetmap_span(given, given);
+END
+$$;
+
+-- A geometry of the grid in the office's system: each coordinate is the double nearest to
+-- origin + grid / 1000, which a product of doubles need not be.
+CREATE OR REPLACE FUNCTION streetmap_placed(
+    grid geometry, easting bigint, northing bigint, srid integer
+) RETURNS geometry LANGUAGE sql IMMUTABLE PARALLEL SAFE AS $$
+    SELECT ST_GeomFromText(
+        ST_AsText(ST_TransScale(ST_Force2D(grid), easting, northing, 0.001, 0.001), 3), srid)
+$$;
+
+-- A JSON text without U+0000, which neither json functions nor jsonb take: an escape for U+FFFD is
+-- in its place. Texts of the server have no such escape themselves, so it can be taken back.
+CREATE OR REPLACE FUNCTION streetmap_without_zeros(given text)
+RETURNS text LANGUAGE sql IMMUTABLE PARALLEL SAFE AS $$
+    SELECT CASE strpos(given, '\u0000') WHEN 0 THEN given
+        ELSE regexp_replace(given, '(?<!\\)((?:\\\\)*)\\u0000', '\1\\ufffd', 'g') END
+$$;
+
+CREATE OR REPLACE FUNCTION streetmap_with_zeros(given text)
+RETURNS text LANGUAGE sql IMMUTABLE PARALLEL SAFE AS $$
+    SELECT CASE strpos(given, '\ufffd') WHEN 0 THEN given
+        ELSE regexp_replace(given, '(?<!\\)((?:\\\\)*)\\ufffd', '\1\\u0000', 'g') END
+$$;
+
+-- The array of edits of a batch text, which ends with the key. It is cut out by its place, which
+-- the server's texts always have, since that costs less than to read the whole; and as bytes,
+-- since the characters of a text have to be counted.
+CREATE OR REPLACE FUNCTION streetmap_edits_of(batch text, key text)
+RETURNS json LANGUAGE plpgsql STABLE AS $$
+DECLARE
+    -- A new text, so that a long one is unpacked once.
+    unpacked text := batch || '';
+    whole bytea := convert_to(streetmap_without_zeros(unpacked), 'UTF8');
+    beginning bytea := '{"edits":[';
+    ending bytea := format(',"key":"%s"}', key)::bytea;
+    size integer := octet_length(whole) - 9 - octet_length(ending);
+BEGIN
+    IF substr(whole, 1, 10) <> beginning OR substr(whole, 10 + size) <> ending THEN
+        RAISE data_exception;
+    END IF;
+    RETURN convert_from(substr(whole, 10, size), 'UTF8');
+END
+$$;
+
+-- The edits of the journal's lines after one serial and up to another. `body` is the text of the
+-- feature as it is in the batch; type json keeps it byte for byte.
+CREATE OR REPLACE FUNCTION streetmap_edits(after bigint, up_to bigint)
+RETURNS TABLE (
+    serial bigint, place integer, op text, collection text, id text, title text, "time" text,
+    body text, geometry text, properties text
+) LANGUAGE sql STABLE AS $$
+    SELECT line.serial, edit.place::integer, edit.op, edit.collection,
+        coalesce(feature.id, edit.id), edit.title, edit."time",
+        streetmap_with_zeros(edit.feature::text), feature.geometry, feature.properties
+    FROM streetmap_journal AS line
+    CROSS JOIN LATERAL ROWS FROM (
+        json_to_recordset(streetmap_edits_of(line.batch, line.key))
+            AS (op text, collection text, id text, title text, "time" text, feature json)
+    ) WITH ORDINALITY AS edit (op, collection, id, title, "time", feature, place)
+    LEFT JOIN LATERAL json_to_record(edit.feature)
+        AS feature (id text, geometry text, properties text) ON true
+    WHERE line.serial > after AND line.serial <= up_to
+$$;

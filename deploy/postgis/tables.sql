@@ -1,0 +1,102 @@
+-- The tables of the mirror: the state of a Streetmap after one serial of its journal.
+--
+-- journal_to_postgres.py --features runs the files of this folder in one transaction, again at each
+-- start. Its own settings, among them the geometry's system, are in the row of streetmap_mirror.
+
+CREATE EXTENSION IF NOT EXISTS postgis;
+
+-- One row: the serial of the last batch that has acted, and the office's reference system. The
+-- grid's 0,0 is at easting and northing, in thousandths of the system's unit.
+CREATE TABLE IF NOT EXISTS streetmap_mirror (
+    is_only_row boolean PRIMARY KEY DEFAULT true CHECK (is_only_row),
+    format integer NOT NULL DEFAULT 1,
+    serial bigint NOT NULL DEFAULT 0,
+    srid integer NOT NULL,
+    easting bigint NOT NULL,
+    northing bigint NOT NULL
+);
+
+-- A collection: its title, its time property, and the edit that opened it.
+CREATE TABLE IF NOT EXISTS streetmap_collections (
+    id text COLLATE "C" PRIMARY KEY,
+    title text NOT NULL,
+    time text,
+    serial bigint NOT NULL,
+    place integer NOT NULL
+);
+
+-- A feature: the serial of its last change; its text, as an export has it; and of that text the
+-- properties, the geometry in the grid's whole millimetres with heights, and the time. `geometry`
+-- is the same in the office's system, without heights: ADD_GEOMETRY of journal_mirror.py adds it.
+CREATE TABLE IF NOT EXISTS streetmap_features (
+    collection text COLLATE "C" NOT NULL,
+    id text COLLATE "C" NOT NULL,
+    serial bigint NOT NULL,
+    body text NOT NULL,
+    properties jsonb,
+    grid geometry CHECK (ST_SRID(grid) = 0),
+    time tstzrange CHECK (NOT isempty(time)),
+    PRIMARY KEY (collection, id)
+);
+
+-- The kinds of values seen in a property: string, number, large (a number above 2^63 - 1),
+-- boolean, array, object. Nulls, and names of more than 63 bytes, are not noted.
+CREATE TABLE IF NOT EXISTS streetmap_properties (
+    collection text COLLATE "C" NOT NULL,
+    name text COLLATE "C" NOT NULL,
+    kind text COLLATE "C" NOT NULL,
+    seen bigint GENERATED ALWAYS AS IDENTITY,
+    PRIMARY KEY (collection, name, kind)
+);
+
+-- Types that an office sets for columns of views, in place of those that follow from the kinds
+-- seen. `SELECT streetmap_make_views()` makes the views again.
+CREATE TABLE IF NOT EXISTS streetmap_columns (
+    collection text COLLATE "C" NOT NULL,
+    name text COLLATE "C" NOT NULL,
+    type text NOT NULL
+        CHECK (type IN ('text', 'bigint', 'numeric', 'boolean', 'date', 'timestamptz', 'jsonb')),
+    PRIMARY KEY (collection, name)
+);
+
+-- Collections whose view has to be made, or made again.
+CREATE TABLE IF NOT EXISTS streetmap_due_views (
+    collection text COLLATE "C" PRIMARY KEY
+);
+
+CREATE INDEX IF NOT EXISTS streetmap_journal_key ON streetmap_journal (key);
+
+-- Long batch texts are packed and unpacked in less time, if this PostgreSQL was built so.
+DO $$
+BEGIN
+    ALTER TABLE streetmap_journal ALTER COLUMN batch SET COMPRESSION lz4;
+EXCEPTION
+    WHEN feature_not_supported THEN NULL;
+END
+$$;
+
+-- The schema of the views, one for each collection. It has no name that a role may have who puts
+-- lines in: its views would come before the tables then.
+CREATE SCHEMA IF NOT EXISTS collections;
+
+-- The role that only reads. Whoever may not make roles has it made by another (README.md).
+DO $$
+BEGIN
+    IF NOT EXISTS (SELECT FROM pg_roles WHERE rolname = 'streetmap_reader') THEN
+        CREATE ROLE streetmap_reader NOLOGIN;
+    END IF;
+EXCEPTION
+    WHEN insufficient_privilege OR duplicate_object OR unique_violation THEN NULL;
+END
+$$;
+
+DO $$
+BEGIN
+    IF EXISTS (SELECT FROM pg_roles WHERE rolname = 'streetmap_reader') THEN
+        EXECUTE format('GRANT USAGE ON SCHEMA %I, collections TO streetmap_reader', current_schema);
+        GRANT SELECT ON streetmap_mirror, streetmap_collections, streetmap_features,
+            streetmap_properties, streetmap_columns TO streetmap_reader;
+        GRANT SELECT ON ALL TABLES IN SCHEMA collections TO streetmap_reader;
+    END IF;
+END
+$$;

@@ -1,0 +1,41 @@
+"""The mirror: PostGIS tables that are the ledger's state, under kills, and the tools that read them.
+
+Lines of a journal act in a database as the plain model says, or are refused by name. A server, the
+transport and PostgreSQL are killed in turn under load, and what the mirror then has is compared
+with the server's exports by `mirror_check.py`. QGIS and others open the views.
+"""
+
+from followers_tests import postgres
+from followers_tests.processes import running, wait_until
+from harness import Context
+from mirror_tests import acting, filling, kills, rows, times, tools, views
+from mirror_tests.mirrors import Mirror
+
+PACKAGES = (
+    "cgi-mapserver",
+    "gdal-bin",
+    "postgresql",
+    "postgresql-15-postgis-3",
+    "python3-psycopg2",
+    "python3-qgis",
+    "qgis-server",
+)
+# Groups of random batches, and rounds of killing, in the short form and in the long one.
+GROUPS, SLOW_GROUPS = 40, 1000
+ROUNDS, SLOW_ROUNDS = 3, 50
+
+
+def run(context: Context) -> None:
+    cluster = postgres.primary(context)
+    with running(cluster.process):
+        wait_until("PostgreSQL answers", cluster.answers, context.seconds)
+        times.check_times(Mirror.new(context, cluster, "mirror_times"))
+        acting.check_acting(context, cluster, SLOW_GROUPS if context.slow else GROUPS)
+        rows.check_rows(context, cluster)
+        rows.check_made_later(context, cluster)
+        rows.check_made_late(context, cluster)
+        rows.check_owner(context, cluster)
+        views.check_views(context, cluster)
+        tools.check_tools(context, cluster)
+        filling.check_filling(context, cluster)
+        kills.check_kills(context, cluster, SLOW_ROUNDS if context.slow else ROUNDS)
