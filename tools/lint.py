@@ -2,7 +2,8 @@
 
 All checks run if none is named, and the exit status is 1 if one of them found something: `black`
 and `mypy` read all Python, `shellcheck` all shell scripts, `eslint` and `tsc` the map page's
-modules and its service worker. `pyproject.toml` and `tools/javascript/` have their settings.
+modules and its service worker, `eslint` their tests too. `pyproject.toml` and `tools/javascript/`
+have their settings.
 """
 
 import os
@@ -72,7 +73,7 @@ def all_checks() -> dict[str, Check]:
     mypy = ["mypy", "--no-error-summary", "--cache-dir"]
     shell = [str(path) for path in files if is_shell(path)]
     eslint = ["eslint", "--no-eslintrc", "--config", str(PAGE / "eslintrc.json")]
-    eslint += ["--format", "unix", "map"]
+    eslint += ["--format", "unix", "--ext", ".js,.mjs", "map", "tests/map_modules"]
     return {
         "black": Check(["black", "--quiet", "--check", "--diff", *python]),
         "mypy": Check([*mypy, str(KEPT / "mypy"), *others]),

@@ -7,6 +7,7 @@ import { editKey, putInBasket } from "./basket.js";
 import { changed } from "./channel.js";
 import { askBetweenTabs } from "./differences_dialog.js";
 import { announce } from "./element.js";
+import { keepLast } from "./last.js";
 import { changeEdits } from "./queue.js";
 
 export class Editing {
@@ -64,6 +65,7 @@ export class Editing {
     if (other && answer === "this") {
       await putInBasket({ ...edit, base: other.feature ?? edit.base });
     }
+    if (edit.op === "insert") await keepLast(edit);
     this.#editor.close();
     this.#chosen.set({ collection: edit.collection, id: edit.id });
     announce(`${edit.id} is in the basket.`);

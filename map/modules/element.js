@@ -44,6 +44,11 @@ export function byId(id) {
   return document.getElementById(id);
 }
 
+/** @returns {boolean} whether the page has the layout of a phone */
+export function isPhone() {
+  return matchMedia("(max-width: 799px)").matches;
+}
+
 /**
  * Gives an element other children. Where the focus was on a button in it, it goes to the button
  * that now has the place and the text of that one, else to the element.

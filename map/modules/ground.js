@@ -5,7 +5,7 @@
 import { toPosition } from "./draw.js";
 import { announce, byId, element } from "./element.js";
 import { metres } from "./geometry.js";
-import { degreesInWords, readPlace } from "./place.js";
+import { degreesInWords } from "./place.js";
 import { OwnPosition } from "./position.js";
 
 export class Ground {
@@ -32,13 +32,12 @@ export class Ground {
     );
   }
 
-  /** Reads where the grid lies, and offers one's own position on it. */
-  async placeOnEarth() {
-    try {
-      this.earth = await readPlace();
-    } catch (fault) {
-      console.error(fault);
-    }
+  /**
+   * Offers one's own position on the grid.
+   * @param {import("./place.js").Place | null} earth
+   */
+  placeOnEarth(earth) {
+    this.earth = earth;
     const button = byId("own-position");
     button.hidden = !this.earth || !navigator.geolocation;
     if (button.hidden) return;

@@ -1,5 +1,5 @@
 /**
- * @file Where the grid lies on the earth: the table `map.json`, which places it in WGS 84.
+ * @file Where the grid lies on the earth: the table in `map.json` that places it in WGS 84.
  *
  *     {"place": {"system": "EPSG:25832", "error": 0.002, "patches": [
  *       {"box": [x0, y0, x1, y1], "longitude": [[..], ..], "latitude": [[..], ..]}, ..]}}
@@ -134,15 +134,6 @@ function solve(patch, longitude, latitude) {
     if (Math.abs(stepU) < NEAR && Math.abs(stepV) < NEAR) break;
   }
   return Math.abs(u) <= 1 + 1e-9 && Math.abs(v) <= 1 + 1e-9 ? { u, v } : null;
-}
-
-/**
- * @returns {Promise<Place | null>} the table that the office put beside the page, where there is
- *   one
- */
-export async function readPlace() {
-  const response = await fetch("map.json", { cache: "no-cache" });
-  return response.ok ? Place.of(await response.json()) : null;
 }
 
 /**

@@ -70,6 +70,21 @@ export class PropertiesEditor {
     return row;
   }
 
+  /** @returns {boolean} whether it has no property */
+  get isEmpty() {
+    return this.#isRaw ? this.#raw.value.trim() === "" : this.#rows.length === 0;
+  }
+
+  /**
+   * Puts properties in, in place of those that have the same names.
+   * @param {Map<string, any>} properties
+   */
+  put(properties) {
+    const value = new Map([...Object.entries(this.value() ?? {}), ...properties]);
+    if (this.#isRaw) this.#raw.value = writeJson(Object.fromEntries(value), 2);
+    else this.#fill(Object.fromEntries(value));
+  }
+
   /** @returns {object | null} what the table writes */
   #fromTable() {
     const found = new Map();

@@ -112,10 +112,11 @@ async function imageForm(onBackground) {
 
 /**
  * @param {HTMLElement} panel
- * @param {{earth: import("./place.js").Place | null, isKept: boolean,
+ * @param {{office: import("./office.js").Office, isKept: boolean,
  *   onBackground: (background: import("./background.js").Background | null) => void}} options
  */
-export async function showSettings(panel, { earth, isKept, onBackground }) {
+export async function showSettings(panel, { office, isKept, onBackground }) {
+  const earth = office.place;
   const error = earth && Math.max(1, Math.ceil(earth.error * 1000));
   const facts = [
     earth
@@ -125,6 +126,7 @@ export async function showSettings(panel, { earth, isKept, onBackground }) {
       ? "The browser keeps edits and batches until they are sent."
       : "The browser may clear what waits here if the device runs out of room.",
     "Photos are not kept.",
+    ...office.problems.map((problem) => `map.json is not used as a whole: ${problem}.`),
     "Between the look for changes of others and a batch, another may write: the last batch counts.",
   ];
   panel.replaceChildren(

@@ -1,0 +1,171 @@
+/**
+ * @file The geometry in the form: drawn, typed in metres, and moved.
+ *
+ * @typedef {import("./geometry.js").Geometry} Geometry
+ * @typedef {import("./geometry.js").Position} Position
+ * @typedef {"Point" | "LineString" | "Polygon"} Drawn
+ */
+import { announce, button, element, takeBack } from "./element.js";
+import { describe, paths } from "./geometry.js";
+import { positionFields, typedPosition } from "./positions_form.js";
+import { Shape } from "./shape.js";
+import { Sketch } from "./sketch.js";
+import { counted } from "./texts.js";
+
+const STEPS = { 1: "1 mm", 10: "1 cm", 100: "10 cm", 1000: "1 m", 10000: "10 m" };
+/** @type {Record<Drawn, "point" | "line" | "ring">} */
+const KINDS = { Point: "point", LineString: "line", Polygon: "ring" };
+export const NAMES = { Point: "point", LineString: "line", Polygon: "polygon" };
+/** Up to this number of positions, they are shown at once. */
+const OPEN_ROWS = 16;
+const HOW = "Press on the map, or Enter there for its middle, or type metres.";
+
+export class GeometryForm {
+  /** @type {Sketch | null} */
+  sketch = null;
+  /** @type {Shape | null} */
+  shape = null;
+  element = element("div", { class: "geometry" });
+  #map;
+  #onProblem;
+
+  /**
+   * @param {import("../leaflet/leaflet.esm.js").Map} map
+   * @param {(text: string) => void} onProblem gets no text once there is none any more
+   */
+  constructor(map, onProblem) {
+    this.#map = map;
+    this.#onProblem = onProblem;
+  }
+
+  /** @returns {boolean} whether nothing was drawn yet */
+  get isEmpty() {
+    return this.sketch?.positions.length === 0 && !this.shape;
+  }
+
+  /** @returns {Geometry | null} what was drawn; it throws if that is not finished */
+  value() {
+    if (this.sketch?.isEnough) this.sketch.finish();
+    if (this.sketch) throw new Error("The geometry is not finished.");
+    return this.shape?.geometry ?? null;
+  }
+
+  /** Ends drawing; what is shown of it stays. */
+  stop() {
+    takeBack(HOW);
+    this.sketch?.stop();
+    this.shape?.stop();
+    [this.sketch, this.shape] = [null, null];
+  }
+
+  /** Offers to draw a geometry where there is none. */
+  offer() {
+    /** @type {Drawn[]} */
+    const types = ["Point", "LineString", "Polygon"];
+    const offers = types.map((type) =>
+      button(`Draw a ${NAMES[type]}`, () => this.draw(type)),
+    );
+    this.element.replaceChildren(
+      element("p", {}, "It has no geometry."),
+      element("p", { class: "buttons" }, ...offers),
+    );
+  }
+
+  /**
+   * Lets a geometry be drawn from its first position on.
+   * @param {Drawn} type
+   */
+  draw(type) {
+    this.#sketch(KINDS[type], (positions) => {
+      const forms = { Point: positions[0], LineString: positions, Polygon: [positions] };
+      this.adjust({ type, coordinates: forms[type] });
+    });
+  }
+
+  /**
+   * @param {"point" | "line" | "ring"} kind
+   * @param {(positions: Position[]) => void} onDone
+   */
+  #sketch(kind, onDone) {
+    this.sketch = new Sketch(this.#map, kind, {
+      onChange: () => show(),
+      onDone: (positions) => {
+        this.sketch = null;
+        takeBack(HOW);
+        onDone(positions);
+      },
+    });
+    const { sketch } = this;
+    const count = element("p", { role: "status" });
+    const typed = typedPosition((position) => {
+      this.#onProblem(position ? "" : "East and north are metres of the grid.");
+      if (position) sketch.add(position);
+    });
+    const finish = button("Finish", () => sketch.finish(), { class: "finish" });
+    const back = button("Remove last", () => sketch.removeLast());
+    const show = () => {
+      const { length } = sketch.positions;
+      count.textContent = kind === "point" ? "" : counted(length, "position", "positions");
+      finish.disabled = !sketch.isEnough;
+      back.disabled = length === 0;
+    };
+    show();
+    this.element.replaceChildren(
+      element("p", {}, HOW),
+      typed, count,
+      ...(kind === "point" ? [] : [element("p", { class: "buttons" }, finish, back)]),
+    );
+    announce(HOW);
+  }
+
+  /**
+   * Lets the positions of a geometry be moved.
+   * @param {Geometry} geometry
+   */
+  adjust(geometry) {
+    this.shape?.stop();
+    const handles = element("p", { class: "note", role: "status" });
+    this.shape = new Shape(this.#map, geometry, {
+      onChange: () => show(),
+      onHandles: (inView, shown) => {
+        const text = `${counted(inView, "position", "positions")} in view: zoom in to move one.`;
+        handles.textContent = shown < inView ? text : "";
+      },
+    });
+    const { shape } = this;
+    const count = paths(geometry).reduce((sum, { positions }) => sum + positions.length, 0);
+    const words = element("p", { class: "what" });
+    const table = element("div", { class: "positions" });
+    const show = () => {
+      words.textContent = describe(shape.geometry);
+      if (!table.contains(document.activeElement)) table.replaceChildren(...positionFields(shape));
+    };
+    show();
+    const hole = () => this.#sketch("ring", (positions) => {
+      shape.geometry.coordinates.push(positions);
+      this.adjust(shape.geometry);
+    });
+    this.element.replaceChildren(
+      words, handles, stepField(shape),
+      shape.geometry.type === "Polygon"
+        ? element("p", { class: "buttons" }, button("Add a hole", hole))
+        : "",
+      element("details", { open: count <= OPEN_ROWS },
+        element("summary", {}, "Positions in metres"), table),
+    );
+  }
+}
+
+/**
+ * @param {Shape} shape
+ * @returns {HTMLElement} by how much arrow keys move its positions
+ */
+function stepField(shape) {
+  const steps = Object.entries(STEPS);
+  const options = steps.map(([value, text]) => element("option", { value }, text));
+  const choose = () => (shape.step = Number(step.value));
+  const step = element("select", { id: "step", onchange: choose }, ...options);
+  step.value = String(shape.step);
+  const label = element("label", { for: "step" }, "Arrow keys move by");
+  return element("p", { class: "field" }, label, step);
+}
