@@ -49,7 +49,8 @@ export function newKey(user) {
  * @param {Edit} edit
  * @returns {object} the edit as the server reads it
  */
-function asSent({ op, collection, id, feature }) {
+function asSent({ op, collection, id, feature, title, time }) {
+  if (op === "open") return { op, collection, title, ...(time ? { time } : {}) };
   return op === "delete" ? { op, collection, id } : { op, collection, feature };
 }
 

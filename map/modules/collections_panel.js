@@ -29,15 +29,17 @@ function legend() {
 export class CollectionsPanel {
   #list = element("ul", { class: "collections" });
   #view;
+  #open;
 
   /**
    * @param {HTMLElement} panel
    * @param {import("./view.js").View} view
    * @param {{onSwitch: () => void, onFilter: (from: string, to: string) => void, onSearch: (id:
-   *   string) => void}} listener
+   *   string) => void, onOpen: () => void}} listener
    */
-  constructor(panel, view, { onSwitch, onFilter, onSearch }) {
+  constructor(panel, view, { onSwitch, onFilter, onSearch, onOpen }) {
     this.#view = view;
+    this.#open = button("Open a collection", onOpen);
     this.#listenSwitch = onSwitch;
     const [from, to] = ["from", "to"].map((name) =>
       element("input", { type: "date", id: `filter-${name}` }),
@@ -65,6 +67,7 @@ export class CollectionsPanel {
         { class: "buttons" },
         button("Show all", () => view.showAll()),
         button("Ask again", () => view.refresh()),
+        isSecureContext ? this.#open : null,
       ),
       element("ul", { class: "legend", "aria-label": "Edits on the map" }, ...legend()),
       element("h2", {}, "Time"),
@@ -97,8 +100,9 @@ export class CollectionsPanel {
     this.#list.replaceChildren(
       ...collections.map(({ id, title }) => this.#row(id, title, off, counts)),
     );
+    this.#open.classList.toggle("main", collections.length === 0);
     if (collections.length > 0) return;
-    this.#list.append(element("li", {}, "There is no collection yet."));
+    this.#list.append(element("li", {}, "There is no collection yet. Open one to begin the town."));
   }
 
   /** Shows the counts of now. */

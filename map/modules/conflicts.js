@@ -24,7 +24,7 @@ const AT_ONCE = 6;
 export async function findDifferences(edits) {
   const found = [];
   const all = edits.map((edit, index) => ({ edit, index }));
-  const left = all.filter(({ edit }) => edit.op !== "insert");
+  const left = all.filter(({ edit }) => edit.op === "replace" || edit.op === "delete");
   const work = async () => {
     for (let next = left.shift(); next; next = left.shift()) {
       const { edit, index } = next;

@@ -8,6 +8,7 @@ import { changed } from "./channel.js";
 import { askBetweenTabs } from "./differences_dialog.js";
 import { announce } from "./element.js";
 import { keepLast } from "./last.js";
+import { openCollection } from "./opening_dialog.js";
 import { changeEdits } from "./queue.js";
 
 export class Editing {
@@ -34,11 +35,18 @@ export class Editing {
     const isThere = collections.some(({ id }) => id === this.#chosen.collection);
     const on = collections.find(({ id }) => !off.has(id)) ?? collections[0];
     const first = isThere ? this.#chosen.collection : on?.id;
-    if (!first) return announce("There is no collection to add to.");
+    if (!first) return this.openCollection();
     this.#editor.begin(type, first, (edit) => this.#take(edit, ""));
     this.#chosen.outline();
     this.#tabs.open("feature");
     return this.#view.map.getContainer().focus();
+  }
+
+  /** Asks for a collection to open, which is then offered first. */
+  async openCollection() {
+    if (this.#chosen.isBusy()) return;
+    const id = await openCollection(this.#view.collections.map((it) => it.id));
+    if (id !== null) this.#chosen.collection = id;
   }
 
   /**

@@ -74,6 +74,7 @@ export class Page {
       onSwitch: () => this.#switched(),
       onFilter: (from, to) => this.#filtered(from, to),
       onSearch: (id) => this.chosen.search(id),
+      onOpen: () => this.editing.openCollection(),
     });
     this.queuePanel = new QueuePanel(byId("panel-queue"), {
       onSelect: (collection, id) => this.chosen.choose(collection, id, true),

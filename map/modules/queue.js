@@ -77,6 +77,27 @@ export async function saveBasket(user) {
 }
 
 /**
+ * Puts the opening of a collection into the queue, as a batch of its own.
+ * @param {string} user
+ * @param {import("./opening.js").Opening} opening
+ */
+export async function saveOpening(user, { collection, title, time }) {
+  /** @type {Edit} */
+  const edit = { op: "open", collection, id: "", title, time, feature: null, base: null };
+  const batch = { ...newBatch(user, [edit]), saved: Date.now() };
+  await transact(["queue"], "readwrite", (queue) => result(queue.add(batch)));
+  changed("queue");
+}
+
+/**
+ * @param {Batch} batch
+ * @returns {boolean} whether it opens a collection
+ */
+export function isOpening({ edits }) {
+  return edits.some(({ op }) => op === "open");
+}
+
+/**
  * @returns {Promise<Batch[]>} all batches that wait, the next one first
  */
 export function readQueue() {
@@ -131,7 +152,8 @@ export async function leave(batch, record, isRight = () => true) {
     if (number > ANSWERS_KEPT) answers.delete(IDBKeyRange.upperBound(number - ANSWERS_KEPT));
     if (record.outcome === "accepted") {
       settings.put({ key, time }, LAST_ACCEPTED);
-      for (const { collection, id, feature } of edits) {
+      for (const { op, collection, id, feature } of edits) {
+        if (op === "open") continue;
         if (feature) features.put({ collection, id, feature, seen: time });
         else features.delete([collection, id]);
       }

@@ -11,6 +11,7 @@ import {
   backToBasket,
   changeEdits,
   isBuiltUpon,
+  isOpening,
   leave,
   mayChange,
   readAnswers,
@@ -179,7 +180,8 @@ export class QueuePanel {
         batch.isDoubtful ? button("Keep it for its town", () => setAside()) : null,
         (batch.held && !batch.isDoubtful) || batch.state === "refused"
           ? button("Send again", () => sendAgain(batch).then(() => changed("send"))) : null,
-        isFree ? button("Back to basket", () => takeBack(batch, queue)) : null,
+        isFree && !isOpening(batch)
+          ? button("Back to basket", () => takeBack(batch, queue)) : null,
         isFree || batch.tries > 0 ? button("Drop", () => drop(batch)) : null,
       ),
       element("span", { class: "key" }, batch.key),
@@ -190,19 +192,17 @@ export class QueuePanel {
     const mark = markOf(batch, index);
     const isFree = batch.state === "refused" && mayChange(batch);
     const change = () => this.#listener.onChange(batch, index);
-    const takeOut = `Take the edit of ${edit.id} out`;
+    const takeOut = `Take the edit of ${edit.id || edit.title} out`;
     const without = () => changeEdits(
       batch,
       batch.edits.filter((_, place) => place !== index),
     ).then(() => changed("send"));
+    const select = () => this.#listener.onSelect(edit.collection, edit.id);
+    const name = edit.op === "open" ? edit.title : button(edit.id, select, { class: "link" });
     return element(
       "li", { class: mark === "waiting" ? "edit" : `edit mark-${mark}` },
       element(
-        "div", {}, button(
-          edit.id,
-          () => this.#listener.onSelect(edit.collection, edit.id),
-          { class: "link" },
-        ),
+        "div", {}, name,
         element("span", { class: "note" }, ` ${edit.collection}`),
         element("div", {}, editText(edit, differences)),
       ),

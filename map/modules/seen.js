@@ -35,7 +35,8 @@ export class Seen {
     for (const { number, outcome, edits, time } of await readAnswers(this.#answer)) {
       this.#answer = number;
       if (outcome !== "accepted") continue;
-      for (const { collection, id, feature } of edits) {
+      for (const { op, collection, id, feature } of edits) {
+        if (op === "open") continue;
         const known = this.#of(collection).get(id);
         if (known && known.seen > time) continue;
         if (feature) this.#of(collection).set(id, this.#sight(feature, time));

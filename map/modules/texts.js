@@ -4,7 +4,7 @@
 import { describe, metres, paths } from "./geometry.js";
 import { writeJson } from "./json.js";
 
-const ACTIONS = { insert: "added", replace: "changed", delete: "deleted" };
+const ACTIONS = { open: "opened", insert: "added", replace: "changed", delete: "deleted" };
 /** What the marks of edits mean. */
 export const MARKS = {
   basket: "in the basket",

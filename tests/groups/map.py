@@ -1,6 +1,17 @@
 """The map page in a headless browser, over the program and nginx: seeing, editing, no network."""
 
-from browser import deploying, editing, filling, foreign, forms, keeping, looking, phone, placing
+from browser import (
+    beginning,
+    deploying,
+    editing,
+    filling,
+    foreign,
+    forms,
+    keeping,
+    looking,
+    phone,
+    placing,
+)
 from browser import modules as map_modules
 from browser import reading, sending
 from browser.parts import run_parts
@@ -23,6 +34,6 @@ PACKAGES = (
 def run(context: Context) -> None:
     # Those with the longest parts first.
     longest = (looking, keeping, sending, editing, reading)
-    others = (filling, forms, phone, placing, deploying, foreign, map_modules)
+    others = (beginning, filling, forms, phone, placing, deploying, foreign, map_modules)
     modules = (*longest, *others)
     run_parts(context, [part for module in modules for part in module.PARTS])
