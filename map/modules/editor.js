@@ -15,6 +15,7 @@ import { PropertiesForm } from "./properties_form.js";
 
 export class Editor {
   #view;
+  #ground;
   #panel;
   #describe;
   #onCancel;
@@ -28,11 +29,13 @@ export class Editor {
 
   /**
    * @param {import("./view.js").View} view
+   * @param {import("./ground.js").Ground} ground
    * @param {HTMLElement} panel where the form is shown
    * @param {{describe: (collection: string) => Description, onCancel: () => void}} listener
    */
-  constructor(view, panel, { describe, onCancel }) {
+  constructor(view, ground, panel, { describe, onCancel }) {
     this.#view = view;
+    this.#ground = ground;
     this.#panel = panel;
     this.#describe = describe;
     this.#onCancel = onCancel;
@@ -125,10 +128,10 @@ export class Editor {
     this.stop();
     this.#isTyped = false;
     this.#problem.textContent = "";
-    this.#geometry = new GeometryForm(
-      this.#view.map,
-      (text) => (this.#problem.textContent = text),
-    );
+    this.#geometry = new GeometryForm(this.#view.map, this.#ground.own, {
+      onProblem: (text) => (this.#problem.textContent = text),
+      onMeasured: (accuracy) => this.#properties.measure(accuracy),
+    });
     const description = this.#describe(collection);
     this.#properties = new PropertiesForm(feature?.properties ?? null, !feature, description);
     const geometry = [element("h3", {}, "Geometry"), this.#geometry.element];

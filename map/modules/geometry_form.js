@@ -5,8 +5,10 @@
  * @typedef {import("./geometry.js").Position} Position
  * @typedef {"Point" | "LineString" | "Polygon"} Drawn
  */
-import { announce, button, element, takeBack } from "./element.js";
+import { announce, button, element, isPhone, takeBack } from "./element.js";
 import { describe, paths } from "./geometry.js";
+import { hidePlacing, showPlacing } from "./placing_bar.js";
+import { accuracyInWords } from "./position.js";
 import { positionFields, typedPosition } from "./positions_form.js";
 import { Shape } from "./shape.js";
 import { Sketch } from "./sketch.js";
@@ -18,7 +20,9 @@ const KINDS = { Point: "point", LineString: "line", Polygon: "ring" };
 export const NAMES = { Point: "point", LineString: "line", Polygon: "polygon" };
 /** Up to this number of positions, they are shown at once. */
 const OPEN_ROWS = 16;
-const HOW = "Press on the map, or Enter there for its middle, or type metres.";
+const HOW = isPhone()
+  ? "Press on the map, or move it under the cross and press “Place here”."
+  : "Press on the map, or Enter there for its middle, or type metres.";
 
 export class GeometryForm {
   /** @type {Sketch | null} */
@@ -26,16 +30,22 @@ export class GeometryForm {
   /** @type {Shape | null} */
   shape = null;
   element = element("div", { class: "geometry" });
+  /** @type {number | null} how far the positions may be off, in metres, if they were measured */
+  #accuracy = null;
   #map;
-  #onProblem;
+  #own;
+  #listener;
 
   /**
    * @param {import("../leaflet/leaflet.esm.js").Map} map
-   * @param {(text: string) => void} onProblem gets no text once there is none any more
+   * @param {import("./position.js").OwnPosition | null} own
+   * @param {{onProblem: (text: string) => void, onMeasured: (accuracy: number | null) => void}}
+   *   listener gets no text once there is no problem any more
    */
-  constructor(map, onProblem) {
+  constructor(map, own, listener) {
     this.#map = map;
-    this.#onProblem = onProblem;
+    this.#own = own;
+    this.#listener = listener;
   }
 
   /** @returns {boolean} whether nothing was drawn yet */
@@ -53,6 +63,7 @@ export class GeometryForm {
   /** Ends drawing; what is shown of it stays. */
   stop() {
     takeBack(HOW);
+    hidePlacing();
     this.sketch?.stop();
     this.shape?.stop();
     [this.sketch, this.shape] = [null, null];
@@ -76,7 +87,9 @@ export class GeometryForm {
    * @param {Drawn} type
    */
   draw(type) {
-    this.#sketch(KINDS[type], (positions) => {
+    this.#sketch(KINDS[type], (positions, accuracy) => {
+      this.#accuracy = accuracy;
+      this.#listener.onMeasured(accuracy);
       const forms = { Point: positions[0], LineString: positions, Polygon: [positions] };
       this.adjust({ type, coordinates: forms[type] });
     });
@@ -84,21 +97,22 @@ export class GeometryForm {
 
   /**
    * @param {"point" | "line" | "ring"} kind
-   * @param {(positions: Position[]) => void} onDone
+   * @param {(positions: Position[], accuracy: number | null) => void} onDone
    */
   #sketch(kind, onDone) {
     this.sketch = new Sketch(this.#map, kind, {
       onChange: () => show(),
-      onDone: (positions) => {
+      onDone: (positions, accuracy) => {
         this.sketch = null;
         takeBack(HOW);
-        onDone(positions);
+        hidePlacing();
+        onDone(positions, accuracy);
       },
     });
     const { sketch } = this;
     const count = element("p", { role: "status" });
     const typed = typedPosition((position) => {
-      this.#onProblem(position ? "" : "East and north are metres of the grid.");
+      this.#listener.onProblem(position ? "" : "East and north are metres of the grid.");
       if (position) sketch.add(position);
     });
     const finish = button("Finish", () => sketch.finish(), { class: "finish" });
@@ -110,10 +124,13 @@ export class GeometryForm {
       back.disabled = length === 0;
     };
     show();
+    const steps = kind === "point" ? [] : [finish, back];
+    // On a phone the map is in view, and this part of the form may not be.
+    showPlacing(sketch, this.#own, isPhone() ? steps : []);
     this.element.replaceChildren(
       element("p", {}, HOW),
       typed, count,
-      ...(kind === "point" ? [] : [element("p", { class: "buttons" }, finish, back)]),
+      steps.length > 0 && !isPhone() ? element("p", { class: "buttons" }, ...steps) : "",
     );
     announce(HOW);
   }
@@ -125,8 +142,13 @@ export class GeometryForm {
   adjust(geometry) {
     this.shape?.stop();
     const handles = element("p", { class: "note", role: "status" });
+    const moved = () => {
+      if (this.#accuracy !== null) this.#listener.onMeasured(null);
+      this.#accuracy = null;
+      show();
+    };
     this.shape = new Shape(this.#map, geometry, {
-      onChange: () => show(),
+      onChange: moved,
       onHandles: (inView, shown) => {
         const text = `${counted(inView, "position", "positions")} in view: zoom in to move one.`;
         handles.textContent = shown < inView ? text : "";
@@ -137,7 +159,9 @@ export class GeometryForm {
     const words = element("p", { class: "what" });
     const table = element("div", { class: "positions" });
     const show = () => {
-      words.textContent = describe(shape.geometry);
+      const isMeasured = this.#accuracy !== null;
+      const measured = isMeasured ? `, ${accuracyInWords(this.#accuracy)}` : "";
+      words.textContent = describe(shape.geometry) + measured;
       if (!table.contains(document.activeElement)) table.replaceChildren(...positionFields(shape));
     };
     show();

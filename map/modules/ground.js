@@ -11,6 +11,8 @@ import { OwnPosition } from "./position.js";
 export class Ground {
   /** @type {import("./place.js").Place | null} */
   earth = null;
+  /** @type {OwnPosition | null} */
+  own = null;
   #map;
 
   /** @param {import("../leaflet/leaflet.esm.js").Map} map */
@@ -41,11 +43,11 @@ export class Ground {
     const button = byId("own-position");
     button.hidden = !this.earth || !navigator.geolocation;
     if (button.hidden) return;
-    const own = new OwnPosition(this.#map, this.earth);
-    button.addEventListener("click", () => {
-      if (own.isOn) own.stop();
-      else own.start(announce);
+    const own = new OwnPosition(this.#map, this.earth, () => {
       button.setAttribute("aria-pressed", String(own.isOn));
+      button.classList.toggle("follows", own.follows);
     });
+    button.addEventListener("click", () => own.press(announce));
+    this.own = own;
   }
 }

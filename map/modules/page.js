@@ -58,7 +58,7 @@ export class Page {
     this.tabs = new Tabs(byId("tabs"));
     this.background = new BackgroundImage(this.view.map);
     this.ground = new Ground(this.view.map);
-    this.editor = new Editor(this.view, byId("panel-feature"), {
+    this.editor = new Editor(this.view, this.ground, byId("panel-feature"), {
       describe: (collection) => ({
         fields: this.office.forms.get(collection) ?? [],
         kinds: kindsIn(seen.some(collection, MOST_READ), MOST_NAMES),

@@ -13,7 +13,7 @@ from browser import (
     placing,
 )
 from browser import modules as map_modules
-from browser import reading, sending
+from browser import reading, sending, standing
 from browser.parts import run_parts
 from harness import Context
 
@@ -34,6 +34,6 @@ PACKAGES = (
 def run(context: Context) -> None:
     # Those with the longest parts first.
     longest = (looking, keeping, sending, editing, reading)
-    others = (beginning, filling, forms, phone, placing, deploying, foreign, map_modules)
-    modules = (*longest, *others)
+    shorter = (beginning, filling, standing, forms, phone, placing, deploying, foreign, map_modules)
+    modules = (*longest, *shorter)
     run_parts(context, [part for module in modules for part in module.PARTS])

@@ -39,7 +39,7 @@ declare module "*/leaflet.esm.js" {
     getZoom(): number;
     getZoomScale(to: number, from: number): number;
     latLngToContainerPoint(place: Place): { x: number; y: number };
-    setView(place: Place, zoom: number, options?: { reset?: boolean }): this;
+    setView(place: Place, zoom: number, options?: { reset?: boolean; animate?: boolean }): this;
     fitBounds(
       corners: Place[],
       options: { padding: [number, number]; maxZoom: number; animate: boolean },
