@@ -9,6 +9,7 @@
  */
 import { bare } from "./feature.js";
 import { readJson } from "./json.js";
+import { say } from "./words.js";
 
 /** How many features one page holds, and how many of a collection are shown. */
 export const PAGE_LIMIT = 1000;
@@ -65,8 +66,10 @@ async function fetched(target, options, seconds) {
     const response = await fetch(target, { ...options, ...settings, signal: late.signal });
     return { status: response.status, json: ownJson(response, await response.text()) };
   } catch (fault) {
-    if (options.signal?.aborted) throw new DOMException("The view moved on.", "AbortError");
-    throw new NoAnswer(late.signal.aborted ? "The server is silent." : "There is no network.");
+    if (options.signal?.aborted) throw new DOMException(say("The view moved on."), "AbortError");
+    throw new NoAnswer(late.signal.aborted ? say(
+      "The server is silent.",
+    ) : say("There is no network."));
   } finally {
     clearTimeout(timer);
     options.signal?.removeEventListener("abort", give);
@@ -98,7 +101,7 @@ async function read(target, signal) {
   const { status, json } = await fetched(target, { signal }, READ_SECONDS);
   if (status === 200 && json) return json;
   if (json && typeof json.code === "string") throw new Refusal(status, json);
-  throw new NoAnswer(`The server did not answer (${status}).`, status);
+  throw new NoAnswer(say("The server did not answer ({status}).", { status }), status);
 }
 
 /**
@@ -174,7 +177,7 @@ export async function knowsKey(key) {
   const { status, json } = await postBatch(JSON.stringify({ key, edits }));
   if (json?.code === "key_used") return true;
   if (json?.code === "no_collection") return false;
-  throw new NoAnswer(`The server did not answer (${status}).`, status);
+  throw new NoAnswer(say("The server did not answer ({status}).", { status }), status);
 }
 
 /**

@@ -8,6 +8,7 @@ import { NoAnswer, Refusal, readFeature } from "./api.js";
 import { putInBasket, takeOutOfBasket } from "./basket.js";
 import { announce, byId, element } from "./element.js";
 import { showFeature } from "./feature_panel.js";
+import { say } from "./words.js";
 
 export class Chosen {
   /** @type {Name | null} */
@@ -42,7 +43,7 @@ export class Chosen {
   isBusy() {
     if (!this.#editor.isBegun) return false;
     this.#tabs.open("feature");
-    announce("Put the edit in the basket first, or cancel it.");
+    announce(say("Put the edit in the basket first, or cancel it."));
     return true;
   }
 
@@ -59,7 +60,7 @@ export class Chosen {
     this.set({ collection, id });
     this.#others = others;
     const feature = await this.#find(collection, id);
-    if (!feature) return void this.leave(`${id} is not there.`);
+    if (!feature) return void this.leave(say("{id} is not there.", { id }));
     this.show();
     this.#tabs.open("feature");
     if (isFar) this.#view.goTo(feature);
@@ -83,7 +84,7 @@ export class Chosen {
       ids.map(async (collection) => ((await this.#find(collection, id)) ? collection : null)),
     );
     const collection = found.find((it) => it !== null);
-    if (!collection) return announce(`There is no feature with the id ${id}.`);
+    if (!collection) return announce(say("There is no feature with the id {id}.", { id }));
     return this.choose(collection, id, true);
   }
 
@@ -117,7 +118,7 @@ export class Chosen {
   }
 
   /** @param {string} [text] what the panel says while no feature is chosen */
-  leave(text = "Press a feature on the map to see what is known of it.") {
+  leave(text = say("Press a feature on the map to see what is known of it.")) {
     this.set(null);
     byId("panel-feature").replaceChildren(element("p", { class: "note" }, text));
     this.outline();

@@ -6,6 +6,7 @@ import { askInDialog, element } from "./element.js";
 import { differences, isSame } from "./feature.js";
 import { changeEdits } from "./queue.js";
 import { sides } from "./texts.js";
+import { say } from "./words.js";
 
 /**
  * @param {import("./basket.js").Edit} edit
@@ -13,15 +14,15 @@ import { sides } from "./texts.js";
  * @param {string[]} [names] of what was, of what the edit makes of it, and of what is there now
  * @returns {HTMLElement}
  */
-function comparison(edit, theirs, names = ["It was", "Mine", "Theirs"]) {
+function comparison(edit, theirs, names = [say("It was"), say("Mine"), say("Theirs")]) {
   const whats = new Map();
   const add = (list) => list.forEach(({ what }) => whats.set(what, true));
   add(differences(edit.base, edit.feature));
   add(differences(edit.base, theirs));
   add(differences(edit.feature, theirs));
   const cell = (feature, what) => {
-    if (!feature) return "not there";
-    if (what === "the feature") return "there";
+    if (!feature) return say("not there");
+    if (what === "the feature") return say("there");
     const isMember = what === "geometry" || what === "properties";
     const value = isMember ? feature[what] : feature.properties?.[what];
     return sides({ what, one: value, other: value })[0];
@@ -34,7 +35,7 @@ function comparison(edit, theirs, names = ["It was", "Mine", "Theirs"]) {
   );
   const head = ["", ...names].map((text) => element("th", { scope: "col" }, text));
   return element(
-    "div", { class: "scrolled", tabindex: 0, role: "group", "aria-label": "Comparison" },
+    "div", { class: "scrolled", tabindex: 0, role: "group", "aria-label": say("Comparison") },
     element(
       "table",
       { class: "comparison" },
@@ -50,9 +51,12 @@ function comparison(edit, theirs, names = ["It was", "Mine", "Theirs"]) {
  * @returns {string} in a sentence
  */
 function sentence(edit, theirs) {
-  if (!theirs) return `Another has deleted it${edit.op === "delete" ? " already" : ""}.`;
-  if (isSame(edit.feature, theirs)) return "Another has made the same change already.";
-  return `Another has changed ${edit.op === "delete" ? "what you delete" : "it too"}.`;
+  const isDeleting = edit.op === "delete";
+  if (!theirs && isDeleting) return say("Another has deleted it already.");
+  if (!theirs) return say("Another has deleted it.");
+  if (isSame(edit.feature, theirs)) return say("Another has made the same change already.");
+  if (isDeleting) return say("Another has changed what you delete.");
+  return say("Another has changed it too.");
 }
 
 /**
@@ -61,12 +65,12 @@ function sentence(edit, theirs) {
  * @returns {{text: string, value: string}[]}
  */
 function choices(edit, theirs) {
-  const leave = { text: theirs ? "Take theirs" : "Leave it deleted", value: "theirs" };
-  const drop = { text: "Decide later", value: null };
+  const leave = { text: theirs ? say("Take theirs") : say("Leave it deleted"), value: "theirs" };
+  const drop = { text: say("Decide later"), value: null };
   if (edit.op === "delete" && !theirs) return [leave, drop];
   const texts = {
-    delete: "Delete it all the same",
-    replace: theirs ? "Keep mine" : "Put mine back",
+    delete: say("Delete it all the same"),
+    replace: theirs ? say("Keep mine") : say("Put mine back"),
   };
   return [leave, { text: texts[edit.op], value: "mine" }, drop];
 }
@@ -78,18 +82,20 @@ function choices(edit, theirs) {
  * @returns {Promise<"this" | "other" | null>} null if the user goes on editing
  */
 export function askBetweenTabs(edit, other) {
-  const text = "Another tab of this page has edited it since this form was opened.";
+  const text = say("Another tab of this page has edited it since this form was opened.");
   const base = edit.base ?? other.base;
   return askInDialog(
     edit.id,
     [
       element("p", {}, text),
-      comparison({ ...edit, base }, other.feature, ["It was", "This form", "The other tab"]),
+      comparison({ ...edit, base }, other.feature, [say("It was"), say("This form"), say(
+        "The other tab",
+      )]),
     ],
     [
-      { text: "Go on editing", value: null },
-      { text: "Take this form", value: "this" },
-      { text: "Take the other tab", value: "other" },
+      { text: say("Go on editing"), value: null },
+      { text: say("Take this form"), value: "this" },
+      { text: say("Take the other tab"), value: "other" },
     ],
   );
 }
@@ -103,7 +109,10 @@ export async function resolveDifferences(batch) {
   for (const [place, { index, theirs }] of batch.differences.entries()) {
     const edit = batch.edits[index];
     const { length } = batch.differences;
-    const count = length > 1 ? ` (${place + 1} of ${length})` : "";
+    const count = length > 1 ? ` (${say(
+      "{number} of {count}",
+      { number: place + 1, count: length },
+    )})` : "";
     const decision = await askInDialog(
       `${edit.id}${count}`,
       [element("p", {}, sentence(edit, theirs)), comparison(edit, theirs)],

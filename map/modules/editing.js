@@ -10,6 +10,7 @@ import { announce } from "./element.js";
 import { keepLast } from "./last.js";
 import { openCollection } from "./opening_dialog.js";
 import { changeEdits } from "./queue.js";
+import { say } from "./words.js";
 
 export class Editing {
   #view;
@@ -76,7 +77,7 @@ export class Editing {
     if (edit.op === "insert") await keepLast(edit);
     this.#editor.close();
     this.#chosen.set({ collection: edit.collection, id: edit.id });
-    announce(`${edit.id} is in the basket.`);
+    announce(say("{id} is in the basket.", { id: edit.id }));
     this.#chosen.show();
     this.#tabs.open("basket");
   }
@@ -92,7 +93,7 @@ export class Editing {
     const take = async ({ feature }) => {
       const edits = batch.edits.map((it, at) => (at === index ? { ...edit, feature } : it));
       if (!(await changeEdits(batch, edits))) {
-        throw new Error("The batch was changed or sent by another tab meanwhile.");
+        throw new Error(say("The batch was changed or sent by another tab meanwhile."));
       }
       changed("send");
       this.#editor.close();

@@ -9,9 +9,17 @@
  */
 import { announce, button, element, isPhone } from "./element.js";
 import { isId, isSame } from "./feature.js";
-import { GeometryForm, NAMES } from "./geometry_form.js";
+import { GeometryForm } from "./geometry_form.js";
 import { readLast } from "./last.js";
 import { PropertiesForm } from "./properties_form.js";
+import { say } from "./words.js";
+
+/** @type {Record<Drawn, string>} */
+const TITLES = {
+  Point: say("New point"),
+  LineString: say("New line"),
+  Polygon: say("New polygon"),
+};
 
 export class Editor {
   #view;
@@ -74,14 +82,14 @@ export class Editor {
     );
     const finish = (geometry, properties) => {
       const id = field.value;
-      if (!isId(id)) throw new Error("An id has 1 to 128 bytes and no control characters.");
+      if (!isId(id)) throw new Error(say("An id has 1 to 128 bytes and no control characters."));
       /** @type {Feature} */
       const feature = { type: "Feature", id, geometry, properties };
       return take({ op: "insert", collection: chosen.value, id, feature, base: null });
     };
-    const which = [element("label", { for: "edit-collection" }, "Collection"), chosen];
-    const name = [element("label", { for: "edit-id" }, "Id"), field];
-    this.#open({ title: `New ${NAMES[type]}`, which, name, feature: null, collection }, finish);
+    const which = [element("label", { for: "edit-collection" }, say("Collection")), chosen];
+    const name = [element("label", { for: "edit-id" }, say("Id")), field];
+    this.#open({ title: TITLES[type], which, name, feature: null, collection }, finish);
     this.#describeNew(collection);
     this.#geometry.draw(type);
   }
@@ -109,12 +117,15 @@ export class Editor {
       /** @type {Feature} */
       const edited = { type: "Feature", id, geometry, properties };
       if (isSame(edited, feature)) {
-        announce("Nothing was changed.");
+        announce(say("Nothing was changed."));
         return this.cancel();
       }
       return take({ op: "replace", collection, id, feature: edited, base: feature });
     };
-    this.#open({ title: `Edit ${id}`, which: [], name: [], feature, collection }, finish);
+    this.#open({ title: say(
+      "Edit {id}",
+      { id },
+    ), which: [], name: [], feature, collection }, finish);
     if (feature.geometry) this.#geometry.adjust(feature.geometry);
     else this.#geometry.offer();
   }
@@ -134,8 +145,8 @@ export class Editor {
     });
     const description = this.#describe(collection);
     this.#properties = new PropertiesForm(feature?.properties ?? null, !feature, description);
-    const geometry = [element("h3", {}, "Geometry"), this.#geometry.element];
-    const properties = [element("h3", {}, "Properties"), this.#properties.element];
+    const geometry = [element("h3", {}, say("Geometry")), this.#geometry.element];
+    const properties = [element("h3", {}, say("Properties")), this.#properties.element];
     // On a phone one draws above the form, so its fields come first.
     const order = isPhone()
       ? [...which, ...properties, ...geometry, ...name]
@@ -152,8 +163,8 @@ export class Editor {
       this.#problem,
       element(
         "p", { class: "buttons" },
-        element("button", { type: "submit", class: "main" }, "Put in basket"),
-        button("Cancel", () => this.cancel()),
+        element("button", { type: "submit", class: "main" }, say("Put in basket")),
+        button(say("Cancel"), () => this.cancel()),
       ),
     );
     this.#panel.replaceChildren(form);

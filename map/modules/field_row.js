@@ -5,6 +5,8 @@
  */
 import { button, element } from "./element.js";
 import { TRUTHS, accuracyText, fieldText, fieldValue, firstText } from "./fields.js";
+import { TRUTH_TEXTS } from "./kinds.js";
+import { say } from "./words.js";
 
 /** Up to this number of choices, each has a button; more are a list. */
 const MOST_BUTTONS = 8;
@@ -48,6 +50,7 @@ export class FieldRow {
     const name = `field-${made}`;
     const label = (text) => {
       const option = element("input", { type: "radio", name, value: text });
+      const said = this.field.type === "yes/no" ? TRUTH_TEXTS[text] : text;
       let wasChosen = false;
       const isPressed = () => (wasChosen = option.checked);
       option.addEventListener("pointerdown", isPressed);
@@ -57,7 +60,7 @@ export class FieldRow {
         this.#touch();
       });
       this.#options.push(option);
-      return element("label", { class: "chip", onpointerdown: isPressed }, option, text);
+      return element("label", { class: "chip", onpointerdown: isPressed }, option, said);
     };
     return element(
       "fieldset",
@@ -91,13 +94,16 @@ export class FieldRow {
       { class: "described" },
       element("label", { for: id }, this.#title),
       element("span", { class: "entry" }, this.#input, type === "date"
-        ? button("Today", today, { "aria-label": `${this.field.label}: today` }) : null),
+        ? button(say("Today"), today, { "aria-label": say(
+          "{label}: today",
+          { label: this.field.label },
+        ) }) : null),
       this.#problem,
     );
   }
 
   get #title() {
-    return `${this.field.label}${this.field.isRequired ? " (needed)" : ""}`;
+    return `${this.field.label}${this.field.isRequired ? ` (${say("needed")})` : ""}`;
   }
 
   #touch() {

@@ -17,6 +17,7 @@
  * @property {boolean} isCopied whether "as the last one" copies it
  */
 import { checkNumbers, kindOf } from "./kinds.js";
+import { say } from "./words.js";
 
 const TYPES = ["text", "whole", "decimal", "date", "yes/no", "choice"];
 const DECIMAL = /^-?\d+(?:[.,]\d+)?$/;
@@ -60,19 +61,24 @@ export function holds({ type, choices }, value) {
  */
 function readField(described) {
   const { name, label = name, type = "text", choices = [] } = described ?? {};
-  const fault = (why) => new Error(`the field “${name}” ${why}`);
-  if (typeof name !== "string" || name === "") throw new Error("a field has no name");
-  if (typeof label !== "string") throw fault("has a label that is no text");
-  if (!TYPES.includes(type)) throw fault(`has no type of ${TYPES.join(", ")}`);
-  if (!Array.isArray(choices) || choices.length > MOST_CHOICES) throw fault("has bad choices");
+  const fault = (why) => new Error(say("the field “{name}” {why}", { name, why }));
+  if (typeof name !== "string" || name === "") throw new Error(say("a field has no name"));
+  if (typeof label !== "string") throw fault(say("has a label that is no text"));
+  if (!TYPES.includes(type)) {
+    throw fault(say(
+      "has no type of {types}",
+      { types: TYPES.join(", ") },
+    ));
+  }
+  if (!Array.isArray(choices) || choices.length > MOST_CHOICES) throw fault(say("has bad choices"));
   const isPlain = (value) => ["text", "number", "truth"].includes(kindOf(value));
-  if (!choices.every(isPlain)) throw fault("has bad choices");
-  if (type === "choice" && choices.length === 0) throw fault("has no choices");
+  if (!choices.every(isPlain)) throw fault(say("has bad choices"));
+  if (type === "choice" && choices.length === 0) throw fault(say("has no choices"));
   for (const value of choices) checkNumbers(value, name);
   const isToday = type === "date" && described.default === "today";
   const from = isToday ? "today" : described.from === "accuracy" ? "accuracy" : "";
   if (from === "accuracy" && !["text", "whole", "decimal"].includes(type)) {
-    throw fault("cannot have an accuracy");
+    throw fault(say("cannot have an accuracy"));
   }
   /** @type {Field} */
   const field = {
@@ -86,7 +92,7 @@ function readField(described) {
     isCopied: described.copied !== false && from === "",
   };
   if (field.default !== undefined && !holds(field, field.default)) {
-    throw fault("has a default that is none of its values");
+    throw fault(say("has a default that is none of its values"));
   }
   return field;
 }
@@ -98,11 +104,11 @@ function readField(described) {
 export function readFields(described) {
   if (described === undefined) return [];
   if (!Array.isArray(described) || described.length > MOST_FIELDS) {
-    throw new Error("its fields are no list");
+    throw new Error(say("its fields are no list"));
   }
   const fields = described.map(readField);
   if (new Set(fields.map(({ name }) => name)).size < fields.length) {
-    throw new Error("a field is there twice");
+    throw new Error(say("a field is there twice"));
   }
   return fields;
 }
@@ -149,7 +155,7 @@ export function fieldValue(field, text) {
   const { label, type, choices, isRequired } = field;
   const trimmed = text.trim();
   if (trimmed === "") {
-    if (isRequired) throw new Error(`“${label}” is needed.`);
+    if (isRequired) throw new Error(say("“{label}” is needed.", { label }));
     return undefined;
   }
   if (type === "text") return text;
@@ -157,10 +163,15 @@ export function fieldValue(field, text) {
   if (type === "yes/no") return TRUTHS[trimmed];
   if (type === "whole") return wholeNumber(label, trimmed);
   if (type === "decimal") {
-    if (!DECIMAL.test(trimmed)) throw new Error(`${label}: “${text}” is no number.`);
+    if (!DECIMAL.test(trimmed)) {
+      throw new Error(say(
+        "{label}: “{text}” is no number.",
+        { label, text },
+      ));
+    }
     return trimmed.replace(",", ".");
   }
-  if (!isDay(trimmed)) throw new Error(`${label}: “${text}” is no day.`);
+  if (!isDay(trimmed)) throw new Error(say("{label}: “{text}” is no day.", { label, text }));
   return trimmed;
 }
 
@@ -170,7 +181,12 @@ export function fieldValue(field, text) {
  * @returns {number | bigint}
  */
 function wholeNumber(label, text) {
-  if (!/^-?\d{1,20}$/.test(text)) throw new Error(`${label}: “${text}” is no whole number.`);
+  if (!/^-?\d{1,20}$/.test(text)) {
+    throw new Error(say(
+      "{label}: “{text}” is no whole number.",
+      { label, text },
+    ));
+  }
   const number = Number(text);
   const value = Number.isSafeInteger(number) ? number || 0 : BigInt(text);
   checkNumbers(value, label);

@@ -12,17 +12,23 @@ import { accuracyInWords } from "./position.js";
 import { positionFields, typedPosition } from "./positions_form.js";
 import { Shape } from "./shape.js";
 import { Sketch } from "./sketch.js";
-import { counted } from "./texts.js";
+import { countedPositions } from "./texts.js";
+import { say } from "./words.js";
 
 const STEPS = { 1: "1 mm", 10: "1 cm", 100: "10 cm", 1000: "1 m", 10000: "10 m" };
 /** @type {Record<Drawn, "point" | "line" | "ring">} */
 const KINDS = { Point: "point", LineString: "line", Polygon: "ring" };
-export const NAMES = { Point: "point", LineString: "line", Polygon: "polygon" };
+/** @type {Record<Drawn, string>} */
+const OFFERS = {
+  Point: say("Draw a point"),
+  LineString: say("Draw a line"),
+  Polygon: say("Draw a polygon"),
+};
 /** Up to this number of positions, they are shown at once. */
 const OPEN_ROWS = 16;
 const HOW = isPhone()
-  ? "Press on the map, or move it under the cross and press “Place here”."
-  : "Press on the map, or Enter there for its middle, or type metres.";
+  ? say("Press on the map, or move it under the cross.")
+  : say("Press on the map, or Enter there for its middle, or type metres.");
 
 export class GeometryForm {
   /** @type {Sketch | null} */
@@ -56,7 +62,7 @@ export class GeometryForm {
   /** @returns {Geometry | null} what was drawn; it throws if that is not finished */
   value() {
     if (this.sketch?.isEnough) this.sketch.finish();
-    if (this.sketch) throw new Error("The geometry is not finished.");
+    if (this.sketch) throw new Error(say("The geometry is not finished."));
     return this.shape?.geometry ?? null;
   }
 
@@ -74,10 +80,10 @@ export class GeometryForm {
     /** @type {Drawn[]} */
     const types = ["Point", "LineString", "Polygon"];
     const offers = types.map((type) =>
-      button(`Draw a ${NAMES[type]}`, () => this.draw(type)),
+      button(OFFERS[type], () => this.draw(type)),
     );
     this.element.replaceChildren(
-      element("p", {}, "It has no geometry."),
+      element("p", {}, say("It has no geometry.")),
       element("p", { class: "buttons" }, ...offers),
     );
   }
@@ -112,14 +118,14 @@ export class GeometryForm {
     const { sketch } = this;
     const count = element("p", { role: "status" });
     const typed = typedPosition((position) => {
-      this.#listener.onProblem(position ? "" : "East and north are metres of the grid.");
+      this.#listener.onProblem(position ? "" : say("East and north are metres of the grid."));
       if (position) sketch.add(position);
     });
-    const finish = button("Finish", () => sketch.finish(), { class: "finish" });
-    const back = button("Remove last", () => sketch.removeLast());
+    const finish = button(say("Finish"), () => sketch.finish(), { class: "finish" });
+    const back = button(say("Remove last"), () => sketch.removeLast());
     const show = () => {
       const { length } = sketch.positions;
-      count.textContent = kind === "point" ? "" : counted(length, "position", "positions");
+      count.textContent = kind === "point" ? "" : countedPositions(length);
       finish.disabled = !sketch.isEnough;
       back.disabled = length === 0;
     };
@@ -150,7 +156,8 @@ export class GeometryForm {
     this.shape = new Shape(this.#map, geometry, {
       onChange: moved,
       onHandles: (inView, shown) => {
-        const text = `${counted(inView, "position", "positions")} in view: zoom in to move one.`;
+        const count = countedPositions(inView);
+        const text = say("{count} in view: zoom in to move one.", { count });
         handles.textContent = shown < inView ? text : "";
       },
     });
@@ -172,10 +179,10 @@ export class GeometryForm {
     this.element.replaceChildren(
       words, handles, stepField(shape),
       shape.geometry.type === "Polygon"
-        ? element("p", { class: "buttons" }, button("Add a hole", hole))
+        ? element("p", { class: "buttons" }, button(say("Add a hole"), hole))
         : "",
       element("details", { open: count <= OPEN_ROWS },
-        element("summary", {}, "Positions in metres"), table),
+        element("summary", {}, say("Positions in metres")), table),
     );
   }
 }
@@ -190,6 +197,6 @@ function stepField(shape) {
   const choose = () => (shape.step = Number(step.value));
   const step = element("select", { id: "step", onchange: choose }, ...options);
   step.value = String(shape.step);
-  const label = element("label", { for: "step" }, "Arrow keys move by");
+  const label = element("label", { for: "step" }, say("Arrow keys move by"));
   return element("p", { class: "field" }, label, step);
 }

@@ -5,6 +5,7 @@
  * @typedef {{collection: string, title: string, time: string}} Opening no text where there is no
  *   time property
  */
+import { say } from "./words.js";
 
 const ID = /^[A-Za-z0-9][A-Za-z0-9._-]{0,63}$/;
 const MOST_TITLE_BYTES = 256;
@@ -36,16 +37,16 @@ function isShort(text, most) {
  */
 export function readOpening({ title, id, time }, known) {
   const opening = { collection: id.trim(), title: title.trim(), time: time.trim() };
-  if (opening.title === "") throw new Error("A title is needed.");
-  if (!isShort(opening.title, MOST_TITLE_BYTES)) throw new Error("The title is too long.");
+  if (opening.title === "") throw new Error(say("A title is needed."));
+  if (!isShort(opening.title, MOST_TITLE_BYTES)) throw new Error(say("The title is too long."));
   if (!ID.test(opening.collection)) {
-    throw new Error("An id has letters from A to Z, digits, points, hyphens and underscores.");
+    throw new Error(say("An id has letters from A to Z, digits, points, hyphens and underscores."));
   }
   if (known.includes(opening.collection)) {
-    throw new Error("There is a collection with this id.");
+    throw new Error(say("There is a collection with this id."));
   }
   if (!isShort(opening.time, MOST_TIME_BYTES)) {
-    throw new Error("The name of the time property is too long.");
+    throw new Error(say("The name of the time property is too long."));
   }
   return opening;
 }

@@ -5,6 +5,7 @@ import { askUser } from "./basket_panel.js";
 import { announce, askInDialog, element } from "./element.js";
 import { idFrom, readOpening } from "./opening.js";
 import { saveOpening } from "./queue.js";
+import { say } from "./words.js";
 
 /**
  * @param {string} id
@@ -38,22 +39,25 @@ export async function openCollection(known) {
   const read = () =>
     readOpening({ title: title.value, id: id.value, time: time.value }, known);
   const opening = await askInDialog(
-    "Open a collection",
+    say("Open a collection"),
     [
-      element("p", {}, "It holds features of one kind, such as lamps. It cannot be deleted."),
-      labelled("open-title", "Title", title),
-      labelled("open-id", "Id", id, "It is in addresses, and never changes."),
+      element("p", {}, say("It holds features of one kind, such as lamps. It cannot be deleted.")),
+      labelled("open-title", say("Title"), title),
+      labelled("open-id", say("Id"), id, say("It is in addresses, and never changes.")),
       labelled(
-        "open-time", "Time property, if there is one", time,
-        "The property by which features are filtered in time, such as the day a lamp was set up.",
+        "open-time", say("Time property, if there is one"), time,
+        say(
+          "The property by which features are filtered in time, such as the day a lamp was " +
+            "set up.",
+        ),
       ),
     ],
-    [{ text: "Open it", value: read }, { text: "Cancel", value: null }],
+    [{ text: say("Open it"), value: read }, { text: say("Cancel"), value: null }],
   );
   if (opening === null) return null;
   const user = await askUser();
   if (!user) return null;
   await saveOpening(user, opening);
-  announce("Saved: it is opened as soon as the server answers.");
+  announce(say("Saved: it is opened as soon as the server answers."));
   return opening.collection;
 }

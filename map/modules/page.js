@@ -23,6 +23,7 @@ import { clock, interval } from "./time.js";
 import { compareName, isStartingAgain, startAgain } from "./towns.js";
 import { View } from "./view.js";
 import { Waiting } from "./waiting.js";
+import { say } from "./words.js";
 
 /** How near a click has to come, in pixels; a finger is wider than a pointer. */
 const REACH = matchMedia("(pointer: coarse)").matches ? 24 : 10;
@@ -189,7 +190,7 @@ export class Page {
   async #isHere() {
     this.#compared = Date.now();
     if ((await compareName()) !== "other") return true;
-    const text = "Another town is served here now. Cancel the edit, and reload.";
+    const text = say("Another town is served here now. Cancel the edit, and reload.");
     if (this.editor.isBegun) announce(text);
     else startAgain();
     return false;

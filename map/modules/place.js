@@ -13,6 +13,7 @@
  * @typedef {{box: number[], longitude: number[][], latitude: number[][]}} Patch
  * @typedef {{longitude: number, latitude: number}} Degrees
  */
+import { say } from "./words.js";
 
 /** A table that errs by more, in metres, is not used. */
 const MOST_ERROR = 0.01;
@@ -74,8 +75,12 @@ export class Place {
    */
   static of(json) {
     if (json?.place === undefined) return null;
-    if (!isTable(json.place)) throw new Error("The table in map.json has another form.");
-    if (json.place.error > MOST_ERROR) throw new Error("The table in map.json errs by over 1 cm.");
+    if (!isTable(json.place)) throw new Error(say("The table in map.json has another form."));
+    if (json.place.error > MOST_ERROR) {
+      throw new Error(say(
+        "The table in map.json errs by over 1 cm.",
+      ));
+    }
     return new Place(json.place);
   }
 

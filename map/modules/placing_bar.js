@@ -4,6 +4,7 @@
  */
 import { announce, button, byId, isPhone } from "./element.js";
 import { accuracyInWords } from "./position.js";
+import { say } from "./words.js";
 
 /**
  * Shows the buttons.
@@ -12,13 +13,16 @@ import { accuracyInWords } from "./position.js";
  * @param {HTMLButtonElement[]} others that belong to the sketch
  */
 export function showPlacing(sketch, own, others) {
-  const here = button("Place here", () => sketch.addMiddle(), { class: "main" });
-  const mine = button("At my position", async () => {
+  const here = button(say("Place here"), () => sketch.addMiddle(), { class: "main" });
+  const mine = button(say("At my position"), async () => {
     mine.disabled = true;
     try {
       const { position, accuracy } = await own.take();
       if (sketch.isStopped) return;
-      announce(`Placed at your position, ${accuracyInWords(accuracy)}.`);
+      announce(say(
+        "Placed at your position, {accuracy}.",
+        { accuracy: accuracyInWords(accuracy) },
+      ));
       sketch.add(position, accuracy);
     } catch (fault) {
       announce(fault.message);

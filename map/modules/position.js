@@ -8,6 +8,7 @@
 import * as L from "../leaflet/leaflet.esm.js";
 import { colour } from "./colours.js";
 import { toPlace } from "./layers.js";
+import { say } from "./words.js";
 
 const OPTIONS = { enableHighAccuracy: true, maximumAge: 2000, timeout: 30_000 };
 /** What is shown is taken for the position of now for so many milliseconds. */
@@ -76,7 +77,10 @@ export class OwnPosition {
       const fix = this.#fixOf(coords);
       if (!fix) return announceOnce("outside", OUTSIDE);
       this.#show(fix);
-      return announceOnce("there", `Your position, ${accuracyInWords(fix.accuracy)}.`);
+      return announceOnce("there", say(
+        "Your position, {accuracy}.",
+        { accuracy: accuracyInWords(fix.accuracy) },
+      ));
     };
     this.#watch = navigator.geolocation.watchPosition(
       found,
@@ -171,11 +175,11 @@ export class OwnPosition {
   }
 }
 
-const OUTSIDE = "You are outside of the office's map.";
+const OUTSIDE = say("You are outside of the office's map.");
 
 /** @param {{message: string}} fault of the device */
 function unknown({ message }) {
-  return `The position is not known: ${message}`;
+  return say("The position is not known: {message}", { message });
 }
 
 /**
@@ -183,5 +187,5 @@ function unknown({ message }) {
  * @returns {string}
  */
 export function accuracyInWords(metres) {
-  return `good to ${Math.ceil(metres)} m`;
+  return say("good to {metres} m", { metres: Math.ceil(metres) });
 }

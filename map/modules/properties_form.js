@@ -11,6 +11,7 @@ import { button, element } from "./element.js";
 import { FieldRow } from "./field_row.js";
 import { fieldText, holds } from "./fields.js";
 import { PropertiesEditor } from "./properties.js";
+import { say } from "./words.js";
 
 export class PropertiesForm {
   /** @type {FieldRow[]} */
@@ -24,7 +25,7 @@ export class PropertiesForm {
   #copyLast = element(
     "p",
     { class: "buttons" },
-    button("As the last one", () => this.#copy(this.#last)),
+    button(say("As the last one"), () => this.#copy(this.#last)),
   );
 
   /**
@@ -79,7 +80,7 @@ export class PropertiesForm {
   #showTable(kinds) {
     this.table.offer(kinds);
     const isFolded = this.#rows.length > 0 && this.table.isEmpty;
-    const title = element("summary", {}, "Other properties");
+    const title = element("summary", {}, say("Other properties"));
     title.hidden = this.#rows.length === 0;
     this.#others.open = !isFolded;
     this.#others.replaceChildren(title, this.table.element);
@@ -122,7 +123,9 @@ export class PropertiesForm {
     }
     const names = Object.keys(others ?? {});
     const twice = names.find((name) => found.has(name));
-    if (twice !== undefined) throw new Error(`The name “${twice}” is there twice.`);
+    if (twice !== undefined) {
+      throw new Error(say("The name “{name}” is there twice.", { name: twice }));
+    }
     if (others === null && found.size === 0) return null;
     for (const name of names) found.set(name, others[name]);
     return Object.fromEntries(found);

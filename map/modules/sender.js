@@ -14,6 +14,7 @@ import { findDifferences } from "./conflicts.js";
 import { leave, readQueue, update } from "./queue.js";
 import { whyNotHere } from "./recognition.js";
 import { currentDatabase } from "./store.js";
+import { say } from "./words.js";
 
 const FIRST_PAUSE = 1;
 const LONGEST_PAUSE = 60;
@@ -31,7 +32,7 @@ function isLocked(status) {
  * @returns {string}
  */
 function lockedText(status) {
-  return `Name and password are needed to send (${status}).`;
+  return say("Name and password are needed to send ({status}).", { status });
 }
 
 /**
@@ -53,12 +54,12 @@ export function meaningOf(key, { status, json }) {
   }
   if (isLocked(status)) return { kind: "held", problem: lockedText(status) };
   if (status === 413) {
-    const description = "The batch is larger than the server in front takes.";
+    const description = say("The batch is larger than the server in front takes.");
     return { kind: "refused", refusal: { status, code: "413", description } };
   }
   return {
     kind: "again",
-    problem: `The server did not answer (${status}).`,
+    problem: say("The server did not answer ({status}).", { status }),
     mayHaveActed: status !== 429,
   };
 }

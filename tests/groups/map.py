@@ -8,12 +8,15 @@ from browser import (
     foreign,
     forms,
     keeping,
+    languages,
     looking,
+    modules,
     phone,
     placing,
+    reading,
+    sending,
+    standing,
 )
-from browser import modules as map_modules
-from browser import reading, sending, standing
 from browser.parts import run_parts
 from harness import Context
 
@@ -34,6 +37,5 @@ PACKAGES = (
 def run(context: Context) -> None:
     # Those with the longest parts first.
     longest = (looking, keeping, sending, editing, reading)
-    shorter = (beginning, filling, standing, forms, phone, placing, deploying, foreign, map_modules)
-    modules = (*longest, *shorter)
-    run_parts(context, [part for module in modules for part in module.PARTS])
+    shorter = (beginning, filling, standing, forms, phone, placing, deploying, foreign, languages)
+    run_parts(context, [part for it in (*longest, *shorter, modules) for part in it.PARTS])
