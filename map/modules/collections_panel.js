@@ -4,6 +4,7 @@
  */
 import { SHOWN_LIMIT } from "./api.js";
 import { button, element } from "./element.js";
+import { swatch } from "./symbols.js";
 import { MARKS } from "./texts.js";
 import { inDigits, say } from "./words.js";
 
@@ -36,12 +37,14 @@ export class CollectionsPanel {
    * @param {HTMLElement} panel
    * @param {import("./view.js").View} view
    * @param {{onSwitch: () => void, onFilter: (from: string, to: string) => void, onSearch: (id:
-   *   string) => void, onOpen: () => void}} listener
+   *   string) => void, onChoose: (collection: string, id: string) => void, onOpen: () => void}}
+   *   listener
    */
-  constructor(panel, view, { onSwitch, onFilter, onSearch, onOpen }) {
+  constructor(panel, view, { onSwitch, onFilter, onSearch, onChoose, onOpen }) {
     this.#view = view;
     this.#open = button(say("Open a collection"), onOpen);
     this.#listenSwitch = onSwitch;
+    this.#listenChoose = onChoose;
     const [from, to] = ["from", "to"].map((name) =>
       element("input", { type: "date", id: `filter-${name}` }),
     );
@@ -86,14 +89,31 @@ export class CollectionsPanel {
       element("h2", {}, say("Search")),
       element(
         "form", { class: "field search", onsubmit: search },
-        element("label", { for: "search-id" }, say("Id")),
+        element("label", { for: "search-id" }, say("Id or property")),
         id,
         element("button", { type: "submit" }, say("Find")),
       ),
+      this.#found,
     );
   }
 
   #listenSwitch;
+  #listenChoose;
+  #found = element("ul", { class: "found", "aria-label": say("Found on this device") });
+
+  /** @param {import("./search.js").Found[]} found */
+  showFound(found) {
+    const titleOf = (collection) =>
+      this.#view.collections.find(({ id }) => id === collection)?.title ?? collection;
+    const rows = found.map(({ collection, id, why }) =>
+      element(
+        "li", {},
+        button(id, () => this.#listenChoose(collection, id), { class: "link" }),
+        element("span", { class: "note" }, ` ${titleOf(collection)}${why ? `, ${why}` : ""}`),
+      ),
+    );
+    this.#found.replaceChildren(...rows);
+  }
 
   /** Shows the collections and counts of now. */
   show() {
@@ -119,6 +139,18 @@ export class CollectionsPanel {
     }
   }
 
+  /**
+   * @param {string} id of a collection
+   * @returns {HTMLElement | null} what its symbols mean
+   */
+  #symbols(id) {
+    const { rows = [] } = this.#view.legends.get(id) ?? {};
+    const usual = this.#view.palette.nameOf(id);
+    const items = rows.map((row) => element("li", {}, swatch(row, usual), row.label));
+    if (items.length === 0) return null;
+    return element("ul", { class: "symbols", "aria-label": say("Symbols") }, ...items);
+  }
+
   #row(id, title, off, counts) {
     const box = element("input", {
       type: "checkbox",
@@ -139,6 +171,7 @@ export class CollectionsPanel {
         element("span", { class: "title" }, title),
       ),
       element("span", { class: "count" }, count),
+      this.#symbols(id),
     );
   }
 }

@@ -1,16 +1,18 @@
 /**
  * @file What the office says in `map.json`, which lies beside the page: where the grid lies on the
- * earth, and the form of each collection. A part that has another form is left out, and the page
- * says which.
+ * earth, and the form and the look of each collection. A part that has another form is left out,
+ * and the page says which.
  *
  * @typedef {import("./fields.js").Field} Field
  * @typedef {object} Office
  * @property {import("./place.js").Place | null} place
  * @property {Map<string, Field[]>} forms the fields of collections
+ * @property {Map<string, import("./legend.js").Legend>} legends how collections are drawn
  * @property {string[]} problems what of `map.json` is not used, and why
  */
 import { readFields } from "./fields.js";
 import { readJson } from "./json.js";
+import { readLegend } from "./legend.js";
 import { Place } from "./place.js";
 
 /**
@@ -19,7 +21,7 @@ import { Place } from "./place.js";
  */
 export function officeOf(json) {
   /** @type {Office} */
-  const office = { place: null, forms: new Map(), problems: [] };
+  const office = { place: null, forms: new Map(), legends: new Map(), problems: [] };
   const attempt = (where, read) => {
     try {
       read();
@@ -35,6 +37,7 @@ export function officeOf(json) {
   }
   for (const [id, described] of Object.entries(collections)) {
     attempt(id, () => office.forms.set(id, readFields(described?.fields)));
+    attempt(id, () => office.legends.set(id, readLegend(described)));
   }
   return office;
 }

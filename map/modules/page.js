@@ -74,7 +74,9 @@ export class Page {
     this.collectionsPanel = new CollectionsPanel(byId("panel-collections"), this.view, {
       onSwitch: () => this.#switched(),
       onFilter: (from, to) => this.#filtered(from, to),
-      onSearch: (id) => this.chosen.search(id),
+      onSearch: (text) =>
+        this.chosen.search(text, (found) => this.collectionsPanel.showFound(found)),
+      onChoose: (collection, id) => this.chosen.choose(collection, id, true),
       onOpen: () => this.editing.openCollection(),
     });
     this.queuePanel = new QueuePanel(byId("panel-queue"), {
@@ -124,6 +126,9 @@ export class Page {
     this.background.show((await readSetting("background")) ?? null, announce);
     this.#isKept = (await navigator.storage?.persist?.()) ?? false;
     this.office = await office;
+    this.view.legends = this.office.legends;
+    this.collectionsPanel.show();
+    this.#recolour();
     this.ground.placeOnEarth(this.office.place);
     await this.#showSettings();
     await asked;

@@ -135,6 +135,13 @@ export class Seen {
     return sights.map(({ feature }) => feature);
   }
 
+  /** @returns {Iterable<import("./search.js").Candidate>} all that was seen */
+  *all() {
+    for (const [collection, sights] of this.#sights) {
+      for (const { feature } of sights.values()) yield { collection, feature };
+    }
+  }
+
   /**
    * @param {string} collection
    * @param {string} id

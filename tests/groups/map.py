@@ -15,6 +15,7 @@ from browser import (
     placing,
     reading,
     sending,
+    showing,
     standing,
 )
 from browser.parts import run_parts
@@ -37,5 +38,6 @@ PACKAGES = (
 def run(context: Context) -> None:
     # Those with the longest parts first.
     longest = (looking, keeping, sending, editing, reading)
-    shorter = (beginning, filling, standing, forms, phone, placing, deploying, foreign, languages)
-    run_parts(context, [part for it in (*longest, *shorter, modules) for part in it.PARTS])
+    crews = (beginning, filling, standing, showing, languages)
+    others = (forms, phone, placing, deploying, foreign, modules)
+    run_parts(context, [part for it in (*longest, *crews, *others) for part in it.PARTS])

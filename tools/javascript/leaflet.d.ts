@@ -108,6 +108,10 @@ declare module "*/leaflet.esm.js" {
   };
   const control: { zoom(options: { position: string }): Addition };
 
+  const CircleMarker: {
+    extend(own: object): new (place: Place, style: Style & { shape: string }) => Path;
+  };
+
   function map(container: HTMLElement, options: MapOptions): Map;
   function latLng(lat: number, lng: number): LatLng;
   function canvas(options: { pane: string; padding: number }): Renderer;
