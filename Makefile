@@ -2,7 +2,9 @@
 # `make help` lists the targets: each line below that begins with `## ` is a line of it.
 SHELL := /bin/bash
 PROGRAM := crates/streetmap/out/streetmap
-FILE ?= town.streetmap
+# A sample town that `make map` fills FILE with: quarter.
+TOWN ?=
+FILE ?= $(or $(TOWN),town).streetmap
 PORT ?= 8080
 # In how many processes crates are proved, each of which takes 1 to 4 GB of memory. `make build`
 # takes as many as fit if none is named.
@@ -39,9 +41,9 @@ serve: build
 	@test -e $(FILE) || $(PROGRAM) create $(FILE)
 	$(PROGRAM) serve $(FILE) --port $(PORT)
 
-## map       builds, and serves FILE and a map of it by nginx: make map FILE=town.streetmap
+## map       builds, and serves FILE and a map of it by nginx: make map TOWN=quarter, or FILE=..
 map: build
-	@python3 deploy/serve_map.py $(PROGRAM) $(FILE) --port $(PORT)
+	@python3 deploy/serve_map.py $(PROGRAM) $(FILE) --port $(PORT) $(addprefix --town ,$(TOWN))
 
 ## gateway   builds, and serves FILE with the gateway in front: make gateway SETTINGS=my.toml
 SETTINGS ?= gateway/gateway.toml

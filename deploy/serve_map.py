@@ -1,10 +1,11 @@
 """Serves a file and its map on one port of this machine, as an ordinary user, until it is stopped.
 
-    python3 deploy/serve_map.py PROGRAM FILE [--port PORT] [--place TABLE]
+    python3 deploy/serve_map.py PROGRAM FILE [--port PORT] [--place TABLE] [--town quarter]
 
 The program listens on a free port, and nginx on PORT in front of it: the page at /map/, all else
 the program's. nginx's files are in a scratch folder. A FILE that is not there is made. If the
-program or nginx ends, all of it ends, with that status.
+program or nginx ends, all of it ends, with that status. With `--town quarter` the sample quarter is
+sent to it at each start: it is one batch under one key, so it acts once.
 
 The page keeps edits apart by the town that they are for. It reads the town's name in map.json,
 which is here the path of FILE, unless TABLE has another.
@@ -21,13 +22,21 @@ import subprocess
 import sys
 import tempfile
 import time
+import urllib.request
 from collections.abc import Iterator
 from pathlib import Path
 from typing import Any
+from urllib.error import HTTPError
 
 DEPLOY = Path(__file__).resolve().parent
 ROOT = DEPLOY.parent
 LEAFLET = Path("/usr/share/javascript/leaflet")
+# The sample towns, each a batch.
+TOWNS = {"quarter": ROOT / "examples" / "quarter.json"}
+EMPTY = """\
+The town is empty. Open a collection on the page (Map, "Open a collection"), or fill a file with the
+sample quarter: make map TOWN=quarter
+"""
 
 
 def free_port() -> int:
@@ -109,6 +118,23 @@ def map_json(table: Path | None, town: str) -> str:
     return json.dumps({"town": town} | held)
 
 
+def fill(server: int, town: str) -> None:
+    """Sends a sample town to the server, which takes it once."""
+    batch = TOWNS[town].read_bytes()
+    try:
+        with urllib.request.urlopen(f"http://127.0.0.1:{server}/batches", batch, timeout=60):
+            return
+    except HTTPError as error:
+        why = json.load(error)["description"]
+        raise SystemExit(f"The sample {town} does not go into this file: {why}") from error
+
+
+def is_empty(server: int) -> bool:
+    """Whether no collection is open there."""
+    with urllib.request.urlopen(f"http://127.0.0.1:{server}/collections", timeout=60) as answer:
+        return not json.load(answer)["collections"]
+
+
 def wait_for_end(processes: dict[str, subprocess.Popen[bytes]]) -> int:
     """Waits until one of the processes ends, and reports it. Returns its status, or as a shell
     does 128 and the number of the signal that ended it."""
@@ -127,6 +153,7 @@ def main() -> None:
     words.add_argument("file", type=Path)
     words.add_argument("--port", type=int, default=8080)
     words.add_argument("--place", type=Path, help="the table that places the grid in WGS 84")
+    words.add_argument("--town", choices=TOWNS, help="a sample town to fill FILE with")
     asked = words.parse_args()
     signal.signal(signal.SIGTERM, lambda *_: sys.exit(0))
     program = str(asked.program.resolve())
@@ -140,8 +167,12 @@ def main() -> None:
         folder = Path(stack.enter_context(tempfile.TemporaryDirectory()))
         (folder / "map.json").write_text(held)
         started = stack.enter_context(running(serve, server, stdout=subprocess.DEVNULL))
+        if asked.town:
+            fill(server, asked.town)
+        how = EMPTY if is_empty(server) else ""
         nginx = stack.enter_context(front(folder, asked.port, server))
-        print(f"The map: http://localhost:{asked.port}/map/ (Ctrl-C ends it)", flush=True)
+        print(f"The map: http://localhost:{asked.port}/map/ (Ctrl-C ends it)\n{how}", end="")
+        sys.stdout.flush()
         with contextlib.suppress(KeyboardInterrupt):
             sys.exit(wait_for_end({program: started, "nginx": nginx}))
 

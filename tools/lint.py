@@ -2,8 +2,8 @@
 
 All checks run if none is named, and the exit status is 1 if one of them found something: `black`
 and `mypy` read all Python, `shellcheck` all shell scripts, `eslint` and `tsc` the map page's
-modules and its service worker, and `layout` is Rattle's own formatter, without which `rt ci`
-refuses a crate. `pyproject.toml` and `tools/javascript/` have their settings.
+modules and its service worker, `eslint` their tests too, and `layout` is Rattle's own formatter,
+without which `rt ci` refuses a crate. `pyproject.toml` and `tools/javascript/` have their settings.
 """
 
 import os
@@ -81,7 +81,7 @@ def all_checks() -> dict[str, Check]:
     shell = [str(path) for path in files if is_shell(path)]
     proved = [str(path) for path in files if path.suffix in (".rt", ".antt")]
     eslint = ["eslint", "--no-eslintrc", "--config", str(PAGE / "eslintrc.json")]
-    eslint += ["--format", "unix", "map"]
+    eslint += ["--format", "unix", "--ext", ".js,.mjs", "map", "tests/map_modules"]
     return {
         "black": Check(["black", "--quiet", "--check", "--diff", *python]),
         "mypy": Check([*mypy, str(KEPT / "mypy"), *others]),

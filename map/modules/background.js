@@ -7,6 +7,7 @@
  */
 import * as L from "../leaflet/leaflet.esm.js";
 import { toPlace } from "./layers.js";
+import { say } from "./words.js";
 
 export class BackgroundImage {
   #map;
@@ -34,7 +35,7 @@ export class BackgroundImage {
     const corners = [toPlace([box.x0, box.y0]), toPlace([box.x1, box.y1])];
     const options = { pane: "background", opacity: 0.75, alt: "" };
     this.#layer = L.imageOverlay(this.#made || background.url, corners, options);
-    this.#layer.on("error", () => onProblem("The image cannot be shown."));
+    this.#layer.on("error", () => onProblem(say("The image cannot be shown.")));
     this.#layer.addTo(this.#map);
   }
 }

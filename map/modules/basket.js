@@ -3,11 +3,13 @@
  *
  * @typedef {import("./feature.js").Feature} Feature
  * @typedef {object} Edit
- * @property {"insert" | "replace" | "delete"} op
+ * @property {"open" | "insert" | "replace" | "delete"} op
  * @property {string} collection
- * @property {string} id
+ * @property {string} id no text where a collection is opened
  * @property {Feature | null} feature the feature as it is to be; null where it is deleted
  * @property {Feature | null} base the copy that was edited; null where the feature is new
+ * @property {string} [title] of a collection that is opened
+ * @property {string} [time] its time property; no text if it has none
  */
 import { changed } from "./channel.js";
 import { isSame, textOf } from "./feature.js";

@@ -7,7 +7,8 @@ import { announce, askInDialog, button, element, renew } from "./element.js";
 import { differences } from "./feature.js";
 import { saveBasket } from "./queue.js";
 import { readSetting, writeSetting } from "./store.js";
-import { counted, editText } from "./texts.js";
+import { countedEdits, editText } from "./texts.js";
+import { say } from "./words.js";
 
 /**
  * @returns {Promise<string | null>} the name that is in keys; asked once
@@ -18,20 +19,24 @@ export async function askUser() {
   const kept = element("p", { class: "note", role: "status" });
   const show = () => {
     const user = userOf(field.value);
-    kept.textContent = user && user !== field.value ? `In keys it is ${user}.` : "";
+    kept.textContent = user && user !== field.value ? say("In keys it is {user}.", { user }) : "";
   };
   const attributes = { id: "user", autocomplete: "username", maxlength: 60, oninput: show };
   const field = element("input", attributes);
   const note =
-    "It is in the key of each batch, so that the office sees who sent it. " +
-    "Whether you may send is decided by the server.";
+    say(
+      "It is in the key of each batch, so that the office sees who sent it. Whether you may" +
+        " send is decided by the server.",
+    );
   const user = await askInDialog(
-    "Your name",
+    say("Your name"),
     [
       element("p", {}, note),
-      element("p", { class: "field" }, element("label", { for: "user" }, "Name"), field), kept,
+      element("p", { class: "field" }, element("label", { for: "user" }, say("Name")), field), kept,
     ],
-    [{ text: "Save", value: () => readUser(field.value) }, { text: "Cancel", value: null }],
+    [{ text: say("Save"), value: () => readUser(field.value) }, { text: say(
+      "Cancel",
+    ), value: null }],
   );
   if (user !== null) await writeSetting("user", user);
   return user;
@@ -46,23 +51,26 @@ async function save(edits) {
   try {
     parts = cut(edits).length;
   } catch (fault) {
-    const close = [{ text: "Close", value: true }];
-    return void (await askInDialog("Too large", [element("p", {}, fault.message)], close));
+    const close = [{ text: say("Close"), value: true }];
+    return void (await askInDialog(say("Too large"), [element("p", {}, fault.message)], close));
   }
   if (parts > 1) {
     const text =
-      `The basket is too large for one batch. It would go as ${parts} batches: ` +
-      "each is taken as a whole or not at all, but not all of them together.";
+      say(
+        "The basket is too large for one batch. It would go as {parts} batches: each is " +
+          "taken as a whole or not at all, but not all of them together.",
+        { parts },
+      );
     const answers = [
-      { text: `Save as ${parts} batches`, value: true },
-      { text: "Cancel", value: false },
+      { text: say("Save as {parts} batches", { parts }), value: true },
+      { text: say("Cancel"), value: false },
     ];
-    if (!(await askInDialog("More than one batch", [element("p", {}, text)], answers))) return;
+    if (!(await askInDialog(say("More than one batch"), [element("p", {}, text)], answers))) return;
   }
   const user = await askUser();
   if (!user) return;
   await saveBasket(user);
-  announce("Saved: it is sent as soon as the server answers.");
+  announce(say("Saved: it is sent as soon as the server answers."));
 }
 
 /**
@@ -81,24 +89,24 @@ export function showBasket(panel, edits, { onSelect, canSave }) {
         element("div", {}, editText(edit, differences)),
       ),
       button(
-        "Undo",
+        say("Undo"),
         () => takeOutOfBasket(edit),
-        { class: "small", "aria-label": `Undo the edit of ${edit.id}` },
+        { class: "small", "aria-label": say("Undo the edit of {id}", { id: edit.id }) },
       ),
     ),
   );
   const text = edits.length
-    ? "These edits are on this device alone until they are saved. They are sent as one batch."
-    : "No edits. Add a feature with the buttons on the map, or choose one and edit it.";
+    ? say("These edits are on this device alone until they are saved. They are sent as one batch.")
+    : say("No edits. Add a feature with the buttons on the map, or choose one and edit it.");
   const main = button(
-    `Save ${counted(edits.length, "edit", "edits")}`,
+    say("Save {count}", { count: countedEdits(edits.length) }),
     () => save(edits),
     { class: "main", id: "save" },
   );
   main.disabled = edits.length === 0 || !canSave;
   renew(
     panel,
-    element("h2", {}, "Basket"), element("p", { class: "note" }, text),
+    element("h2", {}, say("Basket")), element("p", { class: "note" }, text),
     element("ul", { class: "edits" }, ...rows), element("p", { class: "buttons" }, main),
   );
 }

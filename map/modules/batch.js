@@ -5,6 +5,7 @@
  * @typedef {import("./basket.js").Edit} Edit
  */
 import { writeJson } from "./json.js";
+import { say } from "./words.js";
 
 /** What the server takes: edits and bytes of one batch. */
 const MOST_EDITS = 10_000;
@@ -31,8 +32,10 @@ export function readUser(name) {
   const user = userOf(name);
   if (user) return user;
   throw new Error(
-    "The name needs Latin letters (A to Z) or digits: keys of batches have no others. " +
-      "Write it in Latin letters, say Ivan for Иван.",
+    say(
+      "The name needs Latin letters (A to Z) or digits: keys of batches have no others. " +
+        "Write it in Latin letters, say Ivan for Иван.",
+    ),
   );
 }
 
@@ -49,7 +52,8 @@ export function newKey(user) {
  * @param {Edit} edit
  * @returns {object} the edit as the server reads it
  */
-function asSent({ op, collection, id, feature }) {
+function asSent({ op, collection, id, feature, title, time }) {
+  if (op === "open") return { op, collection, title, ...(time ? { time } : {}) };
   return op === "delete" ? { op, collection, id } : { op, collection, feature };
 }
 
@@ -73,7 +77,12 @@ export function cut(edits) {
   let bytes = 0;
   for (const edit of edits) {
     const size = new TextEncoder().encode(writeJson(asSent(edit))).length + 1;
-    if (size > EDIT_BYTES) throw new RangeError(`${edit.id} is too large for a batch.`);
+    if (size > EDIT_BYTES) {
+      throw new RangeError(say(
+        "{id} is too large for a batch.",
+        { id: edit.id },
+      ));
+    }
     const last = parts.at(-1);
     if (!last || last.length === MOST_EDITS || bytes + size > EDIT_BYTES) {
       parts.push([edit]);

@@ -8,6 +8,11 @@ import { NoAnswer, Refusal, readFeature } from "./api.js";
 import { putInBasket, takeOutOfBasket } from "./basket.js";
 import { announce, byId, element } from "./element.js";
 import { showFeature } from "./feature_panel.js";
+import { searched } from "./search.js";
+import { say } from "./words.js";
+
+/** How many features a search finds on this device. */
+const MOST_FOUND = 50;
 
 export class Chosen {
   /** @type {Name | null} */
@@ -42,7 +47,7 @@ export class Chosen {
   isBusy() {
     if (!this.#editor.isBegun) return false;
     this.#tabs.open("feature");
-    announce("Put the edit in the basket first, or cancel it.");
+    announce(say("Put the edit in the basket first, or cancel it."));
     return true;
   }
 
@@ -59,7 +64,7 @@ export class Chosen {
     this.set({ collection, id });
     this.#others = others;
     const feature = await this.#find(collection, id);
-    if (!feature) return void this.leave(`${id} is not there.`);
+    if (!feature) return void this.leave(say("{id} is not there.", { id }));
     this.show();
     this.#tabs.open("feature");
     if (isFar) this.#view.goTo(feature);
@@ -73,18 +78,33 @@ export class Chosen {
   }
 
   /**
-   * Searches all collections for a feature.
-   * @param {string} id
+   * Searches ids and properties of what is kept on this device, and ids with the server.
+   * @param {string} text
+   * @param {(found: import("./search.js").Found[]) => void} onFound gets what is kept here. A
+   *   feature whose id is the text is shown at once.
    */
-  async search(id) {
+  async search(text, onFound) {
     if (this.isBusy()) return undefined;
+    const kept = searched(this.#candidates(), text, MOST_FOUND);
+    onFound(kept);
+    const id = text.trim();
     const ids = this.#view.collections.map((collection) => collection.id);
     const found = await Promise.all(
       ids.map(async (collection) => ((await this.#find(collection, id)) ? collection : null)),
     );
     const collection = found.find((it) => it !== null);
-    if (!collection) return announce(`There is no feature with the id ${id}.`);
+    if (!collection && kept.length === 1) return this.choose(kept[0].collection, kept[0].id, true);
+    if (!collection && kept.length > 1) return undefined;
+    if (!collection) return announce(say("There is no feature with the id {id}.", { id }));
     return this.choose(collection, id, true);
+  }
+
+  /** @returns {Iterable<import("./search.js").Candidate>} each feature that is kept here, once */
+  *#candidates() {
+    yield* this.#view.pendingFeatures();
+    for (const candidate of this.#seen.all()) {
+      if (!this.#view.pendingOf(candidate.collection, candidate.feature.id)) yield candidate;
+    }
   }
 
   /**
@@ -117,7 +137,7 @@ export class Chosen {
   }
 
   /** @param {string} [text] what the panel says while no feature is chosen */
-  leave(text = "Press a feature on the map to see what is known of it.") {
+  leave(text = say("Press a feature on the map to see what is known of it.")) {
     this.set(null);
     byId("panel-feature").replaceChildren(element("p", { class: "note" }, text));
     this.outline();

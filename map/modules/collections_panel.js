@@ -4,7 +4,9 @@
  */
 import { SHOWN_LIMIT } from "./api.js";
 import { button, element } from "./element.js";
+import { swatch } from "./symbols.js";
 import { MARKS } from "./texts.js";
+import { inDigits, say } from "./words.js";
 
 /**
  * @param {import("./loader.js").Count | undefined} count
@@ -13,8 +15,8 @@ import { MARKS } from "./texts.js";
 function countText(count) {
   if (!count) return "";
   const numbers = [count.shown, count.matched];
-  const [shown, matched] = numbers.map((number) => number.toLocaleString("en"));
-  return count.shown < count.matched ? `${shown} of ${matched}` : shown;
+  const [shown, matched] = numbers.map((number) => inDigits(number));
+  return count.shown < count.matched ? say("{shown} of {matched}", { shown, matched }) : shown;
 }
 
 /**
@@ -29,16 +31,20 @@ function legend() {
 export class CollectionsPanel {
   #list = element("ul", { class: "collections" });
   #view;
+  #open;
 
   /**
    * @param {HTMLElement} panel
    * @param {import("./view.js").View} view
    * @param {{onSwitch: () => void, onFilter: (from: string, to: string) => void, onSearch: (id:
-   *   string) => void}} listener
+   *   string) => void, onChoose: (collection: string, id: string) => void, onOpen: () => void}}
+   *   listener
    */
-  constructor(panel, view, { onSwitch, onFilter, onSearch }) {
+  constructor(panel, view, { onSwitch, onFilter, onSearch, onChoose, onOpen }) {
     this.#view = view;
+    this.#open = button(say("Open a collection"), onOpen);
     this.#listenSwitch = onSwitch;
+    this.#listenChoose = onChoose;
     const [from, to] = ["from", "to"].map((name) =>
       element("input", { type: "date", id: `filter-${name}` }),
     );
@@ -46,7 +52,7 @@ export class CollectionsPanel {
     this.to = to;
     const filter = () => onFilter(from.value, to.value);
     for (const field of [from, to]) field.addEventListener("change", filter);
-    const clear = button("All times", () => {
+    const clear = button(say("All times"), () => {
       [from.value, to.value] = ["", ""];
       filter();
     });
@@ -59,37 +65,55 @@ export class CollectionsPanel {
       if (id.value) onSearch(id.value);
     };
     panel.append(
-      element("h2", {}, "Collections"), this.#list,
+      element("h2", {}, say("Collections")), this.#list,
       element(
         "p",
         { class: "buttons" },
-        button("Show all", () => view.showAll()),
-        button("Ask again", () => view.refresh()),
+        button(say("Show all"), () => view.showAll()),
+        button(say("Ask again"), () => view.refresh()),
+        isSecureContext ? this.#open : null,
       ),
-      element("ul", { class: "legend", "aria-label": "Edits on the map" }, ...legend()),
-      element("h2", {}, "Time"),
+      element("ul", { class: "legend", "aria-label": say("Edits on the map") }, ...legend()),
+      element("h2", {}, say("Time")),
       element(
         "div", { class: "field pair" },
-        element("span", {}, element("label", { for: "filter-from" }, "From"), from),
-        element("span", {}, element("label", { for: "filter-to" }, "To"), to),
+        element("span", {}, element("label", { for: "filter-from" }, say("From")), from),
+        element("span", {}, element("label", { for: "filter-to" }, say("To")), to),
       ),
       element(
         "p",
         { class: "note" },
-        "Days in UTC. With a filter, features without a time are not shown.",
+        say("Days in UTC. With a filter, features without a time are not shown."),
       ),
       clear,
-      element("h2", {}, "Search"),
+      element("h2", {}, say("Search")),
       element(
         "form", { class: "field search", onsubmit: search },
-        element("label", { for: "search-id" }, "Id"),
+        element("label", { for: "search-id" }, say("Id or property")),
         id,
-        element("button", { type: "submit" }, "Find"),
+        element("button", { type: "submit" }, say("Find")),
       ),
+      this.#found,
     );
   }
 
   #listenSwitch;
+  #listenChoose;
+  #found = element("ul", { class: "found", "aria-label": say("Found on this device") });
+
+  /** @param {import("./search.js").Found[]} found */
+  showFound(found) {
+    const titleOf = (collection) =>
+      this.#view.collections.find(({ id }) => id === collection)?.title ?? collection;
+    const rows = found.map(({ collection, id, why }) =>
+      element(
+        "li", {},
+        button(id, () => this.#listenChoose(collection, id), { class: "link" }),
+        element("span", { class: "note" }, ` ${titleOf(collection)}${why ? `, ${why}` : ""}`),
+      ),
+    );
+    this.#found.replaceChildren(...rows);
+  }
 
   /** Shows the collections and counts of now. */
   show() {
@@ -97,8 +121,10 @@ export class CollectionsPanel {
     this.#list.replaceChildren(
       ...collections.map(({ id, title }) => this.#row(id, title, off, counts)),
     );
+    this.#open.classList.toggle("main", collections.length === 0);
     if (collections.length > 0) return;
-    this.#list.append(element("li", {}, "There is no collection yet."));
+    const text = say("There is no collection yet. Open one to begin the town.");
+    this.#list.append(element("li", {}, text));
   }
 
   /** Shows the counts of now. */
@@ -111,6 +137,18 @@ export class CollectionsPanel {
         this.#view.off.has(row.dataset.id) ? undefined : count,
       );
     }
+  }
+
+  /**
+   * @param {string} id of a collection
+   * @returns {HTMLElement | null} what its symbols mean
+   */
+  #symbols(id) {
+    const { rows = [] } = this.#view.legends.get(id) ?? {};
+    const usual = this.#view.palette.nameOf(id);
+    const items = rows.map((row) => element("li", {}, swatch(row, usual), row.label));
+    if (items.length === 0) return null;
+    return element("ul", { class: "symbols", "aria-label": say("Symbols") }, ...items);
   }
 
   #row(id, title, off, counts) {
@@ -133,6 +171,7 @@ export class CollectionsPanel {
         element("span", { class: "title" }, title),
       ),
       element("span", { class: "count" }, count),
+      this.#symbols(id),
     );
   }
 }
@@ -149,16 +188,19 @@ export function viewText(counts, clock) {
   if (problem) {
     const times = all.flatMap(({ oldest }) => (oldest === null ? [] : [oldest]));
     const oldest = times.length ? clock(Math.min(...times)) : "";
-    const seen = oldest ? `Shown as of ${oldest}.` : "Nothing was seen here before.";
+    const seen = oldest
+      ? say("Shown as of {oldest}.", { oldest })
+      : say("Nothing was seen here before.");
     return {
-      text: `${problem} ${seen}${unfiltered ? " The time filter waits." : ""}`,
+      text: `${problem} ${seen}${unfiltered ? ` ${say("The time filter waits.")}` : ""}`,
       isProblem: true,
     };
   }
   const cut = all.filter(({ shown, matched }) => shown < matched && shown >= SHOWN_LIMIT);
   if (cut.length === 0) return { text: "", isProblem: false };
   const [shown, matched] = ["shown", "matched"].map((name) =>
-    cut.reduce((sum, count) => sum + count[name], 0).toLocaleString("en"),
+    cut.reduce((sum, count) => sum + count[name], 0),
   );
-  return { text: `${shown} of ${matched} shown: zoom in`, isProblem: false };
+  const numbers = { shown: inDigits(shown), matched: inDigits(matched) };
+  return { text: say("{shown} of {matched} shown: zoom in", numbers), isProblem: false };
 }

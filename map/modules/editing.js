@@ -7,7 +7,10 @@ import { editKey, putInBasket } from "./basket.js";
 import { changed } from "./channel.js";
 import { askBetweenTabs } from "./differences_dialog.js";
 import { announce } from "./element.js";
+import { keepLast } from "./last.js";
+import { openCollection } from "./opening_dialog.js";
 import { changeEdits } from "./queue.js";
+import { say } from "./words.js";
 
 export class Editing {
   #view;
@@ -33,11 +36,18 @@ export class Editing {
     const isThere = collections.some(({ id }) => id === this.#chosen.collection);
     const on = collections.find(({ id }) => !off.has(id)) ?? collections[0];
     const first = isThere ? this.#chosen.collection : on?.id;
-    if (!first) return announce("There is no collection to add to.");
+    if (!first) return this.openCollection();
     this.#editor.begin(type, first, (edit) => this.#take(edit, ""));
     this.#chosen.outline();
     this.#tabs.open("feature");
     return this.#view.map.getContainer().focus();
+  }
+
+  /** Asks for a collection to open, which is then offered first. */
+  async openCollection() {
+    if (this.#chosen.isBusy()) return;
+    const id = await openCollection(this.#view.collections.map((it) => it.id));
+    if (id !== null) this.#chosen.collection = id;
   }
 
   /**
@@ -64,9 +74,10 @@ export class Editing {
     if (other && answer === "this") {
       await putInBasket({ ...edit, base: other.feature ?? edit.base });
     }
+    if (edit.op === "insert") await keepLast(edit);
     this.#editor.close();
     this.#chosen.set({ collection: edit.collection, id: edit.id });
-    announce(`${edit.id} is in the basket.`);
+    announce(say("{id} is in the basket.", { id: edit.id }));
     this.#chosen.show();
     this.#tabs.open("basket");
   }
@@ -82,7 +93,7 @@ export class Editing {
     const take = async ({ feature }) => {
       const edits = batch.edits.map((it, at) => (at === index ? { ...edit, feature } : it));
       if (!(await changeEdits(batch, edits))) {
-        throw new Error("The batch was changed or sent by another tab meanwhile.");
+        throw new Error(say("The batch was changed or sent by another tab meanwhile."));
       }
       changed("send");
       this.#editor.close();

@@ -7,6 +7,7 @@ import { writeJson } from "./json.js";
 import { degreesInWords } from "./place.js";
 import { geometryText, pendingText, valueText } from "./texts.js";
 import { clock, isTime, timeInWords } from "./time.js";
+import { say } from "./words.js";
 
 /**
  * @param {object | null} properties
@@ -16,7 +17,7 @@ function propertiesTable(properties) {
   const rows = Object.entries(properties ?? {}).map(([name, value]) =>
     element("tr", {}, element("th", { scope: "row" }, name), element("td", {}, valueText(value))),
   );
-  if (rows.length === 0) return element("p", { class: "note" }, "It has no properties.");
+  if (rows.length === 0) return element("p", { class: "note" }, say("It has no properties."));
   return element("table", { class: "shown" }, element("tbody", {}, ...rows));
 }
 
@@ -28,7 +29,7 @@ function times(properties) {
   const found = Object.entries(properties ?? {}).filter(([, value]) => isTime(value));
   const lines = found.map(([name, value]) => element("li", {}, `${name}: ${timeInWords(value)}`));
   if (lines.length === 0) return [];
-  return [element("h3", {}, "Time"), element("ul", { class: "times" }, ...lines)];
+  return [element("h3", {}, say("Time")), element("ul", { class: "times" }, ...lines)];
 }
 
 /**
@@ -38,11 +39,11 @@ function times(properties) {
 async function copy(text) {
   try {
     await navigator.clipboard.writeText(text);
-    announce("Copied as GeoJSON.");
+    announce(say("Copied as GeoJSON."));
   } catch {
     const area = element("textarea", { rows: 12, readonly: true, "aria-label": "GeoJSON" });
     area.value = text;
-    await askInDialog("GeoJSON", [area], [{ text: "Close", value: true }]);
+    await askInDialog("GeoJSON", [area], [{ text: say("Close"), value: true }]);
   }
 }
 
@@ -81,22 +82,25 @@ export function showFeature(panel, shown, listener) {
     pending ? element("p", { class: `mark mark-${pending.mark}` }, pendingText(pending)) : "",
     element(
       "p", { class: "buttons" },
-      isGone ? null : button("Edit", listener.onEdit, { class: "main" }),
-      isGone ? null : button("Delete", listener.onDelete),
-      pending?.mark === "basket" ? button("Undo", listener.onUndo) : null,
-      button("Show", listener.onGo),
-      button("Copy as GeoJSON", () => copy(writeJson(feature))),
+      isGone ? null : button(say("Edit"), listener.onEdit, { class: "main" }),
+      isGone ? null : button(say("Delete"), listener.onDelete),
+      pending?.mark === "basket" ? button(say("Undo"), listener.onUndo) : null,
+      button(say("Show"), listener.onGo),
+      button(say("Copy as GeoJSON"), () => copy(writeJson(feature))),
     ),
-    element("h3", {}, "Properties"), propertiesTable(properties),
+    element("h3", {}, say("Properties")), propertiesTable(properties),
     ...times(properties),
-    element("h3", {}, "Geometry"), element(
+    element("h3", {}, say("Geometry")), element(
       "pre",
-      { tabindex: 0, role: "group", "aria-label": "Geometry in metres" },
+      { tabindex: 0, role: "group", "aria-label": say("Geometry in metres") },
       geometryText(geometry),
     ),
     degrees ? element("p", { class: "note" }, `${degreesInWords(degrees)} (WGS 84)`) : "",
-    seen && !pending ? element("p", { class: "note" }, `As of ${clock(seen)}.`) : "",
-    alsoHere.length ? element("h3", {}, "Also here") : "",
+    seen && !pending ? element("p", { class: "note" }, say(
+      "As of {time}.",
+      { time: clock(seen) },
+    )) : "",
+    alsoHere.length ? element("h3", {}, say("Also here")) : "",
     alsoHere.length ? element("p", { class: "buttons" }, ...alsoHere) : "",
   );
 }

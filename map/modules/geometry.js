@@ -10,6 +10,7 @@
  * @property {"point" | "points" | "line" | "ring"} kind
  * @property {number} least how many positions it must keep
  */
+import { say } from "./words.js";
 
 /** The largest coordinate that the server takes, in millimetres. */
 export const MOST = 1_000_000_000;
@@ -241,20 +242,32 @@ export function readMetres(text) {
   return value > MOST ? null : sign && value ? -value : value;
 }
 
+const TYPES = {
+  Point: say("Point"),
+  MultiPoint: say("MultiPoint"),
+  LineString: say("LineString"),
+  MultiLineString: say("MultiLineString"),
+  Polygon: say("Polygon"),
+  MultiPolygon: say("MultiPolygon"),
+  GeometryCollection: say("GeometryCollection"),
+};
+
 /**
  * @param {Geometry | null} geometry
  * @returns {string} what it is, in a few words
  */
 export function describe(geometry) {
-  if (!geometry) return "no geometry";
+  if (!geometry) return say("no geometry");
   const parts = paths(geometry);
   const positions = parts.reduce((sum, part) => sum + part.positions.length, 0);
   const holes = members(geometry)
     .flatMap(polygons)
     .reduce((sum, rings) => sum + rings.length - 1, 0);
-  const words = [geometry.type];
-  if (geometry.type === "GeometryCollection") words.push(`${geometry.geometries.length} members`);
-  if (holes > 0) words.push(holes === 1 ? "1 hole" : `${holes} holes`);
-  if (positions > 1) words.push(`${positions} positions`);
+  const words = [TYPES[geometry.type]];
+  if (geometry.type === "GeometryCollection") {
+    words.push(say("{count} members", { count: geometry.geometries.length }));
+  }
+  if (holes > 0) words.push(holes === 1 ? say("1 hole") : say("{count} holes", { count: holes }));
+  if (positions > 1) words.push(say("{count} positions", { count: positions }));
   return words.join(", ");
 }

@@ -4,6 +4,7 @@
 import * as L from "../leaflet/leaflet.esm.js";
 import { colour } from "./colours.js";
 import { element } from "./element.js";
+import { language } from "./words.js";
 
 const LINE_PIXELS = 110;
 const SCALE_PIXELS = 120;
@@ -26,7 +27,7 @@ function roundDown(most) {
 function inMetres(length) {
   const digits = Math.max(0, Math.min(3, -Math.floor(Math.log10(length) + 1e-9)));
   return length.toLocaleString(
-    "en",
+    language,
     { minimumFractionDigits: digits, maximumFractionDigits: digits },
   );
 }
@@ -81,7 +82,7 @@ function inMetresAt(value, step) {
   const digits = Math.max(0, Math.min(3, -Math.floor(Math.log10(step) + 1e-9)));
   const rounded = Math.round(value * 1000) / 1000 || 0;
   return rounded.toLocaleString(
-    "en",
+    language,
     { minimumFractionDigits: digits, maximumFractionDigits: digits },
   );
 }

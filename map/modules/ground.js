@@ -5,12 +5,14 @@
 import { toPosition } from "./draw.js";
 import { announce, byId, element } from "./element.js";
 import { metres } from "./geometry.js";
-import { degreesInWords, readPlace } from "./place.js";
+import { degreesInWords } from "./place.js";
 import { OwnPosition } from "./position.js";
 
 export class Ground {
   /** @type {import("./place.js").Place | null} */
   earth = null;
+  /** @type {OwnPosition | null} */
+  own = null;
   #map;
 
   /** @param {import("../leaflet/leaflet.esm.js").Map} map */
@@ -32,21 +34,20 @@ export class Ground {
     );
   }
 
-  /** Reads where the grid lies, and offers one's own position on it. */
-  async placeOnEarth() {
-    try {
-      this.earth = await readPlace();
-    } catch (fault) {
-      console.error(fault);
-    }
+  /**
+   * Offers one's own position on the grid.
+   * @param {import("./place.js").Place | null} earth
+   */
+  placeOnEarth(earth) {
+    this.earth = earth;
     const button = byId("own-position");
     button.hidden = !this.earth || !navigator.geolocation;
     if (button.hidden) return;
-    const own = new OwnPosition(this.#map, this.earth);
-    button.addEventListener("click", () => {
-      if (own.isOn) own.stop();
-      else own.start(announce);
+    const own = new OwnPosition(this.#map, this.earth, () => {
       button.setAttribute("aria-pressed", String(own.isOn));
+      button.classList.toggle("follows", own.follows);
     });
+    button.addEventListener("click", () => own.press(announce));
+    this.own = own;
   }
 }

@@ -2,14 +2,16 @@
  * @file The kinds of values that a property may have, and the values that texts of a kind write.
  */
 import { readJson } from "./json.js";
+import { say } from "./words.js";
 
 export const KINDS = {
-  text: "text",
-  number: "number",
-  truth: "yes/no",
-  nothing: "nothing",
+  text: say("text"),
+  number: say("number"),
+  truth: say("yes/no"),
+  nothing: say("nothing"),
   json: "JSON",
 };
+export const TRUTH_TEXTS = { yes: say("yes"), no: say("no") };
 const LEAST = -(2n ** 63n);
 const MOST = 2n ** 64n - 1n;
 /** A whole number as people write it; what begins with a zero is a code, and stays text. */
@@ -63,11 +65,14 @@ export function kindsIn(features, most) {
  */
 export function checkNumbers(value, name) {
   if (typeof value === "number" && !Number.isInteger(value)) {
-    throw new Error(`${name}: a number has to be whole. Write it as text, or in a smaller unit.`);
+    throw new Error(say(
+      "{name}: a number has to be whole. Write it as text, or in a smaller unit.",
+      { name },
+    ));
   }
   const isNumber = typeof value === "number" || typeof value === "bigint";
   if (isNumber && !(value >= LEAST && value <= MOST)) {
-    throw new Error(`${name}: the number is too large.`);
+    throw new Error(say("{name}: the number is too large.", { name }));
   }
   if (value !== null && typeof value === "object") {
     for (const inner of Object.values(value)) checkNumbers(inner, name);
@@ -85,13 +90,13 @@ export function valueOf(name, kind, text) {
   if (kind === "nothing") return null;
   if (kind === "truth") return text === "yes";
   if (kind === "number" && !/^\s*-?\d+\s*$/.test(text)) {
-    const other = "Choose the kind text for anything else.";
-    throw new Error(`${name}: “${text}” is no whole number. ${other}`);
+    const other = say("Choose the kind text for anything else.");
+    throw new Error(say("{name}: “{text}” is no whole number. {other}", { name, text, other }));
   }
   try {
     return readJson(kind === "number" ? String(BigInt(text.trim())) : text);
   } catch {
-    throw new Error(`${name}: “${text}” is no JSON.`);
+    throw new Error(say("{name}: “{text}” is no JSON.", { name, text }));
   }
 }
 
@@ -104,10 +109,10 @@ export function readProperties(text) {
   try {
     value = text.trim() === "" ? null : readJson(text);
   } catch (fault) {
-    throw new Error(`The JSON cannot be read: ${fault.message}`);
+    throw new Error(say("The JSON cannot be read: {message}", { message: fault.message }));
   }
   if (typeof value !== "object" || Array.isArray(value)) {
-    throw new Error("Properties are an object {..} or null.");
+    throw new Error(say("Properties are an object {..} or null."));
   }
   return value;
 }

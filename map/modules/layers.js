@@ -11,12 +11,16 @@
  * @property {import("./geometry.js").Box | null} box
  * @property {{mark: Mark, op: string} | null} pending
  * @property {L.Path[]} drawn the layers of Leaflet
- * @typedef {{line: L.Style, area: L.Style, point: L.Style}} Styles how a feature is drawn
+ * @typedef {import("./legend.js").SymbolShape} SymbolShape
+ * @typedef {{colour: string, shape: SymbolShape}} Look
+ * @typedef {{line: L.Style, area: L.Style, point: L.Style, shape: SymbolShape}} Styles how a
+ *   feature is drawn
  */
 import * as L from "../leaflet/leaflet.esm.js";
 import { colour } from "./colours.js";
 import { nameOf } from "./feature.js";
 import { boxOf, distanceTo, members, overlaps } from "./geometry.js";
+import { pointSymbol } from "./symbols.js";
 
 const PANES = { areas: 410, lines: 420, points: 430, marks: 440 };
 const DASHES = { basket: "6 4", waiting: "2 5", differs: "10 4 2 4", refused: null };
@@ -43,18 +47,18 @@ export class Layers {
   #map;
   /** @type {Record<string, L.Renderer>} */
   #renderers = {};
-  /** @type {(collection: string) => string} */
-  #colourOf;
+  /** @type {(collection: string, feature: Feature) => Look} */
+  #lookOf;
   /** @type {L.Path[]} */
   #outline = [];
 
   /**
    * @param {L.Map} map
-   * @param {(collection: string) => string} colourOf
+   * @param {(collection: string, feature: Feature) => Look} lookOf
    */
-  constructor(map, colourOf) {
+  constructor(map, lookOf) {
     this.#map = map;
-    this.#colourOf = colourOf;
+    this.#lookOf = lookOf;
     for (const [name, level] of Object.entries(PANES)) {
       const pane = map.createPane(name);
       pane.style.zIndex = String(level);
@@ -79,11 +83,12 @@ export class Layers {
 
   /**
    * @param {string} collection
+   * @param {Feature} feature
    * @param {Shown["pending"]} pending
    * @returns {Styles}
    */
-  #styles(collection, pending) {
-    const own = this.#colourOf(collection);
+  #styles(collection, feature, pending) {
+    const { colour: own, shape } = this.#lookOf(collection, feature);
     const edge = pending ? colour(`mark-${pending.mark}`) : own;
     const dash = pending ? DASHES[pending.mark] : null;
     const isGone = pending?.op === "delete";
@@ -91,6 +96,7 @@ export class Layers {
     const base = { interactive: false, bubblingMouseEvents: false };
     const weight = this.#width() + (pending ? 1.5 : 0);
     return {
+      shape,
       line: {
         ...base,
         color: edge,
@@ -129,11 +135,10 @@ export class Layers {
     const on = (renderer) => (pane ? this.#renderers[pane] : renderer);
     const drawn = members(geometry).flatMap(({ type, coordinates }) => {
       const places = toPlaces(coordinates);
-      const circle = (at) => L.circleMarker(at, { ...styles.point, renderer: on(points) });
-      if (type === "Point") return [circle(places)];
-      if (type === "MultiPoint") {
-        return places.map(circle);
-      }
+      const pointStyle = { ...styles.point, renderer: on(points) };
+      const point = (at) => pointSymbol(at, styles.shape, pointStyle);
+      if (type === "Point") return [point(places)];
+      if (type === "MultiPoint") return places.map(point);
       const [shape, style, renderer] = type.endsWith("LineString")
         ? [L.polyline, styles.line, lines]
         : [L.polygon, styles.area, areas];
@@ -155,7 +160,7 @@ export class Layers {
     const isSame = before?.feature === feature && before.pending?.mark === pending?.mark;
     if (isSame && before.pending?.op === pending?.op) return;
     if (before) this.remove(name);
-    const drawn = this.#draw(feature.geometry, this.#styles(collection, pending));
+    const drawn = this.#draw(feature.geometry, this.#styles(collection, feature, pending));
     this.shown.set(name, { collection, feature, box: boxOf(feature.geometry), pending, drawn });
   }
 
@@ -171,7 +176,7 @@ export class Layers {
       for (const layer of shown.drawn) layer.remove();
       shown.drawn = this.#draw(
         shown.feature.geometry,
-        this.#styles(shown.collection, shown.pending),
+        this.#styles(shown.collection, shown.feature, shown.pending),
       );
     }
   }
@@ -183,7 +188,9 @@ export class Layers {
   outline(feature) {
     for (const layer of this.#outline) layer.remove();
     const halo = { interactive: false, color: colour("chosen"), opacity: 0.9, fill: false };
+    /** @type {Styles} */
     const styles = {
+      shape: "circle",
       line: { ...halo, weight: 9, opacity: 0.45 },
       area: { ...halo, weight: 5 },
       point: { ...halo, weight: 3, radius: this.#radius() + 5 },

@@ -3,8 +3,9 @@
  */
 import { readAddress, writeAddress } from "./address.js";
 import { NoAnswer, Refusal, readCollections } from "./api.js";
+import { Areas } from "./areas.js";
+import { AreasPanel } from "./areas_panel.js";
 import { BackgroundImage } from "./background.js";
-import { showBasket } from "./basket_panel.js";
 import { onChange } from "./channel.js";
 import { Chosen } from "./chosen.js";
 import { CollectionsPanel, viewText } from "./collections_panel.js";
@@ -13,10 +14,9 @@ import { Editing } from "./editing.js";
 import { Editor } from "./editor.js";
 import { announce, byId } from "./element.js";
 import { Ground } from "./ground.js";
-import { writeJson } from "./json.js";
 import { kindsIn } from "./kinds.js";
-import { readPending } from "./pending.js";
-import { QueuePanel, queueText } from "./queue_panel.js";
+import { officeOf, readOffice } from "./office.js";
+import { QueuePanel } from "./queue_panel.js";
 import { keepCollections } from "./seen.js";
 import { showSettings } from "./settings_panel.js";
 import { readAll, readSetting } from "./store.js";
@@ -24,6 +24,8 @@ import { Tabs } from "./tabs.js";
 import { clock, interval } from "./time.js";
 import { compareName, isStartingAgain, startAgain } from "./towns.js";
 import { View } from "./view.js";
+import { Waiting } from "./waiting.js";
+import { say } from "./words.js";
 
 /** How near a click has to come, in pixels; a finger is wider than a pointer. */
 const REACH = matchMedia("(pointer: coarse)").matches ? 24 : 10;
@@ -45,8 +47,8 @@ export class Page {
   #isSought = false;
   /** When the town's name was last read. */
   #compared = 0;
-  #basketSize = 0;
   #timer = 0;
+  office = officeOf({});
 
   /** @param {import("./seen.js").Seen} seen */
   constructor(seen) {
@@ -59,8 +61,11 @@ export class Page {
     this.tabs = new Tabs(byId("tabs"));
     this.background = new BackgroundImage(this.view.map);
     this.ground = new Ground(this.view.map);
-    this.editor = new Editor(this.view, byId("panel-feature"), {
-      kindsOf: (collection) => kindsIn(seen.some(collection, MOST_READ), MOST_NAMES),
+    this.editor = new Editor(this.view, this.ground, byId("panel-feature"), {
+      describe: (collection) => ({
+        fields: this.office.forms.get(collection) ?? [],
+        kinds: kindsIn(seen.some(collection, MOST_READ), MOST_NAMES),
+      }),
       onCancel: () => this.chosen.show(),
     });
     this.chosen = new Chosen(this, {
@@ -71,12 +76,18 @@ export class Page {
     this.collectionsPanel = new CollectionsPanel(byId("panel-collections"), this.view, {
       onSwitch: () => this.#switched(),
       onFilter: (from, to) => this.#filtered(from, to),
-      onSearch: (id) => this.chosen.search(id),
+      onSearch: (text) =>
+        this.chosen.search(text, (found) => this.collectionsPanel.showFound(found)),
+      onChoose: (collection, id) => this.chosen.choose(collection, id, true),
+      onOpen: () => this.editing.openCollection(),
     });
     this.queuePanel = new QueuePanel(byId("panel-queue"), {
       onSelect: (collection, id) => this.chosen.choose(collection, id, true),
       onChange: (batch, index) => this.editing.changeBatch(batch, index),
     });
+    this.areas = new Areas(seen, () => this.areasPanel.show());
+    this.areasPanel = new AreasPanel(byId("panel-collections"), this.areas, this.view);
+    this.waiting = new Waiting(this);
     this.#listen();
   }
 
@@ -89,14 +100,15 @@ export class Page {
     for (const button of buttons) {
       button.addEventListener("click", () => this.editing.add(button.dataset.add));
     }
-    onChange("basket", () => this.showPending());
-    onChange("queue", () => this.showPending());
+    onChange("basket", () => this.waiting.show());
+    onChange("queue", () => this.waiting.show());
     onChange("view", () => this.#caughtUp());
     onColours(() => this.#recolour());
     addEventListener("hashchange", () => this.#goToAddress());
     addEventListener("online", () => this.refresh());
+    if (isSecureContext) addEventListener("online", () => this.areas.goOn());
     addEventListener("beforeunload", (event) => {
-      const isUnsaved = this.editor.isBegun || this.#basketSize > 0;
+      const isUnsaved = this.editor.isBegun || this.waiting.basketSize > 0;
       if (!isUnsaved || isStartingAgain()) return;
       event.preventDefault();
       // Earlier browsers ask for a text instead.
@@ -110,18 +122,24 @@ export class Page {
     const address = this.#readAddress();
     await this.view.setCollections(await readAll("collections"));
     this.collectionsPanel.show();
-    await this.showPending();
+    await this.waiting.show();
     if (!address.view) this.view.showAll();
     this.#isPlaced = address.view !== null;
     this.#isSought = !this.#isPlaced;
     const asked = this.refresh();
+    const office = readOffice();
     this.background.show((await readSetting("background")) ?? null, announce);
     this.#isKept = (await navigator.storage?.persist?.()) ?? false;
-    await this.ground.placeOnEarth();
+    this.office = await office;
+    this.view.legends = this.office.legends;
+    this.collectionsPanel.show();
+    this.#recolour();
+    this.ground.placeOnEarth(this.office.place);
     await this.#showSettings();
     await asked;
     this.#isPlaced = true;
     this.#keepAddress();
+    if (isSecureContext) this.areas.goOn();
     const { feature } = address;
     if (feature) await this.chosen.choose(feature.collection, feature.id, !address.view);
   }
@@ -183,7 +201,7 @@ export class Page {
   async #isHere() {
     this.#compared = Date.now();
     if ((await compareName()) !== "other") return true;
-    const text = "Another town is served here now. Cancel the edit, and reload.";
+    const text = say("Another town is served here now. Cancel the edit, and reload.");
     if (this.editor.isBegun) announce(text);
     else startAgain();
     return false;
@@ -240,62 +258,9 @@ export class Page {
     event.preventDefault();
   }
 
-  #showing = Promise.resolve();
-  /** @type {Promise<void> | null} */
-  #next = null;
-
-  /**
-   * Shows the basket, the queue and what is still to come on the map. One showing ends before the
-   * next one reads, so that none puts older lists over newer ones.
-   * @returns {Promise<void>}
-   */
-  showPending() {
-    this.#next ??= this.#showing.catch(() => {}).then(() => {
-      this.#next = null;
-      this.#showing = this.#showNow();
-      return this.#showing;
-    });
-    return this.#next;
-  }
-
-  async #showNow() {
-    const { pending, basket, queue } = await readPending();
-    // What was accepted meanwhile is no longer pending, and is what was last seen.
-    await this.seen.catchUp();
-    this.view.setPending(pending);
-    this.#basketSize = basket.length;
-    const options = {
-      onSelect: (collection, id) => this.chosen.choose(collection, id, true),
-      canSave: isSecureContext,
-    };
-    if (this.#isNew("basket", basket)) showBasket(byId("panel-basket"), basket, options);
-    if (this.#isNew("queue", queue)) await this.queuePanel.show(queue);
-    const { text, isProblem } = queueText(queue);
-    const shown = byId("queue-state");
-    if (shown.textContent !== text) shown.textContent = text;
-    shown.classList.toggle("problem", isProblem);
-    byId("basket-count").textContent = basket.length ? String(basket.length) : "";
-    byId("queue-count").textContent = queue.length ? String(queue.length) : "";
-    if (!this.editor.isOpen && this.chosen.name) this.chosen.show();
-  }
-
-  #shownTexts = new Map();
-
-  /**
-   * @param {string} name of a list
-   * @param {object[]} list
-   * @returns {boolean} whether it is another than the one that was shown
-   */
-  #isNew(name, list) {
-    const text = writeJson(list);
-    const isNew = this.#shownTexts.get(name) !== text;
-    this.#shownTexts.set(name, text);
-    return isNew;
-  }
-
   /** A batch was accepted: what it made is what was last seen. */
   async #caughtUp() {
-    await this.showPending();
+    await this.waiting.show();
     await this.refresh();
   }
 
@@ -303,7 +268,7 @@ export class Page {
     const onBackground = (background) => this.background.show(background, announce);
     return showSettings(
       byId("panel-settings"),
-      { earth: this.ground.earth, isKept: this.#isKept, onBackground },
+      { office: this.office, isKept: this.#isKept, onBackground },
     );
   }
 }

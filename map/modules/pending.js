@@ -31,6 +31,7 @@ export async function readPending() {
   const pending = new Map();
   for (const batch of queue) {
     batch.edits.forEach((edit, index) => {
+      if (edit.op === "open") return;
       pending.set(nameOf(edit.collection, edit.id), { edit, mark: markOf(batch, index) });
     });
   }

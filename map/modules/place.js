@@ -1,5 +1,5 @@
 /**
- * @file Where the grid lies on the earth: the table `map.json`, which places it in WGS 84.
+ * @file Where the grid lies on the earth: the table in `map.json` that places it in WGS 84.
  *
  *     {"place": {"system": "EPSG:25832", "error": 0.002, "patches": [
  *       {"box": [x0, y0, x1, y1], "longitude": [[..], ..], "latitude": [[..], ..]}, ..]}}
@@ -13,6 +13,7 @@
  * @typedef {{box: number[], longitude: number[][], latitude: number[][]}} Patch
  * @typedef {{longitude: number, latitude: number}} Degrees
  */
+import { say } from "./words.js";
 
 /** A table that errs by more, in metres, is not used. */
 const MOST_ERROR = 0.01;
@@ -74,8 +75,12 @@ export class Place {
    */
   static of(json) {
     if (json?.place === undefined) return null;
-    if (!isTable(json.place)) throw new Error("The table in map.json has another form.");
-    if (json.place.error > MOST_ERROR) throw new Error("The table in map.json errs by over 1 cm.");
+    if (!isTable(json.place)) throw new Error(say("The table in map.json has another form."));
+    if (json.place.error > MOST_ERROR) {
+      throw new Error(say(
+        "The table in map.json errs by over 1 cm.",
+      ));
+    }
     return new Place(json.place);
   }
 
@@ -134,15 +139,6 @@ function solve(patch, longitude, latitude) {
     if (Math.abs(stepU) < NEAR && Math.abs(stepV) < NEAR) break;
   }
   return Math.abs(u) <= 1 + 1e-9 && Math.abs(v) <= 1 + 1e-9 ? { u, v } : null;
-}
-
-/**
- * @returns {Promise<Place | null>} the table that the office put beside the page, where there is
- *   one
- */
-export async function readPlace() {
-  const response = await fetch("map.json", { cache: "no-cache" });
-  return response.ok ? Place.of(await response.json()) : null;
 }
 
 /**

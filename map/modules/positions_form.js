@@ -5,6 +5,7 @@
  */
 import { button, element } from "./element.js";
 import { metres, paths, readMetres } from "./geometry.js";
+import { say } from "./words.js";
 
 /** How many positions the table shows. */
 const MOST_ROWS = 200;
@@ -21,7 +22,7 @@ function metresField(name, value) {
       value,
       inputmode: "decimal",
       placeholder: name,
-      "aria-label": `${name} in metres`,
+      "aria-label": say("{name} in metres", { name }),
       class: "metres",
     },
   );
@@ -33,8 +34,8 @@ function metresField(name, value) {
  * @returns {HTMLElement} two fields, and a button that adds what they have
  */
 export function typedPosition(onPosition) {
-  const [x, y] = ["East", "North"].map((name) => metresField(name, ""));
-  const add = button("Add", () => {
+  const [x, y] = [say("East"), say("North")].map((name) => metresField(name, ""));
+  const add = button(say("Add"), () => {
     const position = [readMetres(x.value), readMetres(y.value)];
     onPosition(position.includes(null) ? null : position);
   });
@@ -48,12 +49,20 @@ export function typedPosition(onPosition) {
 export function positionFields(shape) {
   const all = paths(shape.geometry);
   const total = all.reduce((sum, { positions }) => sum + positions.length, 0);
-  if (total > MOST_ROWS) return [element("p", {}, `${total} positions: move them on the map.`)];
+  if (total > MOST_ROWS) {
+    return [element("p", {}, say(
+      "{total} positions: move them on the map.",
+      { total },
+    ))];
+  }
   return all.map((path, place) => {
     const last = path.kind === "ring" ? path.positions.length - 1 : path.positions.length;
     const shown = path.positions.slice(0, last);
     const rows = shown.map((_, index) => positionRow(shape, path, index));
-    const title = path.kind === "ring" ? `Ring ${place + 1}` : `Part ${place + 1}`;
+    const title = path.kind === "ring" ? say(
+      "Ring {number}",
+      { number: place + 1 },
+    ) : say("Part {number}", { number: place + 1 });
     return element(
       "fieldset",
       {},
@@ -69,7 +78,7 @@ export function positionFields(shape) {
  * @param {number} index
  */
 function positionRow(shape, path, index) {
-  const fields = ["East", "North"].map((name, axis) =>
+  const fields = [say("East"), say("North")].map((name, axis) =>
     metresField(`${name} ${index + 1}`, metres(path.positions[index][axis])),
   );
   const set = () => {
@@ -85,7 +94,7 @@ function positionRow(shape, path, index) {
   const remove = button(
     "×",
     () => shape.remove(path, index),
-    { class: "small", "aria-label": `Remove position ${index + 1}` },
+    { class: "small", "aria-label": say("Remove position {number}", { number: index + 1 }) },
   );
   return element(
     "p",

@@ -5,6 +5,7 @@ import { button, element } from "./element.js";
 import { writeJson } from "./json.js";
 import { checkNumbers, readProperties } from "./kinds.js";
 import { PropertyRow } from "./property_row.js";
+import { say } from "./words.js";
 
 export class PropertiesEditor {
   /** @type {PropertyRow[]} */
@@ -14,7 +15,9 @@ export class PropertiesEditor {
   #kinds;
   #names = element("datalist", { id: "property-names" });
   #table = element("tbody");
-  #raw = element("textarea", { rows: 10, spellcheck: "false", "aria-label": "Properties as JSON" });
+  #raw = element("textarea", { rows: 10, spellcheck: "false", "aria-label": say(
+    "Properties as JSON",
+  ) });
   #problem = element("p", { class: "problem", role: "alert" });
 
   /**
@@ -26,13 +29,15 @@ export class PropertiesEditor {
     const head = element(
       "tr",
       {},
-      ...["Name", "Kind", "Value", ""].map((text) => element("th", { scope: "col" }, text)),
+      ...[say("Name"), say("Kind"), say(
+        "Value",
+      ), ""].map((text) => element("th", { scope: "col" }, text)),
     );
     this.offer(kinds);
     this.#fill(properties);
     this.table = element("table", { class: "properties" }, element("thead", {}, head), this.#table);
-    this.add = button("Add a property", () => this.#addRow(null).name.focus());
-    this.toggle = button("As JSON", () => this.#switch());
+    this.add = button(say("Add a property"), () => this.#addRow(null).name.focus());
+    this.toggle = button(say("As JSON"), () => this.#switch());
     this.#raw.hidden = true;
     this.element = element(
       "div", {}, this.#names, this.table, this.#raw, this.#problem,
@@ -70,12 +75,27 @@ export class PropertiesEditor {
     return row;
   }
 
+  /** @returns {boolean} whether it has no property */
+  get isEmpty() {
+    return this.#isRaw ? this.#raw.value.trim() === "" : this.#rows.length === 0;
+  }
+
+  /**
+   * Puts properties in, in place of those that have the same names.
+   * @param {Map<string, any>} properties
+   */
+  put(properties) {
+    const value = new Map([...Object.entries(this.value() ?? {}), ...properties]);
+    if (this.#isRaw) this.#raw.value = writeJson(Object.fromEntries(value), 2);
+    else this.#fill(Object.fromEntries(value));
+  }
+
   /** @returns {object | null} what the table writes */
   #fromTable() {
     const found = new Map();
     for (const row of this.#rows) {
       const name = row.name.value;
-      if (found.has(name)) throw new Error(`The name “${name}” is there twice.`);
+      if (found.has(name)) throw new Error(say("The name “{name}” is there twice.", { name }));
       found.set(name, row.value());
     }
     return found.size === 0 && this.#wasNull ? null : Object.fromEntries(found);
@@ -95,7 +115,7 @@ export class PropertiesEditor {
     this.#raw.hidden = !this.#isRaw;
     this.table.hidden = this.#isRaw;
     this.add.hidden = this.#isRaw;
-    this.toggle.textContent = this.#isRaw ? "As a table" : "As JSON";
+    this.toggle.textContent = this.#isRaw ? say("As a table") : say("As JSON");
   }
 
   /** @returns {object | null} the properties; it throws and shows why if they cannot be read */

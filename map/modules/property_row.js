@@ -3,7 +3,8 @@
  */
 import { button, element } from "./element.js";
 import { writeJson } from "./json.js";
-import { KINDS, kindOf, kindTyped, valueOf } from "./kinds.js";
+import { KINDS, TRUTH_TEXTS, kindOf, kindTyped, valueOf } from "./kinds.js";
+import { say } from "./words.js";
 
 export class PropertyRow {
   /** Whether the kind follows the name and what is typed, until the user chooses one. */
@@ -23,7 +24,7 @@ export class PropertyRow {
     this.name = element("input", {
       value: property?.name ?? "",
       list: "property-names",
-      "aria-label": "Name of the property",
+      "aria-label": say("Name of the property"),
       oninput: () => this.suit(),
     });
     const options = Object.entries(KINDS).map(([kind, text]) =>
@@ -31,14 +32,14 @@ export class PropertyRow {
     );
     this.kind = element(
       "select",
-      { "aria-label": "Kind of the value", onchange: () => this.#choose() },
+      { "aria-label": say("Kind of the value"), onchange: () => this.#choose() },
       ...options,
     );
     this.#fill(property ? property.value : "");
     const remove = button("×", () => {
       this.element.remove();
       onRemove();
-    }, { "aria-label": "Remove this property", class: "small" });
+    }, { "aria-label": say("Remove this property"), class: "small" });
     this.element = element(
       "tr", {}, element("td", {}, this.name), element("td", {}, this.kind), this.#cell,
       element("td", {}, remove),
@@ -58,12 +59,14 @@ export class PropertyRow {
   #show() {
     const kind = this.kind.value;
     if (kind === "truth") {
-      const options = ["yes", "no"].map((text) => element("option", {}, text));
-      this.field = element("select", { "aria-label": "Value" }, ...options);
+      const options = Object.entries(TRUTH_TEXTS).map(([value, text]) =>
+        element("option", { value }, text),
+      );
+      this.field = element("select", { "aria-label": say("Value") }, ...options);
       this.field.value = /^(false|no)$/i.test(this.#typed.trim()) ? "no" : "yes";
     } else {
       this.field = element("input", {
-        "aria-label": "Value",
+        "aria-label": say("Value"),
         inputmode: kind === "number" ? "numeric" : "text",
         value: this.#typed,
         disabled: kind === "nothing",

@@ -11,15 +11,18 @@ import {
   backToBasket,
   changeEdits,
   isBuiltUpon,
+  isOpening,
   leave,
   mayChange,
+  nextToSend,
   readAnswers,
   sendAgain,
 } from "./queue.js";
 import { trustServer } from "./recognition.js";
-import { counted, editText } from "./texts.js";
+import { countedEdits, editText } from "./texts.js";
 import { clock } from "./time.js";
 import { readOthers, setAside, takeUp } from "./towns.js";
+import { say } from "./words.js";
 
 const SHOWN_ANSWERS = 10;
 const SHOWN_EDITS = 50;
@@ -30,14 +33,15 @@ const SHOWN_EDITS = 50;
  */
 async function drop(batch) {
   const uncertain = batch.unanswered > 0
-    ? "An answer to it was lost: the server may have taken it. Dropping does not undo that. "
+    ? say("An answer to it was lost: the server may have taken it. Dropping does not undo that.")
     : "";
-  const text = `${uncertain}${counted(batch.edits.length, "edit", "edits")} will not be sent.`;
+  const text = say("{count} will not be sent.", { count: countedEdits(batch.edits.length) });
   const answers = [
-    { text: "Drop the batch", value: true, class: "danger" },
-    { text: "Keep it", value: false },
+    { text: say("Drop the batch"), value: true, class: "danger" },
+    { text: say("Keep it"), value: false },
   ];
-  if (!(await askInDialog("Drop this batch?", [element("p", {}, text)], answers))) return;
+  const content = [element("p", {}, `${uncertain} ${text}`)];
+  if (!(await askInDialog(say("Drop this batch?"), content, answers))) return;
   await leave(batch, { outcome: "dropped" });
   changed("send");
 }
@@ -48,11 +52,13 @@ async function drop(batch) {
  */
 async function takeBack(batch, queue) {
   if (!isBuiltUpon(batch, queue)) return backToBasket(batch);
-  const text = "A later batch edits one of its features again. Change this batch here, or drop it.";
+  const text = say(
+    "A later batch edits one of its features again. Change this batch here, or drop it.",
+  );
   return askInDialog(
-    "It cannot go back",
+    say("It cannot go back"),
     [element("p", {}, text)],
-    [{ text: "Close", value: true }],
+    [{ text: say("Close"), value: true }],
   );
 }
 
@@ -71,20 +77,25 @@ async function sendHere(batch) {
  */
 async function othersList() {
   const rows = (await readOthers()).map((town) => {
-    const edits = counted(town.waiting, "edit", "edits");
-    const whose = town.name ? ` for ${town.name}` : "";
+    const edits = countedEdits(town.waiting);
+    const whose = town.name ? ` ${say("for {town}", { town: town.name })}` : "";
     return element(
       "li", { class: "edit" },
-      element("div", {}, `${edits}${whose}, last shown ${clock(town.used)}`),
-      button("Open here", () => takeUp(town), { class: "small" }),
+      element("div", {}, say(
+        "{edits}{whose}, last shown {time}",
+        { edits, whose, time: clock(town.used) },
+      )),
+      button(say("Open here"), () => takeUp(town), { class: "small" }),
     );
   });
   if (rows.length === 0) return [];
   const text =
-    "They wait until their town is served at this address again. Open them if it is this one, " +
-    "under another name or moved.";
+    say(
+      "They wait until their town is served at this address again. Open them if it is this " +
+        "one, under another name or moved.",
+    );
   return [
-    element("h2", {}, "Kept for other towns"),
+    element("h2", {}, say("Kept for other towns")),
     element("p", { class: "note" }, text),
     element("ul", { class: "others" }, ...rows),
   ];
@@ -98,18 +109,22 @@ async function othersList() {
 function statusOf(batch, isFirst) {
   const { state, refusal, held, isDoubtful, problem } = batch;
   if (state === "refused") {
-    const place = refusal.place ? ` (edit ${refusal.place})` : "";
+    const place = refusal.place ? ` (${say("edit {place}", { place: refusal.place })})` : "";
     const cause = refusal.cause ? `, ${refusal.cause}` : "";
-    return { text: "Refused", problem: `${refusal.description} ${refusal.code}${cause}${place}` };
+    return { text: say(
+      "Refused",
+    ), problem: `${refusal.description} ${refusal.code}${cause}${place}` };
   }
-  if (state === "differs") return { text: "Another has changed the same", problem: "" };
+  if (state === "differs") return { text: say("Another has changed the same"), problem: "" };
   if (isDoubtful) {
-    const why = "Another town may be served at this address now, or an older copy of this one.";
-    return { text: "Which town is it for?", problem: `${problem} ${why}` };
+    const why = say(
+      "Another town may be served at this address now, or an older copy of this one.",
+    );
+    return { text: say("Which town is it for?"), problem: `${problem} ${why}` };
   }
-  if (held) return { text: "Waits for you", problem };
-  if (!isFirst) return { text: "Waits for the batch before it", problem: "" };
-  return { text: problem ? "Waits and is tried again" : "Is being sent", problem };
+  if (held) return { text: say("Waits for you"), problem };
+  if (!isFirst) return { text: say("Waits for the batch before it"), problem: "" };
+  return { text: problem ? say("Waits and is tried again") : say("Is being sent"), problem };
 }
 
 export class QueuePanel {
@@ -129,20 +144,25 @@ export class QueuePanel {
   /** @param {import("./queue.js").Batch[]} queue */
   async show(queue) {
     const answers = (await readAnswers()).reverse().slice(0, SHOWN_ANSWERS);
-    const batches = queue.map((batch, place) => this.#batch(batch, place === 0, queue));
+    const next = nextToSend(queue);
+    const batches = queue.map((batch, place) =>
+      this.#batch(batch, next ? batch === next : place === 0, queue),
+    );
     const past = answers.map(({ key, edits, time, outcome, serial }) => {
-      const what = outcome === "accepted" ? `accepted as number ${serial}` : "dropped";
-      return element("li", {}, `${clock(time)}: ${counted(edits.length, "edit", "edits")} ${what}`,
+      const whats = { there: say("made by another already"), dropped: say("dropped") };
+      const accepted = say("accepted as number {serial}", { serial });
+      const what = outcome === "accepted" ? accepted : whats[outcome];
+      return element("li", {}, `${clock(time)}: ${countedEdits(edits.length)} ${what}`,
         element("span", { class: "key" }, key));
     });
     renew(
       this.#panel,
-      element("h2", {}, "Queue"),
+      element("h2", {}, say("Queue")),
       element("p", { class: "note" }, queue.length
-        ? "Batches are sent in this order. Each acts once, however often it is tried."
-        : "Nothing waits: all that was saved is with the server."),
+        ? say("Batches are sent in this order. Each acts once, however often it is tried.")
+        : say("Nothing waits: all that was saved is with the server.")),
       element("ol", { class: "batches" }, ...batches),
-      past.length ? element("h2", {}, "Done") : "",
+      past.length ? element("h2", {}, say("Done")) : "",
       past.length ? element("ul", { class: "answers" }, ...past) : "",
       ...(await othersList()),
     );
@@ -162,25 +182,26 @@ export class QueuePanel {
         "p",
         { class: "status" },
         element("strong", {}, text),
-        ` · saved ${clock(batch.saved)}`,
+        ` · ${say("saved {time}", { time: clock(batch.saved) })}`,
       ),
       problem ? element("p", { class: "problem" }, problem) : null,
       element(
         "ul",
         { class: "edits" },
         ...edits,
-        more > 0 ? element("li", {}, `and ${counted(more, "edit", "edits")} more`) : null,
+        more > 0 ? element("li", {}, say("and {count} more", { count: countedEdits(more) })) : null,
       ),
       element(
         "p", { class: "buttons" },
-        batch.state === "differs" ? button("Decide", decide, { class: "main" }) : null,
-        isStuck && !batch.held ? button("Try now", () => changed("send")) : null,
-        batch.isDoubtful ? button("Send it here", () => sendHere(batch)) : null,
-        batch.isDoubtful ? button("Keep it for its town", () => setAside()) : null,
+        batch.state === "differs" ? button(say("Decide"), decide, { class: "main" }) : null,
+        isStuck && !batch.held ? button(say("Try now"), () => changed("send")) : null,
+        batch.isDoubtful ? button(say("Send it here"), () => sendHere(batch)) : null,
+        batch.isDoubtful ? button(say("Keep it for its town"), () => setAside()) : null,
         (batch.held && !batch.isDoubtful) || batch.state === "refused"
-          ? button("Send again", () => sendAgain(batch).then(() => changed("send"))) : null,
-        isFree ? button("Back to basket", () => takeBack(batch, queue)) : null,
-        isFree || batch.tries > 0 ? button("Drop", () => drop(batch)) : null,
+          ? button(say("Send again"), () => sendAgain(batch).then(() => changed("send"))) : null,
+        isFree && !isOpening(batch)
+          ? button(say("Back to basket"), () => takeBack(batch, queue)) : null,
+        isFree || batch.tries > 0 ? button(say("Drop"), () => drop(batch)) : null,
       ),
       element("span", { class: "key" }, batch.key),
     );
@@ -190,24 +211,22 @@ export class QueuePanel {
     const mark = markOf(batch, index);
     const isFree = batch.state === "refused" && mayChange(batch);
     const change = () => this.#listener.onChange(batch, index);
-    const takeOut = `Take the edit of ${edit.id} out`;
+    const takeOut = say("Take the edit of {name} out", { name: edit.id || edit.title });
     const without = () => changeEdits(
       batch,
       batch.edits.filter((_, place) => place !== index),
     ).then(() => changed("send"));
+    const select = () => this.#listener.onSelect(edit.collection, edit.id);
+    const name = edit.op === "open" ? edit.title : button(edit.id, select, { class: "link" });
     return element(
       "li", { class: mark === "waiting" ? "edit" : `edit mark-${mark}` },
       element(
-        "div", {}, button(
-          edit.id,
-          () => this.#listener.onSelect(edit.collection, edit.id),
-          { class: "link" },
-        ),
+        "div", {}, name,
         element("span", { class: "note" }, ` ${edit.collection}`),
         element("div", {}, editText(edit, differences)),
       ),
-      isFree && edit.feature ? button("Change", change, { class: "small" }) : null,
-      isFree ? button("Take out", without, { class: "small", "aria-label": takeOut }) : null,
+      isFree && edit.feature ? button(say("Change"), change, { class: "small" }) : null,
+      isFree ? button(say("Take out"), without, { class: "small", "aria-label": takeOut }) : null,
     );
   }
 }
@@ -218,11 +237,13 @@ export class QueuePanel {
  */
 export function queueText(queue) {
   if (queue.length === 0) return { text: "", isProblem: false };
-  const waits = queue.length === 1 ? "1 batch waits" : `${queue.length} batches wait`;
+  const count = queue.length;
+  const waits = count === 1 ? say("1 batch waits") : say("{count} batches wait", { count });
   const [{ state, held, isDoubtful }] = queue;
-  if (state === "refused") return { text: `${waits}: one was refused`, isProblem: true };
-  if (state === "differs") return { text: `${waits}: decide between two changes`, isProblem: true };
-  if (isDoubtful) return { text: `${waits}: which town is it for?`, isProblem: true };
-  if (held) return { text: `${waits} for name and password`, isProblem: true };
+  const problem = (text) => ({ text: `${waits}: ${text}`, isProblem: true });
+  if (state === "refused") return problem(say("one was refused"));
+  if (state === "differs") return problem(say("decide between two changes"));
+  if (isDoubtful) return problem(say("which town is it for?"));
+  if (held) return { text: say("{waits} for name and password", { waits }), isProblem: true };
   return { text: waits, isProblem: false };
 }

@@ -10,6 +10,7 @@ import { lostCollections } from "./seen.js";
 import { readAll, transact } from "./store.js";
 import { clock } from "./time.js";
 import { compareName, dispelDoubt, readTown } from "./towns.js";
+import { say } from "./words.js";
 
 /**
  * Compares what the server keeps with what this device knows. It throws NoAnswer if it cannot.
@@ -21,15 +22,21 @@ export async function findDoubt() {
   if (last) {
     if (!(await knowsKey(last.key))) {
       const when = clock(last.time);
-      return `The server does not know the batch that was accepted from here at ${when}.`;
+      return say(
+        "The server does not know the batch that was accepted from here at {when}.",
+        { when },
+      );
     }
     if (isDoubtful) await dispelDoubt();
     return "";
   }
-  if (isDoubtful) return "These edits may have been made for another town.";
+  if (isDoubtful) return say("These edits may have been made for another town.");
   const lost = lostCollections(await readAll("collections"), await readCollections());
   const titles = lost.map(({ title }) => `\u201c${title}\u201d`).join(", ");
-  return lost.length > 0 ? `The server does not have the collection ${titles} any more.` : "";
+  return lost.length > 0 ? say(
+    "The server does not have the collection {titles} any more.",
+    { titles },
+  ) : "";
 }
 
 /** The user said that the server is the right one, whatever it lacks. */
@@ -45,9 +52,9 @@ export async function trustServer() {
  */
 export async function whyNotHere() {
   const name = await compareName();
-  if (name === "silent") throw new NoAnswer("There is no network.");
+  if (name === "silent") throw new NoAnswer(say("There is no network."));
   if (name === "other") {
-    return { problem: "Another town is served at this address now.", isDoubtful: false };
+    return { problem: say("Another town is served at this address now."), isDoubtful: false };
   }
   const doubt = await findDoubt();
   return doubt ? { problem: doubt, isDoubtful: true } : null;

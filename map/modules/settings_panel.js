@@ -6,8 +6,9 @@ import { readUser } from "./batch.js";
 import { button, element } from "./element.js";
 import { metres, readMetres } from "./geometry.js";
 import { readSetting, writeSetting } from "./store.js";
+import { say } from "./words.js";
 
-const CORNERS = { x0: "West", y0: "South", x1: "East", y1: "North" };
+const CORNERS = { x0: say("West"), y0: say("South"), x1: say("East"), y1: say("North") };
 
 /**
  * @param {string} id
@@ -33,18 +34,18 @@ async function nameForm() {
     try {
       field.value = readUser(field.value);
       await writeSetting("user", field.value);
-      told.textContent = "Kept.";
+      told.textContent = say("Kept.");
     } catch (fault) {
       told.textContent = fault.message;
     }
   };
   return element(
-    "form", { onsubmit: save }, element("h2", {}, "Your name"),
+    "form", { onsubmit: save }, element("h2", {}, say("Your name")),
     labelled(
       "setting-user",
-      "Name in the keys of your batches",
+      say("Name in the keys of your batches"),
       field,
-    ), element("button", { type: "submit" }, "Keep"), told,
+    ), element("button", { type: "submit" }, say("Keep")), told,
   );
 }
 
@@ -71,31 +72,41 @@ async function imageForm(onBackground) {
     const [x0, y0, x1, y1] = corners.map(({ field }) => readMetres(field.value));
     const box = { x0, y0, x1, y1 };
     if (Object.values(box).includes(null) || box.x0 >= box.x1 || box.y0 >= box.y1) {
-      return void (told.textContent = "Corners are metres, west below east and south below north.");
+      return void (told.textContent = say(
+        "Corners are metres, west below east and south below north.",
+      ));
     }
     const chosen = file.files[0] ?? (url.value ? null : known?.file ?? null);
     const address = url.value ? ownAddress(url.value) : "";
     if (address === null) {
-      return void (told.textContent = `The image has to lie on ${location.origin}, or be a file.`);
+      return void (told.textContent = say(
+        "The image has to lie on {origin}, or be a file.",
+        { origin: location.origin },
+      ));
     }
-    if (!address && !chosen) return void (told.textContent = "Name an image, or choose a file.");
+    if (!address && !chosen) {
+      return void (told.textContent = say("Name an image, or choose a file."));
+    }
     const background = { url: address, file: chosen, box };
     await writeSetting("background", background);
     return onBackground(background);
   };
-  const clear = button("Take it away", async () => {
+  const clear = button(say("Take it away"), async () => {
     await writeSetting("background", null);
     onBackground(null);
   });
   return element(
-    "form", { onsubmit: show }, element("h2", {}, "Image in the background"),
+    "form", { onsubmit: show }, element("h2", {}, say("Image in the background")),
     element(
       "p",
       { class: "note" },
-      `An image that lies on ${location.origin}, or a file of this device. ` +
-        "Images of other addresses are not asked for.",
+      say(
+        "An image that lies on {origin}, or a file of this device. Images of other " +
+          "addresses are not asked for.",
+        { origin: location.origin },
+      ),
     ),
-    labelled("image-url", "Address", url), labelled("image-file", "or a file", file),
+    labelled("image-url", say("Address"), url), labelled("image-file", say("or a file"), file),
     element(
       "div",
       { class: "field pair" },
@@ -104,7 +115,7 @@ async function imageForm(onBackground) {
     element(
       "p",
       { class: "buttons" },
-      element("button", { type: "submit" }, "Show it"),
+      element("button", { type: "submit" }, say("Show it")),
       clear,
     ), told,
   );
@@ -112,23 +123,34 @@ async function imageForm(onBackground) {
 
 /**
  * @param {HTMLElement} panel
- * @param {{earth: import("./place.js").Place | null, isKept: boolean,
+ * @param {{office: import("./office.js").Office, isKept: boolean,
  *   onBackground: (background: import("./background.js").Background | null) => void}} options
  */
-export async function showSettings(panel, { earth, isKept, onBackground }) {
+export async function showSettings(panel, { office, isKept, onBackground }) {
+  const earth = office.place;
   const error = earth && Math.max(1, Math.ceil(earth.error * 1000));
   const facts = [
     earth
-      ? `The grid is placed by ${earth.system || "the office"}, good to ${error} mm.`
-      : "The office has not placed the grid in WGS 84, so your own position is not shown.",
+      ? say(
+        "The grid is placed by {system}, good to {error} mm.",
+        { system: earth.system || say("the office"), error },
+      )
+      : say("The office has not placed the grid in WGS 84, so your own position is not shown."),
     isKept
-      ? "The browser keeps edits and batches until they are sent."
-      : "The browser may clear what waits here if the device runs out of room.",
-    "Photos are not kept.",
-    "Between the look for changes of others and a batch, another may write: the last batch counts.",
+      ? say("The browser keeps edits and batches until they are sent.")
+      : say("The browser may clear what waits here if the device runs out of room."),
+    say("Photos are not kept."),
+    ...office.problems.map((problem) => say(
+      "map.json is not used as a whole: {problem}.",
+      { problem },
+    )),
+    say(
+      "Between the look for changes of others and a batch, another may write: the last " +
+        "batch counts.",
+    ),
   ];
   panel.replaceChildren(
-    await nameForm(), await imageForm(onBackground), element("h2", {}, "Good to know"),
+    await nameForm(), await imageForm(onBackground), element("h2", {}, say("Good to know")),
     element("ul", { class: "facts" }, ...facts.map((text) => element("li", {}, text))),
   );
 }

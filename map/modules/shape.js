@@ -8,6 +8,7 @@ import * as L from "../leaflet/leaflet.esm.js";
 import { draftStyle, makePane, toPosition } from "./draw.js";
 import { boxOf, moved, onGrid, paths } from "./geometry.js";
 import { toPlace } from "./layers.js";
+import { say } from "./words.js";
 
 /** How many handles are shown at most. */
 const MOST_HANDLES = 200;
@@ -167,7 +168,10 @@ export class Shape {
 
   #vertex(path, index) {
     const position = path.positions[index];
-    const text = `Position ${index + 1}: arrow keys move it, Delete removes it`;
+    const text = say(
+      "Position {number}: arrow keys move it, Delete removes it",
+      { number: index + 1 },
+    );
     const marker = this.#handle(toPlace(position), "vertex", text, {
       onDrag: (dragged) => this.set(path, index, dragged),
       onKey: (event) => {
@@ -188,7 +192,10 @@ export class Shape {
     if (!to || path.kind === "points" || path.kind === "point") return;
     const middle = onGrid((from[0] + to[0]) / 2, (from[1] + to[1]) / 2);
     let isIn = false;
-    this.#handle(toPlace(middle), "between", `Put a position in behind position ${index + 1}`, {
+    this.#handle(toPlace(middle), "between", say(
+      "Add a position after position {number}",
+      { number: index + 1 },
+    ), {
       onDrag: (dragged) => {
         if (!isIn) path.positions.splice(index + 1, 0, [...dragged]);
         isIn = true;
@@ -205,7 +212,9 @@ export class Shape {
     const box = boxOf(this.geometry);
     const start = onGrid((box.x0 + box.x1) / 2, box.y1);
     const original = this.geometry;
-    const marker = this.#handle(toPlace(start), "whole", "The whole feature: arrow keys move it", {
+    const marker = this.#handle(toPlace(start), "whole", say(
+      "The whole feature: arrow keys move it",
+    ), {
       onDrag: ([x, y]) => (this.geometry = moved(original, x - start[0], y - start[1])),
       onKey: (event) => {
         const by = this.#byArrow(event);

@@ -11,6 +11,9 @@ import { toPlace } from "./layers.js";
 export class Sketch {
   /** @type {Position[]} */
   positions = [];
+  /** @type {(number | null)[]} how far each may be off, in metres; null if it was not measured */
+  accuracies = [];
+  isStopped = false;
   #map;
   #kind;
   #line;
@@ -20,7 +23,8 @@ export class Sketch {
   /**
    * @param {L.Map} map
    * @param {"point" | "line" | "ring"} kind
-   * @param {{onChange: () => void, onDone: (positions: Position[]) => void}} listener
+   * @param {{onChange: () => void, onDone: (positions: Position[], accuracy:
+   *   number | null) => void}} listener gets the largest accuracy, if all positions were measured
    */
   constructor(map, kind, listener) {
     makePane(map);
@@ -49,11 +53,15 @@ export class Sketch {
     return this.positions.length >= this.least;
   }
 
-  /** @param {Position} position */
-  add(position) {
+  /**
+   * @param {Position} position
+   * @param {number | null} [accuracy] in metres; null if it was not measured
+   */
+  add(position, accuracy = null) {
     const last = this.positions.at(-1);
     if (last && last[0] === position[0] && last[1] === position[1]) return;
     this.positions.push(position);
+    this.accuracies.push(accuracy);
     this.#draw();
     this.#listener.onChange();
     if (this.#kind === "point") this.finish();
@@ -66,6 +74,7 @@ export class Sketch {
 
   removeLast() {
     this.positions.pop();
+    this.accuracies.pop();
     this.#draw();
     this.#listener.onChange();
   }
@@ -74,10 +83,13 @@ export class Sketch {
     if (!this.isEnough) return;
     this.stop();
     const [first] = this.positions;
-    this.#listener.onDone(this.#kind === "ring" ? [...this.positions, [...first]] : this.positions);
+    const positions = this.#kind === "ring" ? [...this.positions, [...first]] : this.positions;
+    const isMeasured = !this.accuracies.includes(null);
+    this.#listener.onDone(positions, isMeasured ? Math.max(...this.accuracies) : null);
   }
 
   stop() {
+    this.isStopped = true;
     this.#line.remove();
     this.#map.off(this.#events);
     this.#map.doubleClickZoom.enable();

@@ -2,6 +2,7 @@
  * @file The tabs of the panel: one is shown, arrow keys go from one to the next. On a phone, the
  * tab that is shown closes the panel.
  */
+import { isPhone } from "./element.js";
 
 export class Tabs {
   #tabs;
@@ -16,16 +17,12 @@ export class Tabs {
       tab.addEventListener("keydown", (event) => this.#key(event, tab));
     }
     this.open(this.#tabs[0].dataset.tab);
-    if (this.#isPhone) document.body.classList.add("closed");
-  }
-
-  get #isPhone() {
-    return matchMedia("(max-width: 799px)").matches;
+    if (isPhone()) document.body.classList.add("closed");
   }
 
   #press(tab) {
     const isShown = tab.getAttribute("aria-selected") === "true";
-    if (this.#isPhone && isShown) document.body.classList.toggle("closed");
+    if (isPhone() && isShown) document.body.classList.toggle("closed");
     else this.open(tab.dataset.tab);
   }
 

@@ -3,14 +3,20 @@
  */
 import { describe, metres, paths } from "./geometry.js";
 import { writeJson } from "./json.js";
+import { inDigits, say } from "./words.js";
 
-const ACTIONS = { insert: "added", replace: "changed", delete: "deleted" };
+const ACTIONS = {
+  open: say("opened"),
+  insert: say("added"),
+  replace: say("changed"),
+  delete: say("deleted"),
+};
 /** What the marks of edits mean. */
 export const MARKS = {
-  basket: "in the basket",
-  waiting: "waits to be sent",
-  differs: "changed by another too",
-  refused: "refused",
+  basket: say("in the basket"),
+  waiting: say("waits to be sent"),
+  differs: say("changed by another too"),
+  refused: say("refused"),
 };
 
 /**
@@ -39,9 +45,9 @@ export function geometryText(geometry) {
  */
 export function sides({ what, one, other }) {
   const side = (value) => {
-    if (value === undefined) return what === "the feature" ? "not there" : "—";
+    if (value === undefined) return what === "the feature" ? say("not there") : "—";
     if (what === "geometry") return geometryText(value);
-    return what === "the feature" ? "there" : valueText(value);
+    return what === "the feature" ? say("there") : valueText(value);
   };
   return [side(one), side(other)];
 }
@@ -54,7 +60,7 @@ export function sides({ what, one, other }) {
 export function editText({ op, feature, base }, compare) {
   if (op !== "replace") return ACTIONS[op];
   const changes = compare(base, feature).map(({ what }) => what);
-  const shown = changes.slice(0, 3).map((what) => (what === "geometry" ? "moved" : what));
+  const shown = changes.slice(0, 3).map((what) => (what === "geometry" ? say("moved") : what));
   return `${ACTIONS.replace}: ${shown.join(", ")}${changes.length > 3 ? ", …" : ""}`;
 }
 
@@ -68,10 +74,18 @@ export function pendingText({ edit, mark }) {
 
 /**
  * @param {number} number
- * @param {string} one
- * @param {string} many
  * @returns {string}
  */
-export function counted(number, one, many) {
-  return `${number.toLocaleString("en")} ${number === 1 ? one : many}`;
+export function countedEdits(number) {
+  const count = inDigits(number);
+  return number === 1 ? say("{count} edit", { count }) : say("{count} edits", { count });
+}
+
+/**
+ * @param {number} number
+ * @returns {string}
+ */
+export function countedPositions(number) {
+  const count = inDigits(number);
+  return number === 1 ? say("{count} position", { count }) : say("{count} positions", { count });
 }

@@ -1,6 +1,7 @@
 /**
  * @file Times: the filter of days, and which properties read as a time. All times are UTC.
  */
+import { say } from "./words.js";
 
 const DAY = /^\d{4}-\d{2}-\d{2}$/;
 const MOMENT = /^\d{4}-\d{2}-\d{2}[Tt]\d{2}:\d{2}:\d{2}(?:\.\d{1,9})?(?:[Zz]|[+-]\d{2}:\d{2})$/;
@@ -38,11 +39,11 @@ export function isTime(value) {
  * @returns {string} the same in words
  */
 export function timeInWords(value) {
-  if (DAY.test(value)) return `the day ${value}, UTC`;
+  if (DAY.test(value)) return say("the day {value}, UTC", { value });
   if (!value.includes("/")) return value;
   const [start, end] = value.split("/").map((part) => (part === ".." ? "" : part));
-  if (!end) return `from ${start} on`;
-  return start ? `${start} to ${end}` : `up to ${end}`;
+  if (!end) return say("from {start} on", { start });
+  return start ? `${start} to ${end}` : say("up to {end}", { end });
 }
 
 /**

@@ -11,7 +11,9 @@ import { toPosition } from "./draw.js";
 import { nameOf } from "./feature.js";
 import { boxOf, overlaps } from "./geometry.js";
 import { addGrid, addScale } from "./grid.js";
+import { Labels } from "./labels.js";
 import { Layers, toPlace } from "./layers.js";
+import { labelOf, symbolOf } from "./legend.js";
 import { Loader, extentOf } from "./loader.js";
 
 /** A metre is 2^zoom pixels. */
@@ -22,6 +24,8 @@ export class View {
   /** @type {Collection[]} */
   collections = [];
   palette = new Palette();
+  /** @type {Map<string, import("./legend.js").Legend>} how the office has collections drawn */
+  legends = new Map();
   /** @type {Set<string>} the collections that are switched off */
   off = new Set();
   /** @type {string} an interval, or no text */
@@ -35,6 +39,7 @@ export class View {
   #listener;
   #timer = 0;
   #drawGrid;
+  #labels;
 
   /**
    * @param {HTMLElement} container
@@ -55,7 +60,8 @@ export class View {
     L.control.zoom({ position: "topright" }).addTo(this.map);
     this.#drawGrid = addGrid(this.map);
     addScale(this.map);
-    this.layers = new Layers(this.map, (id) => colour(this.palette.nameOf(id)));
+    this.layers = new Layers(this.map, (id, feature) => this.#lookOf(id, feature));
+    this.#labels = new Labels(this.map, () => this.#shownLabels());
     this.#seen = seen;
     this.#loader = new Loader(seen, (collection, features) => this.#draw(collection, features));
     this.#listener = listener;
@@ -96,6 +102,25 @@ export class View {
     this.#size = size;
   }
 
+  /**
+   * @param {string} collection
+   * @param {import("./feature.js").Feature} feature
+   * @returns {import("./layers.js").Look}
+   */
+  #lookOf(collection, feature) {
+    const row = symbolOf(this.legends.get(collection), feature);
+    const name = row?.colour ?? this.palette.nameOf(collection);
+    return { colour: name.startsWith("#") ? name : colour(name), shape: row?.shape ?? "circle" };
+  }
+
+  /** @returns {Iterable<import("./labels.js").Label>} the labels of what is drawn */
+  *#shownLabels() {
+    for (const { collection, feature } of this.layers.shown.values()) {
+      const text = labelOf(this.legends.get(collection), feature);
+      if (text) yield { feature, text };
+    }
+  }
+
   /** @param {Collection[]} collections those of now */
   async setCollections(collections) {
     await this.palette.add(collections.map(({ id }) => id));
@@ -131,6 +156,7 @@ export class View {
   /** Draws all again, in the colours of now. */
   redraw() {
     this.layers.redraw();
+    this.#labels.redraw();
     this.#drawGrid();
   }
 
@@ -153,6 +179,14 @@ export class View {
   #drawPending() {
     for (const { edit, mark } of this.#pending.values()) {
       this.#put(edit.collection, edit.feature ?? edit.base, { mark, op: edit.op });
+    }
+    this.#labels.redraw();
+  }
+
+  /** @returns {Iterable<import("./search.js").Candidate>} features as they are to be */
+  *pendingFeatures() {
+    for (const { edit } of this.#pending.values()) {
+      if (edit.feature) yield { collection: edit.collection, feature: edit.feature };
     }
   }
 

@@ -51,20 +51,19 @@ def reader(context: Context, page: Page) -> None:
     y = chance.integers(-15_000_000, 15_000_000, 400)
     exact = numpy.column_stack(degrees(x, y))
     given = numpy.column_stack((x, y)).tolist()
-    there = (
-        "(it.readPlace()).then((place) => given[0].map((at) => Object.values(place.toDegrees(at))))"
-    )
-    got = numpy.array(page.module("place", there, given))
+    there = """it.readOffice().then(({ place }) =>
+        given[0].map((at) => Object.values(place.toDegrees(at))))"""
+    got = numpy.array(page.module("office", there, given))
     _, _, misses = Geod(ellps="GRS80").inv(*exact.T, *got.T)
     context.check("to degrees", max(misses) < 0.01 or max(misses), True)
-    back = """it.readPlace().then((place) =>
+    back = """it.readOffice().then(({ place }) =>
         given[0].map(([longitude, latitude]) => place.toGrid({longitude, latitude})))"""
-    found = numpy.array(page.module("place", back, exact.tolist()))
+    found = numpy.array(page.module("office", back, exact.tolist()))
     worst = numpy.abs(found - numpy.column_stack((x, y))).max()
     context.check("to the grid, in millimetres", worst < 10 or worst, True)
-    outside = """it.readPlace().then((place) =>
+    outside = """it.readOffice().then(({ place }) =>
         [place.toDegrees([30000000, 0]), place.toGrid({longitude: 0, latitude: 0})])"""
-    context.check("outside", page.module("place", outside), [None, None])
+    context.check("outside", page.module("office", outside), [None, None])
 
 
 def own_position(context: Context, page: Page) -> None:

@@ -1,7 +1,25 @@
 """The map page in a headless browser, over the program and nginx: seeing, editing, no network."""
 
-from browser import deploying, editing, foreign, forms, keeping, looking, phone, placing
-from browser import reading, sending
+from browser import (
+    beginning,
+    deploying,
+    editing,
+    filling,
+    foreign,
+    forms,
+    keeping,
+    languages,
+    looking,
+    merging,
+    modules,
+    phone,
+    placing,
+    reading,
+    sending,
+    showing,
+    standing,
+    taking,
+)
 from browser.parts import run_parts
 from harness import Context
 
@@ -10,6 +28,7 @@ PACKAGES = (
     "chromium-driver",
     "libjs-leaflet",
     "nginx",
+    "nodejs",
     "openssl",
     "python3-numpy",
     "python3-pil",
@@ -21,5 +40,6 @@ PACKAGES = (
 def run(context: Context) -> None:
     # Those with the longest parts first.
     longest = (looking, keeping, sending, editing, reading)
-    modules = (*longest, forms, phone, placing, deploying, foreign)
-    run_parts(context, [part for module in modules for part in module.PARTS])
+    crews = (beginning, filling, standing, showing, merging, taking, languages)
+    others = (forms, phone, placing, deploying, foreign, modules)
+    run_parts(context, [part for it in (*longest, *crews, *others) for part in it.PARTS])

@@ -39,7 +39,7 @@ declare module "*/leaflet.esm.js" {
     getZoom(): number;
     getZoomScale(to: number, from: number): number;
     latLngToContainerPoint(place: Place): { x: number; y: number };
-    setView(place: Place, zoom: number, options?: { reset?: boolean }): this;
+    setView(place: Place, zoom: number, options?: { reset?: boolean; animate?: boolean }): this;
     fitBounds(
       corners: Place[],
       options: { padding: [number, number]; maxZoom: number; animate: boolean },
@@ -107,6 +107,10 @@ declare module "*/leaflet.esm.js" {
     extend(own: { onAdd(): HTMLElement }): new (options: { position: string }) => Addition;
   };
   const control: { zoom(options: { position: string }): Addition };
+
+  const CircleMarker: {
+    extend(own: object): new (place: Place, style: Style & { shape: string }) => Path;
+  };
 
   function map(container: HTMLElement, options: MapOptions): Map;
   function latLng(lat: number, lng: number): LatLng;
