@@ -56,9 +56,9 @@ HELPS = {
     "help serve": "streetmap serve [OPTIONS] --port <port> <file>",
     "serve --help": "streetmap serve [OPTIONS] --port <port> <file>",
     "serve a --port 80 -h": "streetmap serve [OPTIONS] --port <port> <file>",
-    "create --help": "streetmap create <file>",
+    "create --help": "streetmap create [OPTIONS] <file>",
     "help import": "streetmap import [OPTIONS] --key <key> --collection <collection> <file> <text>",
-    "lines -h": "streetmap lines",
+    "lines -h": "streetmap lines [OPTIONS]",
 }
 COMMANDS = "lines create pipe serve import export check load batches apply".split()
 
