@@ -1,7 +1,7 @@
 /**
  * @file What others changed. The server has no preconditions, so each feature that a batch replaces
  * or deletes is read again before the first try of the batch and compared with the copy that was
- * edited.
+ * edited. What only one side changed is merged (`merging.js`); the user is asked about the rest.
  *
  * A retry under the same key is not compared again: the lost answer may have been that the batch
  * was accepted, and then its own edits would look like another's. So a first try is made only right
@@ -14,6 +14,7 @@
  */
 import { readFeature } from "./api.js";
 import { isSame } from "./feature.js";
+import { canMerge, merged } from "./merging.js";
 
 const AT_ONCE = 6;
 
@@ -48,10 +49,28 @@ export function keptMine(edit, theirs) {
 }
 
 /**
+ * @typedef {import("./merging.js").Side} Side
+ * @typedef {Side | ((what: string, isGeometry: boolean) => Side)} Decision for what both changed
+ */
+
+/**
+ * @param {Edit} edit
+ * @param {import("./feature.js").Feature | null} theirs
+ * @param {Decision} decision
+ * @returns {Edit | null} what the edit is then; null if nothing is left to do
+ */
+function decidedEdit(edit, theirs, decision) {
+  if (canMerge(edit, theirs)) {
+    return merged(edit, theirs, typeof decision === "function" ? decision : () => decision);
+  }
+  return decision === "mine" ? keptMine(edit, theirs) : null;
+}
+
+/**
  * The edits of a batch after the user decided.
  * @param {Edit[]} edits
  * @param {Difference[]} differences
- * @param {("mine" | "theirs")[]} decisions one for each difference
+ * @param {Decision[]} decisions one for each difference
  * @returns {Edit[]}
  */
 export function decided(edits, differences, decisions) {
@@ -61,7 +80,7 @@ export function decided(edits, differences, decisions) {
   return edits.flatMap((edit, index) => {
     const difference = chosen.get(index);
     if (!difference) return [edit];
-    const kept = difference.decision === "mine" ? keptMine(edit, difference.theirs) : null;
+    const kept = decidedEdit(edit, difference.theirs, difference.decision);
     return kept ? [kept] : [];
   });
 }

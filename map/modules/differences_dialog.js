@@ -4,8 +4,9 @@
 import { decided } from "./conflicts.js";
 import { askInDialog, element } from "./element.js";
 import { differences, isSame } from "./feature.js";
+import { bothChanged, canMerge } from "./merging.js";
 import { changeEdits } from "./queue.js";
-import { sides } from "./texts.js";
+import { geometryText, sides, valueText } from "./texts.js";
 import { say } from "./words.js";
 
 /**
@@ -101,23 +102,81 @@ export function askBetweenTabs(edit, other) {
 }
 
 /**
+ * @param {import("./basket.js").Edit} edit
+ * @param {import("./feature.js").Feature | null} theirs
+ * @returns {{content: Node[], answers: {text: string, value: any}[]}} what is asked about an edit
+ */
+function question(edit, theirs) {
+  const usual = [element("p", {}, sentence(edit, theirs)), comparison(edit, theirs)];
+  if (!canMerge(edit, theirs)) return { content: usual, answers: choices(edit, theirs) };
+  const both = bothChanged(edit, theirs);
+  const text = say("What only one of you changed is kept. Both of you changed this:");
+  const content = [...usual, element("p", {}, text)];
+  const rows = both.map((conflict) => new ChoiceRow(edit, theirs, conflict));
+  content.push(...rows.map((row) => row.element));
+  const chosen = () => {
+    const sides = new Map(rows.map((row) => [row.key, row.side()]));
+    return (what, isGeometry) => sides.get(`${isGeometry} ${what}`);
+  };
+  const take = { text: say("Take what I chose"), value: chosen };
+  return { content, answers: [take, ...choices(edit, theirs)] };
+}
+
+/** What both changed: mine or theirs, neither of which is chosen at first. */
+class ChoiceRow {
+  /** @type {HTMLInputElement[]} */
+  #options;
+  #what;
+
+  /**
+   * @param {import("./basket.js").Edit} edit
+   * @param {import("./feature.js").Feature} theirs
+   * @param {{what: string, isGeometry: boolean}} conflict
+   */
+  constructor(edit, theirs, { what, isGeometry }) {
+    this.key = `${isGeometry} ${what}`;
+    this.#what = what;
+    const valueOf = (feature) => (isGeometry ? feature.geometry : feature.properties?.[what]);
+    const text = (feature) => {
+      const value = valueOf(feature);
+      return isGeometry ? geometryText(value) : valueText(value);
+    };
+    const [mine, other] = ["mine", "theirs"].map((value) =>
+      element("input", { type: "radio", name: `choice ${this.key}`, value }),
+    );
+    this.#options = [mine, other];
+    this.element = element(
+      "fieldset", { class: "described" },
+      element("legend", {}, what),
+      element(
+        "span", { class: "chips" },
+        element("label", { class: "chip" }, mine, `${say("Mine")}: ${text(edit.feature)}`),
+        element("label", { class: "chip" }, other, `${say("Theirs")}: ${text(theirs)}`),
+      ),
+    );
+  }
+
+  /** @returns {import("./merging.js").Side} it throws if none was chosen */
+  side() {
+    const chosen = this.#options.find(({ checked }) => checked);
+    if (!chosen) throw new Error(say("Choose for “{what}” first.", { what: this.#what }));
+    return /** @type {import("./merging.js").Side} */ (chosen.value);
+  }
+}
+
+/**
  * Asks for each difference, and changes the batch by the decisions.
  * @param {import("./queue.js").Batch} batch
  */
 export async function resolveDifferences(batch) {
   const decisions = [];
+  const { length } = batch.differences;
   for (const [place, { index, theirs }] of batch.differences.entries()) {
     const edit = batch.edits[index];
-    const { length } = batch.differences;
-    const count = length > 1 ? ` (${say(
-      "{number} of {count}",
-      { number: place + 1, count: length },
-    )})` : "";
-    const decision = await askInDialog(
-      `${edit.id}${count}`,
-      [element("p", {}, sentence(edit, theirs)), comparison(edit, theirs)],
-      choices(edit, theirs),
-    );
+    const counted = say("{number} of {count}", { number: place + 1, count: length });
+    const { content, answers } = question(edit, theirs);
+    const title = length > 1 ? `${edit.id} (${counted})` : edit.id;
+    const decision = await askInDialog(title, content, answers, true);
     if (decision === null) return;
     decisions.push(decision);
   }

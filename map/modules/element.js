@@ -92,9 +92,10 @@ export function takeBack(text) {
  * @param {(Node | string)[]} content
  * @param {{text: string, value: any, class?: string}[]} answers the first is the usual one; a value
  *   that is a function returns the value, or throws what is wrong, and then the dialog stays
+ * @param {boolean} [isOpen] whether no answer is the usual one: none has the focus
  * @returns {Promise<any>} the value of the answer, or null if the dialog was left
  */
-export function askInDialog(title, content, answers) {
+export function askInDialog(title, content, answers, isOpen = false) {
   return new Promise((resolve) => {
     let result = null;
     const problem = element("p", { class: "problem", role: "alert" });
@@ -109,14 +110,14 @@ export function askInDialog(title, content, answers) {
     const hasInput = (part) => part instanceof Element && part.querySelector("input") !== null;
     const buttons = answers.map(({ text, value, class: name }, index) =>
       button(text, () => close(value), {
-        class: name ?? (index === 0 ? "main" : null),
-        autofocus: index === 0 && !content.some(hasInput),
+        class: name ?? (index === 0 && !isOpen ? "main" : null),
+        autofocus: index === 0 && !isOpen && !content.some(hasInput),
       }),
     );
     const dialog = element(
       "dialog",
       { "aria-labelledby": "dialog-title" },
-      element("h2", { id: "dialog-title" }, title),
+      element("h2", { id: "dialog-title", tabindex: isOpen ? -1 : null, autofocus: isOpen }, title),
       ...content,
       problem,
       element("p", { class: "buttons" }, ...buttons),
@@ -124,7 +125,7 @@ export function askInDialog(title, content, answers) {
     dialog.addEventListener("keydown", (event) => {
       if (event.key === "Enter" && event.target instanceof HTMLInputElement) {
         event.preventDefault();
-        buttons[0].click();
+        if (!isOpen) buttons[0].click();
       }
     });
     dialog.addEventListener("close", () => {

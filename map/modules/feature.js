@@ -4,7 +4,7 @@
  * @typedef {import("./geometry.js").Geometry} Geometry
  * @typedef {{type: "Feature", id: string, geometry: Geometry | null, properties: object | null}}
  *   Feature
- * @typedef {{what: string, one: unknown, other: unknown}} Difference
+ * @typedef {{what: string, one: unknown, other: unknown, isGeometry?: boolean}} Difference
  */
 import { oriented } from "./geometry.js";
 import { writeJson } from "./json.js";
@@ -64,11 +64,13 @@ export function differences(one, other) {
     const sides = { one: one ?? undefined, other: other ?? undefined };
     return one || other ? [{ what: "the feature", ...sides }] : [];
   }
+  /** @type {Difference[]} */
   const found = [];
   const compare = (what, left, right) => {
     if (textOf(left) !== textOf(right)) found.push({ what, one: left, other: right });
   };
   compare("geometry", oriented(one.geometry), oriented(other.geometry));
+  if (found.length > 0) found[0].isGeometry = true;
   if (!one.properties || !other.properties) {
     compare("properties", one.properties, other.properties);
     return found;

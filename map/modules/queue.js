@@ -28,6 +28,7 @@
 import { putInto } from "./basket.js";
 import { batchText, cut, newKey } from "./batch.js";
 import { changed } from "./channel.js";
+import { nameOf } from "./feature.js";
 import { readAll, readSetting, result, transact, writeSetting } from "./store.js";
 
 /** How many records of what became of batches are kept, with their edits. */
@@ -135,7 +136,7 @@ export async function update(batch, act) {
  * Takes a batch out of the queue and stores what became of it, in one transaction. What was
  * accepted is then what was last seen of its features.
  * @param {Batch} batch as it was read
- * @param {{outcome: "accepted" | "dropped", serial?: number}} record
+ * @param {{outcome: "accepted" | "dropped" | "there", serial?: number}} record
  * @param {(row: Batch) => boolean} [isRight] whether it may leave, asked within the transaction
  * @returns {Promise<boolean>} whether it left
  */
@@ -176,6 +177,39 @@ export async function changeEdits(batch, edits) {
   const user = batch.key.split(":")[0];
   const row = await update(batch, (found) => (mayChange(found) ? newBatch(user, edits) : null));
   return row !== null;
+}
+
+/**
+ * Gives a batch that was never tried the edits that go with what others changed, under a new key.
+ * What is left to ask stays with it.
+ * @param {Batch} batch as it was read
+ * @param {Edit[]} edits
+ * @param {Difference[]} differences
+ */
+export async function rebase(batch, edits, differences) {
+  if (edits.length === 0) return leave(batch, { outcome: "there" }, mayChange);
+  const user = batch.key.split(":")[0];
+  const state = differences.length > 0 ? "differs" : "waiting";
+  const row = await update(batch, (found) =>
+    mayChange(found) ? { ...newBatch(user, edits), state, differences } : null,
+  );
+  return row !== null;
+}
+
+/**
+ * @param {Batch[]} queue
+ * @returns {Batch | null} the batch that is sent next. One that the user has to decide about holds
+ *   up those that touch its features, and no others; a refused one holds up all.
+ */
+export function nextToSend(queue) {
+  const held = new Set();
+  for (const batch of queue) {
+    const names = batch.edits.map(({ collection, id }) => nameOf(collection, id));
+    const isHeld = batch.state === "differs" || names.some((name) => held.has(name));
+    if (!isHeld) return batch.state === "waiting" && !batch.held ? batch : null;
+    for (const name of names) held.add(name);
+  }
+  return null;
 }
 
 /**

@@ -14,6 +14,7 @@ import {
   isOpening,
   leave,
   mayChange,
+  nextToSend,
   readAnswers,
   sendAgain,
 } from "./queue.js";
@@ -143,12 +144,14 @@ export class QueuePanel {
   /** @param {import("./queue.js").Batch[]} queue */
   async show(queue) {
     const answers = (await readAnswers()).reverse().slice(0, SHOWN_ANSWERS);
-    const batches = queue.map((batch, place) => this.#batch(batch, place === 0, queue));
+    const next = nextToSend(queue);
+    const batches = queue.map((batch, place) =>
+      this.#batch(batch, next ? batch === next : place === 0, queue),
+    );
     const past = answers.map(({ key, edits, time, outcome, serial }) => {
-      const what = outcome === "accepted" ? say(
-        "accepted as number {serial}",
-        { serial },
-      ) : say("dropped");
+      const whats = { there: say("made by another already"), dropped: say("dropped") };
+      const accepted = say("accepted as number {serial}", { serial });
+      const what = outcome === "accepted" ? accepted : whats[outcome];
       return element("li", {}, `${clock(time)}: ${countedEdits(edits.length)} ${what}`,
         element("span", { class: "key" }, key));
     });

@@ -1,6 +1,7 @@
 /**
  * @file The sender: one over all tabs (Web Locks). It sends the first batch of the queue until the
- * server itself answers, and then the next.
+ * server itself answers, and then the next. A batch that the user has to decide about lets those
+ * pass that touch other features.
  *
  * @typedef {import("./queue.js").Batch} Batch
  * @typedef {{kind: "accepted", answer: any} | {kind: "refused", refusal:
@@ -11,7 +12,8 @@
 import { NoAnswer, Refusal, postBatch } from "./api.js";
 import { onChange } from "./channel.js";
 import { findDifferences } from "./conflicts.js";
-import { leave, readQueue, update } from "./queue.js";
+import { mergedBatch } from "./merging.js";
+import { leave, nextToSend, readQueue, rebase, update } from "./queue.js";
 import { whyNotHere } from "./recognition.js";
 import { currentDatabase } from "./store.js";
 import { say } from "./words.js";
@@ -78,7 +80,7 @@ async function post(batch) {
 }
 
 /**
- * Compares before the first try.
+ * Compares before the first try. What others changed is merged into the batch, as far as that goes.
  * @param {Batch} batch
  * @returns {Promise<"same" | "differs" | string>} or why it could not compare
  */
@@ -86,7 +88,8 @@ async function compare(batch) {
   try {
     const differences = await findDifferences(batch.edits);
     if (differences.length === 0) return "same";
-    await update(batch, () => ({ state: "differs", differences, problem: "" }));
+    const left = mergedBatch(batch.edits, differences);
+    await rebase(batch, left.edits, left.differences);
     return "differs";
   } catch (fault) {
     if (fault instanceof NoAnswer || fault instanceof Refusal) return fault.message;
@@ -196,8 +199,8 @@ async function sendAll(queueAlarm, sendAlarm) {
   for (;;) {
     queueAlarm.reset();
     sendAlarm.reset();
-    const [batch] = await readQueue();
-    if (!batch || batch.state !== "waiting" || batch.held) {
+    const batch = nextToSend(await readQueue());
+    if (!batch) {
       await queueAlarm.wait(Infinity);
       continue;
     }

@@ -10,6 +10,7 @@ from browser import (
     keeping,
     languages,
     looking,
+    merging,
     modules,
     phone,
     placing,
@@ -38,6 +39,6 @@ PACKAGES = (
 def run(context: Context) -> None:
     # Those with the longest parts first.
     longest = (looking, keeping, sending, editing, reading)
-    crews = (beginning, filling, standing, showing, languages)
+    crews = (beginning, filling, standing, showing, merging, languages)
     others = (forms, phone, placing, deploying, foreign, modules)
     run_parts(context, [part for it in (*longest, *crews, *others) for part in it.PARTS])
