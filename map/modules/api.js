@@ -126,8 +126,46 @@ function itemsPath(collection) {
 }
 
 /**
- * The pages of the features that meet a box, one after the other. The link `next` is followed by
- * its path and query: its host may be one that only others can reach.
+ * @param {string} collection
+ * @param {Box} box
+ * @param {string} datetime an interval, or no text
+ * @param {number} [limit]
+ * @returns {string} where the first page of the features that meet a box is
+ */
+export function pageTarget(collection, box, datetime, limit = PAGE_LIMIT) {
+  const within = (value) => Math.max(-FARTHEST, Math.min(FARTHEST, value));
+  const bounds = [box.x0, box.y0, box.x1, box.y1].map(within);
+  const query = new URLSearchParams({ bbox: bounds.join(","), limit: String(limit) });
+  if (datetime) query.set("datetime", datetime);
+  return `${itemsPath(collection)}?${query}`;
+}
+
+/**
+ * Reads a page. The link `next` is followed by its path and query: its host may be one that only
+ * others can reach.
+ * @param {string} target path and query
+ * @param {AbortSignal} [signal]
+ * @returns {Promise<Page>}
+ */
+export async function readPage(target, signal) {
+  const { features, numberMatched, links } = await read(target, signal);
+  const href = links?.find((link) => link.rel === "next")?.href;
+  const next = href && new URL(href, location.href);
+  const following = next ? next.pathname + next.search : null;
+  return { features: features.map(bare), numberMatched, next: following };
+}
+
+/**
+ * @param {string} collection
+ * @param {Box} box
+ * @returns {Promise<number>} how many features meet the box
+ */
+export async function countMatched(collection, box) {
+  return (await readPage(pageTarget(collection, box, "", 1))).numberMatched;
+}
+
+/**
+ * The pages of the features that meet a box, one after the other.
  * @param {string} collection
  * @param {Box} box
  * @param {string} datetime an interval, or no text
@@ -135,18 +173,12 @@ function itemsPath(collection) {
  * @returns {AsyncGenerator<Page>}
  */
 export async function* readPages(collection, box, datetime, signal) {
-  const within = (value) => Math.max(-FARTHEST, Math.min(FARTHEST, value));
-  const bounds = [box.x0, box.y0, box.x1, box.y1].map(within);
-  const query = new URLSearchParams({ bbox: bounds.join(","), limit: String(PAGE_LIMIT) });
-  if (datetime) query.set("datetime", datetime);
-  let target = `${itemsPath(collection)}?${query}`;
+  let target = pageTarget(collection, box, datetime);
   for (let shown = 0; target && shown < SHOWN_LIMIT; ) {
-    const page = await read(target, signal);
-    const href = page.links?.find((link) => link.rel === "next")?.href;
-    const next = href && new URL(href, location.href);
-    target = next ? next.pathname + next.search : null;
+    const page = await readPage(target, signal);
+    target = page.next;
     shown += page.features.length;
-    yield { features: page.features.map(bare), numberMatched: page.numberMatched, next: target };
+    yield page;
   }
 }
 

@@ -3,6 +3,8 @@
  */
 import { readAddress, writeAddress } from "./address.js";
 import { NoAnswer, Refusal, readCollections } from "./api.js";
+import { Areas } from "./areas.js";
+import { AreasPanel } from "./areas_panel.js";
 import { BackgroundImage } from "./background.js";
 import { onChange } from "./channel.js";
 import { Chosen } from "./chosen.js";
@@ -83,6 +85,8 @@ export class Page {
       onSelect: (collection, id) => this.chosen.choose(collection, id, true),
       onChange: (batch, index) => this.editing.changeBatch(batch, index),
     });
+    this.areas = new Areas(seen, () => this.areasPanel.show());
+    this.areasPanel = new AreasPanel(byId("panel-collections"), this.areas, this.view);
     this.waiting = new Waiting(this);
     this.#listen();
   }
@@ -102,6 +106,7 @@ export class Page {
     onColours(() => this.#recolour());
     addEventListener("hashchange", () => this.#goToAddress());
     addEventListener("online", () => this.refresh());
+    if (isSecureContext) addEventListener("online", () => this.areas.goOn());
     addEventListener("beforeunload", (event) => {
       const isUnsaved = this.editor.isBegun || this.waiting.basketSize > 0;
       if (!isUnsaved || isStartingAgain()) return;
@@ -134,6 +139,7 @@ export class Page {
     await asked;
     this.#isPlaced = true;
     this.#keepAddress();
+    if (isSecureContext) this.areas.goOn();
     const { feature } = address;
     if (feature) await this.chosen.choose(feature.collection, feature.id, !address.view);
   }

@@ -155,8 +155,11 @@ export async function leave(batch, record, isRight = () => true) {
       settings.put({ key, time }, LAST_ACCEPTED);
       for (const { op, collection, id, feature } of edits) {
         if (op === "open") continue;
-        if (feature) features.put({ collection, id, feature, seen: time });
-        else features.delete([collection, id]);
+        if (!feature) features.delete([collection, id]);
+        else {
+          const kept = (await result(features.get([collection, id])))?.kept ?? false;
+          features.put({ collection, id, feature, seen: time, kept });
+        }
       }
     }
     if (isThere) await result(queue.delete(batch.number));

@@ -3,7 +3,8 @@
  *
  * @typedef {import("./feature.js").Feature} Feature
  * @typedef {import("./geometry.js").Box} Box
- * @typedef {{feature: Feature, box: Box | null, seen: number}} Sight
+ * @typedef {{feature: Feature, box: Box | null, seen: number, kept: boolean}} Sight kept: it lies
+ *   in an area that was taken along, and does not go
  */
 import { boxOf, contains, overlaps } from "./geometry.js";
 import { readAnswers } from "./queue.js";
@@ -24,7 +25,7 @@ export class Seen {
     const rows = await readAll("features");
     rows.sort((one, other) => one.seen - other.seen);
     for (const row of rows) {
-      seen.#of(row.collection).set(row.id, seen.#sight(row.feature, row.seen));
+      seen.#of(row.collection).set(row.id, seen.#sight(row.feature, row.seen, row.kept));
     }
     await seen.catchUp();
     return seen;
@@ -39,7 +40,7 @@ export class Seen {
         if (op === "open") continue;
         const known = this.#of(collection).get(id);
         if (known && known.seen > time) continue;
-        if (feature) this.#of(collection).set(id, this.#sight(feature, time));
+        if (feature) this.#of(collection).set(id, this.#sight(feature, time, known?.kept));
         else this.#of(collection).delete(id);
       }
     }
@@ -57,36 +58,68 @@ export class Seen {
   /**
    * @param {Feature} feature
    * @param {number} seen
+   * @param {boolean} [kept]
    * @returns {Sight}
    */
-  #sight(feature, seen) {
-    return { feature, box: boxOf(feature.geometry), seen };
+  #sight(feature, seen, kept = false) {
+    return { feature, box: boxOf(feature.geometry), seen, kept };
   }
 
   /**
    * Keeps features that the server showed now.
    * @param {string} collection
    * @param {Feature[]} features
+   * @param {boolean} [isTaken] whether they are taken along, and stay
    */
-  async put(collection, features) {
+  async put(collection, features, isTaken = false) {
     const [sights, now] = [this.#of(collection), Date.now()];
     for (const feature of features) {
+      const kept = isTaken || sights.get(feature.id)?.kept;
       sights.delete(feature.id);
-      sights.set(feature.id, this.#sight(feature, now));
+      sights.set(feature.id, this.#sight(feature, now, kept));
     }
-    const over = [...sights.keys()].slice(0, Math.max(0, sights.size - MOST_KEPT));
+    const over = this.#surplus(sights);
     for (const id of over) sights.delete(id);
     await transact(
       ["features"],
       "readwrite",
       (table) => {
         for (const feature of features) {
-          table.put({ collection, id: feature.id, feature, seen: now });
+          const { kept } = sights.get(feature.id) ?? { kept: isTaken };
+          table.put({ collection, id: feature.id, feature, seen: now, kept });
         }
         for (const id of over) table.delete([collection, id]);
       },
       "relaxed",
     );
+  }
+
+  /**
+   * @param {Map<string, Sight>} sights
+   * @returns {string[]} the ids of those that are too many
+   */
+  #surplus(sights) {
+    if (sights.size <= MOST_KEPT) return [];
+    const looked = [...sights].filter(([, { kept }]) => !kept).map(([id]) => id);
+    return looked.slice(0, Math.max(0, looked.length - MOST_KEPT));
+  }
+
+  /**
+   * Lets features go that were taken along, unless they lie in one of these boxes.
+   * @param {Box[]} boxes
+   */
+  async release(boxes) {
+    const isOut = ({ kept, box }) => kept && !boxes.some((it) => box && overlaps(it, box));
+    for (const [collection, sights] of this.#sights) {
+      const out = [...sights].filter(([, sight]) => isOut(sight));
+      for (const [, sight] of out) sight.kept = false;
+      const write = (table) => {
+        for (const [id, { feature, seen }] of out) {
+          table.put({ collection, id, feature, seen, kept: false });
+        }
+      };
+      if (out.length > 0) await transact(["features"], "readwrite", write, "relaxed");
+    }
   }
 
   /**

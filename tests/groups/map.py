@@ -18,6 +18,7 @@ from browser import (
     sending,
     showing,
     standing,
+    taking,
 )
 from browser.parts import run_parts
 from harness import Context
@@ -39,6 +40,6 @@ PACKAGES = (
 def run(context: Context) -> None:
     # Those with the longest parts first.
     longest = (looking, keeping, sending, editing, reading)
-    crews = (beginning, filling, standing, showing, merging, languages)
+    crews = (beginning, filling, standing, showing, merging, taking, languages)
     others = (forms, phone, placing, deploying, foreign, modules)
     run_parts(context, [part for it in (*longest, *crews, *others) for part in it.PARTS])
