@@ -6,7 +6,7 @@
  * @typedef {import("./geometry.js").Box} Box
  */
 import * as L from "../leaflet/leaflet.esm.js";
-import { Palette, colour } from "./colours.js";
+import { Palette } from "./colours.js";
 import { toPosition } from "./draw.js";
 import { nameOf } from "./feature.js";
 import { boxOf, overlaps } from "./geometry.js";
@@ -109,8 +109,8 @@ export class View {
    */
   #lookOf(collection, feature) {
     const row = symbolOf(this.legends.get(collection), feature);
-    const name = row?.colour ?? this.palette.nameOf(collection);
-    return { colour: name.startsWith("#") ? name : colour(name), shape: row?.shape ?? "circle" };
+    const colour = row?.colour ?? this.palette.nameOf(collection);
+    return { colour, shape: row?.shape ?? "circle" };
   }
 
   /** @returns {Iterable<import("./labels.js").Label>} the labels of what is drawn */
