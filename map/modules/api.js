@@ -7,13 +7,18 @@
  * @typedef {{id: string, title: string, extent: Box | null}} Collection
  * @typedef {{features: Feature[], numberMatched: number, next: string | null}} Page
  */
+import { isPhone } from "./element.js";
 import { bare } from "./feature.js";
 import { readJson } from "./json.js";
 import { say } from "./words.js";
 
-/** How many features one page holds, and how many of a collection are shown. */
+/** How many features one page holds. */
 export const PAGE_LIMIT = 1000;
-export const SHOWN_LIMIT = 5000;
+
+/** @returns {number} how many features of a collection are shown */
+export function shownLimit() {
+  return isPhone() ? 2000 : 5000;
+}
 
 const READ_SECONDS = 30;
 const SEND_SECONDS = 300;
@@ -158,10 +163,12 @@ export async function readPage(target, signal) {
 /**
  * @param {string} collection
  * @param {Box} box
+ * @param {string} [datetime] an interval, or no text
+ * @param {AbortSignal} [signal]
  * @returns {Promise<number>} how many features meet the box
  */
-export async function countMatched(collection, box) {
-  return (await readPage(pageTarget(collection, box, "", 1))).numberMatched;
+export async function countMatched(collection, box, datetime = "", signal = undefined) {
+  return (await readPage(pageTarget(collection, box, datetime, 1), signal)).numberMatched;
 }
 
 /**
@@ -174,7 +181,7 @@ export async function countMatched(collection, box) {
  */
 export async function* readPages(collection, box, datetime, signal) {
   let target = pageTarget(collection, box, datetime);
-  for (let shown = 0; target && shown < SHOWN_LIMIT; ) {
+  for (let shown = 0; target && shown < shownLimit(); ) {
     const page = await readPage(target, signal);
     target = page.next;
     shown += page.features.length;

@@ -2,8 +2,9 @@
  * @file The panel of collections: titles, colours, switches and how much of each is shown; the
  * filter of days, and the search by id.
  */
-import { SHOWN_LIMIT } from "./api.js";
+import { shownLimit } from "./api.js";
 import { button, element } from "./element.js";
+import { printSheet } from "./sheet.js";
 import { swatch } from "./symbols.js";
 import { MARKS } from "./texts.js";
 import { inDigits, say } from "./words.js";
@@ -71,6 +72,7 @@ export class CollectionsPanel {
         { class: "buttons" },
         button(say("Show all"), () => view.showAll()),
         button(say("Ask again"), () => view.refresh()),
+        button(say("Print"), () => printSheet(view), { id: "print" }),
         isSecureContext ? this.#open : null,
       ),
       element("ul", { class: "legend", "aria-label": say("Edits on the map") }, ...legend()),
@@ -196,7 +198,7 @@ export function viewText(counts, clock) {
       isProblem: true,
     };
   }
-  const cut = all.filter(({ shown, matched }) => shown < matched && shown >= SHOWN_LIMIT);
+  const cut = all.filter(({ shown, matched }) => shown < matched && shown >= shownLimit());
   if (cut.length === 0) return { text: "", isProblem: false };
   const [shown, matched] = ["shown", "matched"].map((name) =>
     cut.reduce((sum, count) => sum + count[name], 0),

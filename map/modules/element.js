@@ -117,7 +117,7 @@ export function askInDialog(title, content, answers, isOpen = false) {
     const dialog = element(
       "dialog",
       { "aria-labelledby": "dialog-title" },
-      element("h2", { id: "dialog-title", tabindex: -1, autofocus: isOpen }, title),
+      element("h2", { id: "dialog-title", tabindex: isOpen ? -1 : null, autofocus: isOpen }, title),
       ...content,
       problem,
       element("p", { class: "buttons" }, ...buttons),

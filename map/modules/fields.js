@@ -160,7 +160,7 @@ export function fieldValue(field, text) {
   }
   if (type === "text") return text;
   if (type === "choice") return choices.find((value) => fieldText(value) === text);
-  if (type === "yes/no") return TRUTHS[trimmed];
+  if (type === "yes/no") return trimmed === "yes";
   if (type === "whole") return wholeNumber(label, trimmed);
   if (type === "decimal") {
     if (!DECIMAL.test(trimmed)) {

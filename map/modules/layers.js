@@ -12,7 +12,8 @@
  * @property {{mark: Mark, op: string} | null} pending
  * @property {L.Path[]} drawn the layers of Leaflet
  * @typedef {import("./legend.js").SymbolShape} SymbolShape
- * @typedef {{colour: string, shape: SymbolShape}} Look
+ * @typedef {{colour: string, shape: SymbolShape}} Look a colour is `#rrggbb`, or the name of one in
+ *   the style sheet
  * @typedef {{line: L.Style, area: L.Style, point: L.Style, shape: SymbolShape}} Styles how a
  *   feature is drawn
  */
@@ -49,6 +50,8 @@ export class Layers {
   #renderers = {};
   /** @type {(collection: string, feature: Feature) => Look} */
   #lookOf;
+  /** @type {Map<string, Styles>} those at the zoom and in the colours of now */
+  #styled = new Map();
   /** @type {L.Path[]} */
   #outline = [];
 
@@ -88,7 +91,19 @@ export class Layers {
    * @returns {Styles}
    */
   #styles(collection, feature, pending) {
-    const { colour: own, shape } = this.#lookOf(collection, feature);
+    const look = this.#lookOf(collection, feature);
+    const key = `${look.colour} ${look.shape} ${pending?.mark} ${pending?.op}`;
+    if (!this.#styled.has(key)) this.#styled.set(key, this.#stylesOf(look, pending));
+    return this.#styled.get(key);
+  }
+
+  /**
+   * @param {Look} look
+   * @param {Shown["pending"]} pending
+   * @returns {Styles}
+   */
+  #stylesOf({ colour: name, shape }, pending) {
+    const own = name.startsWith("#") ? name : colour(name);
     const edge = pending ? colour(`mark-${pending.mark}`) : own;
     const dash = pending ? DASHES[pending.mark] : null;
     const isGone = pending?.op === "delete";
@@ -172,6 +187,7 @@ export class Layers {
 
   /** Draws all again: colours or sizes changed. */
   redraw() {
+    this.#styled.clear();
     for (const shown of this.shown.values()) {
       for (const layer of shown.drawn) layer.remove();
       shown.drawn = this.#draw(

@@ -6,7 +6,8 @@
  * @typedef {import("./geometry.js").Box} Box
  */
 import * as L from "../leaflet/leaflet.esm.js";
-import { Palette, colour } from "./colours.js";
+import { Palette } from "./colours.js";
+import { DensityLayer } from "./density_layer.js";
 import { toPosition } from "./draw.js";
 import { nameOf } from "./feature.js";
 import { boxOf, overlaps } from "./geometry.js";
@@ -40,6 +41,9 @@ export class View {
   #timer = 0;
   #drawGrid;
   #labels;
+  #density;
+  /** As of when the view is, in milliseconds since 1970. */
+  asOf = 0;
 
   /**
    * @param {HTMLElement} container
@@ -61,6 +65,7 @@ export class View {
     this.#drawGrid = addGrid(this.map);
     addScale(this.map);
     this.layers = new Layers(this.map, (id, feature) => this.#lookOf(id, feature));
+    this.#density = new DensityLayer(this.map);
     this.#labels = new Labels(this.map, () => this.#shownLabels());
     this.#seen = seen;
     this.#loader = new Loader(seen, (collection, features) => this.#draw(collection, features));
@@ -109,8 +114,8 @@ export class View {
    */
   #lookOf(collection, feature) {
     const row = symbolOf(this.legends.get(collection), feature);
-    const name = row?.colour ?? this.palette.nameOf(collection);
-    return { colour: name.startsWith("#") ? name : colour(name), shape: row?.shape ?? "circle" };
+    const colour = row?.colour ?? this.palette.nameOf(collection);
+    return { colour, shape: row?.shape ?? "circle" };
   }
 
   /** @returns {Iterable<import("./labels.js").Label>} the labels of what is drawn */
@@ -232,8 +237,23 @@ export class View {
     }
     this.#drawPending();
     this.counts = counts;
+    this.asOf = Math.min(...[...counts.values()].map(({ oldest }) => oldest ?? Date.now()));
+    if (!Number.isFinite(this.asOf)) this.asOf = Date.now();
     this.#listener.onCounts();
+    this.#showDensity(box);
     rests();
+  }
+
+  /**
+   * Shows how many features there are, if not all of them are drawn.
+   * @param {Box} box of the view
+   */
+  #showDensity(box) {
+    const cut = [...this.counts].filter(([, { shown, matched }]) => shown < matched);
+    cut.sort(([, one], [, other]) => other.matched - one.matched);
+    const looks = cut.map(([id]) => ({ collection: id, look: this.palette.nameOf(id) }));
+    if (looks.length > 0) this.#density.show(looks, box, this.datetime).catch(console.error);
+    else this.#density.clear();
   }
 
   /**

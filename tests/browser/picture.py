@@ -29,6 +29,7 @@ def main(program: Path, picture: Path) -> None:
             page.press("Delete", "#panel-feature")
             page.choose("P1")
             page.tab("collections")
+            page.script("document.getElementById('panel-collections').scrollTop = 0")
             page.wait("no message", lambda: page.text("#message") == "")
             time.sleep(1)
             page.picture().save(picture, optimize=True)

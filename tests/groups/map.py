@@ -2,6 +2,7 @@
 
 from browser import (
     beginning,
+    counting,
     deploying,
     editing,
     filling,
@@ -40,6 +41,6 @@ PACKAGES = (
 def run(context: Context) -> None:
     # Those with the longest parts first.
     longest = (looking, keeping, sending, editing, reading)
-    crews = (beginning, filling, standing, showing, merging, taking, languages)
+    crews = (beginning, filling, standing, showing, merging, taking, counting, languages)
     others = (forms, phone, placing, deploying, foreign, modules)
     run_parts(context, [part for it in (*longest, *crews, *others) for part in it.PARTS])
