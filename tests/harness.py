@@ -1,12 +1,14 @@
 """The one harness of the test groups: running the program, serving a file, and counting checks."""
 
 import contextlib
+import os
 import random
 import re
 import select
 import socket
 import subprocess
 import time
+import tty
 from collections.abc import Iterator
 from dataclasses import dataclass, field
 from pathlib import Path
@@ -142,6 +144,27 @@ class Context:
         self.check(f"{what}: status", ended.returncode, status)
         self.check(f"{what}: standard error", ended.stderr, fault)
         return ended.stdout
+
+    def explain(self, *words: Word, status: int, code: str, sentence: str) -> None:
+        """Runs a command with --explain, and checks the two lines on its standard error."""
+        ended = self.start(*words, "--explain")
+        got = ended.returncode, ended.stderr.decode()
+        what = f"why {' '.join(map(str, words))[:90]}"
+        self.check(what, got, (status, f"streetmap: {code}\n{sentence}\n"))
+
+    def on_terminal(self, *words: Word, sent: bytes = b"") -> tuple[int, bytes]:
+        """The status of a command, and what it writes on standard error, which is a terminal."""
+        leader, follower = os.openpty()
+        tty.setraw(follower)
+        try:
+            ended = self.start(*words, sent=sent, stderr=follower)
+        finally:
+            os.close(follower)
+        written = b""
+        with contextlib.suppress(OSError), open(leader, "rb", buffering=0) as terminal:
+            while part := terminal.read(65_536):
+                written += part
+        return ended.returncode, written
 
     def takes(self, *words: Word) -> bool:
         """Whether the program takes these words, which is one check: a group ends there where the

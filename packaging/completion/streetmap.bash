@@ -61,7 +61,7 @@ _streetmap() {
             batches) options="--after" ;;
             check) options="--replay" ;;
         esac
-        mapfile -t COMPREPLY < <(compgen -W "$options --help" -- "$cur")
+        mapfile -t COMPREPLY < <(compgen -W "$options --explain --help" -- "$cur")
         return
     fi
 

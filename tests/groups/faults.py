@@ -1,6 +1,7 @@
-"""Faults of the server: a damaged row, a failed device, a shut store, refused memory."""
+"""Faults: a damaged row, a failed device, a shut store, refused memory, and sentences on them."""
 
 import contextlib
+import functools
 import json
 import re
 import resource
@@ -9,7 +10,7 @@ import subprocess
 from collections.abc import Callable, Iterator
 from pathlib import Path
 
-from harness import Context, Server, free_port
+from harness import Context, Server, Word, free_port
 from messages import answers_in, feature, get, open_collection, point, post, put, read_all
 from model import PHRASES, Ledger, Refused, Request, compact
 from sqlite_file import Rows, change, make_format_1, rows
@@ -31,6 +32,7 @@ FIRST = Request(
     },
 )
 ITEMS = "/collections/works/items"
+NO_COLLECTION = "FILE has no collection with this id."
 # A text that is no feature, an id that is not that of its text, and a time that ends before it
 # starts.
 DAMAGES = (
@@ -228,9 +230,60 @@ def asked_once(server: Server, sent: bytes) -> bytes:
         return read_all(client)
 
 
+def why_a_file_is_not_opened(context: Context) -> None:
+    """The sentences on a file that is in use, in no folder, without rights, or damaged."""
+    file = context.new_file("opened", FIRST.sent)
+    explain = functools.partial(context.explain, status=3, code="device")
+    with context.serve(file):
+        explain("check", file, sentence="FILE is in use by another program.")
+    folder = context.folder / "none"
+    explain("create", folder / "town", sentence="The folder of FILE is not there.")
+    rights = "FILE or its folder may not be read and written: look at their owner and rights."
+    explain("create", "/proc/town", sentence=rights)
+    shown = context.on_terminal("create", folder / "town")
+    wanted = b"streetmap: device\nThe folder of FILE is not there.\n"
+    context.check("on a terminal", shown, (3, wanted))
+
+
+def why_a_port_is_taken(context: Context) -> None:
+    file = context.new_file("port")
+    with socket.create_server(("127.0.0.1", 0)) as taken:
+        port = taken.getsockname()[1]
+        ended = context.start("serve", file, "--port", str(port), "--explain")
+    said = ended.stderr.decode().splitlines()[1:]
+    sentence = f"Port {port} is taken: another program listens there."
+    context.check("a port that is taken", said, ["streetmap: net", sentence])
+
+
+def sentences(context: Context) -> None:
+    """What is wrong, and what to do, of faults of the other kinds."""
+    file, text = context.new_file("sentences", FIRST.sent), context.folder / "features"
+    none = context.folder / "no-such"
+    explain = functools.partial(context.explain, status=1)
+    missing = "FILE is not there: streetmap create FILE makes it."
+    explain("check", none, code="no_file", sentence=missing)
+    explain("create", file, code="exists", sentence="FILE is there already.")
+    load: list[Word] = ["load", file, text, "--collection", "lamps"]
+    explain(*load, "--key", "k", code="no_text", sentence="TEXT is not there.")
+    text.write_text('{"type":"Feature","geometry":{"type":"Point","coordinates":[0.5,1]}}\n')
+    fraction = "A number is not whole: see --scale, --round and --fractions of streetmap load."
+    explain(*load, "--key", "k", code="bad_feature 1 fraction", sentence=fraction)
+    key = "The key of a load has 1 to 44 letters, digits, '.', '_', '-' and ':'."
+    explain(*load, "--key", "k k", code="bad_key", sentence=key)
+    words = ("import", file, text, "--key", "k", "--collection")
+    name = "A collection's id has 1 to 64 letters, digits, '.', '_' and '-'."
+    explain(*words, "a b", code="bad_batch", sentence=name)
+    explain("export", file, "--collection", "x", code="no_collection", sentence=NO_COLLECTION)
+    base = "A base is an http or https address with the path / and nothing after it."
+    explain("pipe", file, "--base", "x", code="bad_base", sentence=base)
+
+
 def run(context: Context) -> None:
     a_damaged_row(context)
     a_row_of_format_1(context)
     a_failed_device(context)
     a_server_whose_store_failed(context)
     refused_memory(context)
+    why_a_file_is_not_opened(context)
+    why_a_port_is_taken(context)
+    sentences(context)

@@ -66,13 +66,13 @@ COMPLETIONS = {
     "help ch": "check",
     "serve town --c": "--count --clients",
     "serve town --clients ": "1 64 1024",
-    "import town lamps.json --": "--key --collection --replace --progress --help",
+    "import town lamps.json --": "--key --collection --replace --progress --explain --help",
     "load town --s": "--scale --shift --skip",
     "load town --fractions ": "text",
     "load town --each ": "100 1000 10000",
-    "batches town --": "--after --help",
-    "apply town --": "--help",
-    "check town --": "--replay --help",
+    "batches town --": "--after --explain --help",
+    "apply town --": "--explain --help",
+    "check town --": "--replay --explain --help",
 }
 COMPLETE = """
 . /usr/share/bash-completion/bash_completion

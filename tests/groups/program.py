@@ -1,4 +1,4 @@
-"""The commands over files: output, exit statuses, imports, exports, a pipe, --progress."""
+"""The commands over files: output, exit statuses, imports, exports, a pipe, --progress, --explain."""
 
 import json
 import os
@@ -56,9 +56,31 @@ HELPS = {
     "help serve": "streetmap serve [OPTIONS] --port <port> <file>",
     "serve --help": "streetmap serve [OPTIONS] --port <port> <file>",
     "serve a --port 80 -h": "streetmap serve [OPTIONS] --port <port> <file>",
-    "create --help": "streetmap create <file>",
+    "create --help": "streetmap create [OPTIONS] <file>",
     "help import": "streetmap import [OPTIONS] --key <key> --collection <collection> <file> <text>",
-    "lines -h": "streetmap lines",
+    "lines -h": "streetmap lines [OPTIONS]",
+}
+# Words that are refused, and the sentence on them.
+MISTAKES = {
+    "create a --prot": "unexpected argument '--prot' found. For help: streetmap help create",
+    "serve a": "the following required arguments were not provided: --port <port>."
+    " For help: streetmap help serve",
+    "serve a --port 65536": "A port is a number from 1 to 65535, a count from 1 to 4294967295,"
+    " clients from 1 to 1024. For help: streetmap help serve",
+    "serve a --port 80 --journal-sync": "The options of a journal go with --journal."
+    " For help: streetmap help serve",
+    "batches a --after x": "A serial is a number from 0 to 4294967295."
+    " For help: streetmap help batches",
+    "help x": "After help comes the name of one command, or nothing. For help: streetmap help",
+    "creat a": "unrecognized subcommand 'creat'. For help: streetmap help",
+    "load a --key k --collection c --each 0": "A batch has 1 to 10000 features."
+    " For help: streetmap help load",
+    "load a --key k --collection c --title t": "A title and a time go with --open."
+    " For help: streetmap help load",
+    "load a --key k --collection c --scale 0": "Numbers of a scale are above 0; a shift is two"
+    " numbers with a comma between, as --shift=-5,-6. For help: streetmap help load",
+    "load a --key k --collection c --shift -5,-6": "A shift that begins with a minus is one word"
+    " with its option, as --shift=-5,-6. For help: streetmap help load",
 }
 COMMANDS = "lines create pipe serve import export check load batches apply".split()
 
@@ -81,6 +103,18 @@ def check_help(context: Context) -> None:
         context.check(f"help {name}", context.run("help", name), printed)
         begins = f"\nUsage: streetmap {name}".encode()
         context.check(f"usage of {name}", begins in printed, True)
+
+
+def check_mistakes(context: Context) -> None:
+    """The second line on words that are refused, with --explain and on a terminal."""
+    for line, sentence in MISTAKES.items():
+        context.explain(*line.split(), status=2, code="usage", sentence=sentence)
+    shown = context.on_terminal("create", "a", "--prot")
+    sentence = MISTAKES["create a --prot"]
+    context.check("on a terminal", shown, (2, f"streetmap: usage\n{sentence}\n".encode()))
+    for name in COMMANDS:
+        listed = b"--explain" in context.run("help", name)
+        context.check(f"--explain in help on {name}", listed, True)
 
 
 def check_version(context: Context) -> None:
@@ -255,11 +289,80 @@ def check_progress(context: Context) -> None:
     context.check("an export whose lines cannot be written", got, (0, exported))
 
 
+LAMP = b'{"type":"Feature","id":"%s","geometry":{"type":"Point","coordinates":[%s]}}\n'
+ERASE = b"\r\x1b[K"
+DEGREES = b"All coordinates lie within 360 of 0: are they degrees? Streetmap wants metres or so; "
+DEGREES += b"see --scale.\n"
+
+
+def load_words(file: Path, key: str, *more: str) -> list[Word]:
+    return ["load", file, "-", "--key", key, "--collection", "lamps", *more]
+
+
+def check_standard_input(context: Context) -> None:
+    """`-` is standard input, of a load and of batches that are applied."""
+    file, copy = context.new_file("dash.db"), context.new_file("dash-copy.db")
+    loaded = context.run(*load_words(file, "k", "--open"), sent=LAMP % (b"L1", b"1,2"))
+    context.check("a load of -", loaded, b'{"batches":1,"features":1,"serial":1}\n')
+    kept = context.run("batches", file)
+    replies = context.run("apply", copy, "-", sent=kept)
+    context.check("replies to the batches of -", replies.count(b'"inserted":1'), 1)
+    context.check("the copy", context.run("batches", copy), kept)
+
+
+def check_degrees(context: Context) -> None:
+    """A load whose coordinates all lie within 360 of 0 is asked about degrees, for people alone."""
+    near, far = LAMP % (b"L1", b"-360,360"), LAMP % (b"L2", b"0,361")
+
+    def check(what: str, words: tuple[str, ...], sent: bytes, wanted: bytes) -> None:
+        file = context.new_file(f"{what}.db")
+        printed = context.run(*load_words(file, "k", "--open"), sent=sent)
+        file = context.new_file(f"{what}-again.db")
+        ended = context.start(*load_words(file, "k", "--open", *words), sent=sent)
+        got = ended.returncode, ended.stdout, ended.stderr
+        context.check(what, got, (0, printed, wanted))
+
+    check("degrees", ("--explain",), near, DEGREES)
+    check("degrees with progress", ("--progress",), near, DEGREES)
+    check("no degrees", ("--explain",), near + far, b"")
+    check("no coordinates", ("--explain",), b"", b"")
+    file = context.new_file("scaled.db")
+    ended = context.start(*load_words(file, "k", "--open", "--scale", "1", "--explain"), sent=near)
+    context.check("a scale", (ended.returncode, ended.stderr), (0, b""))
+    file = context.new_file("degrees-shown.db")
+    shown = context.on_terminal(*load_words(file, "k", "--open"), sent=near)
+    context.check("on a terminal", shown, (0, ERASE + DEGREES))
+
+
+def check_progress_on_terminal(context: Context) -> None:
+    """One line that is written over, and taken away at the end."""
+    file = context.new_file("shown.db")
+    sent = b"".join(LAMP % (b"%d" % at, b"%d,0" % at) for at in range(2_000))
+    status, shown = context.on_terminal(*load_words(file, "k", "--open"), sent=sent)
+    first, *lines = shown.split(ERASE)
+    begun = [line.split(b" features")[0] for line in lines]
+    wanted = (0, b"", [b"streetmap: 1000", b"streetmap: 2000", b""])
+    context.check("lines of a load", (status, first, begun), wanted)
+    context.check("no line is ended", b"\n" in shown, False)
+    shown = context.on_terminal("export", file, "--collection", "lamps")[1]
+    counted = b"".join(ERASE + b"streetmap: %d features" % count for count in (1000, 2000))
+    context.check("lines of an export", shown, counted + ERASE)
+    bad = LAMP % (b"B", b"0.5,0")
+    sent = sent.replace(b'"id":"', b'"id":"n') + bad
+    shown = context.on_terminal(*load_words(file, "l", "--skip"), sent=sent)[1]
+    wanted_line = ERASE + b"streetmap: bad_feature 2001 fraction\n"
+    context.check("a fault takes its line", wanted_line in shown, True)
+
+
 def run(context: Context) -> None:
     check_wrong_commands(context)
+    check_mistakes(context)
     check_version(context)
     check_help(context)
     check_faults_of_files(context)
     check_pipe(context)
     check_imports(context)
     check_progress(context)
+    check_standard_input(context)
+    check_degrees(context)
+    check_progress_on_terminal(context)

@@ -3,6 +3,14 @@ use Rattle.std.specs.Prelude.{Result, Ok, Err}
 use Rattle.std.specs.declared.io.ErrorKind.{ErrorKind}
 use Rattle.std.specs.declared.io.ErrorKind.TheVariants as kinds
 use Rattle.std.specs.IoError.{error_kind}
+use Rattle.sqlite.specs.declared.error.Error.{Error as StoreError}
+use Rattle.sqlite.specs.declared.error.Error.TheVariants as errors
+use Rattle.sqlite.specs.declared.error.ErrorCode.{ErrorCode}
+use Rattle.sqlite.specs.declared.error.ErrorCode.TheVariants as codes
+use Rattle.streetmap_faults.specs.declared.cause.OpenCause.{OpenCause}
+use Rattle.streetmap_faults.specs.declared.cause.OpenCause.TheVariants as causes
+use Rattle.streetmap_faults.specs.declared.cause.PortCause.{PortCause}
+use Rattle.streetmap_faults.specs.declared.cause.PortCause.TheVariants as ports
 use Rattle.streetmap_ledger.specs.declared.reply.Fault.{Fault as KeeperFault}
 use Rattle.streetmap_ledger.specs.declared.reply.Fault.TheVariants as keeper
 use Rattle.streetmap_journal.specs.declared.starting.StartFault.{StartFault}
@@ -27,14 +35,39 @@ use Rattle.streetmap_faults.specs.declared.fault.ProgramFault.TheVariants.{Taken
 use Rattle.streetmap_faults.specs.declared.fault.ProgramFault.TheVariants.{NoText, ReadFailed}
 use Rattle.streetmap_faults.specs.declared.fault.ProgramFault.TheVariants.{WriteFailed, Damaged}
 use Rattle.streetmap_faults.specs.declared.fault.ProgramFault.TheVariants.{Device, Memory}
+use Rattle.streetmap_faults.specs.declared.fault.ProgramFault.TheVariants.{NotOpened}
 use Rattle.streetmap_faults.specs.declared.fault.ProgramFault.TheVariants.{NoJournal, JournalAhead}
 use Rattle.streetmap_faults.specs.declared.fault.ProgramFault.TheVariants.{NotItsJournal}
+
+-- why a store is not opened, by its error
+abbrev pub cause_of_code : ErrorCode → OpenCause
+cause_of_code codes.DatabaseBusy = causes.InUse
+cause_of_code codes.DatabaseCorrupt = causes.Damaged
+cause_of_code _ = causes.Other
+
+abbrev pub cause_of_store : StoreError → OpenCause
+cause_of_store (errors.SqliteFailure code) = cause_of_code code
+cause_of_store _ = causes.Other
+
+-- why a file is not opened, by the error of a look at it or at its folder
+abbrev pub cause_of_file : ErrorKind → OpenCause
+cause_of_file kinds.NotFound = causes.NoFolder
+cause_of_file kinds.NotADirectory = causes.NoFolder
+cause_of_file kinds.PermissionDenied = causes.NoRight
+cause_of_file kinds.ReadOnlyFilesystem = causes.NoRight
+cause_of_file _ = causes.Other
+
+-- why nothing listens at a port
+abbrev pub cause_of_port : ErrorKind → PortCause
+cause_of_port kinds.AddrInUse = ports.Taken
+cause_of_port kinds.PermissionDenied = ports.NoRight
+cause_of_port _ = ports.Other
 
 -- where no file is made
 abbrev pub fault_of_create : CreateFault → ProgramFault
 fault_of_create creation.NotOurs = NotOurs
 fault_of_create creation.Taken = Taken
-fault_of_create (creation.Device error) = Device
+fault_of_create (creation.Device error) = NotOpened (cause_of_store error)
 fault_of_create creation.Memory = Memory
 
 -- where a file is not opened
@@ -42,7 +75,7 @@ abbrev pub fault_of_open : OpenFault → ProgramFault
 fault_of_open opening.NotOurs = NotOurs
 fault_of_open opening.NewFormat = NewFormat
 fault_of_open opening.Damaged = Damaged
-fault_of_open (opening.Device error) = Device
+fault_of_open (opening.Device error) = NotOpened (cause_of_store error)
 fault_of_open opening.Memory = Memory
 
 -- where a keeper does not answer

@@ -12,7 +12,7 @@ use streetmap_ledger::Keeper;
 pub(crate) fn read_batch(rt: &HostRuntime, asked: Import<'_>) -> Result<Batch, ProgramFault> {
     let text = texts::read(rt, asked.text)?;
     let mut lines = ProgressLines {
-        output: progress::output(rt, asked.progress),
+        output: progress::output(rt, asked.progress, false),
     };
     let batch = import_batch(
         rt.alloc(),
@@ -22,6 +22,7 @@ pub(crate) fn read_batch(rt: &HostRuntime, asked: Import<'_>) -> Result<Batch, P
         asked.replace,
         &mut lines,
     );
+    lines.clear();
     batch.map_err(|fault| ProgramFault::from(ImportStop::from(fault)))
 }
 
@@ -44,7 +45,9 @@ pub(crate) fn export_collection<K: Keeper>(
 ) -> Result<(), ProgramFault> {
     let mut output = writer(rt);
     let mut lines = ProgressLines {
-        output: progress::output(rt, is_told),
+        output: progress::output(rt, is_told, true),
     };
-    export(rt.alloc(), keeper, collection, &mut output, &mut lines).map_err(ProgramFault::from)
+    let done = export(rt.alloc(), keeper, collection, &mut output, &mut lines);
+    lines.clear();
+    done.map_err(ProgramFault::from)
 }

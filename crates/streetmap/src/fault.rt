@@ -4,11 +4,13 @@ ghost use Rattle.std.specs.IoError.{error_kind};
 ghost use Rattle.streetmap.specs.Faults.{fault_of_create, fault_of_open, fault_of_check};
 ghost use Rattle.streetmap.specs.Faults.{fault_of_text, end_of_stream, end_of_followed};
 ghost use Rattle.streetmap.specs.Faults.{fault_of_keeper, fault_of_replay, fault_of_journal};
-ghost use Rattle.streetmap.specs.Faults.{fault_of_start};
+ghost use Rattle.streetmap.specs.Faults.{fault_of_start, cause_of_store, cause_of_file};
+ghost use Rattle.streetmap.specs.Faults.{cause_of_port};
 
+use sqlite::{Error as StoreError, ErrorCode};
 use std::io::{Error, ErrorKind};
 use streetmap_checking::CheckFault;
-use streetmap_faults::ProgramFault;
+use streetmap_faults::{OpenCause, PortCause, ProgramFault};
 use streetmap_journal::StartFault;
 use streetmap_ledger::Fault;
 use streetmap_replay::{End as FollowEnd, Followed, ReplayStop};
@@ -76,6 +78,39 @@ pub(crate) fn of_stream(end: End) -> Result<(), ProgramFault>
     }
 }
 
+/// Why a store is not opened, by its error.
+fn of_store(error: &StoreError) -> OpenCause
+    ensures { result ≡ cause_of_store error.now }
+{
+    match error {
+        StoreError::SqliteFailure(ErrorCode::DatabaseBusy) => OpenCause::InUse,
+        StoreError::SqliteFailure(ErrorCode::DatabaseCorrupt) => OpenCause::Damaged,
+        _ => OpenCause::Other,
+    }
+}
+
+/// Why a file is not opened, by the error of a look at it or at its folder.
+pub(crate) fn of_file(error: &Error) -> OpenCause
+    ensures { result ≡ cause_of_file (error_kind error.now) }
+{
+    match error.kind() {
+        ErrorKind::NotFound | ErrorKind::NotADirectory => OpenCause::NoFolder,
+        ErrorKind::PermissionDenied | ErrorKind::ReadOnlyFilesystem => OpenCause::NoRight,
+        _ => OpenCause::Other,
+    }
+}
+
+/// Why nothing listens at a port.
+pub(crate) fn of_port(error: &Error) -> PortCause
+    ensures { result ≡ cause_of_port (error_kind error.now) }
+{
+    match error.kind() {
+        ErrorKind::AddrInUse => PortCause::Taken,
+        ErrorKind::PermissionDenied => PortCause::NoRight,
+        _ => PortCause::Other,
+    }
+}
+
 /// The fault of a file that is not made.
 pub(crate) fn of_create(fault: &CreateFault) -> ProgramFault
     ensures { result ≡ fault_of_create fault.now }
@@ -83,7 +118,7 @@ pub(crate) fn of_create(fault: &CreateFault) -> ProgramFault
     match fault {
         CreateFault::NotOurs => ProgramFault::NotOurs,
         CreateFault::Taken => ProgramFault::Taken,
-        CreateFault::Device(_) => ProgramFault::Device,
+        CreateFault::Device(error) => ProgramFault::NotOpened(of_store(error)),
         CreateFault::Memory => ProgramFault::Memory,
     }
 }
@@ -96,7 +131,7 @@ pub(crate) fn of_open(fault: &OpenFault) -> ProgramFault
         OpenFault::NotOurs => ProgramFault::NotOurs,
         OpenFault::NewFormat => ProgramFault::NewFormat,
         OpenFault::Damaged => ProgramFault::Damaged,
-        OpenFault::Device(_) => ProgramFault::Device,
+        OpenFault::Device(error) => ProgramFault::NotOpened(of_store(error)),
         OpenFault::Memory => ProgramFault::Memory,
     }
 }

@@ -1,18 +1,19 @@
 //! The keeper of a file: here alone its store is named.
 use crate::exchange::read_batch;
-use crate::same::refuse_same;
+use crate::same::{parts, refuse_same};
 use crate::tasks::{Task, Work};
 use crate::{fault, loading};
 use sqlite::Unknown;
-use std::fs::{exists, metadata};
+use std::fs::{OpenOptions, exists, metadata};
+use std::io::ErrorKind;
 use streetmap_command::{Connections, Import, JournalAsked, LoadAsked};
-use streetmap_faults::ProgramFault;
+use streetmap_faults::{OpenCause, ProgramFault};
 use streetmap_placing::Numbers;
 use streetmap_routes::Base;
 
 /// Whether there is a file of that name.
 fn is_there(rt: &HostRuntime, path: &str) -> Result<bool, ProgramFault> {
-    exists(rt, path).map_err(|_| ProgramFault::Device)
+    exists(rt, path).map_err(|error| ProgramFault::NotOpened(fault::of_file(&error)))
 }
 
 /// Refuses a file that is not there.
@@ -24,11 +25,31 @@ fn refuse_missing(rt: &HostRuntime, path: &str) -> Result<(), ProgramFault> {
     }
 }
 
+/// Why a file is not opened, by a look at it, or at its folder if it is not there.
+fn cause_at(rt: &HostRuntime, path: &str) -> OpenCause {
+    match OpenOptions::new().read(true).write(true).open(rt, path) {
+        Ok(_) => OpenCause::Other,
+        Err(error) if error.kind() == ErrorKind::NotFound => match metadata(rt, parts(path).0) {
+            Ok(_) => OpenCause::NoRight,
+            Err(error) => fault::of_file(&error),
+        },
+        Err(error) => fault::of_file(&error),
+    }
+}
+
+/// The fault of a file that is not opened, with its cause if the store does not know it.
+fn with_cause(rt: &HostRuntime, path: &str, fault: ProgramFault) -> ProgramFault {
+    match fault {
+        ProgramFault::NotOpened(OpenCause::Other) => ProgramFault::NotOpened(cause_at(rt, path)),
+        fault => fault,
+    }
+}
+
 /// Makes an empty file where there is none.
 fn make(rt: &HostRuntime, path: &str) -> Result<(), ProgramFault> {
     match streetmap_store::create(rt, path, Unknown) {
         Ok(_keeper) => Ok(()),
-        Err((refused, _)) => Err(fault::of_create(&refused)),
+        Err((refused, _)) => Err(with_cause(rt, path, fault::of_create(&refused))),
     }
 }
 
@@ -45,7 +66,7 @@ pub(crate) fn create(rt: &HostRuntime, path: &str) -> Result<(), ProgramFault> {
 fn run_over(rt: &HostRuntime, path: &str, task: Task<'_>) -> Result<(), ProgramFault> {
     match streetmap_store::open(rt, path, Unknown) {
         Ok(keeper) => task.run(rt, keeper),
-        Err((refused, _)) => Err(fault::of_open(&refused)),
+        Err((refused, _)) => Err(with_cause(rt, path, fault::of_open(&refused))),
     }
 }
 
@@ -76,10 +97,16 @@ pub(crate) fn print_batches(rt: &HostRuntime, path: &str, after: u32) -> Result<
     run_over(rt, path, Task::Work(Work::Batches { after }))
 }
 
-/// Says on standard error which file is opened, and how large it is: a large one takes a while.
+/// The bytes of a file; 0 if it is not there.
+fn length_of(rt: &HostRuntime, path: &str) -> u64 {
+    metadata(rt, path).map_or(0, |found| found.len())
+}
+
+/// Says on standard error which file is opened, and how large it is with the log beside it: a large
+/// one takes a while.
 fn tell_size(rt: &HostRuntime, path: &str) {
-    if let Ok(found) = metadata(rt, path) {
-        let bytes = found.len();
+    if let Ok(log) = format!(in rt.alloc(); "{path}-wal") {
+        let bytes = length_of(rt, path).saturating_add(length_of(rt, log.as_str()));
         let _ = eprintln!(rt; "streetmap: opening {path}, {bytes} bytes");
     }
 }

@@ -1,8 +1,8 @@
 //! Features of any number in: a load.
-use crate::progress::Pace;
+use crate::progress::{Pace, ProgressOutput};
 use crate::{fault, progress};
 use std::fs::File;
-use std::io::{BufReader, Read, Stderr, Write, writer};
+use std::io::{BufReader, IsTerminal, Read, Stderr, Write, writer};
 use streetmap_command::LoadAsked;
 use streetmap_decimal::{Rounding, Scale, Shift};
 use streetmap_faults::ProgramFault;
@@ -13,6 +13,10 @@ use streetmap_loading::{
 };
 use streetmap_placing::{Fractions, Numbers};
 
+/// What is said of coordinates that may be degrees.
+const DEGREES: &str = "All coordinates lie within 360 of 0: are they degrees? \
+    Streetmap wants metres or so; see --scale.";
+
 /// What a load under way is told to: lines on standard error.
 #[derive(Drop)]
 struct LoadLines<'a, W> {
@@ -21,7 +25,7 @@ struct LoadLines<'a, W> {
     /// Where lines of features at fault go.
     faults: W,
     /// Where lines of how far the load is go: none are written where there is nothing.
-    progress: Option<W>,
+    progress: Option<ProgressOutput<W>>,
     /// How many features were passed over.
     passed_over: &'a mut u64,
 }
@@ -38,7 +42,7 @@ impl<'a> LoadLines<'a, Stderr> {
             rt,
             pace: Pace::new(rt, asked.text),
             faults: rt.stderr(),
-            progress: progress::output(rt, asked.progress),
+            progress: progress::output(rt, asked.progress, asked.print),
             passed_over,
         }
     }
@@ -58,6 +62,9 @@ impl<W: Write> Listener for LoadLines<'_, W> {
     fn passed_over(&mut self, fault: TextFault) {
         *self.passed_over = self.passed_over.saturating_add(1);
         let fault = ProgramFault::Load(End::AtFault(fault));
+        if let Some(output) = &mut self.progress {
+            output.clear();
+        }
         let _ = writeln!(self.faults, "{fault}");
     }
 }
@@ -148,6 +155,25 @@ fn times_of<K: Keeper>(
     times.map_err(|fault| ProgramFault::Load(End::Stopped(fault)))
 }
 
+/// Whether the features of a collection have coordinates, and all lie within 360 of 0.
+fn lies_near_zero<K: Keeper>(keeper: &mut K, collection: &str) -> bool {
+    match keeper.collection(collection) {
+        Ok(Some(summary)) => summary.extent.is_some_and(|extent| {
+            -360 <= extent.x0 && -360 <= extent.y0 && extent.x1 <= 360 && extent.y1 <= 360
+        }),
+        _ => false,
+    }
+}
+
+/// Asks whether the coordinates of a collection that was loaded without a scale are degrees, if
+/// sentences or progress are asked for, or if standard error is a terminal.
+fn warn_of_degrees<K: Keeper>(rt: &HostRuntime, keeper: &mut K, asked: LoadAsked<'_>) {
+    let is_wanted = asked.explains || asked.progress || rt.stderr().is_terminal();
+    if is_wanted && asked.scale.is_none() && lies_near_zero(keeper, asked.collection) {
+        let _ = eprintln!(rt; "{DEGREES}");
+    }
+}
+
 /// What the load came to is printed, where it came to its end, or why it ended before.
 fn end(
     rt: &HostRuntime,
@@ -155,6 +181,9 @@ fn end(
     loaded: Loaded,
     passed_over: u64,
 ) -> Result<(), ProgramFault> {
+    if let Some(mut output) = progress::output(rt, asked.progress, asked.print) {
+        output.clear();
+    }
     if !matches!(loaded.end, End::All) {
         return Err(ProgramFault::Load(loaded.end));
     }
@@ -211,7 +240,12 @@ fn load_from<K: Keeper, R: Read + Drop>(
     } else {
         load_text(rt.alloc(), sink, reader, load, lines)
     };
-    end(rt, asked, loaded, passed_over)
+    let is_loaded = matches!(loaded.end, End::All) && !asked.check;
+    let done = end(rt, asked, loaded, passed_over);
+    if is_loaded {
+        warn_of_degrees(rt, &mut sink.keeper, asked);
+    }
+    done
 }
 
 /// Sends the features of an input where it is asked for.

@@ -5,8 +5,8 @@
 //! over it), and one for each group of commands: `serving` (`serve`, `pipe`), with `journal` below
 //! it, `exchange` (`import`, `export`), with `texts` and `progress` below it, `loading` (`load`),
 //! `batches` (`batches`, `apply`), `checking` (`check`), `lines` (`lines`), `help` (help).
-//! `fault` turns faults of the crates below into that of the program. The command line, what is
-//! printed for a fault, and what the commands do in turn, stand in those crates.
+//! `fault` turns faults of the crates below into that of the program, and `report` prints them. The
+//! command line, what is printed for a fault, and what the commands do in turn, stand in those crates.
 #![tactic(auto)]
 
 mod batches;
@@ -19,6 +19,7 @@ mod journal;
 mod lines;
 mod loading;
 mod progress;
+mod report;
 mod same;
 mod serving;
 mod tasks;
@@ -28,16 +29,20 @@ use std::env;
 use std::process::ExitCode;
 use streetmap_command::{Command, VERSION, read_command};
 use streetmap_faults::ProgramFault;
-use streetmap_loading::{End, TextFault};
 use streetmap_routes::Base;
 
-/// Does what the command line asks for.
-fn run(rt: &HostRuntime) -> Result<(), ProgramFault> {
+/// The words of the command line, of which the first is the program's name.
+fn words_of(rt: &HostRuntime) -> Result<Vec<String>, ProgramFault> {
     let mut words = Vec::new(rt.alloc());
     for word in env::args(rt).map_err(|error| fault::of_words(&error))? {
         words.push(word).map_err(|_| ProgramFault::Memory)?;
     }
-    perform(rt, read_command(rt.alloc(), words.as_slice())?)
+    Ok(words)
+}
+
+/// Does what the words ask for.
+fn run(rt: &HostRuntime, words: &[String]) -> Result<(), ProgramFault> {
+    perform(rt, read_command(rt.alloc(), words)?)
 }
 
 /// Does what a command asks for. A base of links is judged before the file is looked for.
@@ -81,28 +86,20 @@ fn print_version(rt: &HostRuntime) -> Result<(), ProgramFault> {
     println!(rt; "streetmap {VERSION}").map_err(|_| ProgramFault::WriteFailed)
 }
 
-/// Prints the line of a fault, and of a text that is no sequence of features also what makes one.
-/// Features that were passed over, a collection that is another in a replay, and a store that failed
-/// while it was served have their lines already.
-fn print_fault(rt: &HostRuntime, fault: ProgramFault) {
-    if !matches!(
-        fault,
-        ProgramFault::PassedOver | ProgramFault::NotReplayed(None) | ProgramFault::Shut
-    ) {
-        let _ = eprintln!(rt; "{fault}");
-    }
-    if let ProgramFault::Load(End::AtFault(TextFault::NotASequence)) = fault {
-        let description = fault.description();
-        let _ = eprintln!(rt; "{description}");
+/// The exit status of what was done; the lines of a fault are printed.
+fn end(rt: &HostRuntime, words: &[String], done: Result<(), ProgramFault>) -> ExitCode {
+    match done {
+        Ok(()) => ExitCode::SUCCESS,
+        Err(fault) => {
+            report::print(rt, words, fault);
+            ExitCode::from(fault.status())
+        }
     }
 }
 
 fn main(rt: HostRuntime) -> ExitCode {
-    match run(&rt) {
-        Ok(()) => ExitCode::SUCCESS,
-        Err(fault) => {
-            print_fault(&rt, fault);
-            ExitCode::from(fault.status())
-        }
+    match words_of(&rt) {
+        Ok(words) => end(&rt, words.as_slice(), run(&rt, words.as_slice())),
+        Err(fault) => end(&rt, &[], Err(fault)),
     }
 }

@@ -4,13 +4,44 @@ use std::io::{IsTerminal, Stderr, Write};
 use std::time::Instant;
 use streetmap_exchange::Progress;
 
-/// Standard error, where it is asked for how far a command is, or where that is a terminal.
-pub(crate) fn output(rt: &HostRuntime, is_asked: bool) -> Option<Stderr> {
+/// Where lines on how far a command is go. A line that cannot be written is left out.
+#[derive(Drop)]
+pub(crate) struct ProgressOutput<W> {
+    pub(crate) output: W,
+    /// Whether each line is written over the one before, on a terminal.
+    overwrites: bool,
+}
+
+/// Standard error, if it is asked for how far a command is, or if that is a terminal. There each line
+/// is written over the one before, unless the command prints on a terminal as well.
+pub(crate) fn output(
+    rt: &HostRuntime,
+    is_asked: bool,
+    prints: bool,
+) -> Option<ProgressOutput<Stderr>> {
     let output = rt.stderr();
-    if is_asked || output.is_terminal() {
-        Some(output)
+    let is_terminal = output.is_terminal();
+    if is_asked || is_terminal {
+        let overwrites = is_terminal && !(prints && rt.stdout().is_terminal());
+        Some(ProgressOutput { output, overwrites })
     } else {
         None
+    }
+}
+
+impl<W: Write> ProgressOutput<W> {
+    /// Takes away the line that is written over.
+    pub(crate) fn clear(&mut self) {
+        if self.overwrites {
+            let _ = write!(self.output, "\r\x1b[K");
+        }
+    }
+
+    /// Ends a line, unless it is written over.
+    fn end(&mut self) {
+        if !self.overwrites {
+            let _ = writeln!(self.output);
+        }
     }
 }
 
@@ -18,14 +49,25 @@ pub(crate) fn output(rt: &HostRuntime, is_asked: bool) -> Option<Stderr> {
 #[derive(Drop)]
 pub(crate) struct ProgressLines<W> {
     /// Where the lines go: none are written where there is nothing.
-    pub(crate) output: Option<W>,
+    pub(crate) output: Option<ProgressOutput<W>>,
+}
+
+impl<W: Write> ProgressLines<W> {
+    /// Takes away the line that is written over.
+    pub(crate) fn clear(&mut self) {
+        if let Some(output) = &mut self.output {
+            output.clear();
+        }
+    }
 }
 
 impl<W: Write> Progress for ProgressLines<W> {
     /// A line that cannot be written is left out.
     fn reached(&mut self, features: u64) {
         if let Some(output) = &mut self.output {
-            let _ = writeln!(output, "streetmap: {features} features");
+            output.clear();
+            let _ = write!(output.output, "streetmap: {features} features");
+            output.end();
         }
     }
 }
@@ -61,10 +103,12 @@ impl Pace {
     pub(crate) fn tell<W: Write>(
         &self,
         rt: &HostRuntime,
-        output: &mut W,
+        lines: &mut ProgressOutput<W>,
         features: u64,
         bytes: u64,
     ) {
+        lines.clear();
+        let output = &mut lines.output;
         let _ = write!(output, "streetmap: {features} features, {bytes} bytes");
         if let Some(percent) = bytes.saturating_mul(100).checked_div(self.length) {
             let _ = write!(output, ", {percent} %");
@@ -79,6 +123,6 @@ impl Pace {
                 let _ = write!(output, ", {left} s left");
             }
         }
-        let _ = writeln!(output);
+        lines.end();
     }
 }

@@ -12,7 +12,7 @@ fn is_one(rt: &HostRuntime, one: &str, other: &str) -> bool {
 }
 
 /// The folder of a path, and the name in it.
-fn parts(path: &str) -> (&str, &str) {
+pub(crate) fn parts(path: &str) -> (&str, &str) {
     match path.rsplit_once('/') {
         Some(("", name)) => ("/", name),
         Some((folder, name)) => (folder, name),

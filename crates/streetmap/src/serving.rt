@@ -32,7 +32,7 @@ pub(crate) fn pipe<S: Alter + Drop>(
 /// Listens at a port of this host, and says so.
 fn listen(rt: &HostRuntime, port: u16) -> Result<TcpListener, ProgramFault> {
     let listener = TcpListener::bind(rt, (Ipv4Addr::LOCALHOST, port)).map_err(
-        |_| ProgramFault::Net,
+        |error| ProgramFault::NotBound(port, fault::of_port(&error)),
     )?;
     println!(rt; "listening 127.0.0.1:{port}").map_err(|_| ProgramFault::WriteFailed)?;
     Ok(listener)

@@ -36,6 +36,7 @@ load_value l = record {
   check = l.check;
   print = l.print;
   progress = l.progress;
+  explains = l.explains;
 }
 
 -- a journal as a value

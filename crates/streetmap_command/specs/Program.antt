@@ -3,6 +3,7 @@ use Rattle.std.specs.Prelude.{◌||◌, not}
 use Rattle.std.specs.Prelude.{◌≡◌, [], ◌∷◌, ℕ, Bool, false, codes, decimal, List, Option, Some}
 use Rattle.std.specs.Prelude.{None, length, unwrap_or, option_map, option_and_then, if◌then◌else◌}
 use Rattle.std.specs.Prelude.{nat_lt, nat_le, true, ◌&&◌, ◌++◌}
+use Rattle.std.specs.List.{list_any}
 use Rattle.std.specs.Str.{bytes_eq, all_ascii_digits}
 use Rattle.std.specs.Str.Parse.{digits_value}
 use Rattle.clap.specs.Words.{App, Rule, Row, Text, Kinds, IsAmong, new_app, new_rule, with_rule}
@@ -36,19 +37,27 @@ required_option name = record (option name) { required = true }
 abbrev pub flag : Text → Rule
 flag name = record (new_rule name) { long = Some name; action = Some SetTrue }
 
+-- the option `--explain`, which each command has
+abbrev pub explain : Rule
+explain = flag (codes "explain")
+
+-- a command over FILE
+abbrev pub over_file : Text → App
+over_file name = with_rule (with_rule (new_app name) explain) file
+
 abbrev pub lines : App
-lines = new_app (codes "lines")
+lines = with_rule (new_app (codes "lines")) explain
 
 abbrev pub create : App
-create = with_rule (new_app (codes "create")) file
+create = over_file (codes "create")
 
 abbrev pub pipe : App
-pipe = with_rule (with_rule (new_app (codes "pipe")) file) (option (codes "base"))
+pipe = with_rule (over_file (codes "pipe")) (option (codes "base"))
 
 -- FILE, and the clients that are served
 abbrev pub serve_clients : App
 serve_clients = with_rule (with_rule (with_rule (with_rule
-    (with_rule (with_rule (with_rule (new_app (codes "serve")) file)
+    (with_rule (with_rule (over_file (codes "serve"))
     (required_option (codes "port"))) (option (codes "count"))) (option (codes "clients")))
     (flag (codes "log"))) (option (codes "base"))) (flag (codes "warm"))
 
@@ -61,24 +70,24 @@ serve = with_rule (with_rule (with_rule serve_clients (option (codes "journal"))
 -- far the import is
 abbrev pub import : App
 import = with_rule (with_rule (with_rule
-    (with_rule (with_rule (with_rule (new_app (codes "import")) file) (positional (codes "text")))
+    (with_rule (with_rule (over_file (codes "import")) (positional (codes "text")))
     (required_option (codes "key"))) (required_option (codes "collection")))
     (flag (codes "replace"))) (flag (codes "progress"))
 
 abbrev pub export : App
-export = with_rule (with_rule (with_rule (new_app (codes "export")) file)
+export = with_rule (with_rule (over_file (codes "export"))
     (required_option (codes "collection"))) (flag (codes "progress"))
 
 abbrev pub check : App
-check = with_rule (with_rule (new_app (codes "check")) file) (flag (codes "replay"))
+check = with_rule (over_file (codes "check")) (flag (codes "replay"))
 
 -- FILE, and the serial behind which batches are printed
 abbrev pub batches : App
-batches = with_rule (with_rule (new_app (codes "batches")) file) (option (codes "after"))
+batches = with_rule (over_file (codes "batches")) (option (codes "after"))
 
 -- FILE and TEXT
 abbrev pub apply : App
-apply = with_rule (with_rule (new_app (codes "apply")) file) (optional (codes "text"))
+apply = with_rule (over_file (codes "apply")) (optional (codes "text"))
 
 -- a command with these arguments more
 abbrev pub with_rules : App → List Rule → App
@@ -88,8 +97,8 @@ with_rules a (r ∷ rs) = with_rules (with_rule a r) rs
 -- FILE and TEXT, the key, the collection, how many edits a batch has, and the opening of the
 -- collection
 abbrev pub load_into : App
-load_into = with_rules (new_app (codes "load"))
-    (file ∷ optional (codes "text")
+load_into = with_rules (over_file (codes "load"))
+    (optional (codes "text")
     ∷ required_option (codes "key") ∷ required_option (codes "collection") ∷ option (codes "each")
     ∷ flag (codes "open") ∷ option (codes "title") ∷ option (codes "time") ∷ [])
 
@@ -151,6 +160,7 @@ pub record LoadWords : Type 0 where
   pub check : Bool
   pub print : Bool
   pub progress : Bool
+  pub explains : Bool
 
 -- a journal, as it is asked for: its file, the serial behind which it begins where it has no line,
 -- and whether its lines are synchronised before answers
@@ -197,6 +207,11 @@ plain_base = codes "http://localhost/"
 
 abbrev pub base_at : ℕ → Text
 base_at port = codes "http://localhost:" ++ decimal port ++ codes "/"
+
+-- a text is named, or it is standard input: so it is if the name is `-`, and if there is none
+abbrev pub text_given : Option Text → Option Text
+text_given None = None
+text_given (Some text) = if bytes_eq text (codes "-") then None else Some text
 
 -- a port is 1 to 65535
 abbrev pub port_given : Option Text → Option ℕ
@@ -309,7 +324,7 @@ fractions_given (Some text) = if bytes_eq text (codes "text") then Some true els
 -- fractions
 abbrev pub load_words : List Row → Text → Text → ℕ → Bool → LoadWords
 load_words rows key collection each keeps = record {
-  text = first_of (codes "text") rows;
+  text = text_given (first_of (codes "text") rows);
   key = key;
   collection = collection;
   each = each;
@@ -325,6 +340,7 @@ load_words rows key collection each keeps = record {
   check = is_set (first_of (codes "check") rows);
   print = is_set (first_of (codes "print") rows);
   progress = is_set (first_of (codes "progress") rows);
+  explains = is_set (first_of (codes "explain") rows);
 }
 
 abbrev pub is_given : Option Text → Bool
@@ -355,7 +371,7 @@ batches_by rows = option_and_then (λ f. option_map (λ n. batches_command f n)
     (after_given (first_of (codes "after") rows))) (first_of (codes "file") rows)
 
 abbrev pub apply_by : List Row → Option CommandValue
-apply_by rows = option_map (λ f. apply_command f (first_of (codes "text") rows))
+apply_by rows = option_map (λ f. apply_command f (text_given (first_of (codes "text") rows)))
     (first_of (codes "file") rows)
 
 -- by the subcommand's name and what is given with it
@@ -412,6 +428,10 @@ asked_or_help None words = asked_by_faults (fault_of program words) words
 -- take them, or where they name no command
 abbrev pub asked_by : List Text → Option CommandValue
 asked_by words = asked_or_help (help_called words) words
+
+-- the words have the option `--explain`
+abbrev pub is_explained : List Text → Bool
+is_explained words = list_any (λ word. bytes_eq word (codes "--explain")) words
 
 -- with these words after the program's name, and `--help` or `-h` after them, help is asked for
 abbrev pub AsksForHelp : List Text → Topic → Type 0

@@ -240,7 +240,7 @@ fn read_clients(given: Option<&str>, count: Option<u32>) -> Option<u32>
 }
 
 /// The connections that are asked for, of what is given with the command.
-fn read_connections(found: &ArgMatches<'_>) -> Option<Connections>
+pub(crate) fn read_connections(found: &ArgMatches<'_>) -> Option<Connections>
     ensures { option_map connections_value result
         ≡ connections_by (rows_of (found_of found.now)) }
 {

@@ -39,7 +39,7 @@ pub enum Topic {
 }
 
 /// The command that a word names.
-fn topic_named(word: &str) -> Option<Topic>
+pub(crate) fn topic_named(word: &str) -> Option<Topic>
     ensures { result ≡ topic_named word.now }
 {
     match word {
@@ -116,7 +116,7 @@ fn topic_parser<'a>(alloc: Global, topic: Topic) -> Result<Command<'a>, AllocErr
 {
     match topic {
         Topic::Program => make_parser(alloc),
-        Topic::Lines => with_usage_name(Ok(make_lines(alloc)), "streetmap lines"),
+        Topic::Lines => with_usage_name(make_lines(alloc), "streetmap lines"),
         Topic::Create => with_usage_name(make_create(alloc), "streetmap create"),
         Topic::Pipe => with_usage_name(make_pipe(alloc), "streetmap pipe"),
         Topic::Serve => with_usage_name(make_serve(alloc), "streetmap serve"),

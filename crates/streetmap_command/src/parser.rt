@@ -5,7 +5,7 @@ ghost use Rattle.clap.specs.declared.builder.command.Command.TheViews.{out-Comma
 ghost use Rattle.streetmap_command.specs.Program.{optional, load, load_into, load_numbers};
 ghost use Rattle.streetmap_command.specs.Program.{batches, apply};
 ghost use Rattle.streetmap_command.specs.Program.{program, positional, option, required_option};
-ghost use Rattle.streetmap_command.specs.Program.{flag, file, lines};
+ghost use Rattle.streetmap_command.specs.Program.{flag, file, explain, over_file, lines};
 ghost use Rattle.streetmap_command.specs.Program.{create, pipe, serve, serve_clients, import};
 ghost use Rattle.streetmap_command.specs.Program.{export, check};
 ghost use Rattle.streetmap_command.specs.Program.{versioned};
@@ -16,6 +16,9 @@ use std::alloc::{AllocError, Global};
 
 /// The version of the program.
 pub const VERSION: &str = "0.1.0";
+
+/// The place in help of an option that is listed behind all others.
+const LAST: usize = 100;
 
 /// A value by its place alone, which may be left out.
 fn optional_arg<'a>(alloc: Global, name: &'a str, help: &'a str) -> Arg<'a>
@@ -95,33 +98,59 @@ fn new_command<'a>(alloc: Global, name: &'a str, about: &'a str) -> Command<'a>
     Command::new(alloc, name).about(about)
 }
 
-/// A command over a file, which is its first argument.
-fn file_command<'a>(alloc: Global, name: &'a str, about: &'a str) -> Result<Command<'a>, AllocError>
-    ensures app { IfOk result (λ c. app_of c ≡ with_rule (new_app name.entry.now) file) }
-    ensures local { IfOk result (λ c. (fields_of c).has_globals ≡ false) }
+/// The option `--explain`, which help lists last.
+fn explain_arg<'a>(alloc: Global) -> Arg<'a>
+    ensures rule { rule_of result ≡ explain }
+    ensures local { result.global ≡ false }
 {
-    new_command(alloc, name, about).arg(positional_arg(alloc, "file", texts::FILE))
+    flag_arg(alloc, "explain", texts::EXPLAIN).display_order(LAST)
 }
 
-pub(crate) fn make_lines<'a>(alloc: Global) -> Command<'a>
-    ensures app { app_of result ≡ lines }
-    ensures local { (fields_of result).has_globals ≡ false }
+/// A command with the option `--explain`, as each has it.
+fn explained_command<'a>(
+    alloc: Global,
+    name: &'a str,
+    about: &'a str,
+) -> Result<Command<'a>, AllocError>
+    ensures app { IfOk result (λ c. app_of c ≡ with_rule (new_app name.entry.now) explain) }
+    ensures local { IfOk result (λ c. (fields_of c).has_globals ≡ false) }
 {
-    new_command(alloc, "lines", texts::LINES)
+    new_command(alloc, name, about).arg(explain_arg(alloc))
+}
+
+/// A command over a file, which is its first argument.
+fn file_command<'a>(
+    alloc: Global,
+    name: &'a str,
+    about: &'a str,
+    file: &'a str,
+) -> Result<Command<'a>, AllocError>
+    ensures app { IfOk result (λ c. app_of c ≡ over_file name.entry.now) }
+    ensures local { IfOk result (λ c. (fields_of c).has_globals ≡ false) }
+{
+    let command = explained_command(alloc, name, about);
+    with_argument(command, positional_arg(alloc, "file", file))
+}
+
+pub(crate) fn make_lines<'a>(alloc: Global) -> Result<Command<'a>, AllocError>
+    ensures app { IfOk result (λ c. app_of c ≡ lines) }
+    ensures local { IfOk result (λ c. (fields_of c).has_globals ≡ false) }
+{
+    explained_command(alloc, "lines", texts::LINES)
 }
 
 pub(crate) fn make_create<'a>(alloc: Global) -> Result<Command<'a>, AllocError>
     ensures app { IfOk result (λ c. app_of c ≡ create) }
     ensures local { IfOk result (λ c. (fields_of c).has_globals ≡ false) }
 {
-    new_command(alloc, "create", texts::CREATE).arg(positional_arg(alloc, "file", texts::NEW_FILE))
+    file_command(alloc, "create", texts::CREATE, texts::NEW_FILE)
 }
 
 pub(crate) fn make_pipe<'a>(alloc: Global) -> Result<Command<'a>, AllocError>
     ensures app { IfOk result (λ c. app_of c ≡ pipe) }
     ensures local { IfOk result (λ c. (fields_of c).has_globals ≡ false) }
 {
-    let command = file_command(alloc, "pipe", texts::PIPE);
+    let command = file_command(alloc, "pipe", texts::PIPE, texts::FILE);
     with_argument(command, option_arg(alloc, "base", texts::BASE))
 }
 
@@ -129,7 +158,7 @@ fn make_serve_clients<'a>(alloc: Global) -> Result<Command<'a>, AllocError>
     ensures app { IfOk result (λ c. app_of c ≡ serve_clients) }
     ensures local { IfOk result (λ c. (fields_of c).has_globals ≡ false) }
 {
-    let command = file_command(alloc, "serve", texts::SERVE);
+    let command = file_command(alloc, "serve", texts::SERVE, texts::FILE);
     let command = with_argument(command, required_arg(alloc, "port", texts::PORT));
     let command = with_argument(command, option_arg(alloc, "count", texts::COUNT));
     let command = with_argument(command, option_arg(alloc, "clients", texts::CLIENTS));
@@ -158,7 +187,7 @@ pub(crate) fn make_import<'a>(alloc: Global) -> Result<Command<'a>, AllocError>
     ensures app { IfOk result (λ c. app_of c ≡ import) }
     ensures local { IfOk result (λ c. (fields_of c).has_globals ≡ false) }
 {
-    let command = file_command(alloc, "import", texts::IMPORT);
+    let command = file_command(alloc, "import", texts::IMPORT, texts::FILE);
     let command = with_argument(command, positional_arg(alloc, "text", texts::IMPORT_TEXT));
     let command = with_argument(command, required_arg(alloc, "key", texts::IMPORT_KEY));
     let command = with_argument(command, required_arg(alloc, "collection", texts::INTO));
@@ -170,7 +199,7 @@ pub(crate) fn make_export<'a>(alloc: Global) -> Result<Command<'a>, AllocError>
     ensures app { IfOk result (λ c. app_of c ≡ export) }
     ensures local { IfOk result (λ c. (fields_of c).has_globals ≡ false) }
 {
-    let command = file_command(alloc, "export", texts::EXPORT);
+    let command = file_command(alloc, "export", texts::EXPORT, texts::FILE);
     let command = with_argument(command, required_arg(alloc, "collection", texts::FROM));
     with_argument(command, flag_arg(alloc, "progress", texts::PROGRESS))
 }
@@ -179,7 +208,7 @@ pub(crate) fn make_check<'a>(alloc: Global) -> Result<Command<'a>, AllocError>
     ensures app { IfOk result (λ c. app_of c ≡ check) }
     ensures local { IfOk result (λ c. (fields_of c).has_globals ≡ false) }
 {
-    let command = file_command(alloc, "check", texts::CHECK);
+    let command = file_command(alloc, "check", texts::CHECK, texts::FILE);
     with_argument(command, flag_arg(alloc, "replay", texts::REPLAY))
 }
 
@@ -187,7 +216,7 @@ pub(crate) fn make_batches<'a>(alloc: Global) -> Result<Command<'a>, AllocError>
     ensures app { IfOk result (λ c. app_of c ≡ batches) }
     ensures local { IfOk result (λ c. (fields_of c).has_globals ≡ false) }
 {
-    let command = file_command(alloc, "batches", texts::BATCHES);
+    let command = file_command(alloc, "batches", texts::BATCHES, texts::FILE);
     with_argument(command, option_arg(alloc, "after", texts::AFTER))
 }
 
@@ -195,7 +224,7 @@ pub(crate) fn make_apply<'a>(alloc: Global) -> Result<Command<'a>, AllocError>
     ensures app { IfOk result (λ c. app_of c ≡ apply) }
     ensures local { IfOk result (λ c. (fields_of c).has_globals ≡ false) }
 {
-    let command = file_command(alloc, "apply", texts::APPLY);
+    let command = file_command(alloc, "apply", texts::APPLY, texts::FILE);
     with_argument(command, optional_arg(alloc, "text", texts::APPLY_TEXT))
 }
 
@@ -203,7 +232,7 @@ fn make_load_into<'a>(alloc: Global) -> Result<Command<'a>, AllocError>
     ensures app { IfOk result (λ c. app_of c ≡ load_into) }
     ensures local { IfOk result (λ c. (fields_of c).has_globals ≡ false) }
 {
-    let command = file_command(alloc, "load", texts::LOAD);
+    let command = file_command(alloc, "load", texts::LOAD, texts::FILE);
     let command = with_argument(command, optional_arg(alloc, "text", texts::LOAD_TEXT));
     let command = with_argument(command, required_arg(alloc, "key", texts::LOAD_KEY));
     let command = with_argument(command, required_arg(alloc, "collection", texts::INTO));
@@ -248,7 +277,7 @@ fn make_program<'a>(alloc: Global) -> Command<'a>
 pub(crate) fn make_parser<'a>(alloc: Global) -> Result<Command<'a>, AllocError>
     ensures { IfOk result (λ c. app_of c ≡ program) }
 {
-    let command = make_program(alloc).subcommand(make_lines(alloc));
+    let command = with_subcommand(Ok(make_program(alloc)), make_lines(alloc));
     let command = with_subcommand(command, make_create(alloc));
     let command = with_subcommand(command, make_pipe(alloc));
     let command = with_subcommand(command, make_serve(alloc));

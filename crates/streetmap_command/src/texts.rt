@@ -1,4 +1,5 @@
-//! What help says of the program, its commands, and their arguments.
+//! What help says of the program, its commands, and their arguments, and what is said of words that
+//! are none.
 
 pub(crate) const PROGRAM: &str =
     "A server for features of streets, changed by batches that apply whole or not at all";
@@ -14,6 +15,8 @@ pub(crate) const PIPE: &str = "Serves one stream of requests on standard input a
 pub(crate) const FILE: &str = "The file that holds the features";
 
 pub(crate) const BASE: &str = "What the links in answers begin with";
+
+pub(crate) const EXPLAIN: &str = "Says in a sentence what is wrong, as on a terminal";
 
 pub(crate) const SERVE: &str = "Serves the features of a file over HTTP";
 
@@ -56,7 +59,8 @@ pub(crate) const REPLAY: &str = "Applies the accepted batches again, and compare
 pub(crate) const LOAD: &str =
     "Puts the features of a text, one a line, into a collection by batches";
 
-pub(crate) const LOAD_TEXT: &str = "GeoJSON features, one a line: standard input if it is left out";
+pub(crate) const LOAD_TEXT: &str =
+    "GeoJSON features, one a line: standard input if it is - or left out";
 
 pub(crate) const LOAD_KEY: &str = "The key K of the batches K.1, K.2 and so on";
 
@@ -88,4 +92,29 @@ pub(crate) const AFTER: &str = "Prints only the batches after this serial";
 
 pub(crate) const APPLY: &str = "Applies the lines of a text as batches, in order";
 
-pub(crate) const APPLY_TEXT: &str = "Batches, one a line: standard input if it is left out";
+pub(crate) const APPLY_TEXT: &str = "Batches, one a line: standard input if it is - or left out";
+
+pub(crate) const SPLIT_SHIFT: &str =
+    "A shift that begins with a minus is one word with its option, as --shift=-5,-6";
+
+pub(crate) const NO_TOPIC: &str = "After help comes the name of one command, or nothing";
+
+pub(crate) const NO_COMMAND: &str = "No command is named";
+
+pub(crate) const WRONG_SERIAL: &str = "A serial is a number from 0 to 4294967295";
+
+pub(crate) const WRONG_CONNECTIONS: &str =
+    "A port is a number from 1 to 65535, a count from 1 to 4294967295, clients from 1 to 1024";
+
+pub(crate) const NO_JOURNAL: &str = "The options of a journal go with --journal";
+
+pub(crate) const WRONG_EACH: &str = "A batch has 1 to 10000 features";
+
+pub(crate) const WRONG_FRACTIONS: &str = "The value of --fractions is text";
+
+pub(crate) const CHECK_AND_PRINT: &str = "What is only checked is not printed";
+
+pub(crate) const NO_OPENING: &str = "A title and a time go with --open";
+
+pub(crate) const WRONG_NUMBERS: &str =
+    "Numbers of a scale are above 0; a shift is two numbers with a comma between, as --shift=-5,-6";

@@ -1,10 +1,10 @@
 //! The commands that move features and batches in and out of a file.
-ghost use Rattle.std.specs.Prelude.{◌≡◌, ◌≤◌, IfOk, IfErr, IfSome, Some, IsSome, option_map};
-ghost use Rattle.clap.specs.Words.{rows_of, found_of};
+ghost use Rattle.std.specs.Prelude.{◌≡◌, ◌≤◌, IfOk, IfErr, IfSome, Some, IsSome, option_map, codes};
+ghost use Rattle.clap.specs.Words.{rows_of, found_of, first_of};
 ghost use Rattle.streetmap_command.specs.CommandView.{command_value, load_value, journal_value};
 ghost use Rattle.streetmap_command.specs.Program.{load_by, batches_by, apply_by, agrees};
 ghost use Rattle.streetmap_command.specs.Program.{options_given, journal_by};
-ghost use Rattle.streetmap_command.specs.Program.{each_given, after_given, fractions_given};
+ghost use Rattle.streetmap_command.specs.Program.{each_given, after_given, fractions_given, text_given};
 
 use crate::command::{Command, CommandFault, has_flag, read_number, value_of};
 use clap::ArgMatches;
@@ -47,6 +47,8 @@ pub struct LoadAsked<'a> {
     pub print: bool,
     /// Whether lines on standard error say how far the load is.
     pub progress: bool,
+    /// Whether a sentence on standard error says what is wrong.
+    pub explains: bool,
 }
 
 /// The journal of what is served.
@@ -61,7 +63,7 @@ pub struct JournalAsked<'a> {
 }
 
 /// The edits of a batch.
-fn read_each(given: Option<&str>) -> Option<u32>
+pub(crate) fn read_each(given: Option<&str>) -> Option<u32>
     ensures value { result ≡ each_given (option_map (λ s. s.now) given.entry) }
     ensures bound { IfSome result (λ n. n ≤ 10000) }
 {
@@ -72,7 +74,7 @@ fn read_each(given: Option<&str>) -> Option<u32>
 }
 
 /// Whether fractions are kept as texts.
-fn read_fractions(given: Option<&str>) -> Option<bool>
+pub(crate) fn read_fractions(given: Option<&str>) -> Option<bool>
     ensures { result ≡ fractions_given (option_map (λ s. s.now) given.entry) }
 {
     match given {
@@ -124,7 +126,7 @@ fn read_options<'a>(found: &ArgMatches<'a>) -> Option<LoadAsked<'a>>
     ensures { option_map load_value result ≡ options_given (rows_of (found_of found.now)) }
 {
     Some(LoadAsked {
-        text: value_of(found, "text"),
+        text: read_text(found),
         key: value_of(found, "key")?,
         collection: value_of(found, "collection")?,
         each: read_each(value_of(found, "each"))?,
@@ -140,6 +142,7 @@ fn read_options<'a>(found: &ArgMatches<'a>) -> Option<LoadAsked<'a>>
         check: has_flag(found, "check"),
         print: has_flag(found, "print"),
         progress: has_flag(found, "progress"),
+        explains: has_flag(found, "explain"),
     })
 }
 
@@ -156,6 +159,17 @@ pub(crate) fn read_load<'a>(found: &ArgMatches<'a>) -> Result<Command<'a>, Comma
         Ok(Command::Load { file, load })
     } else {
         Err(CommandFault::Usage)
+    }
+}
+
+/// The text that is named: none where it is standard input.
+fn read_text<'a>(found: &ArgMatches<'a>) -> Option<&'a str>
+    ensures { option_map (λ s. s.now) result
+        ≡ text_given (first_of (codes "text") (rows_of (found_of found.now))) }
+{
+    match value_of(found, "text") {
+        Some("-") => None,
+        given => given,
     }
 }
 
@@ -179,6 +193,6 @@ pub(crate) fn read_apply<'a>(found: &ArgMatches<'a>) -> Result<Command<'a>, Comm
         → e ≡ CommandFault.Memory) }
 {
     let file = value_of(found, "file").ok_or(CommandFault::Usage)?;
-    let text = value_of(found, "text");
+    let text = read_text(found);
     Ok(Command::Apply { file, text })
 }

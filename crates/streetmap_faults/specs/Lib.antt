@@ -1,1 +1,2 @@
 pub mod ProgramFaults
+pub mod Sentences

@@ -9,9 +9,9 @@ use Rattle.streetmap_exchange.specs.declared.fault.ImportStop.{ImportStop}
 use Rattle.streetmap_exchange.specs.declared.fault.ImportStop.TheVariants as importing
 use Rattle.streetmap_exchange.specs.declared.fault.ExportFault.{ExportFault}
 use Rattle.streetmap_exchange.specs.declared.fault.ExportFault.TheVariants as exporting
-use Rattle.streetmap_exchange.specs.ImportStops.{stop_code_of, stop_description_of}
+use Rattle.streetmap_exchange.specs.ImportStops.{stop_code_of}
 use Rattle.streetmap_exchange.specs.ImportStops.{stop_place_of, stop_cause_of}
-use Rattle.streetmap_exchange.specs.ExportFaults.{export_code_of, export_description_of}
+use Rattle.streetmap_exchange.specs.ExportFaults.{export_code_of}
 use Rattle.streetmap_lines.specs.declared.fault.LinesFault.{LinesFault}
 use Rattle.streetmap_lines.specs.declared.fault.LinesFault.TheVariants as lines
 use Rattle.streetmap_routes.specs.declared.base.BaseFault.{BaseFault}
@@ -28,6 +28,7 @@ use Rattle.streetmap_faults.specs.declared.fault.ProgramFault.TheVariants.{Taken
 use Rattle.streetmap_faults.specs.declared.fault.ProgramFault.TheVariants.{Export, LineTooLong}
 use Rattle.streetmap_faults.specs.declared.fault.ProgramFault.TheVariants.{ReadFailed, WriteFailed}
 use Rattle.streetmap_faults.specs.declared.fault.ProgramFault.TheVariants.{Net, Damaged, Device, Shut}
+use Rattle.streetmap_faults.specs.declared.fault.ProgramFault.TheVariants.{NotBound, NotOpened}
 use Rattle.streetmap_faults.specs.declared.fault.ProgramFault.TheVariants.{Memory}
 use Rattle.streetmap_faults.specs.declared.fault.ProgramFault.TheVariants.{SameFile, NoJournal}
 use Rattle.streetmap_faults.specs.declared.fault.ProgramFault.TheVariants.{JournalAhead}
@@ -43,7 +44,7 @@ use Rattle.streetmap_loading.specs.declared.end.End.TheVariants as loading
 use Rattle.streetmap_loading.specs.declared.load_fault.LoadFault.{LoadFault}
 use Rattle.streetmap_loading.specs.declared.load_fault.LoadFault.TheVariants as beginning
 use Rattle.streetmap_loading.specs.EndCodes.{end_code, end_place, end_cause, load_fault_code}
-use Rattle.streetmap_loading.specs.EndCodes.{end_description, cause_code}
+use Rattle.streetmap_loading.specs.EndCodes.{cause_code}
 use Rattle.streetmap_replay.specs.declared.line_stop.LineStop.TheVariants as stops
 use Rattle.streetmap_replay.specs.declared.following.Followed.{Followed}
 use Rattle.streetmap_replay.specs.declared.following.End.{End as FollowEnd}
@@ -80,43 +81,12 @@ code_of LineTooLong = codes "line_too_long"
 code_of ReadFailed = codes "read_failed"
 code_of WriteFailed = codes "write_failed"
 code_of Net = codes "net"
+code_of (NotBound port cause) = codes "net"
 code_of Damaged = codes "damaged"
 code_of Device = codes "device"
+code_of (NotOpened cause) = codes "device"
 code_of Shut = codes "shut"
 code_of Memory = codes "memory"
-
--- what is said of it
-unfoldable pub description_of : ProgramFault → List ℕ
-description_of Usage = codes "The program does not take these words."
-description_of BadBase = codes "The base is no web address with the path / alone."
-description_of Exists = codes "The file is there."
-description_of NoFile = codes "The file is not there."
-description_of NotOurs = codes "The file is none of this product."
-description_of NewFormat = codes "The file has a format above 2."
-description_of Taken =
-    codes "A table, an index or a view of the file has one of the names of the tables."
-description_of NoText = codes "The text is not there."
-description_of (Import stop) = stop_description_of stop
-description_of (Export fault) = export_description_of fault
-description_of (Load ended) = end_description ended
-description_of PassedOver = codes "Features at fault were passed over."
-description_of (NotLoaded fault) = []
-description_of (Follow it) = []
-description_of (Batches stop) = []
-description_of SameFile = codes "The text or the journal is the file, or the log beside it."
-description_of NoJournal = codes "The journal cannot be opened or made."
-description_of JournalAhead = codes "The journal has serials that the file lacks."
-description_of (NotItsJournal serial) = codes "A line of the journal is not that of the batch."
-description_of (NotReplayed serial) =
-    codes "The kept batches do not give what the file shows."
-description_of LineTooLong = codes "A line has more than 8388608 bytes."
-description_of ReadFailed = codes "The input could not be read."
-description_of WriteFailed = codes "The output could not be written."
-description_of Net = codes "No connection can be accepted."
-description_of Damaged = codes "The store holds a row that cannot be read."
-description_of Device = codes "The store failed and must be opened again."
-description_of Shut = codes "The store failed while it was served."
-description_of Memory = codes "Memory was refused; the call may be made again."
 
 -- the exit status where a keeper does not answer
 abbrev pub keeper_status : KeeperFault → ℕ
@@ -198,8 +168,10 @@ status_of LineTooLong = 1
 status_of ReadFailed = 3
 status_of WriteFailed = 3
 status_of Net = 3
+status_of (NotBound port cause) = 3
 status_of Damaged = 3
 status_of Device = 3
+status_of (NotOpened cause) = 3
 status_of Shut = 3
 status_of Memory = 4
 

@@ -2,7 +2,7 @@
 ghost use Rattle.std.specs.Prelude.{◌≡◌, Some, option_map};
 ghost use Rattle.streetmap_geojson.specs.FaultCodes.{fault_code as feature_code};
 ghost use Rattle.streetmap_loading.specs.EndCodes.{cause_code};
-ghost use Rattle.streetmap_faults.specs.ProgramFaults.{code_of, description_of, status_of};
+ghost use Rattle.streetmap_faults.specs.ProgramFaults.{code_of, status_of};
 ghost use Rattle.streetmap_faults.specs.ProgramFaults.{keeper_status, import_status};
 ghost use Rattle.streetmap_faults.specs.ProgramFaults.{export_status};
 ghost use Rattle.streetmap_faults.specs.ProgramFaults.{place_of, cause_of, line_of, batch_line_of};
@@ -10,6 +10,7 @@ ghost use Rattle.streetmap_faults.specs.ProgramFaults.{fault_of_command, fault_o
 ghost use Rattle.streetmap_faults.specs.ProgramFaults.{fault_of_lines, fault_of_serve};
 ghost use Rattle.streetmap_faults.specs.ProgramFaults.{load_status, follow_status, has_line};
 
+use crate::cause::{OpenCause, PortCause};
 use std::alloc::AllocError;
 use std::fmt;
 use std::fmt::{Display, Formatter, Write};
@@ -75,12 +76,16 @@ pub enum ProgramFault {
     ReadFailed,
     /// `write_failed`: an answer could not be written.
     WriteFailed,
-    /// `net`: the port could not be bound, or no connection be accepted.
+    /// `net`: no connection can be accepted.
     Net,
+    /// `net`: nothing can listen at this port.
+    NotBound(u16, PortCause),
     /// `damaged`: the rows of the file are those of no state.
     Damaged,
-    /// `device`: the file could not be read, written or locked.
+    /// `device`: the file can no longer be read or written.
     Device,
+    /// `device`: the file cannot be opened or locked, or is a damaged database.
+    NotOpened(OpenCause),
     /// `shut`: the store failed while it was served. The fault has its line already.
     Shut,
     /// `memory`: memory was refused.
@@ -117,47 +122,11 @@ impl ProgramFault {
             ProgramFault::LineTooLong => "line_too_long",
             ProgramFault::ReadFailed => "read_failed",
             ProgramFault::WriteFailed => "write_failed",
-            ProgramFault::Net => "net",
+            ProgramFault::Net | ProgramFault::NotBound(_, _) => "net",
             ProgramFault::Damaged => "damaged",
-            ProgramFault::Device => "device",
+            ProgramFault::Device | ProgramFault::NotOpened(_) => "device",
             ProgramFault::Shut => "shut",
             ProgramFault::Memory => "memory",
-        }
-    }
-
-    /// A sentence on it.
-    #[tactic(auto, unfolding(crate::specs::ProgramFaults::description_of))]
-    pub fn description(self) -> &'static str
-        ensures { result.now ≡ description_of self }
-    {
-        match self {
-            ProgramFault::Usage => "The program does not take these words.",
-            ProgramFault::BadBase => "The base is no web address with the path / alone.",
-            ProgramFault::Exists => "The file is there.",
-            ProgramFault::NoFile => "The file is not there.",
-            ProgramFault::NotOurs => "The file is none of this product.",
-            ProgramFault::NewFormat => "The file has a format above 2.",
-            ProgramFault::Taken =>
-                "A table, an index or a view of the file has one of the names of the tables.",
-            ProgramFault::NoText => "The text is not there.",
-            ProgramFault::Import(stop) => stop.description(),
-            ProgramFault::Export(fault) => fault.description(),
-            ProgramFault::Load(end) => end.description(),
-            ProgramFault::PassedOver => "Features at fault were passed over.",
-            ProgramFault::NotLoaded(_) | ProgramFault::Follow(_) | ProgramFault::Batches(_) => "",
-            ProgramFault::SameFile => "The text or the journal is the file, or the log beside it.",
-            ProgramFault::NoJournal => "The journal cannot be opened or made.",
-            ProgramFault::JournalAhead => "The journal has serials that the file lacks.",
-            ProgramFault::NotItsJournal(_) => "A line of the journal is not that of the batch.",
-            ProgramFault::NotReplayed(_) => "The kept batches do not give what the file shows.",
-            ProgramFault::LineTooLong => "A line has more than 8388608 bytes.",
-            ProgramFault::ReadFailed => "The input could not be read.",
-            ProgramFault::WriteFailed => "The output could not be written.",
-            ProgramFault::Net => "No connection can be accepted.",
-            ProgramFault::Damaged => "The store holds a row that cannot be read.",
-            ProgramFault::Device => "The store failed and must be opened again.",
-            ProgramFault::Shut => "The store failed while it was served.",
-            ProgramFault::Memory => "Memory was refused; the call may be made again.",
         }
     }
 
@@ -171,8 +140,10 @@ impl ProgramFault {
             ProgramFault::ReadFailed
             | ProgramFault::WriteFailed
             | ProgramFault::Net
+            | ProgramFault::NotBound(_, _)
             | ProgramFault::Damaged
             | ProgramFault::Device
+            | ProgramFault::NotOpened(_)
             | ProgramFault::Shut => 3,
             ProgramFault::Memory => 4,
             ProgramFault::Import(stop) => status_of_import(stop),

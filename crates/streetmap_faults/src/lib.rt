@@ -3,9 +3,13 @@
 //! A command that is not done ends with a [`ProgramFault`]. Its line on standard error is
 //! `streetmap: ` and the name of the fault, then the line of batches at fault, the place of the
 //! feature or edit at fault, and what is wrong with that feature, where there are such
-//! (`specs/ProgramFaults`).
+//! (`specs/ProgramFaults`). A second line is its [`Sentence`], for people (`specs/Sentences`).
 #![tactic(auto)]
 
+mod cause;
 mod fault;
+mod sentence;
 
+pub use cause::{OpenCause, PortCause};
 pub use fault::ProgramFault;
+pub use sentence::Sentence;
