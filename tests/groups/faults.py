@@ -240,6 +240,10 @@ def why_a_file_is_not_opened(context: Context) -> None:
     explain("create", folder / "town", sentence="The folder of FILE is not there.")
     rights = "FILE or its folder may not be read and written: look at their owner and rights."
     explain("create", "/proc/town", sentence=rights)
+    damaged, page = context.folder / "no-page", bytearray(file.read_bytes())
+    page[100] = 0x77
+    damaged.write_bytes(page)
+    explain("check", damaged, sentence="FILE is a damaged database: go on with a copy of it.")
     shown = context.on_terminal("create", folder / "town")
     wanted = b"streetmap: device\nThe folder of FILE is not there.\n"
     context.check("on a terminal", shown, (3, wanted))
