@@ -8,11 +8,12 @@ use std::net::{Ipv4Addr, TcpListener};
 use streetmap_command::{Connections, JournalAsked};
 use streetmap_connections::{Clients, Limits};
 use streetmap_faults::ProgramFault;
+use streetmap_guarantee::{pipe as serve_stream, serve_town, warm};
 use streetmap_index::IndexedKeeper;
 use streetmap_journal::{Journal, JournaledKeeper};
-use streetmap_ledger::{Keeper, KeepsBatches};
+use streetmap_ledger::KeepsBatches;
 use streetmap_routes::Base;
-use streetmap_store::{TableKeeper, serve_clients_over_tables, serve_over_tables};
+use streetmap_store::TableKeeper;
 use streetmap_web::{KeeperService, Watch};
 
 /// Serves the requests of standard input on standard output.
@@ -25,7 +26,7 @@ pub(crate) fn pipe<S: Alter + Drop>(
         return Err(ProgramFault::Memory);
     };
     let mut output = writer(rt);
-    let served = serve_over_tables(rt.alloc(), &mut keeper, &base, &mut reader, &mut output);
+    let served = serve_stream(rt.alloc(), &mut keeper, &base, &mut reader, &mut output);
     fault::of_stream(served.end)
 }
 
@@ -38,17 +39,6 @@ fn listen(rt: &HostRuntime, port: u16) -> Result<TcpListener, ProgramFault> {
     Ok(listener)
 }
 
-/// Learns the index of each collection, so that the first who asks for one does not wait for it.
-fn warm<K: Keeper>(keeper: &mut K) -> Result<(), ProgramFault> {
-    let summaries = keeper.collections().map_err(fault::of_keeper)?;
-    for summary in summaries.iter() {
-        keeper
-            .collection(summary.id.as_str())
-            .map_err(fault::of_keeper)?;
-    }
-    Ok(())
-}
-
 /// Says which lines a journal has.
 fn tell_journal(
     rt: &HostRuntime,
@@ -58,14 +48,6 @@ fn tell_journal(
     let (path, first) = (asked.path, journal.after.saturating_add(1));
     let last = journal.next.saturating_sub(1);
     println!(rt; "journal {path} from {first} to {last}").map_err(|_| ProgramFault::WriteFailed)
-}
-
-/// What connections are served by: where they come in, the places that they take, and the journal.
-#[derive(Drop)]
-struct Serving {
-    listener: TcpListener,
-    clients: Clients<TcpStream>,
-    journal: Option<Journal<JournalFile>>,
 }
 
 /// Begins the journal that is asked for, and listens at a port.
@@ -84,23 +66,17 @@ fn listen_with_journal<K: KeepsBatches>(
     Ok((listener, Some(journal)))
 }
 
-/// Makes ready what connections are served by.
+/// Makes ready what connections are served by: where they come in, and the journal.
 fn prepare<K: KeepsBatches>(
     rt: &HostRuntime,
     keeper: &mut K,
     connections: Connections,
     journal: Option<JournalAsked<'_>>,
-) -> Result<Serving, ProgramFault> {
+) -> Result<(TcpListener, Option<Journal<JournalFile>>), ProgramFault> {
     if connections.warm {
-        warm(keeper)?;
+        warm(keeper).map_err(fault::of_keeper)?;
     }
-    let (listener, journal) = listen_with_journal(rt, keeper, connections.port, journal)?;
-    let clients = Clients::new(rt.alloc(), limits_of(connections.clients))?;
-    Ok(Serving {
-        listener,
-        clients,
-        journal,
-    })
+    listen_with_journal(rt, keeper, connections.port, journal)
 }
 
 /// Serves connections: many clients at once, or one client after the other.
@@ -112,23 +88,21 @@ pub(crate) fn serve<S: Alter + Drop>(
     journal: Option<JournalAsked<'_>>,
 ) -> Result<(), ProgramFault> {
     let mut keeper = keeper;
-    let serving = prepare(rt, &mut keeper, connections, journal)?;
-    let mut clients = serving.clients;
+    let (listener, journal) = prepare(rt, &mut keeper, connections, journal)?;
+    let mut clients: Clients<TcpStream> = Clients::new(rt.alloc(), limits_of(connections.clients))?;
     let mut service = KeeperService {
         alloc: rt.alloc(),
         keeper: JournaledKeeper {
             alloc: rt.alloc(),
             keeper,
-            journal: serving.journal,
+            journal,
         },
         base,
         log: connections.log.then(|| rt.stderr()),
         watch: Watch::new(rt.stderr(), connections.count.is_none()),
     };
     let count = connections.count.map_or(u64::MAX, u64::from);
-    serve_clients_over_tables(rt, &serving.listener, count, &mut clients, &mut service).map_err(
-        ProgramFault::from,
-    )
+    serve_town(rt, &listener, count, &mut clients, &mut service).map_err(ProgramFault::from)
 }
 
 /// What so many clients may take: one alone is served to its end before the next one.

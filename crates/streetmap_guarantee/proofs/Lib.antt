@@ -6,3 +6,4 @@ pub mod Clients
 pub mod Streams
 pub mod RealTime
 pub mod Restarts
+pub mod Nothing

@@ -13,7 +13,7 @@ same_state : (s t : State) → Some s ≡ Some t → s ≡ t
 same_state s t e = cc
 
 -- a crash leaves one state
-only_one : (left : Option State → Type 0) (s t : State) → LeavesOnly left (Some s) → left (Some t) → t ≡ s
+pub only_one : (left : Option State → Type 0) (s t : State) → LeavesOnly left (Some s) → left (Some t) → t ≡ s
 only_one left s t only is = same_state t s (only (Some t) is)
 
 -- or one of two

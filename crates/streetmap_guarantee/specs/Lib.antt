@@ -6,3 +6,5 @@ pub mod Streams
 pub mod Runs
 pub mod Town
 pub mod Restarts
+pub mod Images
+pub mod Leaving

@@ -18,6 +18,7 @@ pub fn run_batches<K: Durable>(alloc: Global, keeper: &mut K, batches: &[Batch])
     ensures device { K.is_clean keeper.new → (s : State) →
         K.stands keeper.old s → result.fault ≡ Some Fault.Device → K.fails keeper.old keeper.new }
     ensures spared { K.spares keeper.old keeper.new }
+    ensures began_clean { K.is_clean keeper.new → K.is_clean keeper.old }
 {
     run(alloc, keeper, batches)
 }

@@ -5,15 +5,25 @@
 //! server that handles one request at a time (`specs/Histories`), and whatever a crash leaves holds
 //! the state that this server has kept.
 //!
-//! Modules, in the order of reading: `durable`, `town`, `stream`, `batches`.
+//! The program's keepers are such ones (`keepers`): what a crash leaves of two files is said for
+//! `TableKeeper`, and an index in memory and a journal change nothing of it. `open_indexed` opens
+//! files for them, and `warm` has an index learn before it is asked.
+//!
+//! Modules, in the order of reading: `durable`, `town`, `stream`, `batches`; `keepers`, `opening`,
+//! `warming`.
 #![tactic(auto)]
 
 mod batches;
 mod durable;
+mod keepers;
+mod opening;
 mod stream;
 mod town;
+mod warming;
 
 pub use batches::run_batches;
 pub use durable::Durable;
+pub use opening::{ServedFile, open_indexed};
 pub use stream::pipe;
 pub use town::serve_town;
+pub use warming::warm;

@@ -25,6 +25,7 @@ pub fn pipe<K: Durable, R: BufRead, W: Write>(
         (R.remaining reader.old) (R.remaining reader.new)
         (W.contents writer.old) (W.contents writer.new) }
     ensures spared { K.spares keeper.old keeper.new }
+    ensures began_clean { K.is_clean keeper.new → K.is_clean keeper.old }
 {
     serve(alloc, keeper, base, reader, writer)
 }

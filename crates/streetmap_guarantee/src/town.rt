@@ -39,6 +39,7 @@ pub fn serve_town<R: Net + Clock, K: Durable, W: Write>(
     ensures few { length (clients_of clients.new) ≤ count }
     ensures over { IsErrOf result ServeFault.Over → IsOver service.new.watch }
     ensures spared { K.spares service.old.keeper service.new.keeper }
+    ensures began_clean { K.is_clean service.new.keeper → K.is_clean service.old.keeper }
 {
     serve_clients(rt, listener, count, clients, service)
 }

@@ -4,4 +4,3 @@ pub mod IndexesListed
 pub mod NewFiles
 pub mod JustOpened
 pub mod Refusals
-pub mod Surviving

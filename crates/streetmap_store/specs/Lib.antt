@@ -3,6 +3,4 @@ pub mod Sparing
 pub mod Reopening
 pub mod Holding
 pub mod Refusing
-pub mod Surviving
 pub mod Reasons
-pub mod Tables

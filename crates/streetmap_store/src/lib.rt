@@ -11,10 +11,7 @@
 //! database is two files, the one at the path and its log beside it (`-wal`); while a keeper has
 //! them, SQLite finds them locked.
 //!
-//! `run_over_tables`, `serve_over_tables` and `serve_clients_over_tables` say what a stop leaves of
-//! batches and of requests: the sentence that README begins with.
-//!
-//! Modules, in the order of reading: `keeper`; `fault`, `connecting`, `file`, `session`, `laws`.
+//! Modules, in the order of reading: `keeper`; `fault`, `connecting`, `file`, `laws`.
 #![tactic(auto)]
 
 mod connecting;
@@ -22,9 +19,7 @@ mod fault;
 mod file;
 mod keeper;
 pub mod laws;
-mod session;
 
 pub use fault::{CreateFault, Left, OpenFault};
 pub use file::{FileKeeper, FilesLeft, create, open};
 pub use keeper::{TableKeeper, what_a_stop_leaves_opens};
-pub use session::{run_over_tables, serve_clients_over_tables, serve_over_tables};
