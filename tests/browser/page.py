@@ -254,7 +254,13 @@ class Page:
 
     def save(self, name: str = "Anna Weiß") -> None:
         """Saves the basket; types the name where it is asked."""
-        self.tab("basket")
+
+        def is_shown() -> bool:
+            # On a phone the tab that is shown closes the panel, and the page opens it by itself.
+            self.tab("basket")
+            return bool(self.one("#save").is_displayed())
+
+        self.wait("the basket", is_shown)
         self.click("#save")
         self.wait("the save", lambda: self.all("dialog #user") or not self.text("#basket-count"))
         if self.all("dialog #user"):
