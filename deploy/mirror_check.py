@@ -6,7 +6,7 @@ DSN is that of a database with the mirror, or of a standby of it. In one transac
 serial of the mirror's state and all features. From the lines of J up to that serial, or without J
 from those of the database's own table, PROGRAM (`streetmap`) makes a file of its own, whose exports
 are then compared with those of the mirror. The file is in a temporary folder, or in FOLDER, where
-the exports of the mirror stay too, as COLLECTION.json.
+the exports of the mirror stay too, as COLLECTION.json, and where the next check goes on with it.
 
 It prints `the same at serial N: C collections, F features`, and has status 0. Status 1, and on
 standard error one of these, is for a person to look at:
@@ -114,10 +114,9 @@ def read_mirror(table: JournalTable, folder: Path) -> Mirrored:
     return Mirrored(serial, collections, features)
 
 
-def lines_up_to(source: Source, serial: int) -> Iterator[Line]:
-    """The lines from the first to that of a serial."""
-    last = 0
-    for line in source.behind(0) if serial else ():
+def lines_up_to(source: Source, last: int, serial: int) -> Iterator[Line]:
+    """The lines after one serial, up to that of another."""
+    for line in source.behind(last) if serial > last else ():
         if line.serial != last + 1:
             raise Fault("lines_missing", last + 1, line.serial - 1)
         yield line
@@ -147,9 +146,21 @@ class Server:
         if self.started(word, *words, **options).wait() != 0:
             raise Fault("program_failed", word)
 
-    def make(self, lines: Iterator[Line]) -> None:
-        """Makes the file, and applies lines to it."""
+    def last(self, serial: int) -> int:
+        """The last serial of the file, which is made anew if it is none, or has more than these."""
+        if self.file.exists():
+            with contextlib.closing(sqlite3.connect(self.file)) as connection:
+                rows = connection.execute("SELECT coalesce(max(serial), 0) FROM streetmap_batches")
+                (last,) = rows.fetchone()
+            if last <= serial:
+                return int(last)
+        for path in self.file.parent.glob(f"{self.file.name}*"):
+            path.unlink()
         self.run("create")
+        return 0
+
+    def apply(self, lines: Iterator[Line]) -> None:
+        """Applies lines to the file."""
         with self.started("apply", stdin=subprocess.PIPE, stdout=subprocess.DEVNULL) as applying:
             assert applying.stdin is not None
             with contextlib.suppress(BrokenPipeError):
@@ -189,9 +200,9 @@ def check(asked: argparse.Namespace, folder: Path) -> Mirrored:
     if asked.journal:
         source = JournalFiles(Path(asked.journal))
     server = Server(asked.program, folder / ".streetmap")
-    for path in folder.glob(".streetmap*"):
-        path.unlink()
-    server.make(lines_up_to(source, mirrored.serial))
+    # The last line that the file has is sent again: it acts once, or is seen to be another.
+    last = max(0, server.last(mirrored.serial) - 1)
+    server.apply(lines_up_to(source, last, mirrored.serial))
     compare(mirrored, server, folder)
     return mirrored
 

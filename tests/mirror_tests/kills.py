@@ -106,6 +106,8 @@ class MirrorSite:
         """How mirror_check.py over the journal ends, and what it says first."""
         words = Script(self.context, CHECK).command(dsn or self.database.dsn, self.journal)
         words += ["--program", str(self.context.program)]
+        # Its file is gone on with, so that each check takes the time of what is new.
+        words += ["--folder", str(self.context.folder / "checked")]
         ended = subprocess.run(
             words, capture_output=True, text=True, timeout=self.context.seconds, check=False
         )
@@ -272,7 +274,7 @@ def check_wrong(made: MirrorSite) -> None:
         ("UPDATE streetmap_features SET id = id || 'x'", f"{columns}x"),
         ("DELETE FROM streetmap_features", export),
         ("UPDATE streetmap_collections SET title = 'x' WHERE id = %s OR id = %s", export),
-        ("UPDATE streetmap_mirror SET serial = serial - 1 WHERE %s <> %s", None),
+        ("UPDATE streetmap_mirror SET serial = serial + 1 WHERE %s <> %s", None),
     ):
         made.database.ask("CREATE TABLE kept AS TABLE streetmap_features")
         made.database.ask("CREATE TABLE opened AS TABLE streetmap_collections")
