@@ -192,7 +192,7 @@ def edited(context: Context, page: Page, made: Site, odd: Any) -> None:
     page.choose("odd")
     page.press("Edit", "#panel-feature")
     names = [it.get_attribute("value") for it in page.all(".properties td:first-child input")]
-    context.check("in the table", names, ["watts", "extra"])
+    context.check("in the table", sorted(names), ["extra", "watts"])
     field(page, "Plate").send_keys("B 2")
     page.press("Put in basket")
     page.save()

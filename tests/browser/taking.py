@@ -111,10 +111,10 @@ def sizes(context: Context) -> None:
                 page.wait_shown("lamps", "12")
                 page.tab("collections")
                 page.click("#take-along")
-                page.wait_text(".area .what", "12 features, ")
+                page.wait_text(".area .what", "as of")
                 context.check("all are kept", kept(page), 12)
                 page.press("Renew", ".area")
-                page.wait_text(".area .what", "12 features, ")
+                page.wait_text(".area .what", "as of")
                 context.check("it is one area", len(page.all(".area")), 1)
                 edited(context, page)
 
