@@ -65,15 +65,15 @@ pub fn create<S: Start>(
     }
 }
 
-/// Opens the tables of the database at a path, and keeps their state. Those of format 1 are carried
-/// over to format 2 first, in one transaction: a stop within leaves the state in one format or the
+/// Opens the tables of the database at a path, and keeps their state. Those of format 1 are migrated
+/// to format 2 first, in one transaction: a crash within leaves the state in one format or the
 /// other.
 ///
 /// While it is open as many of its pages are kept in memory as it has now and a quarter more, but
-/// from 8 to 256 MB.
+/// from 8 to 512 MB.
 ///
-/// A file that is missing is made, and refused as `NotOurs`: look first whether it is there. After
-/// a refusal the files hold what they held. What is left of them is given back beside it.
+/// A file that is missing is made, and refused as `NotOurs`: check first whether it exists. After a
+/// refusal the files hold what they held. What is left of them is returned beside the refusal.
 ///
 /// # Errors
 ///
