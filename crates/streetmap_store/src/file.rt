@@ -65,9 +65,9 @@ pub fn create<S: Start>(
     }
 }
 
-/// Opens the tables of the database at a path, and keeps their state. Those of format 1 are migrated
-/// to format 2 first, in one transaction: a crash within leaves the state in one format or the
-/// other.
+/// Opens the tables of the database at a path, and keeps their state. Those of format 1 are
+/// migrated to format 2 first, in one transaction: a crash within leaves the state in one format or
+/// the other.
 ///
 /// While it is open as many of its pages are kept in memory as it has now and a quarter more, but
 /// from 8 to 512 MB.
