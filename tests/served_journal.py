@@ -70,15 +70,16 @@ class Served:
             kept = self.journal.read_bytes()
         self.context.check(what, kept == b"".join(self.lines[after:]), True)
 
-    def refused(self, what: str, fault: str, journal: Path | None = None) -> None:
-        """The program ends with the fault, and nothing is written."""
+    def refused(self, what: str, fault: str, journal: Path | None = None, status: int = 1) -> None:
+        """The program ends with the fault and the status, and nothing is written."""
         path = journal or self.journal
         before = path.read_bytes() if path.is_file() else None
         kept = kept_rows(self.file)
         words: list[Word] = ["serve", self.file, "--port", str(free_port()), "--journal", path]
         ended = self.context.start(*words)
         said = ended.stderr.splitlines()[-1:]
-        self.context.check(what, (ended.returncode, said), (1, [f"streetmap: {fault}".encode()]))
+        wanted = (status, [f"streetmap: {fault}".encode()])
+        self.context.check(what, (ended.returncode, said), wanted)
         after = path.read_bytes() if path.is_file() else None
         self.context.check(f"{what}: the journal stays", after == before, True)
         self.context.check(f"{what}: the file stays", kept_rows(self.file) == kept, True)
@@ -203,7 +204,7 @@ def check_no_journals(served: Served) -> None:
         served.context.check("it is served on", answer.status, 200)
     served.begin(None)
     served.journal.mkdir()
-    served.refused("a folder", "read_failed")
+    served.refused("a folder", "read_failed", status=3)
     served.journal.rmdir()
 
 

@@ -30,6 +30,7 @@ def check_rolling(site: Site) -> None:
         for served in (site.left, site.right) * RESTARTS:
             served.process.kill()
             served.process.start()
+        wait_until("pages", lambda: all(it.numbers for it in load.pages()), 30)
     check_readers(load, site, "a rolling restart")
 
 

@@ -47,8 +47,9 @@ def check_files_in_use(context: Context) -> None:
     file, other = context.folder / "served.db", context.new_file("other.db")
     with context.serve(file, "--count", "1") as server:
         context.run("pipe", file, status=3, code="device")
+        files = (other, other.with_name(f"{other.name}-wal"))
+        size = sum(path.stat().st_size for path in files if path.exists())
         ended = context.start("serve", other, "--port", str(server.port))
-        size = other.stat().st_size
         said = f"streetmap: opening {other}, {size} bytes\nstreetmap: net\n".encode()
         context.check("a port in use", (ended.returncode, ended.stderr), (3, said))
         context.check("an answer after all", statuses(server, get("/conformance")), [200])
