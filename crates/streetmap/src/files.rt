@@ -1,6 +1,7 @@
-//! The keeper of a file: here alone its store is named.
+//! What the commands do with a file: whether it is there, and over which keeper they work.
 use crate::exchange::read_batch;
 use crate::same::refuse_same;
+use crate::served::{pipe_file, serve_file};
 use crate::tasks::{Task, Work};
 use crate::{fault, loading};
 use sqlite::Unknown;
@@ -52,7 +53,7 @@ fn run_over(rt: &HostRuntime, path: &str, task: Task<'_>) -> Result<(), ProgramF
 /// Serves the requests of standard input over a file.
 pub(crate) fn pipe(rt: &HostRuntime, path: &str, base: Base) -> Result<(), ProgramFault> {
     refuse_missing(rt, path)?;
-    run_over(rt, path, Task::Pipe(base))
+    fault::of_stream(pipe_file(rt, path, Unknown, &base)?.end)
 }
 
 /// Writes a collection of a file on standard output.
@@ -97,12 +98,7 @@ pub(crate) fn serve(
         refuse_same(rt, path, asked.path)?;
     }
     tell_size(rt, path);
-    let task = Task::Serve {
-        connections,
-        base,
-        journal,
-    };
-    run_over(rt, path, task)
+    serve_file(rt, path, Unknown, connections, base, journal)?.ended
 }
 
 /// Reads all rows of a file; before that its kept batches are replayed, where that is asked for.

@@ -1,5 +1,8 @@
 //! The journal beside a file that is served: how it is begun, and what it is written to.
-ghost use Rattle.std.specs.Prelude.{◌≡◌, ◌≤◌, true};
+ghost use Rattle.std.specs.Prelude.{◌≡◌, ◌≤◌, true, Some, IfOk};
+ghost use Rattle.streetmap_ledger.specs.Keep.{LeavesOnly};
+ghost use Rattle.streetmap_ledger.specs.State.{State};
+ghost use Rattle.streetmap_journal.specs.Telling.{WriterIsTold};
 ghost use Rattle.streetmap.specs.Counted.{HasFailed};
 
 use crate::fault;
@@ -140,9 +143,20 @@ pub(crate) fn begin<K: KeepsBatches>(
     rt: &HostRuntime,
     keeper: &mut K,
     asked: JournalAsked<'_>,
-) -> Result<Journal<JournalFile>, ProgramFault> {
+) -> Result<Journal<JournalFile>, ProgramFault>
+    ensures stays { IfOk result (λ _. K.is_clean keeper.new → (s : State) →
+        K.stands keeper.old s → K.stands keeper.new s) }
+    ensures told { IfOk result (λ journal. WriterIsTold ⟦<JournalFile as JournalWriter>⟧.told
+        ⟦<JournalFile as JournalWriter>⟧.is_kept journal) }
+    ensures leaves { K.is_clean keeper.new → (s : State) → K.stands keeper.old s →
+        LeavesOnly (K.may_leave keeper.old) (Some s) →
+        LeavesOnly (K.may_leave keeper.new) (Some s) }
+    ensures spared { K.spares keeper.old keeper.new }
+    ensures began_clean { K.is_clean keeper.new → K.is_clean keeper.old }
+{
     let mut place = JournalPath { rt, asked };
-    start_journal(rt.alloc(), keeper, asked.after as u64, &mut place).map_err(
-        |refused| fault::of_start(&refused),
-    )
+    match start_journal(rt.alloc(), keeper, asked.after as u64, &mut place) {
+        Ok(journal) => Ok(journal),
+        Err(refused) => Err(fault::of_start(&refused)),
+    }
 }

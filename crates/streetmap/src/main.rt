@@ -2,9 +2,10 @@
 //! and exported, or read and changed by lines.
 //!
 //! Modules, in the order of reading: `files` (the keeper of a file), `tasks` (what the commands do
-//! over it), and one for each group of commands: `serving` (`serve`, `pipe`), with `journal` below
-//! it, `exchange` (`import`, `export`), with `texts` and `progress` below it, `loading` (`load`),
-//! `batches` (`batches`, `apply`), `checking` (`check`), `lines` (`lines`), `help` (help).
+//! over it), and one for each group of commands: `served` (`serve`, `pipe`), with `serving` and
+//! `journal` below it, `exchange` (`import`, `export`), with `texts` and `progress` below it,
+//! `loading` (`load`), `batches` (`batches`, `apply`), `checking` (`check`), `lines` (`lines`),
+//! `help` (help).
 //! `fault` turns faults of the crates below into that of the program. The command line, what is
 //! printed for a fault, and what the commands do in turn, stand in those crates.
 #![tactic(auto)]
@@ -20,6 +21,7 @@ mod lines;
 mod loading;
 mod progress;
 mod same;
+mod served;
 mod serving;
 mod tasks;
 mod texts;

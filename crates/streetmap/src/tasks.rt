@@ -1,26 +1,17 @@
 //! What the commands do over the keeper of a file, whatever store it stands on.
-use crate::{batches, checking, exchange, loading, serving};
+use crate::{batches, checking, exchange, loading};
 use sqlite::Alter;
 use streetmap_batch::Batch;
-use streetmap_command::{Connections, JournalAsked, LoadAsked};
+use streetmap_command::LoadAsked;
 use streetmap_faults::ProgramFault;
 use streetmap_index::IndexedKeeper;
 use streetmap_ledger::KeepsBatches;
 use streetmap_loading::Load;
-use streetmap_routes::Base;
 use streetmap_store::TableKeeper;
 
 /// What is done over the keeper of a file.
 #[derive(Drop)]
 pub(crate) enum Task<'a> {
-    /// The requests of standard input are served on standard output.
-    Pipe(Base),
-    /// Connections are served, and what is accepted is written to a journal.
-    Serve {
-        connections: Connections,
-        base: Base,
-        journal: Option<JournalAsked<'a>>,
-    },
     /// All rows are read, and it is printed how many there are.
     Check,
     /// What can be done over any keeper.
@@ -53,18 +44,6 @@ impl Task<'_> {
         keeper: TableKeeper<S>,
     ) -> Result<(), ProgramFault> {
         match self {
-            Task::Pipe(base) => serving::pipe(rt, IndexedKeeper::new(rt.alloc(), keeper), base),
-            Task::Serve {
-                connections,
-                base,
-                journal,
-            } => serving::serve(
-                rt,
-                IndexedKeeper::new(rt.alloc(), keeper),
-                connections,
-                base,
-                journal,
-            ),
             Task::Check => checking::check(rt, keeper),
             Task::Work(work) => work.run(rt, keeper),
         }
