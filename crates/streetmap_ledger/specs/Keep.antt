@@ -1,6 +1,6 @@
 -- What a call of a keeper does.
 use Rattle.std.specs.Prelude.{◌≡◌, ◌⊎◌, ℕ, ◌+◌, List, Vec, Option, None, Some, Result, Ok, Err}
-use Rattle.std.specs.Prelude.{IsSome, take}
+use Rattle.std.specs.Prelude.{IsSome, IsErrOf, take}
 use Rattle.std.specs.Option.{option_map}
 use Rattle.std.specs.declared.alloc.Global.{Global}
 use Rattle.streetmap_geojson.specs.FeatureValue.{FeatureValue}
@@ -9,6 +9,7 @@ use Rattle.streetmap_query.specs.declared.queries.Query.{Query}
 use Rattle.streetmap_batch.specs.Text.{Text}
 use Rattle.streetmap_batch.specs.BatchValue.{BatchValue}
 use Rattle.streetmap_ledger.specs.State.{State}
+use Rattle.streetmap_ledger.specs.Sight.{Sight}
 use Rattle.streetmap_ledger.specs.Batches.{act, after_all}
 use Rattle.streetmap_ledger.specs.Pages.{page_in, feature_in, run_in}
 use Rattle.streetmap_ledger.specs.PageView.{page_value}
@@ -18,6 +19,9 @@ use Rattle.streetmap_ledger.specs.Outlines.{outlines_in}
 use Rattle.streetmap_ledger.specs.OutlineView.{feature_outline_values}
 use Rattle.streetmap_ledger.specs.declared.outline.FeatureOutline.{FeatureOutline}
 use Rattle.streetmap_ledger.specs.declared.summary.Summary.{Summary}
+use Rattle.streetmap_ledger.specs.Kept.{batch_count, batch_in, AreNext}
+use Rattle.streetmap_ledger.specs.KeptView.{keyed_batch, keyed_batches}
+use Rattle.streetmap_ledger.specs.declared.kept_batch.KeptBatch.{KeptBatch}
 use Rattle.streetmap_ledger.specs.declared.page.Page.{Page}
 use Rattle.streetmap_ledger.specs.declared.reply.Reply.{Reply}
 use Rattle.streetmap_ledger.specs.declared.reply.Cause.{Cause}
@@ -52,41 +56,43 @@ Looks s Is (Err Damaged) stands = ⊥
 Looks s Is (Err Reopen) stands = ⊥
 
 -- a page
-abbrev pub Shows : State → Text → Query → Result (Option Page) Fault → (State → Type 0) → Type 0
-Shows s name q result stands = Looks s (λ page. option_map page_value page
-    ≡ page_in s name (query_value q)) result stands
+abbrev pub IsPageOf : Text → Query → State → Option Page → Type 0
+IsPageOf name q s page = option_map page_value page ≡ page_in s name (query_value q)
 
 -- a feature
-abbrev pub Finds : State → Text → Text → Result (Option FeatureValue) Fault → (State → Type 0)
-    → Type 0
-Finds s name id result stands = Looks s (λ found. found ≡ feature_in s name id) result stands
+abbrev pub IsFeatureOf : Text → Text → State → Option FeatureValue → Type 0
+IsFeatureOf name id s found = found ≡ feature_in s name id
 
--- the features are those of this collection whose ids stand between two
+-- the features of a collection whose ids stand between two
 abbrev pub IsRunOf : Text → Text → Text → State → Option (Vec FeatureValue Global) → Type 0
 IsRunOf name first last s found =
     option_map (λ (fs : Vec FeatureValue Global). fs.items) found ≡ run_in s name first last
 
--- a run of features
-abbrev pub Runs : State → Text → Text → Text → Result (Option (Vec FeatureValue Global)) Fault
-    → (State → Type 0) → Type 0
-Runs s name first last result stands = Looks s (IsRunOf name first last s) result stands
-
 -- what is told of a collection
-abbrev pub Tells : State → Text → Result (Option Summary) Fault → (State → Type 0) → Type 0
-Tells s id result stands = Looks s (λ summary. option_map summary_value summary
-    ≡ summary_in s id) result stands
+abbrev pub IsSummaryOf : Text → State → Option Summary → Type 0
+IsSummaryOf id s summary = option_map summary_value summary ≡ summary_in s id
 
 -- what is told of all collections
-abbrev pub Lists : State → Result (Vec Summary Global) Fault → (State → Type 0) → Type 0
-Lists s result stands = Looks s (λ (summaries : Vec Summary Global). summary_values summaries.items
-    ≡ summaries_in s) result stands
+abbrev pub AreSummaries : State → Vec Summary Global → Type 0
+AreSummaries s summaries = summary_values summaries.items ≡ summaries_in s
 
 -- what is known of a collection's features without reading them
-abbrev pub Outlines : State → Text → Result (Option (Vec FeatureOutline Global)) Fault
-    → (State → Type 0) → Type 0
-Outlines s name result stands = Looks s (λ found.
+abbrev pub AreOutlinesOf : Text → State → Option (Vec FeatureOutline Global) → Type 0
+AreOutlinesOf name s found =
     option_map (λ (os : Vec FeatureOutline Global). feature_outline_values os.items) found
-    ≡ outlines_in s name) result stands
+    ≡ outlines_in s name
+
+-- how many batches are kept
+abbrev pub IsBatchCount : State → ℕ → Type 0
+IsBatchCount s count = count ≡ batch_count s
+
+-- the batch that is kept with a serial
+abbrev pub IsBatchOf : ℕ → State → Option KeptBatch → Type 0
+IsBatchOf serial s batch = option_map keyed_batch batch ≡ batch_in s serial
+
+-- the batches behind a serial
+abbrev pub AreNextOf : ℕ → ℕ → State → Vec KeptBatch Global → Type 0
+AreNextOf after room s found = AreNext s after room (keyed_batches found.items)
 
 -- a stop may leave this and nothing else
 abbrev pub LeavesOnly : (Option State → Type 0) → Option State → Type 0
@@ -110,6 +116,38 @@ pub record AsBefore (old new : State → Type 0) (left leaves : Option State →
   pub no_other : (s : State) → new s → old s
   pub nothing_else : (o : Option State) → leaves o → left o
   pub all_of_it : (o : Option State) → left o → leaves o
+
+-- what each call does, whatever it is asked: it spares what else the store has and takes none that
+-- failed for clean, its fault says what shut the keeper, `Device` comes only where the store failed
+-- in it, and after `Reopen` all is as it was
+pub record IsStep {K T : Type 0} (sight : Sight K) (old new : K) (result : Result T Fault) : Type 0 where
+  pub spared : sight.spares old new
+  pub began_clean : sight.is_clean new → sight.is_clean old
+  pub faults : ShutsBy result (sight.cause old) (sight.cause new)
+  pub device : sight.is_clean new → (s : State) → sight.stands old s → IsErrOf result Device
+      → sight.fails old new
+  pub reopen : IsErrOf result Reopen → AsBefore (sight.stands old) (sight.stands new)
+      (sight.may_leave old) (sight.may_leave new)
+
+-- a call that looks: where the store is clean as it ends, it saw what is so in the state, which
+-- stays, and where a stop could leave that state alone it still can
+pub record IsLook {K T : Type 0} (sight : Sight K) (old new : K) (result : Result T Fault)
+    (Is : State → T → Type 0) : Type 0 where
+  pub step : IsStep sight old new result
+  pub seen : sight.is_clean new → (s : State) → sight.stands old s
+      → Looks s (Is s) result (sight.stands new)
+  pub leaves : sight.is_clean new → (s : State) → sight.stands old s
+      → LeavesOnly (sight.may_leave old) (Some s) → LeavesOnly (sight.may_leave new) (Some s)
+
+-- a call that acts on a batch
+pub record IsAct {K : Type 0} (sight : Sight K) (old new : K) (b : BatchValue)
+    (result : Result Reply Fault) : Type 0 where
+  pub applied : sight.applies old b result new
+  pub step : IsStep sight old new result
+  pub acts : sight.is_clean new → (s : State) → sight.stands old s
+      → Acts s b result (sight.stands new)
+  pub leaves : sight.is_clean new → (s : State) → sight.stands old s
+      → LeavesOnly (sight.may_leave old) (Some s) → ApplyLeaves s b result (sight.may_leave new)
 
 -- what it stands for after a run of which k batches were answered
 abbrev pub RunEnds : State → List BatchValue → ℕ → Option Fault → (State → Type 0) → Type 0

@@ -13,7 +13,7 @@
 //! again.
 //!
 //! In the order of reading: `reply`, `page`, `summary`, `outline`, `keeper` (the trait and `run`),
-//! `laws`; for pages `selection` and `fold`; `kept_batch`, `keeping` (the trait), `serial_laws`.
+//! `outlining`, `laws`; for pages `selection` and `fold`; `kept_batch`, `keeping` (the trait), `serial_laws`.
 //! Batches are those of `streetmap_batch`.
 #![tactic(auto)]
 
@@ -23,6 +23,7 @@ mod keeping;
 mod kept_batch;
 pub mod laws;
 mod outline;
+mod outlining;
 mod page;
 mod reply;
 mod selection;
@@ -34,6 +35,7 @@ pub use keeper::{Keeper, run};
 pub use keeping::KeepsBatches;
 pub use kept_batch::KeptBatch;
 pub use outline::FeatureOutline;
+pub use outlining::Outlined;
 pub use page::Page;
 pub use reply::{Cause, Counts, Fault, Refusal, Reply, Run};
 pub use selection::{lies_within_box, overlaps_box};

@@ -8,6 +8,7 @@ use Rattle.streetmap_batch.specs.BatchValue.{BatchValue}
 use Rattle.streetmap_ledger.specs.State.{State, AcceptedBatch}
 use Rattle.streetmap_ledger.specs.Batches.{Outcome, fresh, edited}
 use Rattle.streetmap_ledger.specs.WellFormed.{IsState}
+use Rattle.streetmap_ledger.specs.Sight.{Sight}
 use Rattle.streetmap_memory.specs.Slots.{SlotCollection, map_of}
 use Rattle.streetmap_memory.specs.Does.{state_of}
 use Rattle.streetmap_memory.specs.declared.plain.PlainKeeper.{PlainKeeper}
@@ -51,3 +52,23 @@ PlainLeaves k o = o ≡ Some (plain_state k)
 -- a stop may leave that state
 pub leaves_it : (k : PlainKeeper) (s : State) → IsPlainState k s → PlainLeaves k (Some s)
 leaves_it k s p = ap (λ t. Some t) (sym p.is)
+
+-- what is seen of it: it is never shut, and no store of its own can fail
+abbrev pub plain_sight : Sight PlainKeeper
+plain_sight = record {
+  stands = IsPlainState;
+  may_leave = PlainLeaves;
+  cause = λ _. None;
+  is_clean = λ _. Unit {0};
+  applies = λ _ _ _ _. Unit {0};
+  spares = λ _ _. Unit {0};
+  fails = λ _ _. Unit {0};
+  one_state = one_plain;
+  shut_has_none = λ k s shut stands. never_shut shut;
+  may_leave_it = leaves_it;
+  well_formed = λ k s stands. stands.sound;
+  spares_itself = λ _. tt;
+  spares_then = λ _ _ _ _ _. tt;
+  fails_later = λ _ _ _ _ _ _. tt;
+  fails_still = λ _ _ _ _ _ _. tt;
+}

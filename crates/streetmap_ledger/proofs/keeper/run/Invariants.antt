@@ -8,7 +8,7 @@ use Rattle.streetmap_ledger.proofs.keeper.run.Given as goal
 -- what is so as long as no batch ended the run
 abbrev pub invariant-loop-batch : goal.invariant-loop-batch
 invariant-loop-batch g l =
-    let k = g.K.Keeper in
+    let k = g.K.Keeper.sight in
     record {
       count : length l.replies.items ≡ l.batch-index;
       room : vec_capacity l.replies ≡ length l.batches;
