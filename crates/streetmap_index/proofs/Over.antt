@@ -1,11 +1,9 @@
 -- Calls of a keeper with an index, by those of the keeper below.
-use Rattle.std.proofs.Common.{◌≡◌, Option, Some, None, IsSome, Result, Ok, Err, sym, subst}
-use Rattle.std.specs.Prelude.{IsErrOf}
+use Rattle.std.proofs.Common.{◌≡◌, Option, Some, Result, Ok, Err, sym, subst}
 use Rattle.streetmap_batch.specs.BatchValue.{BatchValue}
 use Rattle.streetmap_ledger.specs.State.{State}
-use Rattle.streetmap_ledger.specs.Sight.{Sight}
-use Rattle.streetmap_ledger.specs.Keep.{Looks, Acts, ShutsBy, LeavesOnly, AsBefore, IsStep, IsLook, IsAct}
-use Rattle.streetmap_ledger.specs.declared.reply.Cause.{Cause}
+use Rattle.streetmap_ledger.specs.Model.{Model}
+use Rattle.streetmap_ledger.specs.Keep.{Reads, Writes, IsCall, IsRead, IsWrite}
 use Rattle.streetmap_ledger.specs.declared.reply.Fault.{Fault}
 use Rattle.streetmap_ledger.specs.declared.reply.Reply.{Reply}
 use Rattle.streetmap_ledger.specs.declared.reply.Fault.TheVariants.{Memory, Device, Damaged, Reopen}
@@ -14,103 +12,89 @@ use Rattle.streetmap_index.specs.Indexed.{indexed}
 use Rattle.streetmap_index.specs.declared.index.Index.{Index}
 use Rattle.streetmap_index.specs.declared.keeper.IndexedKeeper.{IndexedKeeper}
 
--- what is seen, where the index stays
-looks_too : {T : Type 0} (s : State) (Is : T → Type 0) (result : Result T Fault) (P Q : State → Type 0) → Looks s Is result P → Q s → Looks s Is result (λ t. P t × Q t)
-looks_too s Is (Ok x) P Q h q = (h.0, (h.1, q))
-looks_too s Is (Err Memory) P Q h q = (h, q)
-looks_too s Is (Err Device) P Q h q = tt
-looks_too s Is (Err Damaged) P Q h q = absurd h
-looks_too s Is (Err Reopen) P Q h q = absurd h
+module _ {K : Type 0} {model : Model K} where
+  -- the index is of the state still
+  reads_over : {T : Type 0} {a b : IndexedKeeper K} (s : State) (Is : T → Type 0) (r : Result T Fault) → Reads model a.keeper b.keeper s Is r → IsIndexOf b.index s → Reads (indexed model) a b s Is r
+  reads_over s Is (Ok x) h index = (h.0, (h.1, index))
+  reads_over s Is (Err Memory) h index = (h, index)
+  reads_over s Is (Err Device) h index = h
+  reads_over s Is (Err Damaged) h index = h
+  reads_over s Is (Err Reopen) h index = h
 
--- what is seen, where the index heeds the fault
-heeds_seen : {T : Type 0} (s : State) (Is : T → Type 0) (fault : Fault) (old new : Index) (P Q : State → Type 0) → IsHeeded fault old new → (P s → Q s) → Looks s Is (Err fault) (λ t. P t × IsIndexOf old t) → Looks s Is (Err fault) (λ t. Q t × IsIndexOf new t)
-heeds_seen s Is Memory old new P Q heeded on h = (on h.0, subst (λ (m : Index). IsIndexOf m s) (sym heeded) h.1)
-heeds_seen s Is Device old new P Q heeded on h = tt
-heeds_seen s Is Damaged old new P Q heeded on h = h
-heeds_seen s Is Reopen old new P Q heeded on h = h
-
--- a shut keeper stands for no state, whatever its index is
-reopened : {K T : Type 0} (sight : Sight K) (r : Result T Fault) (a b : IndexedKeeper K) → ShutsBy r (sight.cause a.keeper) (sight.cause b.keeper) → IsErrOf r Reopen
-    → ((o : Option State) → sight.may_leave b.keeper o → sight.may_leave a.keeper o) → ((o : Option State) → sight.may_leave a.keeper o → sight.may_leave b.keeper o)
-    → AsBefore ((indexed sight).stands a) ((indexed sight).stands b) (sight.may_leave a.keeper) (sight.may_leave b.keeper)
-reopened sight r a b shuts err nothing all =
-    let shut = subst (λ q. ShutsBy q (sight.cause a.keeper) (sight.cause b.keeper)) err shuts in
-    record {
-      still = λ s e. absurd (sight.shut_has_none a.keeper s shut.0 e.0);
-      no_other = λ s e. absurd (sight.shut_has_none b.keeper s (subst (λ (o : Option Cause). IsSome o) (sym shut.1) shut.0) e.0);
-      nothing_else = nothing;
-      all_of_it = all;
-    }
-
-module _ {K : Type 0} {sight : Sight K} where
-  step_over : {T : Type 0} {a b : IndexedKeeper K} {r : Result T Fault} → IsStep sight a.keeper b.keeper r → IsStep (indexed sight) a b r
-  step_over {T} {a} {b} {r} step = record {
-    spared = step.spared;
-    began_clean = step.began_clean;
-    faults = step.faults;
-    device = λ h s e err. step.device h s e.0 err;
-    reopen = λ err. reopened sight r a b step.faults err (step.reopen err).nothing_else (step.reopen err).all_of_it;
+  call_over : {T : Type 0} {a b : IndexedKeeper K} {r : Result T Fault} → IsCall model a.keeper b.keeper r → IsCall (indexed model) a b r
+  call_over call = record {
+    spared = call.spared;
+    began_clean = call.began_clean;
+    faults = call.faults;
+    reopen = call.reopen;
   }
 
-  -- a look of the keeper below, and the index is of the state still
-  pub look_over : {T : Type 0} {a b : IndexedKeeper K} {r : Result T Fault} {Is As : State → T → Type 0} → IsLook sight a.keeper b.keeper r Is
-      → ((s : State) → sight.stands a.keeper s → IsIndexOf a.index s → Looks s (Is s) r (sight.stands b.keeper) → Looks s (As s) r (λ t. sight.stands b.keeper t × IsIndexOf b.index t))
-      → IsLook (indexed sight) a b r As
-  look_over {T} {a} {b} {r} {Is} {As} look so = record {
-    step = step_over look.step;
-    seen = λ h s e. so s e.0 e.1 (look.seen h s e.0);
-    leaves = λ h s e only. look.leaves h s e.0 only;
+  -- a read of the keeper below, which says how it is one of the keeper with its index
+  pub read_over : {T : Type 0} {a b : IndexedKeeper K} {r : Result T Fault} {Is As : State → T → Type 0} → IsRead model a.keeper b.keeper r Is
+      → ((s : State) → model.represents a.keeper s → IsIndexOf a.index s → Reads model a.keeper b.keeper s (Is s) r → Reads (indexed model) a b s (As s) r)
+      → IsRead (indexed model) a b r As
+  read_over {T} {a} {b} {r} {Is} {As} read so = record {
+    call = call_over read.call;
+    reads = λ h s e. so s e.0 e.1 (read.reads h s e.0);
   }
 
   -- the index stays
-  pub look_beside : {T : Type 0} {a b : IndexedKeeper K} {r : Result T Fault} {Is : State → T → Type 0} → IsLook sight a.keeper b.keeper r Is → b.index ≡ a.index → IsLook (indexed sight) a b r Is
-  look_beside {T} {a} {b} {r} {Is} look same = look_over look (λ s e known seen. looks_too s (Is s) r (sight.stands b.keeper) (λ t. IsIndexOf b.index t) seen (subst (λ (m : Index). IsIndexOf m s) (sym same) known))
+  pub read_beside : {T : Type 0} {a b : IndexedKeeper K} {r : Result T Fault} {Is : State → T → Type 0} → IsRead model a.keeper b.keeper r Is → b.index ≡ a.index → IsRead (indexed model) a b r Is
+  read_beside {T} {a} {b} {r} {Is} read same = read_over read (λ s e known found. reads_over s (Is s) r found (subst (λ (m : Index). IsIndexOf m s) (sym same) known))
 
-  -- an act of the keeper below, and the index follows it
-  pub act_over : {a b : IndexedKeeper K} {k : K} {batch : BatchValue} {r : Result Reply Fault} → IsAct sight a.keeper k batch r → b.keeper ≡ k
-      → ((s : State) → sight.stands a.keeper s → IsIndexOf a.index s → Acts s batch r (sight.stands b.keeper) → Acts s batch r (λ t. sight.stands b.keeper t × IsIndexOf b.index t))
-      → IsAct (indexed sight) a b batch r
-  act_over {a} {b} {k} {batch} {r} below same so =
-      let act = subst (λ n. IsAct sight a.keeper n batch r) (sym same) below in
+  -- a batch on the keeper below, and the index follows it
+  pub write_over : {a b : IndexedKeeper K} {k : K} {batch : BatchValue} {r : Result Reply Fault} → IsWrite model a.keeper k batch r → b.keeper ≡ k
+      → ((s : State) → model.represents a.keeper s → IsIndexOf a.index s → Writes model a.keeper b.keeper s batch r → Writes (indexed model) a b s batch r)
+      → IsWrite (indexed model) a b batch r
+  write_over {a} {b} {k} {batch} {r} below same so =
+      let write = subst (λ n. IsWrite model a.keeper n batch r) (sym same) below in
       record {
-        applied = act.applied;
-        step = step_over act.step;
-        acts = λ h s e. so s e.0 e.1 (act.acts h s e.0);
-        leaves = λ h s e only. act.leaves h s e.0 only;
+        applied = write.applied;
+        call = call_over write.call;
+        writes = λ h s e. so s e.0 e.1 (write.writes h s e.0);
       }
 
--- the sight is passed to these, as no part of it can be found in `indexed sight`
-module _ {K : Type 0} (sight : Sight K) where
-  -- a fault that the index heeds
-  pub look_heeded : {T : Type 0} {a b c : IndexedKeeper K} {fault : Fault} {Is : State → T → Type 0} → IsLook (indexed sight) a b (Err fault) Is → c.keeper ≡ b.keeper → IsHeeded fault b.index c.index → IsLook (indexed sight) a c (Err fault) Is
-  look_heeded {T} {a} {b} {c} {fault} {Is} look same heeded =
-      let clean = λ (h : sight.is_clean c.keeper). subst sight.is_clean same h in
-      let shuts = subst (λ k. ShutsBy {T = T} (Err fault) (sight.cause a.keeper) (sight.cause k)) (sym same) look.step.faults in
+-- the model is passed to these, as no part of it can be found in `indexed model`
+module _ {K : Type 0} (model : Model K) where
+  -- the index takes note of the fault
+  reads_noted : {T : Type 0} {a b c : IndexedKeeper K} (s : State) (Is : T → Type 0) (fault : Fault) → c.keeper ≡ b.keeper → IsHeeded fault b.index c.index → Reads (indexed model) a b s Is (Err fault) → Reads (indexed model) a c s Is (Err fault)
+  reads_noted s Is Memory same noted h = (subst (λ k. model.represents k s) (sym same) h.0, subst (λ (m : Index). IsIndexOf m s) (sym noted) h.1)
+  reads_noted {T} {a} {b} {c} s Is Device same noted h = (subst (λ k. model.fails a.keeper k) (sym same) h.0, subst (λ k. (o : Option State) → model.may_leave k o → o ≡ Some s) (sym same) h.1)
+  reads_noted s Is Damaged same noted h = h
+  reads_noted s Is Reopen same noted h = h
+
+  pub read_noted : {T : Type 0} {a b c : IndexedKeeper K} {fault : Fault} {Is : State → T → Type 0} → IsRead (indexed model) a b (Err fault) Is → c.keeper ≡ b.keeper → IsHeeded fault b.index c.index → IsRead (indexed model) a c (Err fault) Is
+  read_noted {T} {a} {b} {c} {fault} {Is} read same noted =
+      let clean = λ (h : model.is_clean c.keeper). subst model.is_clean same h in
+      let below : IsCall {T = T} model a.keeper b.keeper (Err fault) = record {
+        spared = read.call.spared;
+        began_clean = read.call.began_clean;
+        faults = read.call.faults;
+        reopen = read.call.reopen;
+      } in
       record {
-        step = record {
-          spared = subst (λ k. sight.spares a.keeper k) (sym same) look.step.spared;
-          began_clean = λ h. look.step.began_clean (clean h);
-          faults = shuts;
-          device = λ h s e err. subst (λ k. sight.fails a.keeper k) (sym same) (look.step.device (clean h) s e err);
-          reopen = λ err. reopened sight (Err fault) a c shuts err (λ o left. (look.step.reopen err).nothing_else o (subst (λ k. sight.may_leave k o) same left)) (λ o left. subst (λ k. sight.may_leave k o) (sym same) ((look.step.reopen err).all_of_it o left));
-        };
-        seen = λ h s e. heeds_seen s (Is s) fault b.index c.index (sight.stands b.keeper) (sight.stands c.keeper) heeded (λ t. subst (λ k. sight.stands k s) (sym same) t) (look.seen (clean h) s e);
-        leaves = λ h s e only. subst (λ k. LeavesOnly (sight.may_leave k) (Some s)) (sym same) (look.leaves (clean h) s e only);
+        call = call_over (subst (λ k. IsCall {T = T} model a.keeper k (Err fault)) (sym same) below);
+        reads = λ h s e. reads_noted s (Is s) fault same noted (read.reads (clean h) s e);
       }
 
-  -- the index changed alone before a look, and is of the state still
-  pub look_behind : {T : Type 0} {a b c : IndexedKeeper K} {r : Result T Fault} {Is : State → T → Type 0} → IsLook (indexed sight) b c r Is → b.keeper ≡ a.keeper → ((s : State) → IsIndexOf a.index s → IsIndexOf b.index s) → IsLook (indexed sight) a c r Is
-  look_behind {T} {a} {b} {c} {r} {Is} look same so =
-      let from : (s : State) → sight.stands a.keeper s × IsIndexOf a.index s → sight.stands b.keeper s × IsIndexOf b.index s = λ s e. (subst (λ k. sight.stands k s) (sym same) e.0, so s e.1) in
-      let shuts = subst (λ k. ShutsBy r (sight.cause k) (sight.cause c.keeper)) same look.step.faults in
+  -- the index alone changed before a read, and is of the state still
+  reads_from : {T : Type 0} {a b c : IndexedKeeper K} (s : State) (Is : T → Type 0) (r : Result T Fault) → b.keeper ≡ a.keeper → Reads (indexed model) b c s Is r → Reads (indexed model) a c s Is r
+  reads_from s Is (Ok x) same h = h
+  reads_from s Is (Err Memory) same h = h
+  reads_from {T} {a} {b} {c} s Is (Err Device) same h = (subst (λ k. model.fails k c.keeper) same h.0, h.1)
+  reads_from s Is (Err Damaged) same h = h
+  reads_from s Is (Err Reopen) same h = h
+
+  pub read_after_change : {T : Type 0} {a b c : IndexedKeeper K} {r : Result T Fault} {Is : State → T → Type 0} → IsRead (indexed model) b c r Is → b.keeper ≡ a.keeper → ((s : State) → IsIndexOf a.index s → IsIndexOf b.index s) → IsRead (indexed model) a c r Is
+  read_after_change {T} {a} {b} {c} {r} {Is} read same so =
+      let from : (s : State) → model.represents a.keeper s × IsIndexOf a.index s → model.represents b.keeper s × IsIndexOf b.index s = λ s e. (subst (λ k. model.represents k s) (sym same) e.0, so s e.1) in
+      let below : IsCall {T = T} model b.keeper c.keeper r = record {
+        spared = read.call.spared;
+        began_clean = read.call.began_clean;
+        faults = read.call.faults;
+        reopen = read.call.reopen;
+      } in
       record {
-        step = record {
-          spared = subst (λ k. sight.spares k c.keeper) same look.step.spared;
-          began_clean = λ h. subst sight.is_clean same (look.step.began_clean h);
-          faults = shuts;
-          device = λ h s e err. subst (λ k. sight.fails k c.keeper) same (look.step.device h s (from s e) err);
-          reopen = λ err. reopened sight r a c shuts err (λ o left. subst (λ k. sight.may_leave k o) same ((look.step.reopen err).nothing_else o left)) (λ o left. (look.step.reopen err).all_of_it o (subst (λ k. sight.may_leave k o) (sym same) left));
-        };
-        seen = λ h s e. look.seen h s (from s e);
-        leaves = λ h s e only. look.leaves h s (from s e) (subst (λ k. LeavesOnly (sight.may_leave k) (Some s)) (sym same) only);
+        call = call_over (subst (λ k. IsCall {T = T} model k c.keeper r) same below);
+        reads = λ h s e. reads_from s (Is s) r same (read.reads h s (from s e));
       }

@@ -27,10 +27,10 @@ abbrev pub IsOutlinedIf : OutlinedCollection → Option Collection → Type 0
 IsOutlinedIf o None = ⊥
 IsOutlinedIf o (Some c) = IsOutlined o c
 
--- this is seen of a state that has the collection as it is known
+-- this is found in a state that has the collection as it is known
 abbrev pub IfOutlined : {T : Type 0} → OutlinedCollection → Text → (State → T → Type 0) → State → T
     → Type 0
-IfOutlined o name Is s seen = IsOutlinedIf o (get s.collections name) → Is s seen
+IfOutlined o name Is s found = IsOutlinedIf o (get s.collections name) → Is s found
 
 -- what an index knows under a name
 abbrev pub known_under : Text → List (String Global × OutlinedCollection)

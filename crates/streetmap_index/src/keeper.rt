@@ -1,7 +1,7 @@
 //! A keeper with an index.
 ghost use Rattle.std.specs.Prelude.{◌≡◌};
 ghost use Rattle.streetmap_ledger.specs.State.{State};
-ghost use Rattle.streetmap_ledger.specs.Keep.{IsLook, IsPageOf, IsSummaryOf, AreSummaries};
+ghost use Rattle.streetmap_ledger.specs.Keep.{IsRead, IsPageOf, IsSummaryOf, AreSummaries};
 ghost use Rattle.streetmap_index.specs.Index.{IsIndexOf, IsHeeded};
 ghost use Rattle.streetmap_index.specs.Indexed.{indexed};
 
@@ -53,7 +53,7 @@ impl<K: Outlined> IndexedKeeper<K> {
 
     /// Learns of a collection that is not known, where memory for it is there.
     fn learn(&mut self, collection: &str) -> Result<(), Fault>
-        ensures { IsLook (indexed K.sight) self.old self.new result (λ _ _. Unit {0}) }
+        ensures { IsRead (indexed K.model) self.old self.new result (λ _ _. Unit {0}) }
     {
         match learn(self.alloc, &mut self.keeper, collection) {
             Ok(Some(outlined)) => {
@@ -71,7 +71,7 @@ impl<K: Outlined> IndexedKeeper<K> {
 
     /// The page of a collection by what is known of it, or else the keeper's own.
     fn page_known(&mut self, collection: &str, query: &Query) -> Result<Option<Page>, Fault>
-        ensures { IsLook (indexed K.sight) self.old self.new result
+        ensures { IsRead (indexed K.model) self.old self.new result
             (IsPageOf collection.now query.now) }
     {
         match self.index.known.get(collection) {
@@ -82,7 +82,7 @@ impl<K: Outlined> IndexedKeeper<K> {
 
     /// The page of a collection, which is learnt before where it is due.
     fn page_learnt(&mut self, collection: &str, query: &Query) -> Result<Option<Page>, Fault>
-        ensures { IsLook (indexed K.sight) self.old self.new result
+        ensures { IsRead (indexed K.model) self.old self.new result
             (IsPageOf collection.now query.now) }
     {
         if !self.index.is_due(collection) {
@@ -96,7 +96,7 @@ impl<K: Outlined> IndexedKeeper<K> {
 
     /// What is told of a collection by what is known of it, or else the keeper's own answer.
     fn collection_known(&mut self, id: &str) -> Result<Option<Summary>, Fault>
-        ensures { IsLook (indexed K.sight) self.old self.new result (IsSummaryOf id.now) }
+        ensures { IsRead (indexed K.model) self.old self.new result (IsSummaryOf id.now) }
     {
         match self.index.known.get(id) {
             Some(outlined) => collection_with(self.alloc, &self.keeper, id, outlined),
@@ -106,7 +106,7 @@ impl<K: Outlined> IndexedKeeper<K> {
 
     /// What is told of a collection, which is learnt before where it is due.
     fn collection_learnt(&mut self, id: &str) -> Result<Option<Summary>, Fault>
-        ensures { IsLook (indexed K.sight) self.old self.new result (IsSummaryOf id.now) }
+        ensures { IsRead (indexed K.model) self.old self.new result (IsSummaryOf id.now) }
     {
         if !self.index.is_due(id) {
             return self.collection_known(id);
@@ -119,7 +119,7 @@ impl<K: Outlined> IndexedKeeper<K> {
 
     /// What is told of all collections: by what is known of them, where all are known.
     fn collections_known(&mut self) -> Result<Vec<Summary>, Fault>
-        ensures { IsLook (indexed K.sight) self.old self.new result AreSummaries }
+        ensures { IsRead (indexed K.model) self.old self.new result AreSummaries }
     {
         if self.index.is_whole {
             return collections_with(self.alloc, &self.keeper, &self.index.known);
@@ -137,7 +137,7 @@ impl<K: Outlined> IndexedKeeper<K> {
 impl<K: Outlined> Keeper for IndexedKeeper<K> {
     ghost use Rattle.streetmap_index.specs.Indexed.{indexed};
 
-    ghost sight = { indexed K.sight };
+    ghost model = { indexed K.model };
 
     fn is_open(&self) -> bool {
         self.keeper.is_open()

@@ -1,5 +1,5 @@
 //! What is known of a collection, learnt from a keeper.
-ghost use Rattle.streetmap_ledger.specs.Keep.{IsLook};
+ghost use Rattle.streetmap_ledger.specs.Keep.{IsRead};
 ghost use Rattle.streetmap_index.specs.Index.{Learns, LearnsUnder};
 
 use crate::outlined::OutlinedCollection;
@@ -16,7 +16,7 @@ fn learn_outlines<K: Outlined>(
     title: String,
     time: Option<String>,
 ) -> Result<Option<OutlinedCollection>, Fault>
-    ensures { IsLook K.sight keeper.old keeper.new result
+    ensures { IsRead K.model keeper.old keeper.new result
         (LearnsUnder collection.now title time) }
 {
     match keeper.outlines(collection) {
@@ -39,7 +39,7 @@ pub fn learn<K: Outlined>(
     keeper: &mut K,
     collection: &str,
 ) -> Result<Option<OutlinedCollection>, Fault>
-    ensures { IsLook K.sight keeper.old keeper.new result (Learns collection.now) }
+    ensures { IsRead K.model keeper.old keeper.new result (Learns collection.now) }
 {
     match keeper.collection(collection) {
         Ok(Some(summary)) => {

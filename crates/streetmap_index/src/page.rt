@@ -5,7 +5,7 @@ ghost use Rattle.streetmap_geojson.specs.FeatureInvariant.{IsFeature};
 ghost use Rattle.streetmap_query.specs.Views.{query_value};
 ghost use Rattle.streetmap_ledger.specs.Pages.{is_candidate as is_candidate_of};
 ghost use Rattle.streetmap_ledger.specs.Folds.{IsFoldOf, HoldsCandidates, IsFull};
-ghost use Rattle.streetmap_ledger.specs.Keep.{IsLook, IsPageOf};
+ghost use Rattle.streetmap_ledger.specs.Keep.{IsRead, IsPageOf};
 ghost use Rattle.streetmap_outlines.specs.Chunks.{AreInOrder};
 ghost use Rattle.streetmap_outlines.specs.Outlines.{IsOutlineOf, IsBounded};
 ghost use Rattle.streetmap_index.specs.Index.{IfOutlined};
@@ -110,8 +110,8 @@ fn take_outlined<K: Outlined>(
     fold: &mut PageFold<'_>,
     read: &mut usize,
 ) -> Result<bool, Fault>
-    requires { K.sight.cause keeper.old ≡ None }
-    ensures { IsLook K.sight keeper.old keeper.new result
+    requires { K.model.cause keeper.old ≡ None }
+    ensures { IsRead K.model keeper.old keeper.new result
         (TakesOutlined collection.now (query_value query.now) chunk.now fold.old fold.new) }
 {
     let window = window_of(query);
@@ -152,8 +152,8 @@ fn page_by_outlines<K: Outlined>(
     outlines: &Chunks,
     query: &Query,
 ) -> Result<Option<Page>, Fault>
-    requires { K.sight.cause keeper.old ≡ None }
-    ensures { IsLook K.sight keeper.old keeper.new result
+    requires { K.model.cause keeper.old ≡ None }
+    ensures { IsRead K.model keeper.old keeper.new result
         (IsOutlinedPage collection.now (query_value query.now) outlines.now) }
 {
     let mut fold = PageFold::new(alloc, query);
@@ -193,7 +193,7 @@ pub fn page_with<K: Outlined>(
     outlined: &OutlinedCollection,
     query: &Query,
 ) -> Result<Option<Page>, Fault>
-    ensures { IsLook K.sight keeper.old keeper.new result
+    ensures { IsRead K.model keeper.old keeper.new result
         (IfOutlined outlined.now collection.now (IsPageOf collection.now query.now)) }
 {
     if !keeper.is_open() {

@@ -5,7 +5,7 @@ ghost use Rattle.streetmap_geojson.specs.FeatureValue.{FeatureValue};
 ghost use Rattle.streetmap_query.specs.QueryValue.{QueryValue};
 ghost use Rattle.streetmap_query.specs.Views.{query_value};
 ghost use Rattle.streetmap_ledger.specs.Folds.{IsFoldOf};
-ghost use Rattle.streetmap_ledger.specs.Keep.{IsLook};
+ghost use Rattle.streetmap_ledger.specs.Keep.{IsRead};
 ghost use Rattle.streetmap_index.specs.Taking.{IsExamined, HaveIds, TakesRun};
 ghost use Rattle.streetmap_outlines.specs.declared.kept.KeptOutline.{KeptOutline};
 
@@ -84,7 +84,7 @@ fn take_between<K: Outlined>(
     last: &str,
     fold: &mut PageFold<'_>,
 ) -> Result<bool, Fault>
-    ensures { IsLook K.sight keeper.old keeper.new result
+    ensures { IsRead K.model keeper.old keeper.new result
         (TakesRun collection.now outlines.now fold.old fold.new) }
 {
     match keeper.features(collection, first, last) {
@@ -106,8 +106,8 @@ fn take_one<K: Outlined>(
     outline: &KeptOutline,
     fold: &mut PageFold<'_>,
 ) -> Result<bool, Fault>
-    requires { K.sight.cause keeper.old ≡ None }
-    ensures { IsLook K.sight keeper.old keeper.new result
+    requires { K.model.cause keeper.old ≡ None }
+    ensures { IsRead K.model keeper.old keeper.new result
         (TakesRun collection.now (outline.now ∷ []) fold.old fold.new) }
 {
     let Ok(outline) = outline.to_feature_outline(alloc) else {
@@ -132,8 +132,8 @@ fn take_each<K: Outlined>(
     outlines: &[KeptOutline],
     fold: &mut PageFold<'_>,
 ) -> Result<bool, Fault>
-    requires { K.sight.cause keeper.old ≡ None }
-    ensures { IsLook K.sight keeper.old keeper.new result
+    requires { K.model.cause keeper.old ≡ None }
+    ensures { IsRead K.model keeper.old keeper.new result
         (TakesRun collection.now outlines.now fold.old fold.new) }
 {
     for outline in outlines {
@@ -156,8 +156,8 @@ pub fn take_run<K: Outlined>(
     outlines: &[KeptOutline],
     fold: &mut PageFold<'_>,
 ) -> Result<bool, Fault>
-    requires { K.sight.cause keeper.old ≡ None }
-    ensures { IsLook K.sight keeper.old keeper.new result
+    requires { K.model.cause keeper.old ≡ None }
+    ensures { IsRead K.model keeper.old keeper.new result
         (TakesRun collection.now outlines.now fold.old fold.new) }
 {
     match outlines {

@@ -7,7 +7,7 @@ ghost use Rattle.streetmap_ledger.specs.State.{State, Collection, Features};
 ghost use Rattle.streetmap_ledger.specs.WellFormed.{IsState, HoldsFeatures};
 ghost use Rattle.streetmap_ledger.specs.Summaries.{all_vertices, summary_of, summaries_in};
 ghost use Rattle.streetmap_ledger.specs.SummaryView.{summary_value, summary_values};
-ghost use Rattle.streetmap_ledger.specs.Keep.{IsLook, IsSummaryOf, AreSummaries};
+ghost use Rattle.streetmap_ledger.specs.Keep.{IsRead, IsSummaryOf, AreSummaries};
 ghost use Rattle.streetmap_outlines.specs.Outlines.{joined, AreBounded};
 ghost use Rattle.streetmap_index.specs.Index.{IsOutlined, IfOutlined};
 ghost use Rattle.streetmap_index.specs.Index.{AreKnown, KnowsAll};
@@ -79,7 +79,7 @@ pub fn collection_with<K: Keeper>(
     id: &str,
     outlined: &OutlinedCollection,
 ) -> Result<Option<Summary>, Fault>
-    ensures { IsLook K.sight keeper.now keeper.now result
+    ensures { IsRead K.model keeper.now keeper.now result
         (IfOutlined outlined.now id.now (IsSummaryOf id.now)) }
 {
     if !keeper.is_open() {
@@ -97,7 +97,7 @@ pub fn collections_with<K: Keeper>(
     keeper: &K,
     known: &BTreeMap<String, OutlinedCollection>,
 ) -> Result<Vec<Summary>, Fault>
-    ensures { IsLook K.sight keeper.now keeper.now result (λ s told.
+    ensures { IsRead K.model keeper.now keeper.now result (λ s told.
         AreKnown known.now.entries s → KnowsAll known.now.entries s → AreSummaries s told) }
 {
     if !keeper.is_open() {

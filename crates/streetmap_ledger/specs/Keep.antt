@@ -9,7 +9,7 @@ use Rattle.streetmap_query.specs.declared.queries.Query.{Query}
 use Rattle.streetmap_batch.specs.Text.{Text}
 use Rattle.streetmap_batch.specs.BatchValue.{BatchValue}
 use Rattle.streetmap_ledger.specs.State.{State}
-use Rattle.streetmap_ledger.specs.Sight.{Sight}
+use Rattle.streetmap_ledger.specs.Model.{Model}
 use Rattle.streetmap_ledger.specs.Batches.{act, after_all}
 use Rattle.streetmap_ledger.specs.Pages.{page_in, feature_in, run_in}
 use Rattle.streetmap_ledger.specs.PageView.{page_value}
@@ -37,23 +37,41 @@ ShutsBy (Err Device) old new = (old ≡ None) × (new ≡ Some causes.Device)
 ShutsBy (Err Damaged) old new = (old ≡ None) × (new ≡ Some causes.Damaged)
 ShutsBy (Err Reopen) old new = IsSome old × (new ≡ old)
 
--- a batch on a keeper that stood for this state: the reply is the batch's, and it stands for the
--- state after it; a want of memory changes nothing, and the store is not damaged
-abbrev pub Acts : State → BatchValue → Result Reply Fault → (State → Type 0) → Type 0
-Acts s b (Ok reply) stands = (reply ≡ (act s b).reply) × stands (act s b).state
-Acts s b (Err Memory) stands = stands s
-Acts s b (Err Device) stands = Unit {0}
-Acts s b (Err Damaged) stands = ⊥
-Acts s b (Err Reopen) stands = ⊥
+-- a crash may leave this and nothing else
+abbrev pub LeavesOnly : (Option State → Type 0) → Option State → Type 0
+LeavesOnly left s = (o : Option State) → left o → o ≡ s
 
--- a look at a keeper that stood for this state: the answer is as it is in the state, and the state
--- stays
-abbrev pub Looks : {T : Type 0} → State → (T → Type 0) → Result T Fault → (State → Type 0) → Type 0
-Looks s Is (Ok seen) stands = Is seen × stands s
-Looks s Is (Err Memory) stands = stands s
-Looks s Is (Err Device) stands = Unit {0}
-Looks s Is (Err Damaged) stands = ⊥
-Looks s Is (Err Reopen) stands = ⊥
+-- a crash may leave one of these two and nothing else
+abbrev pub LeavesEither : (Option State → Type 0) → Option State → Option State → Type 0
+LeavesEither left s t = (o : Option State) → left o → (o ≡ s) ⊎ (o ≡ t)
+
+-- a crash may leave the same after as before
+abbrev pub LeavesSame : (before after : Option State → Type 0) → Type 0
+LeavesSame before after = (o : Option State) → (after o → before o) × (before o → after o)
+
+-- a read, if the keeper represented this state: what was read is so in the state, which stays; or
+-- memory ran out, and the state stays; or the store failed, and a crash leaves the state
+abbrev pub Reads : {K T : Type 0} → Model K → (old new : K) → State → (T → Type 0)
+    → Result T Fault → Type 0
+Reads model old new s Is (Ok found) = Is found × model.represents new s
+Reads model old new s Is (Err Memory) = model.represents new s
+Reads model old new s Is (Err Device) =
+    model.fails old new × LeavesOnly (model.may_leave new) (Some s)
+Reads model old new s Is (Err Damaged) = ⊥
+Reads model old new s Is (Err Reopen) = ⊥
+
+-- a batch, if the keeper represented this state: the reply is the batch's, and the keeper
+-- represents the state after it; or memory ran out, and the state stays; or the store failed, and a
+-- crash leaves the state before the batch or the one after it
+abbrev pub Writes : {K : Type 0} → Model K → (old new : K) → State → BatchValue
+    → Result Reply Fault → Type 0
+Writes model old new s b (Ok reply) =
+    (reply ≡ (act s b).reply) × model.represents new (act s b).state
+Writes model old new s b (Err Memory) = model.represents new s
+Writes model old new s b (Err Device) =
+    model.fails old new × LeavesEither (model.may_leave new) (Some s) (Some (act s b).state)
+Writes model old new s b (Err Damaged) = ⊥
+Writes model old new s b (Err Reopen) = ⊥
 
 -- a page
 abbrev pub IsPageOf : Text → Query → State → Option Page → Type 0
@@ -63,16 +81,16 @@ IsPageOf name q s page = option_map page_value page ≡ page_in s name (query_va
 abbrev pub IsFeatureOf : Text → Text → State → Option FeatureValue → Type 0
 IsFeatureOf name id s found = found ≡ feature_in s name id
 
--- the features of a collection whose ids stand between two
+-- the features of a collection whose ids lie between two
 abbrev pub IsRunOf : Text → Text → Text → State → Option (Vec FeatureValue Global) → Type 0
 IsRunOf name first last s found =
     option_map (λ (fs : Vec FeatureValue Global). fs.items) found ≡ run_in s name first last
 
--- what is told of a collection
+-- the summary of a collection
 abbrev pub IsSummaryOf : Text → State → Option Summary → Type 0
 IsSummaryOf id s summary = option_map summary_value summary ≡ summary_in s id
 
--- what is told of all collections
+-- the summaries of all collections
 abbrev pub AreSummaries : State → Vec Summary Global → Type 0
 AreSummaries s summaries = summary_values summaries.items ≡ summaries_in s
 
@@ -90,83 +108,48 @@ IsBatchCount s count = count ≡ batch_count s
 abbrev pub IsBatchOf : ℕ → State → Option KeptBatch → Type 0
 IsBatchOf serial s batch = option_map keyed_batch batch ≡ batch_in s serial
 
--- the batches behind a serial
+-- the batches after a serial
 abbrev pub AreNextOf : ℕ → ℕ → State → Vec KeptBatch Global → Type 0
 AreNextOf after room s found = AreNext s after room (keyed_batches found.items)
 
--- a stop may leave this and nothing else
-abbrev pub LeavesOnly : (Option State → Type 0) → Option State → Type 0
-LeavesOnly left s = (o : Option State) → left o → o ≡ s
+-- each call, whatever it asks for: it spares what else the store has and takes none that failed for
+-- clean; its fault says what shut the keeper; and after `Reopen` a crash leaves what it left before
+pub record IsCall {K T : Type 0} (model : Model K) (old new : K) (result : Result T Fault)
+    : Type 0 where
+  pub spared : model.spares old new
+  pub began_clean : model.is_clean new → model.is_clean old
+  pub faults : ShutsBy result (model.cause old) (model.cause new)
+  pub reopen : IsErrOf result Reopen → LeavesSame (model.may_leave old) (model.may_leave new)
 
--- a stop may leave one of these two and nothing else
-abbrev pub LeavesEither : (Option State → Type 0) → Option State → Option State → Type 0
-LeavesEither left s t = (o : Option State) → left o → (o ≡ s) ⊎ (o ≡ t)
-
--- what a stop may leave when a batch has returned, on a keeper that stood for this state
-abbrev pub ApplyLeaves : State → BatchValue → Result Reply Fault → (Option State → Type 0) → Type 0
-ApplyLeaves s b (Ok reply) left = LeavesOnly left (Some (act s b).state)
-ApplyLeaves s b (Err Memory) left = LeavesOnly left (Some s)
-ApplyLeaves s b (Err Device) left = LeavesEither left (Some s) (Some (act s b).state)
-ApplyLeaves s b (Err Damaged) left = ⊥
-ApplyLeaves s b (Err Reopen) left = ⊥
-
--- neither the states that it stands for have changed, nor what a stop may leave
-pub record AsBefore (old new : State → Type 0) (left leaves : Option State → Type 0) : Type 0 where
-  pub still : (s : State) → old s → new s
-  pub no_other : (s : State) → new s → old s
-  pub nothing_else : (o : Option State) → leaves o → left o
-  pub all_of_it : (o : Option State) → left o → leaves o
-
--- what each call does, whatever it is asked: it spares what else the store has and takes none that
--- failed for clean, its fault says what shut the keeper, `Device` comes only where the store failed
--- in it, and after `Reopen` all is as it was
-pub record IsStep {K T : Type 0} (sight : Sight K) (old new : K) (result : Result T Fault) : Type 0 where
-  pub spared : sight.spares old new
-  pub began_clean : sight.is_clean new → sight.is_clean old
-  pub faults : ShutsBy result (sight.cause old) (sight.cause new)
-  pub device : sight.is_clean new → (s : State) → sight.stands old s → IsErrOf result Device
-      → sight.fails old new
-  pub reopen : IsErrOf result Reopen → AsBefore (sight.stands old) (sight.stands new)
-      (sight.may_leave old) (sight.may_leave new)
-
--- a call that looks: where the store is clean as it ends, it saw what is so in the state, which
--- stays, and where a stop could leave that state alone it still can
-pub record IsLook {K T : Type 0} (sight : Sight K) (old new : K) (result : Result T Fault)
+-- a call that reads: if the store is clean as it ends, what was found is so
+pub record IsRead {K T : Type 0} (model : Model K) (old new : K) (result : Result T Fault)
     (Is : State → T → Type 0) : Type 0 where
-  pub step : IsStep sight old new result
-  pub seen : sight.is_clean new → (s : State) → sight.stands old s
-      → Looks s (Is s) result (sight.stands new)
-  pub leaves : sight.is_clean new → (s : State) → sight.stands old s
-      → LeavesOnly (sight.may_leave old) (Some s) → LeavesOnly (sight.may_leave new) (Some s)
+  pub call : IsCall model old new result
+  pub reads : model.is_clean new → (s : State) → model.represents old s
+      → Reads model old new s (Is s) result
 
--- a call that acts on a batch
-pub record IsAct {K : Type 0} (sight : Sight K) (old new : K) (b : BatchValue)
+-- a call that acts on a batch: if the store is clean as it ends, the batch acts whole or not at all
+pub record IsWrite {K : Type 0} (model : Model K) (old new : K) (b : BatchValue)
     (result : Result Reply Fault) : Type 0 where
-  pub applied : sight.applies old b result new
-  pub step : IsStep sight old new result
-  pub acts : sight.is_clean new → (s : State) → sight.stands old s
-      → Acts s b result (sight.stands new)
-  pub leaves : sight.is_clean new → (s : State) → sight.stands old s
-      → LeavesOnly (sight.may_leave old) (Some s) → ApplyLeaves s b result (sight.may_leave new)
+  pub applied : model.applies old b result new
+  pub call : IsCall model old new result
+  pub writes : model.is_clean new → (s : State) → model.represents old s
+      → Writes model old new s b result
 
--- what it stands for after a run of which k batches were answered
-abbrev pub RunEnds : State → List BatchValue → ℕ → Option Fault → (State → Type 0) → Type 0
-RunEnds s bs k None stands = stands (after_all s (take k bs))
-RunEnds s bs k (Some Memory) stands = stands (after_all s (take k bs))
-RunEnds s bs k (Some Device) stands = Unit {0}
-RunEnds s bs k (Some Damaged) stands = ⊥
-RunEnds s bs k (Some Reopen) stands = ⊥
-
--- and what a stop may leave then: the state of a beginning of the batches
-abbrev pub RunLeaves : State → List BatchValue → ℕ → Option Fault → (Option State → Type 0) → Type 0
-RunLeaves s bs k None left = LeavesOnly left (Some (after_all s (take k bs)))
-RunLeaves s bs k (Some Memory) left = LeavesOnly left (Some (after_all s (take k bs)))
-RunLeaves s bs k (Some Device) left = LeavesEither left (Some (after_all s (take k bs)))
+-- a run of batches, if the keeper represented this state: k of them were answered, and the keeper
+-- represents the state after these; or the store failed, and a crash leaves that state or the one
+-- after one batch more
+abbrev pub RunEnds : {K : Type 0} → Model K → (old new : K) → State → List BatchValue → ℕ
+    → Option Fault → Type 0
+RunEnds model old new s bs k None = model.represents new (after_all s (take k bs))
+RunEnds model old new s bs k (Some Memory) = model.represents new (after_all s (take k bs))
+RunEnds model old new s bs k (Some Device) = model.fails old new
+    × LeavesEither (model.may_leave new) (Some (after_all s (take k bs)))
     (Some (after_all s (take (k + 1) bs)))
-RunLeaves s bs k (Some Damaged) left = ⊥
-RunLeaves s bs k (Some Reopen) left = ⊥
+RunEnds model old new s bs k (Some Damaged) = ⊥
+RunEnds model old new s bs k (Some Reopen) = ⊥
 
--- and what shut it
+-- what shut the keeper of a run
 abbrev pub RunShuts : Option Fault → Option Cause → Option Cause → Type 0
 RunShuts None old new = new ≡ old
 RunShuts (Some Memory) old new = new ≡ old

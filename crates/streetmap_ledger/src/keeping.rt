@@ -1,23 +1,23 @@
-//! What tells the batches that it keeps.
-ghost use Rattle.streetmap_ledger.specs.Keep.{IsLook, IsBatchCount, IsBatchOf, AreNextOf};
+//! A keeper that gives back the batches that it keeps.
+ghost use Rattle.streetmap_ledger.specs.Keep.{IsRead, IsBatchCount, IsBatchOf, AreNextOf};
 
 use crate::keeper::Keeper;
 use crate::kept_batch::KeptBatch;
 use crate::reply::Fault;
 use std::alloc::Global;
 
-/// A keeper that tells the batches that it keeps, by looks.
+/// A keeper that gives back the batches that it keeps.
 pub trait KeepsBatches: Keeper {
     /// How many batches are kept. They have the serials from 1 to that number, one each.
     fn batch_count(&mut self) -> Result<u64, Fault>
-        ensures { IsLook Self.sight self.old self.new result IsBatchCount };
+        ensures { IsRead Self.model self.old self.new result IsBatchCount };
 
-    /// The batch that is kept with a serial; none where there is none.
+    /// The batch that is kept with a serial; none if there is none.
     fn batch(&mut self, serial: u64) -> Result<Option<KeptBatch>, Fault>
-        ensures { IsLook Self.sight self.old self.new result (IsBatchOf serial) };
+        ensures { IsRead Self.model self.old self.new result (IsBatchOf serial) };
 
-    /// The batches with the next serials behind one, in order: one at least, where one is kept, and
+    /// The batches with the next serials after one, in order: one at least, if one is kept, and
     /// further ones while the texts of those before have at most `room` bytes.
     fn batches(&mut self, alloc: Global, after: u64, room: usize) -> Result<Vec<KeptBatch>, Fault>
-        ensures { IsLook Self.sight self.old self.new result (AreNextOf after room) };
+        ensures { IsRead Self.model self.old self.new result (AreNextOf after room) };
 }

@@ -114,7 +114,7 @@ fn accept(
 }
 
 impl PlainKeeper {
-    /// A keeper that stands for the opening state.
+    /// A keeper that represents the opening state.
     pub fn new(alloc: Global) -> Self
         ensures { IsPlainState result opening_state }
     {
@@ -250,9 +250,9 @@ impl PlainKeeper {
 }
 
 impl Keeper for PlainKeeper {
-    ghost use Rattle.streetmap_memory.specs.Plain.{plain_sight};
+    ghost use Rattle.streetmap_memory.specs.Plain.{plain_model};
 
-    ghost sight = { plain_sight };
+    ghost model = { plain_model };
 
     fn is_open(&self) -> bool {
         true

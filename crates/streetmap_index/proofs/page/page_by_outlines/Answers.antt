@@ -6,7 +6,7 @@ use Rattle.streetmap_query.specs.Views.{query_value}
 use Rattle.streetmap_ledger.specs.Pages.{candidates, page_over}
 use Rattle.streetmap_ledger.specs.Folds.{HoldsCandidates}
 use Rattle.streetmap_ledger.proofs.Examining.{same_page}
-use Rattle.streetmap_ledger.proofs.Looking.{no_look, look_so, look_then, look_made, look_failed, look_lost, look_after}
+use Rattle.streetmap_ledger.proofs.Calls.{no_read, read_so, read_then, read_made, read_failed, read_lost, read_after}
 use Rattle.streetmap_outlines.specs.Outlines.{joined, LiesWithin, AreOutlines, IsBounded, AreBounded, IsListedChunk, AreListed}
 use Rattle.streetmap_outlines.proofs.Covering.{passed_over}
 use Rattle.streetmap_outlines.specs.Selecting.{is_marked_if}
@@ -18,8 +18,8 @@ use Rattle.streetmap_outlines.proofs.Pairing.{Going, paired, goes_on_behind, all
 use Rattle.streetmap_index.proofs.page.page_by_outlines.Goals as goal
 
 pub loop-chunk-init : goal.loop-chunk-init
-loop-chunk-init g c = no_look c.args.keeper.now tt c.requires (λ s e d there known.
-    let sound = g.K.Keeper.sight.well_formed c.args.keeper.now s e in
+loop-chunk-init g c = no_read c.args.keeper.now tt c.requires (λ s e d there known.
+    let sound = g.K.Keeper.model.well_formed c.args.keeper.now s e in
     record {
       met = [];
       left = values d.features;
@@ -35,7 +35,7 @@ loop-chunk-preserved-then-is_passed_over g c =
     let cs = c.as_slice-chunks.result.now in
     let i = c.loop-chunk.chunk-index in
     let chunk = c.chunk-item.result in
-    look_so inv (λ s _ e going d there known.
+    read_so inv (λ s _ e going d there known.
     let fold = c.loop-chunk.fold in
     let bounded = subst IsBounded (sym c.chunk-item.is) (subst AreBounded (sym c.as_slice-chunks.ensures.value) known.chunks.bounded i chunk (omega arith)) in
     goes_on_behind q fold fold d.features (values d.features) chunk.outlines.items (joined (drop (i + 1) cs))
@@ -49,7 +49,7 @@ loop-chunk-preserved-then-count_chunk g c =
     let cs = c.as_slice-chunks.result.now in
     let i = c.loop-chunk.chunk-index in
     let chunk = c.chunk-item.result in
-    look_so inv (λ s _ e going d there known.
+    read_so inv (λ s _ e going d there known.
     let bounded = subst IsBounded (sym c.chunk-item.is) (subst AreBounded (sym c.as_slice-chunks.ensures.value) known.chunks.bounded i chunk (omega arith)) in
     let order = chunk_in_order cs i chunk d.features (subst (λ xs. AreOutlines (joined xs) d.features) (sym c.as_slice-chunks.ensures.value) known.chunks.outlines) (omega arith) c.chunk-item.is in
     goes_on_behind q c.loop-chunk.fold c.count_chunk.new.fold d.features (values d.features) chunk.outlines.items (joined (drop (i + 1) cs))
@@ -66,7 +66,7 @@ loop-chunk-preserved-then-is_unmarked g c =
     let outlines = c.args.outlines.now in
     let off : is_marked_if c.marks-found.result chunk.number ≡ false =
     not-true (is_marked_if c.marks-found.result chunk.number) (ap (λ (m : Option Marks). not (is_marked_if m chunk.number)) (sym c.as_ref-marks.ensures.value) ∙ (sym c.is_unmarked.ensures ∙ c.if-is_unmarked.true)) in
-    look_so inv (λ s _ e going d there known.
+    read_so inv (λ s _ e going d there known.
     let fold = c.loop-chunk.fold in
     let listed = subst (IsListedChunk outlines.cells) (sym c.chunk-item.is) (subst (AreListed outlines.cells) (sym c.as_slice-chunks.ensures.value) known.listed i chunk (omega arith)) in
     goes_on_behind q fold fold d.features (values d.features) chunk.outlines.items (joined (drop (i + 1) cs))
@@ -80,7 +80,7 @@ loop-chunk-preserved g c =
     let cs = c.as_slice-chunks.result.now in
     let i = c.loop-chunk.chunk-index in
     let chunk = c.chunk-item.result in
-    look_after inv c.in-Ok-true.ensures (λ s e going takes d there known.
+    read_after inv c.in-Ok-true.ensures (λ s e going takes d there known.
     let bounded = subst IsBounded (sym c.chunk-item.is) (subst AreBounded (sym c.as_slice-chunks.ensures.value) known.chunks.bounded i chunk (omega arith)) in
     goes_on_behind q c.loop-chunk.fold c.take_outlined.new.fold d.features (values d.features) chunk.outlines.items (joined (drop (i + 1) cs))
     (subst (Going q c.loop-chunk.fold d.features (values d.features)) (next_chunk cs i chunk chunk.outlines.items (omega arith) c.chunk-item.is refl) (going d there known))
@@ -90,17 +90,17 @@ loop-chunk-preserved g c =
 
 pub returns-in-Err : goal.returns-in-Err
 returns-in-Err g c =
-    let sight = g.K.Keeper.sight in
-    look_failed (look_then c.loop-chunk.invariant c.in-Err.ensures (λ s y e going takes. takes))
+    let model = g.K.Keeper.model in
+    read_failed (read_then c.loop-chunk.invariant c.in-Err.ensures (λ s y e going takes. takes))
 
 pub returns-in-Ok-false : goal.returns-in-Ok-false
-returns-in-Ok-false g c = look_after c.loop-chunk.invariant c.in-Ok-false.ensures (λ s e going takes. tt)
+returns-in-Ok-false g c = read_after c.loop-chunk.invariant c.in-Ok-false.ensures (λ s e going takes. tt)
 
 pub returns-in-Ok : goal.returns-in-Ok
 returns-in-Ok g c =
     let q = query_value c.args.query.now in
     let cs = c.as_slice-chunks.result.now in
-    look_made c.loop-chunk.invariant (λ s e going d there known.
+    read_made c.loop-chunk.invariant (λ s e going d there known.
     let all = subst (Going q c.loop-chunk.fold d.features (values d.features)) (ap joined (drop_all c.loop-chunk.chunk-index cs (omega arith))) (going d there known) in
     let met = candidates q all.met in
     c.in-Ok.ensures q met all.holds.holds ∙ (same_page q (length met) met all.met all.holds.whole ∙ ap (page_over q) (all_met q c.loop-chunk.fold d.features (values d.features) all)))

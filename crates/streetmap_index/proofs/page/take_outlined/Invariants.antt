@@ -3,7 +3,7 @@ use Rattle.std.specs.FinMap.{get}
 use Rattle.streetmap_geojson.specs.FeatureValue.{FeatureValue}
 use Rattle.streetmap_query.specs.Views.{query_value}
 use Rattle.streetmap_ledger.specs.State.{Collection}
-use Rattle.streetmap_ledger.specs.Keep.{IsLook}
+use Rattle.streetmap_ledger.specs.Keep.{IsRead}
 use Rattle.streetmap_ledger.specs.Folds.{HoldsCandidates}
 use Rattle.streetmap_outlines.specs.Outlines.{IsBounded}
 use Rattle.streetmap_outlines.specs.Outlines.{Pairs}
@@ -14,7 +14,7 @@ use Rattle.streetmap_index.proofs.page.take_outlined.Given as goal
 abbrev pub invariant-loop-place : goal.invariant-loop-place
 invariant-loop-place g l = record {
   within : l.place ≤ length l.outlines;
-  look : IsLook {T = Unit {0}} g.K.Keeper.sight l.fn.keeper l.keeper (Ok tt) (λ s _.
+  look : IsRead {T = Unit {0}} g.K.Keeper.model l.fn.keeper l.keeper (Ok tt) (λ s _.
       (c : Collection) (met fs : List FeatureValue) → get s.collections l.collection ≡ Some c → IsBounded l.chunk → Pairs c.features l.outlines fs → HoldsCandidates (query_value l.query) l.fn.fold met → Going (query_value l.query) l.fold c.features (met ++ fs) (drop l.place l.outlines));
 }
 

@@ -1,6 +1,6 @@
 use Rattle.std.proofs.Common.{◌≡◌, ◌+◌, ◌∷◌, ◌++◌, [], true, Bool, take, ap, sym, subst, ◌∙◌, arith}
 use Rattle.std.proofs.lemmas.List.{take_more, take_all}
-use Rattle.streetmap_ledger.proofs.Looking.{look_then, look_made, look_failed, look_after}
+use Rattle.streetmap_ledger.proofs.Calls.{read_then, read_made, read_failed, read_after}
 use Rattle.streetmap_outlines.specs.declared.kept.KeptOutline.{KeptOutline}
 use Rattle.streetmap_index.specs.Taking.{TakesRun}
 use Rattle.streetmap_index.proofs.Runs.{taken_behind}
@@ -15,20 +15,20 @@ loop-outline-preserved g c =
     let old = c.args.fold.now in
     let new = c.take_one.new.fold in
     let next : take (i + 1) os ≡ take i os ++ o ∷ [] = take_more os i o c.loop-outline-test.true ∙ ap (λ (x : KeptOutline). take i os ++ x ∷ []) (sym c.outline-item.is) in
-    look_after c.loop-outline.invariant c.in-Ok-true.ensures
+    read_after c.loop-outline.invariant c.in-Ok-true.ensures
     (λ s e so_far one. subst (λ xs. TakesRun name xs old new s true) (sym next) (taken_behind s name (take i os) (o ∷ []) old c.loop-outline.fold new so_far (λ _. one c.in-Ok-true.field-0-test)))
 
 pub returns-in-Err : goal.returns-in-Err
 returns-in-Err g c =
-    let sight = g.K.Keeper.sight in
-    look_failed (look_then c.loop-outline.invariant c.in-Err.ensures (λ s y e so_far one. one))
+    let model = g.K.Keeper.model in
+    read_failed (read_then c.loop-outline.invariant c.in-Err.ensures (λ s y e so_far one. one))
 
 pub returns-in-Ok-false : goal.returns-in-Ok-false
-returns-in-Ok-false g c = look_after c.loop-outline.invariant c.in-Ok-false.ensures (λ s e so_far one taken. absurd cc)
+returns-in-Ok-false g c = read_after c.loop-outline.invariant c.in-Ok-false.ensures (λ s e so_far one taken. absurd cc)
 
 pub returns : goal.returns
 returns g c =
     let os = c.args.outlines.now in
     let all : take c.loop-outline.outline-index os ≡ os = take_all c.loop-outline.outline-index os (omega arith) in
-    look_made c.loop-outline.invariant
+    read_made c.loop-outline.invariant
     (λ s e so_far. subst (λ xs. TakesRun c.args.collection.now xs c.args.fold.now c.loop-outline.fold s true) all so_far)

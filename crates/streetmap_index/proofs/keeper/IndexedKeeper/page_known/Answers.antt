@@ -1,11 +1,11 @@
 use Rattle.std.proofs.Common.{refl, sym}
-use Rattle.streetmap_ledger.proofs.Looking.{look_so}
-use Rattle.streetmap_index.proofs.Over.{look_beside}
+use Rattle.streetmap_ledger.proofs.Calls.{read_so}
+use Rattle.streetmap_index.proofs.Over.{read_beside}
 use Rattle.streetmap_index.proofs.keeper.IndexedKeeper.page_known.Goals as goal
 
 pub returns-in-Some : goal.returns-in-Some
 returns-in-Some g c =
-    look_so (look_beside c.page_with.ensures refl) (λ s x e is. is (e.1.0 _ _ (sym c.in-Some.ensures.value)))
+    read_so (read_beside c.page_with.ensures refl) (λ s x e is. is (e.1.0 _ _ (sym c.in-Some.ensures.value)))
 
 pub returns-in-None : goal.returns-in-None
-returns-in-None g c = look_beside c.page.ensures refl
+returns-in-None g c = read_beside c.page.ensures refl

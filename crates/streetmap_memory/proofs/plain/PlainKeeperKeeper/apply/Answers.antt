@@ -1,4 +1,4 @@
-use Rattle.std.proofs.Common.{Some, ap, ◌∙◌, rules}
+use Rattle.std.proofs.Common.{ap, ◌∙◌, rules}
 use Rattle.streetmap_batch.specs.BatchView.{batch_value}
 use Rattle.streetmap_ledger.specs.Batches.{act}
 use Rattle.streetmap_ledger.proofs.StatesStay.{act_sound}
@@ -9,10 +9,9 @@ returns-in-Ok c =
     let b = batch_value c.args.batch.now in
     record {
       applied = tt;
-      step = search rules;
-      acts = λ clean s stands. (
-        c.in-Ok.ensures.reply ∙ ap (λ t. (act t b).reply) stands.is,
-        record { is = c.in-Ok.ensures.state ∙ ap (λ t. (act t b).state) stands.is; sound = act_sound s b stands.sound c.facts.ensures },
+      call = search rules;
+      writes = λ clean s plain. (
+        c.in-Ok.ensures.reply ∙ ap (λ t. (act t b).reply) plain.is,
+        record { is = c.in-Ok.ensures.state ∙ ap (λ t. (act t b).state) plain.is; sound = act_sound s b plain.sound c.facts.ensures },
       );
-      leaves = λ clean s stands only o left. left ∙ ap Some (c.in-Ok.ensures.state ∙ ap (λ t. (act t b).state) stands.is);
     }
