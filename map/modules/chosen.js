@@ -164,7 +164,7 @@ export class Chosen {
       feature,
       pending: this.#view.pendingOf(collection, id),
       seen: this.#seen.find(collection, id)?.seen,
-      earth: this.#ground.earth,
+      beside: (position) => this.#ground.beside(position),
       others: this.#others,
     };
     showFeature(byId("panel-feature"), shown, {

@@ -4,7 +4,6 @@
 import { announce, askInDialog, button, element, renew } from "./element.js";
 import { middleOf } from "./geometry.js";
 import { writeJson } from "./json.js";
-import { degreesInWords } from "./place.js";
 import { geometryText, pendingText, valueText } from "./texts.js";
 import { clock, isTime, timeInWords } from "./time.js";
 import { say } from "./words.js";
@@ -56,17 +55,18 @@ async function copy(text) {
  * @param {import("./feature.js").Feature} shown.feature
  * @param {import("./pending.js").Pending} [shown.pending]
  * @param {number} [shown.seen] when the server showed it
- * @param {import("./place.js").Place | null} shown.earth
+ * @param {(position: import("./geometry.js").Position) => string[]} shown.beside a position in
+ *   other systems than the grid
  * @param {{collection: string, id: string}[]} shown.others features at the same place
  * @param {{onEdit: () => void, onDelete: () => void, onUndo: () => void, onGo: () => void,
  *   onSelect: (collection: string, id: string) => void}} listener
  */
 export function showFeature(panel, shown, listener) {
-  const { title, colour, feature, pending, seen, earth, others } = shown;
+  const { title, colour, feature, pending, seen, beside, others } = shown;
   const { id, geometry, properties } = feature;
   const isGone = pending?.edit.op === "delete";
   const middle = middleOf(geometry);
-  const degrees = middle && earth?.toDegrees(middle);
+  const texts = middle ? beside(middle) : [];
   const alsoHere = others.map((other) =>
     button(other.id, () => listener.onSelect(other.collection, other.id)),
   );
@@ -95,7 +95,7 @@ export function showFeature(panel, shown, listener) {
       { tabindex: 0, role: "group", "aria-label": say("Geometry in metres") },
       geometryText(geometry),
     ),
-    degrees ? element("p", { class: "note" }, `${degreesInWords(degrees)} (WGS 84)`) : "",
+    ...texts.map((text) => element("p", { class: "note beside" }, text)),
     seen && !pending ? element("p", { class: "note" }, say(
       "As of {time}.",
       { time: clock(seen) },

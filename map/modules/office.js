@@ -1,11 +1,12 @@
 /**
  * @file What the office says in `map.json`, which lies beside the page: where the grid lies on the
- * earth, and the form and the look of each collection. A part that has another form is left out,
- * and the page says which.
+ * earth and in the office's reference system, and the form and the look of each collection. A part
+ * that has another form is left out, and the page says which.
  *
  * @typedef {import("./fields.js").Field} Field
  * @typedef {object} Office
  * @property {import("./place.js").Place | null} place
+ * @property {import("./reference.js").Reference | null} reference
  * @property {Map<string, Field[]>} forms the fields of collections
  * @property {Map<string, import("./legend.js").Legend>} legends how collections are drawn
  * @property {string[]} problems what of `map.json` is not used, and why
@@ -14,6 +15,7 @@ import { readFields } from "./fields.js";
 import { readJson } from "./json.js";
 import { readLegend } from "./legend.js";
 import { Place } from "./place.js";
+import { readReference } from "./reference.js";
 
 /**
  * @param {any} json what `map.json` holds
@@ -21,7 +23,13 @@ import { Place } from "./place.js";
  */
 export function officeOf(json) {
   /** @type {Office} */
-  const office = { place: null, forms: new Map(), legends: new Map(), problems: [] };
+  const office = {
+    place: null,
+    reference: null,
+    forms: new Map(),
+    legends: new Map(),
+    problems: [],
+  };
   const attempt = (where, read) => {
     try {
       read();
@@ -30,6 +38,7 @@ export function officeOf(json) {
     }
   };
   attempt("place", () => (office.place = Place.of(json)));
+  attempt("grid", () => (office.reference = readReference(json)));
   const { collections = {} } = json ?? {};
   if (collections === null || typeof collections !== "object") {
     office.problems.push("collections: it is no object");

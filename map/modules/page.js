@@ -134,7 +134,7 @@ export class Page {
     this.view.legends = this.office.legends;
     this.collectionsPanel.show();
     this.#recolour();
-    this.ground.placeOnEarth(this.office.place);
+    this.ground.place(this.office);
     await this.#showSettings();
     await asked;
     this.#isPlaced = true;

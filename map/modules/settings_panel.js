@@ -127,7 +127,7 @@ async function imageForm(onBackground) {
  *   onBackground: (background: import("./background.js").Background | null) => void}} options
  */
 export async function showSettings(panel, { office, isKept, onBackground }) {
-  const earth = office.place;
+  const { place: earth, reference } = office;
   const error = earth && Math.max(1, Math.ceil(earth.error * 1000));
   const facts = [
     earth
@@ -136,6 +136,7 @@ export async function showSettings(panel, { office, isKept, onBackground }) {
         { system: earth.system || say("the office"), error },
       )
       : say("The office has not placed the grid in WGS 84, so your own position is not shown."),
+    reference ? say("East and north are shown in {system} too.", reference) : "",
     isKept
       ? say("The browser keeps edits and batches until they are sent.")
       : say("The browser may clear what waits here if the device runs out of room."),
@@ -151,6 +152,10 @@ export async function showSettings(panel, { office, isKept, onBackground }) {
   ];
   panel.replaceChildren(
     await nameForm(), await imageForm(onBackground), element("h2", {}, say("Good to know")),
-    element("ul", { class: "facts" }, ...facts.map((text) => element("li", {}, text))),
+    element(
+      "ul",
+      { class: "facts" },
+      ...facts.filter(Boolean).map((text) => element("li", {}, text)),
+    ),
   );
 }

@@ -1,6 +1,8 @@
-"""The table that places the grid in WGS 84, one's own position, and an image in the background."""
+"""The table that places the grid in WGS 84 and in the office's reference system, one's own position,
+and an image in the background."""
 
 import json
+import re
 from pathlib import Path
 from typing import Any
 
@@ -41,7 +43,8 @@ def patch(box: list[int]) -> dict[str, Any]:
 
 def table() -> dict[str, Any]:
     patches = [patch(box) for box in BOXES]
-    return {"place": {"system": "EPSG:25832", "error": 0.002, "patches": patches}}
+    grid = {"system": "EPSG:25832", "scale": 1000, "shift": ORIGIN}
+    return {"place": {"system": "EPSG:25832", "error": 0.002, "patches": patches}, "grid": grid}
 
 
 def reader(context: Context, page: Page) -> None:
@@ -87,6 +90,18 @@ def own_position(context: Context, page: Page) -> None:
     page.press("My position", "#tools")
     text = page.text("#place")
     context.check("degrees of the middle", f"{latitude:.6f}"[:9] in text, True)
+    east = re.search(r"([\d.]+) E, ([\d.]+) N \(EPSG:25832\)", text)
+    middle = [float(value) for value in east.groups()] if east else []
+    near = [abs(it - at) < 0.01 for it, at in zip(middle, (565_200, 5_934_128))]
+    context.check("the office's system", near or text, [True, True])
+    lamp = next(
+        it["feature"] for it in quarter()["edits"] if it.get("feature", {}).get("id") == "L010"
+    )
+    x, y = lamp["geometry"]["coordinates"]
+    page.choose("L010")
+    beside = page.texts("#panel-feature .beside")
+    wanted = f"{565_000 + x / 1000:.3f} E, {5_934_000 + y / 1000:.3f} N (EPSG:25832)"
+    context.check("a feature in it", beside[0], wanted)
 
 
 def background(context: Context, page: Page, made: Site) -> None:
