@@ -1,5 +1,6 @@
 /**
- * @file The basket: edits that were made and not yet saved, at most one for each feature.
+ * @file The basket: edits that were made and not yet saved, at most one for each feature. What was
+ * done in it since the last save can be undone, by any tab.
  *
  * @typedef {import("./feature.js").Feature} Feature
  * @typedef {object} Edit
@@ -13,7 +14,11 @@
  */
 import { changed } from "./channel.js";
 import { isSame, textOf } from "./feature.js";
-import { readAll, result, transact } from "./store.js";
+import { emptyHistory, takenAgain, takenBack, withStep } from "./history.js";
+import { readAll, readSetting, result, transact } from "./store.js";
+
+/** The setting that has the steps of the basket: its edits of a feature before and after each. */
+const STEPS = "basket steps";
 
 /**
  * Two edits of one feature, one after the other, as one.
@@ -89,10 +94,11 @@ export function editKey(edit) {
  *   nothing was changed
  */
 export async function putInBasket(edit, known) {
-  const other = await transact(["basket", "queue"], "readwrite", async (basket, queue) => {
+  const tables = ["basket", "queue", "settings"];
+  const other = await transact(tables, "readwrite", async (basket, queue, settings) => {
     const found = known === undefined ? undefined : await pendingEdit(basket, queue, edit);
     if (found && editKey(found) !== known) return found;
-    await putInto(basket, edit);
+    await noted(basket, settings, edit, () => putInto(basket, edit));
     return null;
   });
   if (!other) changed("basket");
@@ -100,10 +106,75 @@ export async function putInBasket(edit, known) {
 }
 
 /**
+ * Acts on the edit of a feature, and notes that as a step.
+ * @param {IDBObjectStore} basket
+ * @param {IDBObjectStore} settings
+ * @param {Pick<Edit, "collection" | "id">} feature
+ * @param {() => Promise<any>} act
+ */
+async function noted(basket, settings, { collection, id }, act) {
+  const read = async () => (await result(basket.get([collection, id]))) ?? null;
+  const before = await read();
+  await act();
+  const after = await read();
+  if (editKey(before) === editKey(after)) return;
+  const steps = (await result(settings.get(STEPS))) ?? emptyHistory();
+  await result(settings.put(withStep(steps, before, after), STEPS));
+}
+
+/**
+ * @param {(steps: import("./history.js").History<Edit | null>) =>
+ *   {history: import("./history.js").History<Edit | null>,
+ *   step: import("./history.js").Step<Edit | null> | null}} take
+ * @param {"before" | "after"} side of the step, as which the basket is to be
+ * @returns {Promise<Edit | null>} an edit of the feature that the step was of; null without a step
+ */
+async function walk(take, side) {
+  const step = await transact(["basket", "settings"], "readwrite", async (basket, settings) => {
+    const { history, step } = take((await result(settings.get(STEPS))) ?? emptyHistory());
+    if (!step) return null;
+    const { collection, id } = step.before ?? step.after;
+    const edit = step[side];
+    if (edit) await result(basket.put(edit));
+    else await result(basket.delete([collection, id]));
+    await result(settings.put(history, STEPS));
+    return step;
+  });
+  if (step) changed("basket");
+  return step && (step.before ?? step.after);
+}
+
+/** Takes the last step of the basket back. */
+export function undoInBasket() {
+  return walk(takenBack, "before");
+}
+
+/** Takes the step of the basket again that was taken back last. */
+export function redoInBasket() {
+  return walk(takenAgain, "after");
+}
+
+/** @returns {Promise<{canUndo: boolean, canRedo: boolean}>} which steps the basket has */
+export async function readSteps() {
+  const { done, undone } = (await readSetting(STEPS)) ?? emptyHistory();
+  return { canUndo: done.length > 0, canRedo: undone.length > 0 };
+}
+
+/**
+ * The edits went elsewhere: no step of theirs can be taken back.
+ * @param {IDBObjectStore} settings
+ */
+export async function forgetSteps(settings) {
+  await result(settings.delete(STEPS));
+}
+
+/**
  * Takes an edit out of the basket: the feature is again as it was.
  * @param {Pick<Edit, "collection" | "id">} edit
  */
 export async function takeOutOfBasket({ collection, id }) {
-  await transact(["basket"], "readwrite", (basket) => result(basket.delete([collection, id])));
+  await transact(["basket", "settings"], "readwrite", (basket, settings) =>
+    noted(basket, settings, { collection, id }, () => result(basket.delete([collection, id]))),
+  );
   changed("basket");
 }

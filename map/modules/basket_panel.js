@@ -1,7 +1,7 @@
 /**
  * @file The panel of the basket: what each edit is, and saving.
  */
-import { takeOutOfBasket } from "./basket.js";
+import { redoInBasket, takeOutOfBasket, undoInBasket } from "./basket.js";
 import { cut, readUser, userOf } from "./batch.js";
 import { announce, askInDialog, button, element, renew } from "./element.js";
 import { differences } from "./feature.js";
@@ -73,12 +73,25 @@ async function save(edits) {
   announce(say("Saved: it is sent as soon as the server answers."));
 }
 
+/** Takes the last step of the basket back, and says so. */
+export async function undoStep() {
+  const edit = await undoInBasket();
+  announce(edit ? say("Undone: {id}.", edit) : say("There is nothing to undo."));
+}
+
+/** Takes the step of the basket again that was taken back last, and says so. */
+export async function redoStep() {
+  const edit = await redoInBasket();
+  announce(edit ? say("Redone: {id}.", edit) : say("There is nothing to redo."));
+}
+
 /**
  * @param {HTMLElement} panel
  * @param {import("./basket.js").Edit[]} edits
- * @param {{onSelect: (collection: string, id: string) => void, canSave: boolean}} options
+ * @param {{onSelect: (collection: string, id: string) => void, canSave: boolean,
+ *   canUndo: boolean, canRedo: boolean}} options
  */
-export function showBasket(panel, edits, { onSelect, canSave }) {
+export function showBasket(panel, edits, { onSelect, canSave, canUndo, canRedo }) {
   const rows = edits.map((edit) =>
     element(
       "li", { class: `edit ${edit.op}` },
@@ -89,9 +102,9 @@ export function showBasket(panel, edits, { onSelect, canSave }) {
         element("div", {}, editText(edit, differences)),
       ),
       button(
-        say("Undo"),
+        say("Take out"),
         () => takeOutOfBasket(edit),
-        { class: "small", "aria-label": say("Undo the edit of {id}", { id: edit.id }) },
+        { class: "small", "aria-label": say("Take the edit of {name} out", { name: edit.id }) },
       ),
     ),
   );
@@ -107,6 +120,11 @@ export function showBasket(panel, edits, { onSelect, canSave }) {
   renew(
     panel,
     element("h2", {}, say("Basket")), element("p", { class: "note" }, text),
-    element("ul", { class: "edits" }, ...rows), element("p", { class: "buttons" }, main),
+    element("ul", { class: "edits" }, ...rows),
+    element(
+      "p", { class: "buttons" }, main,
+      button(say("Undo"), undoStep, { id: "basket-undo", disabled: !canUndo }),
+      button(say("Redo"), redoStep, { id: "basket-redo", disabled: !canRedo }),
+    ),
   );
 }

@@ -170,7 +170,7 @@ export class Chosen {
     showFeature(byId("panel-feature"), shown, {
       onEdit: () => this.#listener.onEdit(collection, feature),
       onDelete: () => putInBasket({ op: "delete", collection, id, feature: null, base: feature }),
-      onUndo: () => takeOutOfBasket({ collection, id }),
+      onTakeOut: () => takeOutOfBasket({ collection, id }),
       onGo: () => this.#view.goTo(feature),
       onSelect: (other, otherId) => this.choose(other, otherId, false),
     });

@@ -8,7 +8,7 @@
  * @typedef {import("./properties_form.js").Description} Description
  */
 import { announce, button, element, isPhone } from "./element.js";
-import { isId, isSame } from "./feature.js";
+import { isId, isSame, nameOf } from "./feature.js";
 import { GeometryForm } from "./geometry_form.js";
 import { readLast } from "./last.js";
 import { PropertiesForm } from "./properties_form.js";
@@ -23,7 +23,7 @@ const TITLES = {
 
 export class Editor {
   #view;
-  #ground;
+  #tools;
   #panel;
   #describe;
   #onCancel;
@@ -37,13 +37,14 @@ export class Editor {
 
   /**
    * @param {import("./view.js").View} view
-   * @param {import("./ground.js").Ground} ground
+   * @param {{ground: import("./ground.js").Ground, snapping: import("./snapping.js").Snapping,
+   *   bar: import("./drawing_bar.js").DrawingBar}} tools
    * @param {HTMLElement} panel where the form is shown
    * @param {{describe: (collection: string) => Description, onCancel: () => void}} listener
    */
-  constructor(view, ground, panel, { describe, onCancel }) {
+  constructor(view, tools, panel, { describe, onCancel }) {
     this.#view = view;
-    this.#ground = ground;
+    this.#tools = tools;
     this.#panel = panel;
     this.#describe = describe;
     this.#onCancel = onCancel;
@@ -57,6 +58,16 @@ export class Editor {
   /** @returns {boolean} whether something would be lost if the form were closed */
   get isBegun() {
     return this.isOpen && (this.#isTyped || !this.#geometry.isEmpty);
+  }
+
+  /** Takes back the last step of what is drawn. */
+  undo() {
+    this.#geometry.undo();
+  }
+
+  /** Takes the step again that was taken back last. */
+  redo() {
+    this.#geometry.redo();
   }
 
   /** @returns {import("./sketch.js").Sketch | null} what takes positions now */
@@ -139,7 +150,8 @@ export class Editor {
     this.stop();
     this.#isTyped = false;
     this.#problem.textContent = "";
-    this.#geometry = new GeometryForm(this.#view.map, this.#ground.own, {
+    this.#tools.snapping.except = feature ? nameOf(collection, feature.id) : "";
+    this.#geometry = new GeometryForm(this.#view.map, this.#tools, {
       onProblem: (text) => (this.#problem.textContent = text),
       onMeasured: (accuracy) => this.#properties.measure(accuracy),
     });

@@ -4,6 +4,7 @@
 import { announce, askInDialog, button, element, renew } from "./element.js";
 import { middleOf } from "./geometry.js";
 import { writeJson } from "./json.js";
+import { measured, measuresInWords } from "./measure.js";
 import { geometryText, pendingText, valueText } from "./texts.js";
 import { clock, isTime, timeInWords } from "./time.js";
 import { say } from "./words.js";
@@ -58,7 +59,7 @@ async function copy(text) {
  * @param {(position: import("./geometry.js").Position) => string[]} shown.beside a position in
  *   other systems than the grid
  * @param {{collection: string, id: string}[]} shown.others features at the same place
- * @param {{onEdit: () => void, onDelete: () => void, onUndo: () => void, onGo: () => void,
+ * @param {{onEdit: () => void, onDelete: () => void, onTakeOut: () => void, onGo: () => void,
  *   onSelect: (collection: string, id: string) => void}} listener
  */
 export function showFeature(panel, shown, listener) {
@@ -67,6 +68,7 @@ export function showFeature(panel, shown, listener) {
   const isGone = pending?.edit.op === "delete";
   const middle = middleOf(geometry);
   const texts = middle ? beside(middle) : [];
+  const measures = measuresInWords(measured(geometry));
   const alsoHere = others.map((other) =>
     button(other.id, () => listener.onSelect(other.collection, other.id)),
   );
@@ -84,7 +86,7 @@ export function showFeature(panel, shown, listener) {
       "p", { class: "buttons" },
       isGone ? null : button(say("Edit"), listener.onEdit, { class: "main" }),
       isGone ? null : button(say("Delete"), listener.onDelete),
-      pending?.mark === "basket" ? button(say("Undo"), listener.onUndo) : null,
+      pending?.mark === "basket" ? button(say("Take out"), listener.onTakeOut) : null,
       button(say("Show"), listener.onGo),
       button(say("Copy as GeoJSON"), () => copy(writeJson(feature))),
     ),
@@ -95,6 +97,7 @@ export function showFeature(panel, shown, listener) {
       { tabindex: 0, role: "group", "aria-label": say("Geometry in metres") },
       geometryText(geometry),
     ),
+    measures ? element("p", { class: "note" }, measures) : "",
     ...texts.map((text) => element("p", { class: "note beside" }, text)),
     seen && !pending ? element("p", { class: "note" }, say(
       "As of {time}.",

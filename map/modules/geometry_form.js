@@ -1,22 +1,27 @@
 /**
- * @file The geometry in the form: drawn, typed in metres, and moved.
+ * @file The geometry in the form: drawn, typed in metres, and moved. Each step can be taken back.
  *
  * @typedef {import("./geometry.js").Geometry} Geometry
  * @typedef {import("./geometry.js").Position} Position
+ * @typedef {import("./sketch.js").Sketched} Sketched
  * @typedef {"Point" | "LineString" | "Polygon"} Drawn
+ * @typedef {object} Draft
+ * @property {Geometry | null} geometry null if there is none yet
+ * @property {number | null} accuracy how far it may be off, in metres, if it was measured
+ * @property {Sketched | null} sketch the positions on their way to it, or to a hole in it
  */
 import { announce, button, element, isPhone, takeBack } from "./element.js";
-import { describe, paths } from "./geometry.js";
-import { hidePlacing, showPlacing } from "./placing_bar.js";
+import { describe, middleOf, paths } from "./geometry.js";
+import { emptyHistory, takenAgain, takenBack, withStep } from "./history.js";
+import { measured, measuresInWords, sketchMeasured } from "./measure.js";
 import { accuracyInWords } from "./position.js";
-import { positionFields, typedPosition } from "./positions_form.js";
+import { positionFields, stepField, typedPosition } from "./positions_form.js";
 import { Shape } from "./shape.js";
-import { Sketch } from "./sketch.js";
+import { Sketch, newSketch } from "./sketch.js";
 import { countedPositions } from "./texts.js";
 import { say } from "./words.js";
 
-const STEPS = { 1: "1 mm", 10: "1 cm", 100: "10 cm", 1000: "1 m", 10000: "10 m" };
-/** @type {Record<Drawn, "point" | "line" | "ring">} */
+/** @type {Record<Drawn, import("./sketch.js").SketchKind>} */
 const KINDS = { Point: "point", LineString: "line", Polygon: "ring" };
 /** @type {Record<Drawn, string>} */
 const OFFERS = {
@@ -36,27 +41,30 @@ export class GeometryForm {
   /** @type {Shape | null} */
   shape = null;
   element = element("div", { class: "geometry" });
-  /** @type {number | null} how far the positions may be off, in metres, if they were measured */
-  #accuracy = null;
+  /** @type {Draft} */
+  #draft = { geometry: null, accuracy: null, sketch: null };
+  #history = emptyHistory();
   #map;
-  #own;
+  #tools;
   #listener;
 
   /**
    * @param {import("../leaflet/leaflet.esm.js").Map} map
-   * @param {import("./position.js").OwnPosition | null} own
+   * @param {{ground: import("./ground.js").Ground, snapping: import("./snapping.js").Snapping,
+   *   bar: import("./drawing_bar.js").DrawingBar}} tools
    * @param {{onProblem: (text: string) => void, onMeasured: (accuracy: number | null) => void}}
    *   listener gets no text once there is no problem any more
    */
-  constructor(map, own, listener) {
+  constructor(map, tools, listener) {
     this.#map = map;
-    this.#own = own;
+    this.#tools = tools;
     this.#listener = listener;
+    tools.bar.open({ onUndo: () => this.undo(), onRedo: () => this.redo() });
   }
 
   /** @returns {boolean} whether nothing was drawn yet */
   get isEmpty() {
-    return this.sketch?.positions.length === 0 && !this.shape;
+    return this.sketch?.positions.length === 0 && !this.#draft.geometry;
   }
 
   /** @returns {Geometry | null} what was drawn; it throws if that is not finished */
@@ -68,77 +76,51 @@ export class GeometryForm {
 
   /** Ends drawing; what is shown of it stays. */
   stop() {
+    this.#rest();
+    this.#tools.bar.close();
+  }
+
+  /** Takes what is drawn from the map. */
+  #rest() {
     takeBack(HOW);
-    hidePlacing();
     this.sketch?.stop();
     this.shape?.stop();
     [this.sketch, this.shape] = [null, null];
   }
 
-  /** Offers to draw a geometry where there is none. */
-  offer() {
-    /** @type {Drawn[]} */
-    const types = ["Point", "LineString", "Polygon"];
-    const offers = types.map((type) =>
-      button(OFFERS[type], () => this.draw(type)),
-    );
-    this.element.replaceChildren(
-      element("p", {}, say("It has no geometry.")),
-      element("p", { class: "buttons" }, ...offers),
-    );
+  /** Takes the last step back. */
+  undo() {
+    this.#walk(takenBack(this.#history), "before");
+  }
+
+  /** Takes the step again that was taken back last. */
+  redo() {
+    this.#walk(takenAgain(this.#history), "after");
   }
 
   /**
-   * Lets a geometry be drawn from its first position on.
-   * @param {Drawn} type
+   * @param {{history: import("./history.js").History<Draft>,
+   *   step: import("./history.js").Step<Draft> | null}} walked
+   * @param {"before" | "after"} side
    */
-  draw(type) {
-    this.#sketch(KINDS[type], (positions, accuracy) => {
-      this.#accuracy = accuracy;
-      this.#listener.onMeasured(accuracy);
-      const forms = { Point: positions[0], LineString: positions, Polygon: [positions] };
-      this.adjust({ type, coordinates: forms[type] });
-    });
+  #walk({ history, step }, side) {
+    if (!step) return;
+    const { accuracy } = this.#draft;
+    this.#history = history;
+    this.#show(step[side]);
+    if (step[side].accuracy !== accuracy) this.#listener.onMeasured(step[side].accuracy);
   }
 
-  /**
-   * @param {"point" | "line" | "ring"} kind
-   * @param {(positions: Position[], accuracy: number | null) => void} onDone
-   */
-  #sketch(kind, onDone) {
-    this.sketch = new Sketch(this.#map, kind, {
-      onChange: () => show(),
-      onDone: (positions, accuracy) => {
-        this.sketch = null;
-        takeBack(HOW);
-        hidePlacing();
-        onDone(positions, accuracy);
-      },
-    });
-    const { sketch } = this;
-    const count = element("p", { role: "status" });
-    const typed = typedPosition((position) => {
-      this.#listener.onProblem(position ? "" : say("East and north are metres of the grid."));
-      if (position) sketch.add(position);
-    });
-    const finish = button(say("Finish"), () => sketch.finish(), { class: "finish" });
-    const back = button(say("Remove last"), () => sketch.removeLast());
-    const show = () => {
-      const { length } = sketch.positions;
-      count.textContent = kind === "point" ? "" : countedPositions(length);
-      finish.disabled = !sketch.isEnough;
-      back.disabled = length === 0;
-    };
-    show();
-    const steps = kind === "point" ? [] : [finish, back];
-    // On a phone the map is in view, and this part of the form may not be.
-    showPlacing(sketch, this.#own, isPhone() ? steps : []);
-    this.element.replaceChildren(
-      element("p", {}, HOW),
-      typed, count,
-      steps.length > 0 && !isPhone() ? element("p", { class: "buttons" }, ...steps) : "",
-    );
-    announce(HOW);
+  /** @param {Draft} draft what there is after a step */
+  #step(draft) {
+    this.#history = withStep(this.#history, this.#draft, draft);
+    this.#draft = draft;
+    this.#showSteps();
+  }
+
+  #showSteps() {
+    const { done, undone } = this.#history;
+    this.#tools.bar.allow({ canUndo: done.length > 0, canRedo: undone.length > 0 });
   }
 
   /**
@@ -146,38 +128,157 @@ export class GeometryForm {
    * @param {Geometry} geometry
    */
   adjust(geometry) {
-    this.shape?.stop();
+    this.#show({ geometry, accuracy: null, sketch: null });
+  }
+
+  /** Offers to draw a geometry where there is none. */
+  offer() {
+    this.#show({ geometry: null, accuracy: null, sketch: null });
+  }
+
+  /**
+   * Lets a geometry be drawn from its first position on.
+   * @param {Drawn} type
+   */
+  draw(type) {
+    this.#show({ geometry: null, accuracy: null, sketch: newSketch(KINDS[type]) });
+    announce(HOW);
+  }
+
+  /** @param {Draft} draft what there is from now on */
+  #show(draft) {
+    this.#rest();
+    this.#draft = draft;
+    const { geometry, sketch } = draft;
+    if (geometry) this.#showShape(geometry, sketch !== null);
+    if (sketch) this.#showSketch(sketch);
+    else this.#tools.bar.place(null, null, []);
+    if (!geometry && !sketch) this.#showOffers();
+    this.#showSteps();
+  }
+
+  #showOffers() {
+    /** @type {Drawn[]} */
+    const types = ["Point", "LineString", "Polygon"];
+    const draw = (type) => {
+      this.#step({ ...this.#draft, sketch: newSketch(KINDS[type]) });
+      this.#show(this.#draft);
+      announce(HOW);
+    };
+    const offers = types.map((type) => button(OFFERS[type], () => draw(type)));
+    this.#tools.bar.measure("");
+    this.element.replaceChildren(
+      element("p", {}, say("It has no geometry.")),
+      element("p", { class: "buttons" }, ...offers),
+    );
+  }
+
+  /** @param {Sketched} sketched */
+  #showSketch(sketched) {
+    const { kind } = sketched;
+    const { bar, ground, snapping } = this.#tools;
+    const measure = (positions) => bar.measure(measuresInWords(sketchMeasured(kind, positions)));
+    const sketch = new Sketch(this.#map, snapping, sketched, {
+      onChange: () => {
+        const { positions, accuracies } = sketch;
+        const now = { kind, positions: [...positions], accuracies: [...accuracies] };
+        this.#step({ ...this.#draft, sketch: now });
+        show();
+      },
+      onPointer: measure,
+      onDone: (positions, accuracy) => this.#drawn(kind, positions, accuracy),
+    });
+    this.sketch = sketch;
+    const count = element("p", { role: "status" });
+    const typed = typedPosition((position) => {
+      this.#listener.onProblem(position ? "" : say("East and north are metres of the grid."));
+      if (position) sketch.add(position);
+    });
+    const finish = button(say("Finish"), () => sketch.finish(), { class: "finish" });
+    const show = () => {
+      const { positions } = sketch;
+      const measures = measuresInWords(sketchMeasured(kind, positions));
+      const words = [countedPositions(positions.length), measures].filter(Boolean).join(", ");
+      count.textContent = kind === "point" ? "" : words;
+      measure(positions);
+      finish.disabled = !sketch.isEnough;
+    };
+    show();
+    const steps = kind === "point" ? [] : [finish];
+    // On a phone the map is in view, and this part of the form may not be.
+    bar.place(sketch, ground.own, isPhone() ? steps : []);
+    this.element.replaceChildren(
+      element("p", {}, HOW),
+      typed, count,
+      steps.length > 0 && !isPhone() ? element("p", { class: "buttons" }, ...steps) : "",
+    );
+  }
+
+  /**
+   * @param {import("./sketch.js").SketchKind} kind
+   * @param {Position[]} positions
+   * @param {number | null} accuracy
+   */
+  #drawn(kind, positions, accuracy) {
+    const { geometry: outer } = this.#draft;
+    const forms = {
+      point: { type: "Point", coordinates: positions[0] },
+      line: { type: "LineString", coordinates: positions },
+      ring: { type: "Polygon", coordinates: [...(outer?.coordinates ?? []), positions] },
+    };
+    // A hole is drawn in what is there, and says nothing of how that was measured.
+    const kept = outer ? this.#draft.accuracy : accuracy;
+    this.#step({ geometry: forms[kind], accuracy: kept, sketch: null });
+    this.#show(this.#draft);
+    if (!outer) this.#listener.onMeasured(accuracy);
+  }
+
+  /**
+   * @param {Geometry} geometry
+   * @param {boolean} isFixed whether a hole is drawn in it
+   */
+  #showShape(geometry, isFixed) {
+    const { bar, ground, snapping } = this.#tools;
     const handles = element("p", { class: "note", role: "status" });
     const moved = () => {
-      if (this.#accuracy !== null) this.#listener.onMeasured(null);
-      this.#accuracy = null;
+      if (this.#draft.accuracy !== null) this.#listener.onMeasured(null);
+      this.#step({ geometry: structuredClone(shape.geometry), accuracy: null, sketch: null });
       show();
     };
-    this.shape = new Shape(this.#map, geometry, {
+    const measure = (drawn) => bar.measure(measuresInWords(measured(drawn)));
+    const shape = new Shape(this.#map, snapping, geometry, isFixed, {
       onChange: moved,
+      onDrag: measure,
       onHandles: (inView, shown) => {
         const count = countedPositions(inView);
         const text = say("{count} in view: zoom in to move one.", { count });
         handles.textContent = shown < inView ? text : "";
       },
     });
-    const { shape } = this;
+    this.shape = shape;
+    if (isFixed) return;
     const count = paths(geometry).reduce((sum, { positions }) => sum + positions.length, 0);
     const words = element("p", { class: "what" });
+    const beside = element("p", { class: "note beside" });
     const table = element("div", { class: "positions" });
     const show = () => {
-      const isMeasured = this.#accuracy !== null;
-      const measured = isMeasured ? `, ${accuracyInWords(this.#accuracy)}` : "";
-      words.textContent = describe(shape.geometry) + measured;
+      const { accuracy } = this.#draft;
+      const measures = measuresInWords(measured(shape.geometry));
+      const good = accuracy === null ? "" : accuracyInWords(accuracy);
+      const all = [describe(shape.geometry), measures, good].filter(Boolean);
+      words.textContent = all.join(", ");
+      measure(shape.geometry);
+      beside.textContent = ground.beside(middleOf(shape.geometry)).join(" · ");
       if (!table.contains(document.activeElement)) table.replaceChildren(...positionFields(shape));
     };
     show();
-    const hole = () => this.#sketch("ring", (positions) => {
-      shape.geometry.coordinates.push(positions);
-      this.adjust(shape.geometry);
-    });
+    const hole = () => {
+      this.#step({ ...this.#draft, sketch: newSketch("ring") });
+      this.#show(this.#draft);
+      announce(HOW);
+    };
     this.element.replaceChildren(
-      words, handles, stepField(shape),
+      words, beside, handles, stepField(shape),
       shape.geometry.type === "Polygon"
         ? element("p", { class: "buttons" }, button(say("Add a hole"), hole))
         : "",
@@ -185,18 +286,4 @@ export class GeometryForm {
         element("summary", {}, say("Positions in metres")), table),
     );
   }
-}
-
-/**
- * @param {Shape} shape
- * @returns {HTMLElement} by how much arrow keys move its positions
- */
-function stepField(shape) {
-  const steps = Object.entries(STEPS);
-  const options = steps.map(([value, text]) => element("option", { value }, text));
-  const choose = () => (shape.step = Number(step.value));
-  const step = element("select", { id: "step", onchange: choose }, ...options);
-  step.value = String(shape.step);
-  const label = element("label", { for: "step" }, say("Arrow keys move by"));
-  return element("p", { class: "field" }, label, step);
 }

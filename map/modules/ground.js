@@ -35,19 +35,20 @@ export class Ground {
     byId("place").replaceChildren(
       `${metres(x)} m, ${metres(y)} m`,
       this.reference ? "" : element("span", { class: "exact" }, ` · ${x}, ${y} mm`),
-      ...this.beside([x, y]).map((text) => ` · ${text}`),
+      ...this.beside([x, y], "").map((text) => ` · ${text}`),
     );
   }
 
   /**
    * @param {import("./geometry.js").Position} position
+   * @param {string} [system] what is said of degrees
    * @returns {string[]} it in the office's system and in degrees, as far as the office says so
    */
-  beside(position) {
+  beside(position, system = " (WGS 84)") {
     const degrees = this.earth?.toDegrees(position);
     return [
       ...(this.reference ? [referenceInWords(this.reference, position)] : []),
-      ...(degrees ? [`${degreesInWords(degrees)} (WGS 84)`] : []),
+      ...(degrees ? [degreesInWords(degrees) + system] : []),
     ];
   }
 

@@ -215,6 +215,17 @@ export class Layers {
   }
 
   /**
+   * @param {import("./geometry.js").Box} around
+   * @param {string} except the name of a feature that does not count
+   * @returns {Iterable<import("./geometry.js").Geometry>} of the features that may meet the box
+   */
+  *drawnIn(around, except) {
+    for (const [name, { box, feature }] of this.shown) {
+      if (box && overlaps(box, around) && name !== except) yield feature.geometry;
+    }
+  }
+
+  /**
    * @param {Position} point
    * @param {number} reach in millimetres
    * @returns {Shown[]} the features that are near, the nearest first, points and lines before areas

@@ -11,6 +11,7 @@ import { Chosen } from "./chosen.js";
 import { CollectionsPanel, viewText } from "./collections_panel.js";
 import { onColours } from "./colours.js";
 import { Editing } from "./editing.js";
+import { DrawingBar } from "./drawing_bar.js";
 import { Editor } from "./editor.js";
 import { announce, byId } from "./element.js";
 import { Ground } from "./ground.js";
@@ -19,8 +20,10 @@ import { officeOf, readOffice } from "./office.js";
 import { QueuePanel } from "./queue_panel.js";
 import { keepCollections } from "./seen.js";
 import { showSettings } from "./settings_panel.js";
+import { Snapping } from "./snapping.js";
 import { readAll, readSetting } from "./store.js";
 import { Tabs } from "./tabs.js";
+import { listenForUndo } from "./undo_keys.js";
 import { clock, interval } from "./time.js";
 import { compareName, isStartingAgain, startAgain } from "./towns.js";
 import { View } from "./view.js";
@@ -61,7 +64,11 @@ export class Page {
     this.tabs = new Tabs(byId("tabs"));
     this.background = new BackgroundImage(this.view.map);
     this.ground = new Ground(this.view.map);
-    this.editor = new Editor(this.view, this.ground, byId("panel-feature"), {
+    const { layers } = this.view;
+    this.snapping = new Snapping(this.view.map, (box, except) => layers.drawnIn(box, except));
+    const { ground, snapping } = this;
+    const tools = { ground, snapping, bar: new DrawingBar(snapping) };
+    this.editor = new Editor(this.view, tools, byId("panel-feature"), {
       describe: (collection) => ({
         fields: this.office.forms.get(collection) ?? [],
         kinds: kindsIn(seen.some(collection, MOST_READ), MOST_NAMES),
@@ -95,6 +102,7 @@ export class Page {
     const { map } = this.view;
     map.on("click", ({ latlng }) => this.#pressed(latlng));
     map.getContainer().addEventListener("keydown", (event) => this.#key(event));
+    listenForUndo(this.editor);
     /** @type {NodeListOf<HTMLElement>} */
     const buttons = document.querySelectorAll("[data-add]");
     for (const button of buttons) {
@@ -128,6 +136,7 @@ export class Page {
     this.#isSought = !this.#isPlaced;
     const asked = this.refresh();
     const office = readOffice();
+    await this.snapping.read();
     this.background.show((await readSetting("background")) ?? null, announce);
     this.#isKept = (await navigator.storage?.persist?.()) ?? false;
     this.office = await office;
@@ -252,7 +261,7 @@ export class Page {
     if (event.key === "Enter" || event.key === " ") {
       if (sketch) sketch.addMiddle();
       else this.#pressed(this.view.map.getCenter());
-    } else if (event.key === "Backspace" && sketch) sketch.removeLast();
+    } else if (event.key === "Backspace" && sketch) this.editor.undo();
     else if (event.key === "Escape" && this.editor.isOpen) this.editor.cancel();
     else return;
     event.preventDefault();

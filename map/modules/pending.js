@@ -6,7 +6,7 @@
  * @typedef {"basket" | "waiting" | "differs" | "refused"} Mark
  * @typedef {{edit: Edit, mark: Mark}} Pending
  */
-import { readBasket } from "./basket.js";
+import { readBasket, readSteps } from "./basket.js";
 import { nameOf } from "./feature.js";
 import { readQueue } from "./queue.js";
 
@@ -24,10 +24,10 @@ export function markOf({ state, refusal, differences }, index) {
 
 /**
  * @returns {Promise<{pending: Map<string, Pending>, basket: Edit[], queue:
- *   import("./queue.js").Batch[]}>}
+ *   import("./queue.js").Batch[], steps: {canUndo: boolean, canRedo: boolean}}>}
  */
 export async function readPending() {
-  const [queue, basket] = await Promise.all([readQueue(), readBasket()]);
+  const [queue, basket, steps] = await Promise.all([readQueue(), readBasket(), readSteps()]);
   const pending = new Map();
   for (const batch of queue) {
     batch.edits.forEach((edit, index) => {
@@ -41,5 +41,5 @@ export async function readPending() {
     const mark = before === "refused" || before === "differs" ? before : "basket";
     pending.set(name, { edit, mark });
   }
-  return { pending, basket, queue };
+  return { pending, basket, queue, steps };
 }

@@ -7,6 +7,7 @@ import { button, element } from "./element.js";
 import { metres, paths, readMetres } from "./geometry.js";
 import { say } from "./words.js";
 
+const STEPS = { 1: "1 mm", 10: "1 cm", 100: "10 cm", 1000: "1 m", 10000: "10 m" };
 /** How many positions the table shows. */
 const MOST_ROWS = 200;
 
@@ -40,6 +41,20 @@ export function typedPosition(onPosition) {
     onPosition(position.includes(null) ? null : position);
   });
   return element("p", { class: "typed" }, x, y, add);
+}
+
+/**
+ * @param {Shape} shape
+ * @returns {HTMLElement} by how much arrow keys move its positions
+ */
+export function stepField(shape) {
+  const steps = Object.entries(STEPS);
+  const options = steps.map(([value, text]) => element("option", { value }, text));
+  const choose = () => (shape.step = Number(step.value));
+  const step = element("select", { id: "step", onchange: choose }, ...options);
+  step.value = String(shape.step);
+  const label = element("label", { for: "step" }, say("Arrow keys move by"));
+  return element("p", { class: "field" }, label, step);
 }
 
 /**

@@ -25,7 +25,7 @@
  * @property {Refused | null} refusal
  * @property {Difference[]} differences what others changed since the copies were taken
  */
-import { putInto } from "./basket.js";
+import { forgetSteps, putInto } from "./basket.js";
 import { batchText, cut, newKey } from "./batch.js";
 import { changed } from "./channel.js";
 import { nameOf } from "./feature.js";
@@ -64,13 +64,15 @@ function newBatch(user, edits) {
  * @returns {Promise<number>} how many batches it made
  */
 export async function saveBasket(user) {
-  const made = await transact(["basket", "queue"], "readwrite", async (basket, queue) => {
+  const tables = ["basket", "queue", "settings"];
+  const made = await transact(tables, "readwrite", async (basket, queue, settings) => {
     const edits = (await result(basket.getAll())).sort((one, other) => one.made - other.made);
     const parts = cut(edits);
     for (const part of parts) {
       await result(queue.add({ ...newBatch(user, part), saved: Date.now() }));
     }
     await result(basket.clear());
+    await forgetSteps(settings);
     return parts.length;
   });
   changed("queue", "basket");
@@ -221,7 +223,8 @@ export function nextToSend(queue) {
  * @returns {Promise<boolean>} whether it went back
  */
 export async function backToBasket(batch) {
-  const gone = await transact(["queue", "basket"], "readwrite", async (queue, basket) => {
+  const tables = ["queue", "basket", "settings"];
+  const gone = await transact(tables, "readwrite", async (queue, basket, settings) => {
     const found = await result(queue.get(batch.number));
     if (found?.key !== batch.key || !mayChange(found)) return false;
     for (const edit of batch.edits) {
@@ -231,6 +234,7 @@ export async function backToBasket(batch) {
       if (later) await putInto(basket, later);
     }
     await result(queue.delete(batch.number));
+    await forgetSteps(settings);
     return true;
   });
   if (gone) changed("queue", "basket", "send");

@@ -19,7 +19,10 @@ export class Shape {
   /** Arrow keys move by so many millimetres. */
   step = 100;
   #map;
+  #snapping;
+  #isFixed;
   #onChange;
+  #onDrag;
   #drawn = [];
   #handles = [];
   #redraw = () => this.#draw();
@@ -27,14 +30,20 @@ export class Shape {
 
   /**
    * @param {L.Map} map
+   * @param {import("./snapping.js").Snapping} snapping
    * @param {Geometry} geometry
-   * @param {{onChange: () => void, onHandles: (inView: number, shown: number) => void}} listener
+   * @param {boolean} isFixed whether it is only shown
+   * @param {{onChange: () => void, onDrag: (geometry: Geometry) => void,
+   *   onHandles: (inView: number, shown: number) => void}} listener
    */
-  constructor(map, geometry, { onChange, onHandles }) {
+  constructor(map, snapping, geometry, isFixed, { onChange, onDrag, onHandles }) {
     makePane(map);
     this.#map = map;
+    this.#snapping = snapping;
+    this.#isFixed = isFixed;
     this.geometry = structuredClone(geometry);
     this.#onChange = onChange;
+    this.#onDrag = onDrag;
     this.#onHandles = onHandles;
     map.on("moveend", this.#redraw);
     this.#draw();
@@ -42,6 +51,7 @@ export class Shape {
 
   stop() {
     this.#map.off("moveend", this.#redraw);
+    this.#snapping.clear();
     this.#clear();
   }
 
@@ -101,6 +111,7 @@ export class Shape {
   #draw() {
     this.#clear();
     this.#outline();
+    if (this.#isFixed) return;
     const bounds = this.#map.getBounds().pad(0.1);
     const all = paths(this.geometry).flatMap((path) =>
       path.positions.map((position, index) => ({ path, index, position })),
@@ -131,10 +142,10 @@ export class Shape {
    * @param {string} kind names the class of the handle
    * @param {string} text what it is for those who hear it
    * @param {{onDrag: (position: Position) => void, onKey: (event: KeyboardEvent) => boolean,
-   *   onEnd?: () => void}} listener
+   *   isSnapped?: boolean}} listener
    * @returns {L.Marker}
    */
-  #handle(place, kind, text, { onDrag, onKey, onEnd }) {
+  #handle(place, kind, text, { onDrag, onKey, isSnapped = true }) {
     const icon = L.divIcon({ className: `handle ${kind}`, iconSize: null });
     const marker = L.marker(
       place,
@@ -144,10 +155,17 @@ export class Shape {
     shown.setAttribute("role", "button");
     shown.setAttribute("aria-label", text);
     marker.on("drag", () => {
-      onDrag(toPosition(marker.getLatLng()));
+      const dragged = toPosition(marker.getLatLng());
+      const position = isSnapped ? this.#snapping.at(dragged) : dragged;
+      if (position !== dragged) marker.setLatLng(toPlace(position));
+      onDrag(position);
       this.#outline();
+      this.#onDrag(this.geometry);
     });
-    marker.on("dragend", () => (onEnd ? onEnd() : this.changed()));
+    marker.on("dragend", () => {
+      this.#snapping.clear();
+      this.changed();
+    });
     shown.addEventListener("keydown", (event) => {
       if (!onKey(event)) return;
       event.preventDefault();
@@ -215,6 +233,7 @@ export class Shape {
     const marker = this.#handle(toPlace(start), "whole", say(
       "The whole feature: arrow keys move it",
     ), {
+      isSnapped: false,
       onDrag: ([x, y]) => (this.geometry = moved(original, x - start[0], y - start[1])),
       onKey: (event) => {
         const by = this.#byArrow(event);

@@ -49,7 +49,7 @@ export class Waiting {
   }
 
   async #showNow() {
-    const { pending, basket, queue } = await readPending();
+    const { pending, basket, queue, steps } = await readPending();
     // What was accepted meanwhile is no longer pending, and is what was last seen.
     await this.#seen.catchUp();
     this.#view.setPending(pending);
@@ -57,8 +57,10 @@ export class Waiting {
     const options = {
       onSelect: (collection, id) => this.#chosen.choose(collection, id, true),
       canSave: isSecureContext,
+      ...steps,
     };
-    if (this.#isNew("basket", basket)) showBasket(byId("panel-basket"), basket, options);
+    const isNew = this.#isNew("basket", [steps, ...basket]);
+    if (isNew) showBasket(byId("panel-basket"), basket, options);
     if (this.#isNew("queue", queue)) await this.#queuePanel.show(queue);
     const { text, isProblem } = queueText(queue);
     const shown = byId("queue-state");

@@ -7,6 +7,7 @@ from typing import Any
 from harness import Context
 
 from browser.browsers import browser
+from browser.drawing import UNREACHED
 from browser.editing import near, positions, put_in_basket, type_positions
 from browser.page import Page
 from browser.phone import MEETING, OUTSIDE
@@ -137,8 +138,7 @@ def crosshair(context: Context, page: Page, made: Site) -> None:
     new_tree(page, "Point", "crossed")
     page.look_at(150, 100, 3)
     context.check("the crosshair", page.script(CROSSHAIR), ["visible", True])
-    on_map = "#tools button, .leaflet-bar a, #place"
-    context.check("the buttons cover", page.script(MEETING, "#placing", on_map), [])
+    context.check("each button can be pressed", page.script(UNREACHED), [])
     context.check("nothing is cut off", page.script(OUTSIDE), [])
     context.check("the message covers", page.script(MEETING, "#message", "main button"), [])
     page.press("Place here", "#placing")
@@ -150,7 +150,7 @@ def crosshair(context: Context, page: Page, made: Site) -> None:
     for x, y in places:
         page.look_at(x, y, 3)
         page.press("Place here", "#placing")
-    page.press("Remove last", "#placing")
+    page.click("#undo")
     page.press("Finish", "#placing")
     context.check("a line", near(positions(page), [150, 100, 160, 105]) or positions(page), True)
     put_in_basket(page)

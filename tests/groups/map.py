@@ -4,6 +4,7 @@ from browser import (
     beginning,
     counting,
     deploying,
+    drawing,
     editing,
     filling,
     foreign,
@@ -41,6 +42,6 @@ PACKAGES = (
 def run(context: Context) -> None:
     # Those with the longest parts first.
     longest = (looking, keeping, sending, editing, reading)
-    crews = (beginning, filling, standing, showing, merging, taking, counting, languages)
+    crews = (beginning, drawing, filling, standing, showing, merging, taking, counting, languages)
     others = (forms, phone, placing, deploying, foreign, modules)
     run_parts(context, [part for it in (*longest, *crews, *others) for part in it.PARTS])
