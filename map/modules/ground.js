@@ -25,7 +25,12 @@ export class Ground {
     map.on("mousemove", ({ latlng }) => this.#show(latlng));
     map.on("move", () => this.#show(map.getCenter()));
     const { parentElement: main } = byId("map");
-    const measure = () => main.style.setProperty("--place", `${byId("place").offsetHeight}px`);
+    let shown = 0;
+    const measure = () => {
+      const { offsetHeight } = byId("place");
+      if (offsetHeight !== shown) main.style.setProperty("--place", `${offsetHeight}px`);
+      shown = offsetHeight;
+    };
     new ResizeObserver(measure).observe(byId("place"));
   }
 

@@ -12,6 +12,7 @@ import { toPlace } from "./layers.js";
 /** From this zoom on: a metre has 2 pixels. */
 const LEAST_ZOOM = 1;
 const MOST_LABELS = 400;
+const MOST_WIDTHS = 20_000;
 const FONT = "500 12px system-ui, 'Segoe UI', Roboto, 'Noto Sans', 'DejaVu Sans', sans-serif";
 const HEIGHT = 15;
 /** From a point to its label. */
@@ -51,18 +52,29 @@ export class Labels {
     if (this.#map.getZoom() < LEAST_ZOOM) return;
     const { clientWidth, clientHeight } = this.#map.getContainer();
     const context = this.#open(clientWidth, clientHeight);
-    /** @type {Room[]} */
-    const taken = [];
+    const rooms = new Rooms();
     for (const { feature, text } of this.#read()) {
-      const room = this.#roomOf(feature, context.measureText(text).width);
-      if (!room || !isIn(room, clientWidth, clientHeight)) continue;
-      if (taken.some((other) => meets(room, other))) continue;
-      taken.push(room);
+      const room = this.#roomOf(feature, this.#widthOf(context, text));
+      if (!room || !isIn(room, clientWidth, clientHeight) || !rooms.take(room)) continue;
       context.strokeText(text, room.left, room.bottom - 3);
       context.fillText(text, room.left, room.bottom - 3);
-      if (taken.length === MOST_LABELS) break;
+      if (rooms.count === MOST_LABELS) break;
     }
-    this.#canvas.dataset.count = String(taken.length);
+    this.#canvas.dataset.count = String(rooms.count);
+  }
+
+  /** The widths of texts that were measured, which is slow. */
+  #widths = new Map();
+
+  /**
+   * @param {CanvasRenderingContext2D} context
+   * @param {string} text
+   * @returns {number}
+   */
+  #widthOf(context, text) {
+    if (this.#widths.size > MOST_WIDTHS) this.#widths.clear();
+    if (!this.#widths.has(text)) this.#widths.set(text, context.measureText(text).width);
+    return this.#widths.get(text);
   }
 
   /**
@@ -94,6 +106,27 @@ export class Labels {
     const { x, y } = this.#map.latLngToContainerPoint(toPlace(middle));
     const left = geometry.type === "Point" ? x + GAP : x - width / 2;
     return { left, top: y - HEIGHT / 2, right: left + width, bottom: y + HEIGHT / 2 };
+  }
+}
+
+/** The rooms that are taken, by rows: all are as high, so only neighbours can meet. */
+class Rooms {
+  count = 0;
+  /** @type {Map<number, Room[]>} */
+  #rows = new Map();
+
+  /**
+   * @param {Room} room
+   * @returns {boolean} whether it was free, and is taken now
+   */
+  take(room) {
+    const row = Math.floor(room.top / HEIGHT);
+    for (const near of [row - 1, row, row + 1]) {
+      if (this.#rows.get(near)?.some((other) => meets(room, other))) return false;
+    }
+    this.#rows.set(row, [...(this.#rows.get(row) ?? []), room]);
+    this.count += 1;
+    return true;
   }
 }
 

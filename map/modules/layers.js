@@ -1,30 +1,35 @@
 /**
- * @file Features on the map: areas below, lines above them, points on top, each on a canvas of its
- * own.
+ * @file Features on the map: areas below, lines above them, points on top, and a halo around the
+ * one that is chosen, all on one canvas.
  *
  * @typedef {import("./feature.js").Feature} Feature
  * @typedef {import("./geometry.js").Position} Position
  * @typedef {import("./pending.js").Mark} Mark
+ * @typedef {import("./painting.js").Style} Style
+ * @typedef {Record<import("./painting.js").Kind, Style>} Styles how a feature is drawn
  * @typedef {object} Shown
  * @property {string} collection
  * @property {Feature} feature
  * @property {import("./geometry.js").Box | null} box
  * @property {{mark: Mark, op: string} | null} pending
- * @property {L.Path[]} drawn the layers of Leaflet
+ * @property {Styles} styles
  * @typedef {import("./legend.js").SymbolShape} SymbolShape
  * @typedef {{colour: string, shape: SymbolShape}} Look a colour is `#rrggbb`, or the name of one in
  *   the style sheet
- * @typedef {{line: L.Style, area: L.Style, point: L.Style, shape: SymbolShape}} Styles how a
- *   feature is drawn
  */
 import * as L from "../leaflet/leaflet.esm.js";
+import { addCanvas } from "./canvas.js";
 import { colour } from "./colours.js";
 import { nameOf } from "./feature.js";
-import { boxOf, distanceTo, members, overlaps } from "./geometry.js";
-import { pointSymbol } from "./symbols.js";
+import { boxOf, distanceTo, overlaps } from "./geometry.js";
+import { Painter } from "./painting.js";
 
-const PANES = { areas: 410, lines: 420, points: 430, marks: 440 };
-const DASHES = { basket: "6 4", waiting: "2 5", differs: "10 4 2 4", refused: null };
+const LEVEL = 410;
+const DASHES = { basket: [6, 4], waiting: [2, 5], differs: [10, 4, 2, 4], refused: [] };
+/** How far a symbol reaches beyond its position, in pixels. */
+const REACH = 16;
+/** @type {import("./painting.js").Kind[]} */
+const ORDER = ["area", "line", "point"];
 
 /**
  * @param {Position} position
@@ -34,26 +39,17 @@ export function toPlace([x, y]) {
   return L.latLng(y / 1000, x / 1000);
 }
 
-/**
- * @param {any} coordinates positions, or arrays of them at any depth
- * @returns {any} the same of Leaflet's places
- */
-function toPlaces(coordinates) {
-  return typeof coordinates[0] === "number" ? toPlace(coordinates) : coordinates.map(toPlaces);
-}
-
 export class Layers {
   /** @type {Map<string, Shown>} */
   shown = new Map();
   #map;
-  /** @type {Record<string, L.Renderer>} */
-  #renderers = {};
+  #canvas;
   /** @type {(collection: string, feature: Feature) => Look} */
   #lookOf;
   /** @type {Map<string, Styles>} those at the zoom and in the colours of now */
   #styled = new Map();
-  /** @type {L.Path[]} */
-  #outline = [];
+  /** @type {Feature | null} the one that has the halo */
+  #chosen = null;
 
   /**
    * @param {L.Map} map
@@ -62,12 +58,29 @@ export class Layers {
   constructor(map, lookOf) {
     this.#map = map;
     this.#lookOf = lookOf;
-    for (const [name, level] of Object.entries(PANES)) {
-      const pane = map.createPane(name);
-      pane.style.zIndex = String(level);
-      pane.style.pointerEvents = "none";
-      this.#renderers[name] = L.canvas({ pane: name, padding: 0.3 });
+    this.#canvas = addCanvas(map, "features", LEVEL, (...drawn) => this.#paint(...drawn));
+  }
+
+  /**
+   * @param {CanvasRenderingContext2D} context
+   * @param {L.PixelBounds} bounds in pixels
+   */
+  #paint(context, { min, max }) {
+    const scale = this.#map.getZoomScale(this.#map.getZoom(), 0) / 1000;
+    const { x: east, y: south } = this.#map.getPixelOrigin();
+    const painter = new Painter(context, { scale, east, south });
+    const box = {
+      x0: (min.x + east - REACH) / scale,
+      x1: (max.x + east + REACH) / scale,
+      y0: -(max.y + south + REACH) / scale,
+      y1: -(min.y + south - REACH) / scale,
+    };
+    const inView = [...this.shown.values()].filter((it) => it.box && overlaps(it.box, box));
+    for (const kind of ORDER) {
+      for (const { feature, styles } of inView) painter.paint(feature.geometry, kind, styles[kind]);
     }
+    const halo = this.#chosen && this.#halo();
+    for (const kind of halo ? ORDER : []) painter.paint(this.#chosen.geometry, kind, halo[kind]);
   }
 
   /** @returns {number} the radius of a point at the zoom of now */
@@ -104,63 +117,48 @@ export class Layers {
    */
   #stylesOf({ colour: name, shape }, pending) {
     const own = name.startsWith("#") ? name : colour(name);
-    const edge = pending ? colour(`mark-${pending.mark}`) : own;
-    const dash = pending ? DASHES[pending.mark] : null;
     const isGone = pending?.op === "delete";
     const fade = isGone ? 0.25 : 1;
-    const base = { interactive: false, bubblingMouseEvents: false };
+    const base = {
+      shape,
+      radius: this.#radius() + (pending ? 1.5 : 0),
+      color: pending ? colour(`mark-${pending.mark}`) : own,
+      dash: pending ? DASHES[pending.mark] : [],
+      opacity: 1,
+      fillColor: own,
+    };
     const weight = this.#width() + (pending ? 1.5 : 0);
     return {
-      shape,
-      line: {
-        ...base,
-        color: edge,
-        weight,
-        dashArray: dash,
-        opacity: isGone ? 0.7 : 1,
-        fill: false,
-      },
-      area: {
-        ...base,
-        color: edge,
-        weight: pending ? 3 : 1.5,
-        dashArray: dash,
-        fillColor: own,
-        fillOpacity: 0.25 * fade,
-      },
+      line: { ...base, weight, opacity: isGone ? 0.7 : 1, fillColor: "", fillOpacity: 0 },
+      area: { ...base, weight: pending ? 3 : 1.5, fillOpacity: 0.25 * fade },
       point: {
         ...base,
-        color: pending ? edge : colour("paper"),
+        color: pending ? base.color : colour("paper"),
+        dash: [],
         weight: pending ? 3 : 1.25,
-        fillColor: own,
         fillOpacity: fade,
-        radius: this.#radius() + (pending ? 1.5 : 0),
       },
     };
   }
 
-  /**
-   * @param {import("./geometry.js").Geometry | null} geometry
-   * @param {Styles} styles
-   * @param {string} [pane] in place of the one of its kind
-   * @returns {L.Path[]} what is on the map now
-   */
-  #draw(geometry, styles, pane) {
-    const { areas, lines, points } = this.#renderers;
-    const on = (renderer) => (pane ? this.#renderers[pane] : renderer);
-    const drawn = members(geometry).flatMap(({ type, coordinates }) => {
-      const places = toPlaces(coordinates);
-      const pointStyle = { ...styles.point, renderer: on(points) };
-      const point = (at) => pointSymbol(at, styles.shape, pointStyle);
-      if (type === "Point") return [point(places)];
-      if (type === "MultiPoint") return places.map(point);
-      const [shape, style, renderer] = type.endsWith("LineString")
-        ? [L.polyline, styles.line, lines]
-        : [L.polygon, styles.area, areas];
-      return [shape(places, { ...style, renderer: on(renderer) })];
-    });
-    for (const layer of drawn) layer.addTo(this.#map);
-    return drawn;
+  /** @returns {Styles} of the feature that is chosen */
+  #halo() {
+    /** @type {Style} */
+    const halo = {
+      shape: "circle",
+      color: colour("chosen"),
+      weight: 3,
+      opacity: 0.9,
+      dash: [],
+      radius: this.#radius() + 5,
+      fillColor: "",
+      fillOpacity: 0,
+    };
+    return {
+      line: { ...halo, weight: 9, opacity: 0.45 },
+      area: { ...halo, weight: 5 },
+      point: halo,
+    };
   }
 
   /**
@@ -174,27 +172,25 @@ export class Layers {
     const before = this.shown.get(name);
     const isSame = before?.feature === feature && before.pending?.mark === pending?.mark;
     if (isSame && before.pending?.op === pending?.op) return;
-    if (before) this.remove(name);
-    const drawn = this.#draw(feature.geometry, this.#styles(collection, feature, pending));
-    this.shown.set(name, { collection, feature, box: boxOf(feature.geometry), pending, drawn });
+    this.shown.delete(name);
+    const styles = this.#styles(collection, feature, pending);
+    const box = boxOf(feature.geometry);
+    this.shown.set(name, { collection, feature, box, pending, styles });
+    this.#canvas.paintAgain();
   }
 
   /** @param {string} name of a feature among all collections */
   remove(name) {
-    for (const layer of this.shown.get(name)?.drawn ?? []) layer.remove();
-    this.shown.delete(name);
+    if (this.shown.delete(name)) this.#canvas.paintAgain();
   }
 
   /** Draws all again: colours or sizes changed. */
   redraw() {
     this.#styled.clear();
     for (const shown of this.shown.values()) {
-      for (const layer of shown.drawn) layer.remove();
-      shown.drawn = this.#draw(
-        shown.feature.geometry,
-        this.#styles(shown.collection, shown.feature, shown.pending),
-      );
+      shown.styles = this.#styles(shown.collection, shown.feature, shown.pending);
     }
+    this.#canvas.paintAgain();
   }
 
   /**
@@ -202,16 +198,9 @@ export class Layers {
    * @param {Feature | null} feature
    */
   outline(feature) {
-    for (const layer of this.#outline) layer.remove();
-    const halo = { interactive: false, color: colour("chosen"), opacity: 0.9, fill: false };
-    /** @type {Styles} */
-    const styles = {
-      shape: "circle",
-      line: { ...halo, weight: 9, opacity: 0.45 },
-      area: { ...halo, weight: 5 },
-      point: { ...halo, weight: 3, radius: this.#radius() + 5 },
-    };
-    this.#outline = feature ? this.#draw(feature.geometry, styles, "marks") : [];
+    if (feature === this.#chosen) return;
+    this.#chosen = feature;
+    this.#canvas.paintAgain();
   }
 
   /**

@@ -7,6 +7,7 @@
  *   problem: string}} Count of the features of a collection; a problem says why it is not of now
  */
 import { NoAnswer, Refusal, readPages } from "./api.js";
+import { afterFrame } from "./element.js";
 import { boxOf } from "./geometry.js";
 
 export class Loader {
@@ -69,7 +70,7 @@ export class Loader {
         for (const feature of page.features) ids.add(feature.id);
         this.#draw(collection, page.features);
         requestAnimationFrame(() => performance.measure("page drawn", "page came"));
-        this.#seen.put(collection, page.features).catch(console.error);
+        this.#seen.see(collection, page.features);
         matched = page.numberMatched;
         isWhole = page.next === null;
       }
@@ -87,7 +88,8 @@ export class Loader {
       if (!(fault instanceof NoAnswer) && !(fault instanceof Refusal)) throw fault;
       return this.#fromSeen(collection, box, datetime, fault.message);
     }
-    if (isWhole && !datetime) this.#seen.keepOnly(collection, box, ids).catch(console.error);
+    const forget = () => this.#seen.keepOnly(collection, box, ids).catch(console.error);
+    if (isWhole && !datetime) afterFrame(forget);
     return {
       ids,
       shown: ids.size,

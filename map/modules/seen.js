@@ -6,12 +6,15 @@
  * @typedef {{feature: Feature, box: Box | null, seen: number, kept: boolean}} Sight kept: it lies
  *   in an area that was taken along, and does not go
  */
+import { afterFrame } from "./element.js";
 import { boxOf, contains, overlaps } from "./geometry.js";
 import { readAnswers } from "./queue.js";
 import { readAll, result, transact } from "./store.js";
 
 /** How many features of a collection are kept; the ones seen longest ago go first. */
 const MOST_KEPT = 20_000;
+/** So many are written at once, so that a frame can come between. */
+const WRITTEN_AT_ONCE = 250;
 
 export class Seen {
   /** @type {Map<string, Map<string, Sight>>} the sights of each collection, the oldest first */
@@ -72,6 +75,27 @@ export class Seen {
    * @param {boolean} [isTaken] whether they are taken along, and stay
    */
   async put(collection, features, isTaken = false) {
+    await this.#write(collection, features, this.#note(collection, features, isTaken));
+  }
+
+  /**
+   * Keeps features that the server showed now: in memory at once, and on the device after the next
+   * frame, since they are to be drawn first.
+   * @param {string} collection
+   * @param {Feature[]} features
+   */
+  see(collection, features) {
+    const over = this.#note(collection, features, false);
+    afterFrame(() => this.#write(collection, features, over).catch(console.error));
+  }
+
+  /**
+   * @param {string} collection
+   * @param {Feature[]} features
+   * @param {boolean} isTaken
+   * @returns {string[]} the ids of those that are too many, and no longer in memory
+   */
+  #note(collection, features, isTaken) {
     const [sights, now] = [this.#of(collection), Date.now()];
     for (const feature of features) {
       const kept = isTaken || sights.get(feature.id)?.kept;
@@ -80,18 +104,28 @@ export class Seen {
     }
     const over = this.#surplus(sights);
     for (const id of over) sights.delete(id);
-    await transact(
-      ["features"],
-      "readwrite",
-      (table) => {
-        for (const feature of features) {
-          const { kept } = sights.get(feature.id) ?? { kept: isTaken };
-          table.put({ collection, id: feature.id, feature, seen: now, kept });
+    return over;
+  }
+
+  /**
+   * Writes what is still in memory of features, and deletes others.
+   * @param {string} collection
+   * @param {Feature[]} features
+   * @param {string[]} gone
+   */
+  async #write(collection, features, gone) {
+    const sights = this.#of(collection);
+    for (let start = 0; start < features.length; start += WRITTEN_AT_ONCE) {
+      const write = (table) => {
+        for (const { id } of features.slice(start, start + WRITTEN_AT_ONCE)) {
+          const { feature, seen, kept } = sights.get(id) ?? {};
+          if (feature) table.put({ collection, id, feature, seen, kept });
         }
-        for (const id of over) table.delete([collection, id]);
-      },
-      "relaxed",
-    );
+      };
+      await transact(["features"], "readwrite", write, "relaxed");
+    }
+    const forget = (table) => gone.forEach((id) => table.delete([collection, id]));
+    if (gone.length > 0) await transact(["features"], "readwrite", forget, "relaxed");
   }
 
   /**
@@ -154,8 +188,11 @@ export class Seen {
    * @returns {Sight[]} what was seen whose extent meets the box
    */
   within(collection, box) {
-    const sights = [...this.#of(collection).values()];
-    return sights.filter((sight) => sight.box && overlaps(sight.box, box));
+    const found = [];
+    for (const sight of this.#of(collection).values()) {
+      if (sight.box && overlaps(sight.box, box)) found.push(sight);
+    }
+    return found;
   }
 
   /**

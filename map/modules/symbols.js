@@ -3,7 +3,6 @@
  *
  * @typedef {import("./legend.js").SymbolShape} SymbolShape
  */
-import * as L from "../leaflet/leaflet.esm.js";
 import { element } from "./element.js";
 
 /** The corners of a shape around the origin, for a circle of radius 1 with about the same area. */
@@ -13,31 +12,19 @@ const CORNERS = {
   triangle: [[0, -1.3], [1.2, 0.85], [-1.2, 0.85]],
 };
 
-/** A point that is drawn as a polygon of a fixed size. */
-const Cornered = L.CircleMarker.extend({
-  /** @this {any} */
-  _updatePath() {
-    const { _renderer: renderer, _point: point, _radius: radius, options } = this;
-    if (!renderer._drawing || this._empty()) return;
-    const context = renderer._ctx;
-    context.beginPath();
-    for (const [x, y] of CORNERS[options.shape]) {
-      context.lineTo(point.x + x * radius, point.y + y * radius);
-    }
-    context.closePath();
-    renderer._fillStroke(context, this);
-  },
-});
-
 /**
- * @param {L.LatLng} place
+ * @param {CanvasRenderingContext2D} context
  * @param {SymbolShape} shape
- * @param {L.Style} style
- * @returns {L.Path}
+ * @param {number} x of its middle, in pixels
+ * @param {number} y
+ * @param {number} radius
  */
-export function pointSymbol(place, shape, style) {
-  if (shape === "circle") return L.circleMarker(place, style);
-  return new Cornered(place, { ...style, shape });
+export function traceSymbol(context, shape, x, y, radius) {
+  if (shape === "circle") return void context.arc(x, y, radius, 0, Math.PI * 2);
+  for (const [right, down] of CORNERS[shape]) {
+    context.lineTo(x + right * radius, y + down * radius);
+  }
+  return context.closePath();
 }
 
 /**

@@ -6,6 +6,7 @@
  * @typedef {import("./geometry.js").Box} Box
  */
 import * as L from "../leaflet/leaflet.esm.js";
+import { shownLimit } from "./api.js";
 import { Palette } from "./colours.js";
 import { DensityLayer } from "./density_layer.js";
 import { toPosition } from "./draw.js";
@@ -19,7 +20,8 @@ import { Loader, extentOf } from "./loader.js";
 
 /** A metre is 2^zoom pixels. */
 const ZOOMS = { minZoom: -11, maxZoom: 10 };
-const PAUSE = 80;
+/** So long the view has to rest, in milliseconds, until its features are asked for. */
+const PAUSE = 40;
 
 export class View {
   /** @type {Collection[]} */
@@ -95,8 +97,19 @@ export class View {
     this.#asks();
     this.#listener.onMove();
     this.#loader.drop();
+    this.#drawSeen();
     clearTimeout(this.#timer);
     this.#timer = setTimeout(() => this.refresh(), PAUSE);
+  }
+
+  /** Draws what is known of the view, until the server has answered. A time filter needs it. */
+  #drawSeen() {
+    if (this.datetime) return;
+    const { box } = this;
+    for (const { id } of this.collections.filter((it) => !this.off.has(it.id))) {
+      const sights = this.#seen.within(id, box);
+      if (sights.length <= shownLimit()) this.#draw(id, sights.map(({ feature }) => feature));
+    }
   }
 
   #size = -1;

@@ -14,6 +14,7 @@ from browser import (
     looking,
     merging,
     modules,
+    panning,
     phone,
     placing,
     reading,
@@ -41,7 +42,7 @@ PACKAGES = (
 
 def run(context: Context) -> None:
     # Those with the longest parts first.
-    longest = (looking, keeping, sending, editing, reading)
+    longest = (panning, looking, keeping, sending, editing, reading)
     crews = (beginning, drawing, filling, standing, showing, merging, taking, counting, languages)
     others = (forms, phone, placing, deploying, foreign, modules)
     run_parts(context, [part for it in (*longest, *crews, *others) for part in it.PARTS])

@@ -38,6 +38,7 @@ declare module "*/leaflet.esm.js" {
     getCenter(): LatLng;
     getZoom(): number;
     getZoomScale(to: number, from: number): number;
+    getPixelOrigin(): { x: number; y: number };
     latLngToContainerPoint(place: Place): { x: number; y: number };
     setView(place: Place, zoom: number, options?: { reset?: boolean; animate?: boolean }): this;
     fitBounds(
@@ -108,9 +109,24 @@ declare module "*/leaflet.esm.js" {
   };
   const control: { zoom(options: { position: string }): Addition };
 
-  const CircleMarker: {
-    extend(own: object): new (place: Place, style: Style & { shape: string }) => Path;
+  interface Surface extends Layer {
+    paintAgain(): void;
+  }
+
+  const Canvas: {
+    extend(own: object): new (options: {
+      pane: string;
+      padding: number;
+      paint: (context: CanvasRenderingContext2D, bounds: PixelBounds) => void;
+    }) => Surface;
   };
+
+  interface PixelBounds {
+    min: { x: number; y: number };
+    max: { x: number; y: number };
+  }
+
+  const Util: { requestAnimFrame(act: () => void, owner: object): number };
 
   function map(container: HTMLElement, options: MapOptions): Map;
   function latLng(lat: number, lng: number): LatLng;

@@ -1,0 +1,175 @@
+"""How fast a pan is drawn: a town of 100,000 features, on a processor that is slowed four times.
+
+The server is a stand-in that answers from memory, since the time is the page's, and a file of that
+size takes too long to fill. Two clocks are read, and of each the best of several pans counts: the
+processor time of the page's thread, four times of which has to be enough whatever else the machine
+does; and the time on the wall with the browser's own brake, checked if processors are free.
+"""
+
+import contextlib
+import json
+import os
+import random
+import tempfile
+import threading
+from collections.abc import Iterator
+from http.server import BaseHTTPRequestHandler, ThreadingHTTPServer
+from pathlib import Path
+from typing import Any
+from urllib.parse import parse_qs, urlsplit
+
+from harness import Context, free_port
+
+from browser.browsers import browser
+from browser.looking import thread_seconds
+from browser.page import Page
+from browser.site import serve_map
+from browser.standing import drag_map
+
+COUNT = 100_000
+# The town is a square of so many millimetres, and is looked up in cells of so many.
+SIDE, CELL = 1_000_000, 20_000
+KINDS = ("trees", "trees", "lamps", "kerbs", "parcels")
+# So many seconds a pan takes at most, and so many are tried.
+MOST_SECONDS, PANS = 0.3, 5
+SLOWED = 4
+# So long the page waits for the view to rest, before it asks.
+PAUSE = 0.04
+# Street level: a metre has so many pixels, as a power of two.
+ZOOM = 3
+# Notes how long it takes from the end of each pan to the frame that has all features of the view.
+WATCH = """
+const { dataset } = document.getElementById("map");
+window.pans = [];
+let begun = 0;
+const note = (from) => requestAnimationFrame(() => {
+    const { port1, port2 } = new MessageChannel();
+    port1.onmessage = () => window.pans.push((performance.now() - from) / 1000);
+    port2.postMessage("");
+});
+new MutationObserver(() => {
+    if (dataset.state === "asks") begun ||= performance.now();
+    else if (begun) [begun] = [0, note(begun)];
+}).observe(document.getElementById("map"), { attributeFilter: ["data-state"] });
+"""
+
+
+def geometry(kind: str, x: int, y: int) -> dict[str, Any]:
+    """A tree, a lamp, a kerb of six positions, or a parcel."""
+    if kind == "kerbs":
+        line = [[x + 1500 * step, y + step % 3 * 200] for step in range(6)]
+        return {"type": "LineString", "coordinates": line}
+    if kind == "parcels":
+        ring = [[x, y], [x + 3000, y], [x + 3000, y + 2500], [x, y + 2500], [x, y]]
+        return {"type": "Polygon", "coordinates": [ring]}
+    return {"type": "Point", "coordinates": [x, y]}
+
+
+class Town:
+    """The texts of the features, by collection and cell. A feature is in the cell where it begins,
+    and boxes are taken a little larger."""
+
+    def __init__(self) -> None:
+        chance = random.Random(7)
+        self.cells: dict[tuple[str, int, int], list[str]] = {}
+        for number in range(COUNT):
+            kind = KINDS[number % len(KINDS)]
+            x, y = chance.randrange(SIDE), chance.randrange(SIDE)
+            properties = {"street": f"Street {number % 97}", "height": number % 30}
+            feature = {"type": "Feature", "id": f"{kind[0]}{number:06}"}
+            feature |= {"geometry": geometry(kind, x, y), "properties": properties}
+            self.cells.setdefault((kind, x // CELL, y // CELL), []).append(json.dumps(feature))
+
+    def within(self, kind: str, box: list[int]) -> list[str]:
+        x0, y0, x1, y1 = (min(SIDE, max(0, value)) // CELL for value in box)
+        found: list[str] = []
+        for x in range(x0, x1 + 1):
+            for y in range(y0, y1 + 1):
+                found += self.cells.get((kind, x, y), [])
+        return found
+
+    def answer(self, target: str) -> str:
+        """The body of an answer to a path and query."""
+        parts = urlsplit(target)
+        if parts.path == "/collections":
+            extent = {"spatial": {"bbox": [[0, 0, SIDE, SIDE]]}}
+            named = [{"id": it, "title": it.title(), "extent": extent} for it in set(KINDS)]
+            return json.dumps({"collections": named})
+        words = {name: values[0] for name, values in parse_qs(parts.query).items()}
+        found = self.within(parts.path.split("/")[2], list(map(int, words["bbox"].split(","))))
+        start, limit = int(words.get("start", 0)), int(words["limit"])
+        shown, links = found[start : start + limit], []
+        if start + limit < len(found):
+            query = f"bbox={words['bbox']}&limit={limit}&start={start + limit}"
+            links.append({"rel": "next", "href": f"{parts.path}?{query}"})
+        head = f'{{"numberMatched":{len(found)},"links":{json.dumps(links)},"features":['
+        return head + ",".join(shown) + "]}"
+
+
+@contextlib.contextmanager
+def stand_in(context: Context) -> Iterator[str]:
+    """The address of the map over the town."""
+    town = Town()
+
+    class Handler(BaseHTTPRequestHandler):
+        protocol_version = "HTTP/1.1"
+
+        def do_GET(self) -> None:
+            body = town.answer(self.path).encode()
+            self.send_response(200)
+            self.send_header("Content-Type", "application/json")
+            self.send_header("Content-Length", str(len(body)))
+            self.end_headers()
+            self.wfile.write(body)
+
+        def log_message(self, *_: Any) -> None:
+            pass
+
+    server = ThreadingHTTPServer(("127.0.0.1", 0), Handler)
+    threading.Thread(target=server.serve_forever, daemon=True).start()
+    port = free_port()
+    try:
+        with tempfile.TemporaryDirectory(dir=context.folder) as folder:
+            with serve_map.front(Path(folder), port, server.server_port):
+                yield f"http://localhost:{port}/map/"
+    finally:
+        server.shutdown()
+        server.server_close()
+
+
+def pans(page: Page, rate: int, pixels: int) -> tuple[float, float]:
+    """Drags the map several times. Gives the least processor time that the page's thread took for
+    one, and the least time until one was drawn, on a processor that is slowed."""
+    page.driver.execute_cdp_cmd("Emulation.setCPUThrottlingRate", {"rate": rate})
+    page.script("window.pans.length = 0")
+    worked = []
+    for number in range(PANS):
+        before = thread_seconds(page)
+        drag_map(page, pixels)
+        page.wait("the pan", lambda: page.script("return pans.length") > number)
+        worked.append(thread_seconds(page) - before)
+    page.driver.execute_cdp_cmd("Emulation.setCPUThrottlingRate", {"rate": 1})
+    return min(worked), min(page.script("return pans"))
+
+
+def town_of_many(context: Context) -> None:
+    """A pan at street level is drawn in time, at a desk and on a phone."""
+    with stand_in(context) as address:
+        for size in ((1280, 800), (390, 844)):
+            with browser(*size, phone=size[0] < 800) as page:
+                page.open(f"{address}#x=500.000&y=500.000&z={ZOOM}")
+                page.wait("the view", lambda: page.script(RESTS))
+                page.script(WATCH)
+                worked, _ = pans(page, 1, 300)
+                is_free = os.getloadavg()[0] < (os.cpu_count() or 1) / 2
+                _, drawn = pans(page, SLOWED, -300)
+                print(f"  {size[0]} pixels: a pan works {worked:.3f} s, is drawn in {drawn:.3f} s")
+                slow = SLOWED * worked + PAUSE
+                context.check("a pan is drawn, slowed", slow <= MOST_SECONDS or slow, True)
+                on_wall = drawn <= MOST_SECONDS or not is_free or drawn
+                context.check("a pan is drawn, by the wall's clock", on_wall, True)
+
+
+RESTS = "return document.getElementById('map').dataset.state === 'rests'"
+
+PARTS = (town_of_many,)
