@@ -31,6 +31,20 @@ export function readJson(text) {
 }
 
 /**
+ * @param {any} one
+ * @param {any} other
+ * @returns {boolean} whether two values are the same JSON, in whatever order objects have members
+ */
+export function isEqual(one, other) {
+  if (one === other) return true;
+  const areObjects = typeof one === "object" && typeof other === "object" && one && other;
+  if (!areObjects || Array.isArray(one) !== Array.isArray(other)) return false;
+  const names = Object.keys(one);
+  if (names.length !== Object.keys(other).length) return false;
+  return names.every((name) => Object.hasOwn(other, name) && isEqual(one[name], other[name]));
+}
+
+/**
  * @param {any} value
  * @param {number} [indent] how many spaces stand before each level
  * @returns {string}

