@@ -7,7 +7,9 @@
 import { NoAnswer, Refusal, readFeature } from "./api.js";
 import { putInBasket, takeOutOfBasket } from "./basket.js";
 import { announce, byId, element } from "./element.js";
+import { nameOf } from "./feature.js";
 import { showFeature } from "./feature_panel.js";
+import { pendingFeatures } from "./pending.js";
 import { searched } from "./search.js";
 import { say } from "./words.js";
 
@@ -15,11 +17,7 @@ import { say } from "./words.js";
 const MOST_FOUND = 50;
 
 export class Chosen {
-  /** @type {Name | null} */
-  name = null;
-  /** @type {string | null} the collection that was worked on last */
-  collection = null;
-  #others = [];
+  #state;
   #seen;
   #view;
   #editor;
@@ -28,24 +26,30 @@ export class Chosen {
   #listener;
 
   /**
-   * @param {{seen: import("./seen.js").Seen, view: import("./view.js").View,
-   *   editor: import("./editor.js").Editor, tabs: import("./tabs.js").Tabs,
-   *   ground: import("./ground.js").Ground}} parts
-   * @param {{onEdit: (collection: string, feature: Feature) => void,
-   *   onChange: () => void}} listener
+   * @param {{state: import("./state.js").State, seen: import("./seen.js").Seen,
+   *   view: import("./view.js").View, editor: import("./editor.js").Editor,
+   *   tabs: import("./tabs.js").Tabs, ground: import("./ground.js").Ground}} parts
+   * @param {{onEdit: (collection: string, feature: Feature) => void}} listener
    */
-  constructor({ seen, view, editor, tabs, ground }, listener) {
+  constructor({ state, seen, view, editor, tabs, ground }, listener) {
+    this.#state = state;
     this.#seen = seen;
     this.#view = view;
     this.#editor = editor;
     this.#tabs = tabs;
     this.#ground = ground;
     this.#listener = listener;
+    state.on("choice", () => this.outline());
+    state.on("form", ({ isOpen }, before) => isOpen === before.isOpen || this.outline());
+    state.on("view", ({ off }, before) => off === before.off || this.outline());
+    state.on("basket", () => {
+      if (!state.form.isOpen && state.choice.name) this.show();
+    });
   }
 
   /** @returns {boolean} whether an edit is under way, which has to be ended first */
   isBusy() {
-    if (!this.#editor.isBegun) return false;
+    if (!this.#state.isFormBegun) return false;
     this.#tabs.open("feature");
     announce(say("Put the edit in the basket first, or cancel it."));
     return true;
@@ -61,8 +65,7 @@ export class Chosen {
   async choose(collection, id, isFar, others = []) {
     if (this.isBusy()) return;
     this.#editor.close();
-    this.set({ collection, id });
-    this.#others = others;
+    this.set({ collection, id }, others);
     const feature = await this.#find(collection, id);
     if (!feature) return void this.leave(say("{id} is not there.", { id }));
     this.show();
@@ -70,11 +73,13 @@ export class Chosen {
     if (isFar) this.#view.goTo(feature);
   }
 
-  /** @param {Name | null} name of the feature that is chosen from now on */
-  set(name) {
-    this.name = name;
-    if (name) this.collection = name.collection;
-    this.#listener.onChange();
+  /**
+   * @param {Name | null} name of the feature that is chosen from now on
+   * @param {Name[]} [others] features at the same place
+   */
+  set(name, others = []) {
+    const { collection } = name ?? this.#state.choice;
+    this.#state.set("choice", { name, others, collection });
   }
 
   /**
@@ -101,9 +106,10 @@ export class Chosen {
 
   /** @returns {Iterable<import("./search.js").Candidate>} each feature that is kept here, once */
   *#candidates() {
-    yield* this.#view.pendingFeatures();
+    const { pending } = this.#state.basket;
+    yield* pendingFeatures(pending);
     for (const candidate of this.#seen.all()) {
-      if (!this.#view.pendingOf(candidate.collection, candidate.feature.id)) yield candidate;
+      if (!pending.has(nameOf(candidate.collection, candidate.feature.id))) yield candidate;
     }
   }
 
@@ -131,7 +137,7 @@ export class Chosen {
    * @returns {Feature | null}
    */
   #known(collection, id) {
-    const pending = this.#view.pendingOf(collection, id)?.edit;
+    const pending = this.#state.basket.pending.get(nameOf(collection, id))?.edit;
     if (pending) return pending.feature ?? pending.base;
     return this.#seen.find(collection, id)?.feature ?? null;
   }
@@ -145,16 +151,18 @@ export class Chosen {
 
   /** Shows on the map which feature is chosen. */
   outline() {
-    const { collection, id } = this.name ?? {};
-    const isShown = this.name && !this.#view.off.has(collection) && !this.#editor.isOpen;
+    const { choice, form, view } = this.#state;
+    const { collection, id } = choice.name ?? {};
+    const isShown = choice.name && !view.off.includes(collection) && !form.isOpen;
     this.#view.layers.outline(isShown ? this.#known(collection, id) : null);
   }
 
   /** Shows the feature as it is now, unless an edit is under way. */
   show() {
-    if (this.#editor.isBegun) return;
-    const { collection, id } = this.name ?? {};
-    const feature = this.name && this.#known(collection, id);
+    if (this.#state.isFormBegun) return;
+    const { name, others } = this.#state.choice;
+    const { collection, id } = name ?? {};
+    const feature = name && this.#known(collection, id);
     if (!feature) return void this.leave();
     const title = this.#view.collections.find((it) => it.id === collection)?.title ?? collection;
     const shown = {
@@ -162,10 +170,10 @@ export class Chosen {
       colour: this.#view.palette.nameOf(collection),
       collection,
       feature,
-      pending: this.#view.pendingOf(collection, id),
+      pending: this.#state.basket.pending.get(nameOf(collection, id)),
       seen: this.#seen.find(collection, id)?.seen,
       beside: (position) => this.#ground.beside(position),
-      others: this.#others,
+      others,
     };
     showFeature(byId("panel-feature"), shown, {
       onEdit: () => this.#listener.onEdit(collection, feature),

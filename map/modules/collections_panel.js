@@ -31,31 +31,32 @@ function legend() {
 
 export class CollectionsPanel {
   #list = element("ul", { class: "collections" });
+  #state;
   #view;
   #open;
 
   /**
    * @param {HTMLElement} panel
+   * @param {import("./state.js").State} state
    * @param {import("./view.js").View} view
-   * @param {{onSwitch: () => void, onFilter: (from: string, to: string) => void, onSearch: (id:
-   *   string) => void, onChoose: (collection: string, id: string) => void, onOpen: () => void}}
-   *   listener
+   * @param {{onSearch: (id: string) => void, onChoose: (collection: string, id: string) => void,
+   *   onOpen: () => void}} listener
    */
-  constructor(panel, view, { onSwitch, onFilter, onSearch, onChoose, onOpen }) {
+  constructor(panel, state, view, { onSearch, onChoose, onOpen }) {
+    this.#state = state;
     this.#view = view;
     this.#open = button(say("Open a collection"), onOpen);
-    this.#listenSwitch = onSwitch;
     this.#listenChoose = onChoose;
     const [from, to] = ["from", "to"].map((name) =>
       element("input", { type: "date", id: `filter-${name}` }),
     );
-    this.from = from;
-    this.to = to;
-    const filter = () => onFilter(from.value, to.value);
+    const filter = () => state.set("view", { from: from.value, to: to.value });
     for (const field of [from, to]) field.addEventListener("change", filter);
-    const clear = button(say("All times"), () => {
-      [from.value, to.value] = ["", ""];
-      filter();
+    const clear = button(say("All times"), () => state.set("view", { from: "", to: "" }));
+    state.on("view", (now, before) => {
+      if (from.value !== now.from) from.value = now.from;
+      if (to.value !== now.to) to.value = now.to;
+      if (now.off !== before.off) this.#showSwitches();
     });
     const id = element(
       "input",
@@ -99,7 +100,6 @@ export class CollectionsPanel {
     );
   }
 
-  #listenSwitch;
   #listenChoose;
   #found = element("ul", { class: "found", "aria-label": say("Found on this device") });
 
@@ -119,26 +119,49 @@ export class CollectionsPanel {
 
   /** Shows the collections and counts of now. */
   show() {
-    const { collections, off, counts } = this.#view;
-    this.#list.replaceChildren(
-      ...collections.map(({ id, title }) => this.#row(id, title, off, counts)),
-    );
+    const { collections } = this.#view;
+    this.#list.replaceChildren(...collections.map(({ id, title }) => this.#row(id, title)));
     this.#open.classList.toggle("main", collections.length === 0);
     if (collections.length > 0) return;
     const text = say("There is no collection yet. Open one to begin the town.");
     this.#list.append(element("li", {}, text));
   }
 
+  /** @returns {HTMLElement[]} the rows of collections */
+  get #rows() {
+    return [...this.#list.querySelectorAll("li")].filter((row) => row.dataset.id);
+  }
+
   /** Shows the counts of now. */
   showCounts() {
-    /** @type {NodeListOf<HTMLElement>} */
-    const rows = this.#list.querySelectorAll("li[data-id]");
-    for (const row of rows) {
-      const count = this.#view.counts.get(row.dataset.id);
-      row.querySelector(".count").textContent = countText(
-        this.#view.off.has(row.dataset.id) ? undefined : count,
-      );
+    for (const row of this.#rows) {
+      row.querySelector(".count").textContent = this.#countOf(row.dataset.id);
     }
+  }
+
+  /**
+   * @param {string} id of a collection
+   * @returns {string} how much of it is shown; no text if it is switched off
+   */
+  #countOf(id) {
+    const isOff = this.#state.view.off.includes(id);
+    return countText(isOff ? undefined : this.#view.counts.get(id));
+  }
+
+  /** Shows which collections are switched on. */
+  #showSwitches() {
+    for (const row of this.#rows) {
+      row.querySelector("input").checked = !this.#state.view.off.includes(row.dataset.id);
+    }
+  }
+
+  /**
+   * @param {string} id of a collection
+   * @param {boolean} isOn from now on
+   */
+  #switch(id, isOn) {
+    const others = this.#state.view.off.filter((it) => it !== id);
+    this.#state.set("view", { off: isOn ? others : [...others, id] });
   }
 
   /**
@@ -153,18 +176,13 @@ export class CollectionsPanel {
     return element("ul", { class: "symbols", "aria-label": say("Symbols") }, ...items);
   }
 
-  #row(id, title, off, counts) {
+  #row(id, title) {
     const box = element("input", {
       type: "checkbox",
       role: "switch",
-      checked: !off.has(id),
-      onchange: () => {
-        if (box.checked) off.delete(id);
-        else off.add(id);
-        this.#listenSwitch();
-      },
+      checked: !this.#state.view.off.includes(id),
+      onchange: () => this.#switch(id, box.checked),
     });
-    const count = countText(off.has(id) ? undefined : counts.get(id));
     return element(
       "li", { "data-id": id },
       element(
@@ -172,7 +190,7 @@ export class CollectionsPanel {
         element("span", { class: `swatch ${this.#view.palette.nameOf(id)}` }),
         element("span", { class: "title" }, title),
       ),
-      element("span", { class: "count" }, count),
+      element("span", { class: "count" }, this.#countOf(id)),
       this.#symbols(id),
     );
   }

@@ -7,22 +7,26 @@ import { editKey, putInBasket } from "./basket.js";
 import { changed } from "./channel.js";
 import { askBetweenTabs } from "./differences_dialog.js";
 import { announce } from "./element.js";
+import { nameOf } from "./feature.js";
 import { keepLast } from "./last.js";
 import { openCollection } from "./opening_dialog.js";
 import { changeEdits } from "./queue.js";
 import { say } from "./words.js";
 
 export class Editing {
+  #state;
   #view;
   #editor;
   #chosen;
   #tabs;
 
   /**
-   * @param {{view: import("./view.js").View, editor: import("./editor.js").Editor,
-   *   chosen: import("./chosen.js").Chosen, tabs: import("./tabs.js").Tabs}} parts
+   * @param {{state: import("./state.js").State, view: import("./view.js").View,
+   *   editor: import("./editor.js").Editor, chosen: import("./chosen.js").Chosen,
+   *   tabs: import("./tabs.js").Tabs}} parts
    */
-  constructor({ view, editor, chosen, tabs }) {
+  constructor({ state, view, editor, chosen, tabs }) {
+    this.#state = state;
     this.#view = view;
     this.#editor = editor;
     this.#chosen = chosen;
@@ -32,13 +36,12 @@ export class Editing {
   /** @param {"Point" | "LineString" | "Polygon"} type */
   add(type) {
     if (this.#chosen.isBusy()) return undefined;
-    const { collections, off } = this.#view;
-    const isThere = collections.some(({ id }) => id === this.#chosen.collection);
-    const on = collections.find(({ id }) => !off.has(id)) ?? collections[0];
-    const first = isThere ? this.#chosen.collection : on?.id;
+    const { collections, switchedOn } = this.#view;
+    const { collection } = this.#state.choice;
+    const isThere = collections.some(({ id }) => id === collection);
+    const first = isThere ? collection : (switchedOn[0] ?? collections[0])?.id;
     if (!first) return this.openCollection();
     this.#editor.begin(type, first, (edit) => this.#take(edit, ""));
-    this.#chosen.outline();
     this.#tabs.open("feature");
     return this.#view.map.getContainer().focus();
   }
@@ -47,7 +50,7 @@ export class Editing {
   async openCollection() {
     if (this.#chosen.isBusy()) return;
     const id = await openCollection(this.#view.collections.map((it) => it.id));
-    if (id !== null) this.#chosen.collection = id;
+    if (id !== null) this.#state.set("choice", { collection: id });
   }
 
   /**
@@ -55,9 +58,9 @@ export class Editing {
    * @param {import("./feature.js").Feature} feature
    */
   edit(collection, feature) {
-    const known = editKey(this.#view.pendingOf(collection, feature.id)?.edit);
+    const { pending } = this.#state.basket;
+    const known = editKey(pending.get(nameOf(collection, feature.id))?.edit);
     this.#editor.change(collection, feature, (edit) => this.#take(edit, known));
-    this.#chosen.outline();
     this.#view.goTo(feature);
   }
 

@@ -12,6 +12,7 @@ import { isId, isSame, nameOf } from "./feature.js";
 import { GeometryForm } from "./geometry_form.js";
 import { readLast } from "./last.js";
 import { PropertiesForm } from "./properties_form.js";
+import { closedForm } from "./state.js";
 import { say } from "./words.js";
 
 /** @type {Record<Drawn, string>} */
@@ -32,32 +33,23 @@ export class Editor {
   /** @type {PropertiesForm | null} */
   #properties = null;
   #problem = element("p", { class: "problem", role: "alert" });
-  /** Whether something was typed into the form. */
-  #isTyped = false;
+  #state;
 
   /**
+   * @param {import("./state.js").State} state
    * @param {import("./view.js").View} view
    * @param {{ground: import("./ground.js").Ground, snapping: import("./snapping.js").Snapping,
    *   bar: import("./drawing_bar.js").DrawingBar}} tools
    * @param {HTMLElement} panel where the form is shown
    * @param {{describe: (collection: string) => Description, onCancel: () => void}} listener
    */
-  constructor(view, tools, panel, { describe, onCancel }) {
+  constructor(state, view, tools, panel, { describe, onCancel }) {
+    this.#state = state;
     this.#view = view;
     this.#tools = tools;
     this.#panel = panel;
     this.#describe = describe;
     this.#onCancel = onCancel;
-  }
-
-  /** @returns {boolean} whether the form is shown */
-  get isOpen() {
-    return this.#panel.querySelector("form.editor") !== null;
-  }
-
-  /** @returns {boolean} whether something would be lost if the form were closed */
-  get isBegun() {
-    return this.isOpen && (this.#isTyped || !this.#geometry.isEmpty);
   }
 
   /** Takes back the last step of what is drawn. */
@@ -148,10 +140,10 @@ export class Editor {
    */
   #open({ title, which, name, feature, collection }, finish) {
     this.stop();
-    this.#isTyped = false;
+    this.#state.set("form", { ...closedForm(), isOpen: true });
     this.#problem.textContent = "";
     this.#tools.snapping.except = feature ? nameOf(collection, feature.id) : "";
-    this.#geometry = new GeometryForm(this.#view.map, this.#tools, {
+    this.#geometry = new GeometryForm(this.#view.map, this.#state, this.#tools, {
       onProblem: (text) => (this.#problem.textContent = text),
       onMeasured: (accuracy) => this.#properties.measure(accuracy),
     });
@@ -168,7 +160,9 @@ export class Editor {
       this.#done(finish);
     };
     // Another collection alone is nothing that would be lost.
-    const typed = ({ target }) => (this.#isTyped ||= target.id !== "edit-collection");
+    const typed = ({ target }) => {
+      if (target.id !== "edit-collection") this.#state.set("form", { isTyped: true });
+    };
     const form = element(
       "form", { class: "editor", onsubmit: done, oninput: typed, novalidate: true },
       element("div", { class: "fields" }, element("h2", { tabindex: -1 }, title), ...order),
@@ -206,6 +200,7 @@ export class Editor {
   close() {
     this.stop();
     this.#panel.replaceChildren();
+    this.#state.set("form", closedForm());
   }
 
   /** Ends drawing; the form stays. */

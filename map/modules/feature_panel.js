@@ -58,7 +58,7 @@ async function copy(text) {
  * @param {number} [shown.seen] when the server showed it
  * @param {(position: import("./geometry.js").Position) => string[]} shown.beside a position in
  *   other systems than the grid
- * @param {{collection: string, id: string}[]} shown.others features at the same place
+ * @param {readonly {collection: string, id: string}[]} shown.others features at the same place
  * @param {{onEdit: () => void, onDelete: () => void, onTakeOut: () => void, onGo: () => void,
  *   onSelect: (collection: string, id: string) => void}} listener
  */

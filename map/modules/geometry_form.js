@@ -12,7 +12,7 @@
  */
 import { announce, button, element, isPhone, takeBack } from "./element.js";
 import { describe, middleOf, paths } from "./geometry.js";
-import { emptyHistory, takenAgain, takenBack, withStep } from "./history.js";
+import { takenAgain, takenBack, withStep } from "./history.js";
 import { measured, measuresInWords, sketchMeasured } from "./measure.js";
 import { accuracyInWords } from "./position.js";
 import { positionFields, stepField, typedPosition } from "./positions_form.js";
@@ -41,30 +41,30 @@ export class GeometryForm {
   /** @type {Shape | null} */
   shape = null;
   element = element("div", { class: "geometry" });
-  /** @type {Draft} */
-  #draft = { geometry: null, accuracy: null, sketch: null };
-  #history = emptyHistory();
   #map;
+  #state;
   #tools;
   #listener;
 
   /**
    * @param {import("../leaflet/leaflet.esm.js").Map} map
+   * @param {import("./state.js").State} state
    * @param {{ground: import("./ground.js").Ground, snapping: import("./snapping.js").Snapping,
    *   bar: import("./drawing_bar.js").DrawingBar}} tools
    * @param {{onProblem: (text: string) => void, onMeasured: (accuracy: number | null) => void}}
    *   listener gets no text once there is no problem any more
    */
-  constructor(map, tools, listener) {
+  constructor(map, state, tools, listener) {
     this.#map = map;
+    this.#state = state;
     this.#tools = tools;
     this.#listener = listener;
     tools.bar.open({ onUndo: () => this.undo(), onRedo: () => this.redo() });
   }
 
-  /** @returns {boolean} whether nothing was drawn yet */
-  get isEmpty() {
-    return this.sketch?.positions.length === 0 && !this.#draft.geometry;
+  /** @returns {Draft} what is drawn now */
+  get #draft() {
+    return this.#state.form.draft;
   }
 
   /** @returns {Geometry | null} what was drawn; it throws if that is not finished */
@@ -90,12 +90,12 @@ export class GeometryForm {
 
   /** Takes the last step back. */
   undo() {
-    this.#walk(takenBack(this.#history), "before");
+    this.#walk(takenBack(this.#state.form.history), "before");
   }
 
   /** Takes the step again that was taken back last. */
   redo() {
-    this.#walk(takenAgain(this.#history), "after");
+    this.#walk(takenAgain(this.#state.form.history), "after");
   }
 
   /**
@@ -106,20 +106,20 @@ export class GeometryForm {
   #walk({ history, step }, side) {
     if (!step) return;
     const { accuracy } = this.#draft;
-    this.#history = history;
+    this.#state.set("form", { history });
     this.#show(step[side]);
     if (step[side].accuracy !== accuracy) this.#listener.onMeasured(step[side].accuracy);
   }
 
   /** @param {Draft} draft what there is after a step */
   #step(draft) {
-    this.#history = withStep(this.#history, this.#draft, draft);
-    this.#draft = draft;
+    const history = withStep(this.#state.form.history, this.#draft, draft);
+    this.#state.set("form", { draft, history });
     this.#showSteps();
   }
 
   #showSteps() {
-    const { done, undone } = this.#history;
+    const { done, undone } = this.#state.form.history;
     this.#tools.bar.allow({ canUndo: done.length > 0, canRedo: undone.length > 0 });
   }
 
@@ -148,7 +148,7 @@ export class GeometryForm {
   /** @param {Draft} draft what there is from now on */
   #show(draft) {
     this.#rest();
-    this.#draft = draft;
+    this.#state.set("form", { draft });
     const { geometry, sketch } = draft;
     if (geometry) this.#showShape(geometry, sketch !== null);
     if (sketch) this.#showSketch(sketch);

@@ -1,7 +1,7 @@
 /**
  * @file The page: it puts the map, the panels, the basket and the queue together.
  */
-import { readAddress, writeAddress } from "./address.js";
+import { keepAddress, takeAddress } from "./address_bar.js";
 import { NoAnswer, Refusal, readCollections } from "./api.js";
 import { Areas } from "./areas.js";
 import { AreasPanel } from "./areas_panel.js";
@@ -21,10 +21,11 @@ import { QueuePanel } from "./queue_panel.js";
 import { keepCollections } from "./seen.js";
 import { showSettings } from "./settings_panel.js";
 import { Snapping } from "./snapping.js";
+import { State } from "./state.js";
 import { readAll, readSetting } from "./store.js";
 import { Tabs } from "./tabs.js";
 import { listenForUndo } from "./undo_keys.js";
-import { clock, interval } from "./time.js";
+import { clock } from "./time.js";
 import { compareName, isStartingAgain, startAgain } from "./towns.js";
 import { View } from "./view.js";
 import { Waiting } from "./waiting.js";
@@ -42,10 +43,8 @@ const AGAIN_SECONDS = 15;
 const COMPARE_SECONDS = 10;
 
 export class Page {
-  #filter = { from: "", to: "" };
+  state = new State();
   #isKept = false;
-  /** Whether the view was chosen: until then the address says which one is wanted. */
-  #isPlaced = false;
   /** Whether the view is to show all that there is, once that is known. */
   #isSought = false;
   /** When the town's name was last read. */
@@ -56,11 +55,8 @@ export class Page {
   /** @param {import("./seen.js").Seen} seen */
   constructor(seen) {
     this.seen = seen;
-    this.view = new View(
-      byId("map"),
-      seen,
-      { onCounts: () => this.#showCounts(), onMove: () => this.#keepAddress() },
-    );
+    const { state } = this;
+    this.view = new View(byId("map"), seen, state, { onCounts: () => this.#showCounts() });
     this.tabs = new Tabs(byId("tabs"));
     this.background = new BackgroundImage(this.view.map);
     this.ground = new Ground(this.view.map);
@@ -68,7 +64,7 @@ export class Page {
     this.snapping = new Snapping(this.view.map, (box, except) => layers.drawnIn(box, except));
     const { ground, snapping } = this;
     const tools = { ground, snapping, bar: new DrawingBar(snapping) };
-    this.editor = new Editor(this.view, tools, byId("panel-feature"), {
+    this.editor = new Editor(state, this.view, tools, byId("panel-feature"), {
       describe: (collection) => ({
         fields: this.office.forms.get(collection) ?? [],
         kinds: kindsIn(seen.some(collection, MOST_READ), MOST_NAMES),
@@ -77,24 +73,23 @@ export class Page {
     });
     this.chosen = new Chosen(this, {
       onEdit: (collection, feature) => this.editing.edit(collection, feature),
-      onChange: () => this.#keepAddress(),
     });
     this.editing = new Editing(this);
-    this.collectionsPanel = new CollectionsPanel(byId("panel-collections"), this.view, {
-      onSwitch: () => this.#switched(),
-      onFilter: (from, to) => this.#filtered(from, to),
+    const choose = (collection, id) => this.chosen.choose(collection, id, true);
+    this.collectionsPanel = new CollectionsPanel(byId("panel-collections"), state, this.view, {
       onSearch: (text) =>
         this.chosen.search(text, (found) => this.collectionsPanel.showFound(found)),
-      onChoose: (collection, id) => this.chosen.choose(collection, id, true),
+      onChoose: choose,
       onOpen: () => this.editing.openCollection(),
     });
     this.queuePanel = new QueuePanel(byId("panel-queue"), {
-      onSelect: (collection, id) => this.chosen.choose(collection, id, true),
+      onSelect: choose,
       onChange: (batch, index) => this.editing.changeBatch(batch, index),
     });
     this.areas = new Areas(seen, () => this.areasPanel.show());
     this.areasPanel = new AreasPanel(byId("panel-collections"), this.areas, this.view);
-    this.waiting = new Waiting(this);
+    this.waiting = new Waiting(this, choose);
+    keepAddress(state);
     this.#listen();
   }
 
@@ -102,7 +97,7 @@ export class Page {
     const { map } = this.view;
     map.on("click", ({ latlng }) => this.#pressed(latlng));
     map.getContainer().addEventListener("keydown", (event) => this.#key(event));
-    listenForUndo(this.editor);
+    listenForUndo(this.state, this.editor);
     /** @type {NodeListOf<HTMLElement>} */
     const buttons = document.querySelectorAll("[data-add]");
     for (const button of buttons) {
@@ -116,7 +111,7 @@ export class Page {
     addEventListener("online", () => this.refresh());
     if (isSecureContext) addEventListener("online", () => this.areas.goOn());
     addEventListener("beforeunload", (event) => {
-      const isUnsaved = this.editor.isBegun || this.waiting.basketSize > 0;
+      const isUnsaved = this.state.isFormBegun || this.state.basket.edits.length > 0;
       if (!isUnsaved || isStartingAgain()) return;
       event.preventDefault();
       // Earlier browsers ask for a text instead.
@@ -127,13 +122,13 @@ export class Page {
 
   /** Shows what is known on this device, then asks the server. */
   async start() {
-    const address = this.#readAddress();
+    const address = takeAddress(this.state);
     await this.view.setCollections(await readAll("collections"));
     this.collectionsPanel.show();
     await this.waiting.show();
     if (!address.view) this.view.showAll();
-    this.#isPlaced = address.view !== null;
-    this.#isSought = !this.#isPlaced;
+    this.state.set("view", { isPlaced: address.view !== null });
+    this.#isSought = address.view === null;
     const asked = this.refresh();
     const office = readOffice();
     await this.snapping.read();
@@ -146,40 +141,15 @@ export class Page {
     this.ground.place(this.office);
     await this.#showSettings();
     await asked;
-    this.#isPlaced = true;
-    this.#keepAddress();
+    this.state.set("view", { isPlaced: true });
     if (isSecureContext) this.areas.goOn();
     const { feature } = address;
     if (feature) await this.chosen.choose(feature.collection, feature.id, !address.view);
   }
 
-  /** @returns {import("./address.js").Address} that of now, its switches and filter taken in */
-  #readAddress() {
-    const address = readAddress(location.hash);
-    this.view.off = new Set(address.off);
-    this.#filter = { from: address.from, to: address.to };
-    [this.collectionsPanel.from.value, this.collectionsPanel.to.value] = [address.from, address.to];
-    this.view.datetime = interval(address.from, address.to);
-    if (address.view) {
-      const { x, y, zoom } = address.view;
-      this.view.map.setView([y, x], zoom, { reset: true });
-    }
-    return address;
-  }
-
   async #goToAddress() {
-    const { feature } = this.#readAddress();
-    this.collectionsPanel.show();
-    await this.view.refresh();
+    const { feature } = takeAddress(this.state);
     if (feature) await this.chosen.choose(feature.collection, feature.id, false);
-  }
-
-  #keepAddress() {
-    if (!this.#isPlaced) return;
-    const { lat, lng } = this.view.map.getCenter();
-    const view = { x: lng, y: lat, zoom: this.view.map.getZoom() };
-    const address = { view, off: [...this.view.off], ...this.#filter, feature: this.chosen.name };
-    history.replaceState(null, "", writeAddress(address));
   }
 
   /** Asks for the collections and for the features of the view. */
@@ -211,7 +181,7 @@ export class Page {
     this.#compared = Date.now();
     if ((await compareName()) !== "other") return true;
     const text = say("Another town is served here now. Cancel the edit, and reload.");
-    if (this.editor.isBegun) announce(text);
+    if (this.state.isFormBegun) announce(text);
     else startAgain();
     return false;
   }
@@ -219,18 +189,6 @@ export class Page {
   #recolour() {
     this.view.redraw();
     this.chosen.outline();
-  }
-
-  #switched() {
-    this.#keepAddress();
-    this.view.refresh();
-  }
-
-  #filtered(from, to) {
-    this.#filter = { from, to };
-    this.view.datetime = interval(from, to);
-    this.#keepAddress();
-    this.view.refresh();
   }
 
   #showCounts() {
@@ -247,7 +205,7 @@ export class Page {
 
   /** @param {import("../leaflet/leaflet.esm.js").LatLng} place where the map was pressed */
   #pressed(place) {
-    if (this.editor.isOpen) return;
+    if (this.state.form.isOpen) return;
     const near = this.view.near(place, REACH).slice(0, MOST_NEAR);
     const [first, ...others] = near.map(({ collection, feature: { id } }) => ({ collection, id }));
     if (first) this.chosen.choose(first.collection, first.id, false, others);
@@ -262,7 +220,7 @@ export class Page {
       if (sketch) sketch.addMiddle();
       else this.#pressed(this.view.map.getCenter());
     } else if (event.key === "Backspace" && sketch) this.editor.undo();
-    else if (event.key === "Escape" && this.editor.isOpen) this.editor.cancel();
+    else if (event.key === "Escape" && this.state.form.isOpen) this.editor.cancel();
     else return;
     event.preventDefault();
   }

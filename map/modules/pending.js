@@ -23,6 +23,16 @@ export function markOf({ state, refusal, differences }, index) {
 }
 
 /**
+ * @param {ReadonlyMap<string, Pending>} pending
+ * @returns {Iterable<import("./search.js").Candidate>} the features as they are to be
+ */
+export function* pendingFeatures(pending) {
+  for (const { edit } of pending.values()) {
+    if (edit.feature) yield { collection: edit.collection, feature: edit.feature };
+  }
+}
+
+/**
  * @returns {Promise<{pending: Map<string, Pending>, basket: Edit[], queue:
  *   import("./queue.js").Batch[], steps: {canUndo: boolean, canRedo: boolean}}>}
  */

@@ -25,7 +25,7 @@ export async function printSheet(view) {
     const { dataset } = view.map.getContainer();
     for (let step = 0; dataset.state !== "rests" && step < MOST_STEPS; step += 1) await pause(STEP);
     await pause(STEP);
-    const titles = view.collections.filter(({ id }) => !view.off.has(id)).map((it) => it.title);
+    const titles = view.switchedOn.map((it) => it.title);
     const words = { titles: titles.join(", "), asOf: clock(view.asOf), now: clock(Date.now()) };
     byId("sheet").textContent = say("{titles}. Shown as of {asOf}, printed {now}.", words);
     print();

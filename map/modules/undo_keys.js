@@ -17,14 +17,17 @@ export function askedBy({ key, ctrlKey, metaKey, altKey, shiftKey }) {
   return name === "y" && !shiftKey ? "redo" : null;
 }
 
-/** @param {import("./editor.js").Editor} editor */
-export function listenForUndo(editor) {
+/**
+ * @param {import("./state.js").State} state
+ * @param {import("./editor.js").Editor} editor
+ */
+export function listenForUndo(state, editor) {
   document.addEventListener("keydown", (event) => {
     const asked = askedBy(event);
     const isTyped = event.target instanceof Element && event.target.matches(TYPED);
     if (!asked || isTyped || document.querySelector("dialog[open]")) return;
     event.preventDefault();
-    if (editor.isOpen) editor[asked]();
+    if (state.form.isOpen) editor[asked]();
     else if (asked === "undo") undoStep();
     else redoStep();
   });

@@ -5,7 +5,6 @@
  * @typedef {import("./api.js").Collection} Collection
  * @typedef {import("./geometry.js").Box} Box
  */
-import * as L from "../leaflet/leaflet.esm.js";
 import { shownLimit } from "./api.js";
 import { Palette } from "./colours.js";
 import { DensityLayer } from "./density_layer.js";
@@ -15,11 +14,11 @@ import { boxOf, overlaps } from "./geometry.js";
 import { addGrid, addScale } from "./grid.js";
 import { Labels } from "./labels.js";
 import { Layers, toPlace } from "./layers.js";
+import { makeMap } from "./leaflet_map.js";
 import { labelOf, symbolOf } from "./legend.js";
 import { Loader, extentOf } from "./loader.js";
+import { interval } from "./time.js";
 
-/** A metre is 2^zoom pixels. */
-const ZOOMS = { minZoom: -11, maxZoom: 10 };
 /** So long the view has to rest, in milliseconds, until its features are asked for. */
 const PAUSE = 40;
 
@@ -29,16 +28,11 @@ export class View {
   palette = new Palette();
   /** @type {Map<string, import("./legend.js").Legend>} how the office has collections drawn */
   legends = new Map();
-  /** @type {Set<string>} the collections that are switched off */
-  off = new Set();
-  /** @type {string} an interval, or no text */
-  datetime = "";
-  /** @type {Map<string, import("./pending.js").Pending>} */
-  #pending = new Map();
   /** @type {Map<string, import("./loader.js").Count>} */
   counts = new Map();
   #loader;
   #seen;
+  #state;
   #listener;
   #timer = 0;
   #drawGrid;
@@ -50,20 +44,11 @@ export class View {
   /**
    * @param {HTMLElement} container
    * @param {import("./seen.js").Seen} seen
-   * @param {{onCounts: () => void, onMove: () => void}} listener
+   * @param {import("./state.js").State} state
+   * @param {{onCounts: () => void}} listener
    */
-  constructor(container, seen, listener) {
-    const options = {
-      crs: L.CRS.Simple,
-      attributionControl: false,
-      zoomControl: false,
-      preferCanvas: true,
-      zoomSnap: 0.25,
-      zoomDelta: 0.5,
-    };
-    this.map = L.map(container, { ...options, ...ZOOMS });
-    this.map.setView([0, 0], 0);
-    L.control.zoom({ position: "topright" }).addTo(this.map);
+  constructor(container, seen, state, listener) {
+    this.map = makeMap(container);
     this.#drawGrid = addGrid(this.map);
     addScale(this.map);
     this.layers = new Layers(this.map, (id, feature) => this.#lookOf(id, feature));
@@ -71,10 +56,12 @@ export class View {
     this.#labels = new Labels(this.map, () => this.#shownLabels());
     this.#seen = seen;
     this.#loader = new Loader(seen, (collection, features) => this.#draw(collection, features));
+    this.#state = state;
     this.#listener = listener;
+    state.on("view", (now, before) => this.#follow(now, before));
+    state.on("basket", ({ pending }, before) => this.#showPending(pending, before.pending));
     this.map.on("moveend", () => this.#moved());
     this.map.on("zoomend", () => this.#zoomed());
-    new ResizeObserver(() => this.map.invalidateSize({ animate: false })).observe(container);
   }
 
   /**
@@ -95,18 +82,44 @@ export class View {
 
   #moved() {
     this.#asks();
-    this.#listener.onMove();
+    const { lat: y, lng: x } = this.map.getCenter();
+    this.#state.set("view", { x, y, zoom: this.map.getZoom() });
     this.#loader.drop();
     this.#drawSeen();
     clearTimeout(this.#timer);
     this.#timer = setTimeout(() => this.refresh(), PAUSE);
   }
 
+  /**
+   * Goes where the state says that the view is, and shows what it has switched on.
+   * @param {import("./state.js").ViewState} now
+   * @param {import("./state.js").ViewState} before
+   */
+  #follow(now, before) {
+    const { lat, lng } = this.map.getCenter();
+    const isThere = now.x === lng && now.y === lat && now.zoom === this.map.getZoom();
+    const isMoved = ["x", "y", "zoom"].some((name) => now[name] !== before[name]);
+    if (isMoved && !isThere) this.map.setView([now.y, now.x], now.zoom, { reset: true });
+    if (["off", "from", "to"].some((name) => now[name] !== before[name])) this.refresh();
+  }
+
+  /** @returns {string} the interval of the time filter, or no text */
+  get #datetime() {
+    const { from, to } = this.#state.view;
+    return interval(from, to);
+  }
+
+  /** @returns {Collection[]} those that are switched on */
+  get switchedOn() {
+    const { off } = this.#state.view;
+    return this.collections.filter(({ id }) => !off.includes(id));
+  }
+
   /** Draws what is known of the view, until the server has answered. A time filter needs it. */
   #drawSeen() {
-    if (this.datetime) return;
+    if (this.#datetime) return;
     const { box } = this;
-    for (const { id } of this.collections.filter((it) => !this.off.has(it.id))) {
+    for (const { id } of this.switchedOn) {
       const sights = this.#seen.within(id, box);
       if (sights.length <= shownLimit()) this.#draw(id, sights.map(({ feature }) => feature));
     }
@@ -179,11 +192,10 @@ export class View {
   }
 
   /**
-   * @param {Map<string, import("./pending.js").Pending>} pending
+   * @param {ReadonlyMap<string, import("./pending.js").Pending>} pending
+   * @param {ReadonlyMap<string, import("./pending.js").Pending>} before
    */
-  setPending(pending) {
-    const before = this.#pending;
-    this.#pending = pending;
+  #showPending(pending, before) {
     for (const [name, { edit }] of before) {
       if (pending.has(name)) continue;
       const sight = this.#seen.find(edit.collection, edit.id);
@@ -195,26 +207,10 @@ export class View {
 
   /** Draws the edits that are still to come, wherever they are. */
   #drawPending() {
-    for (const { edit, mark } of this.#pending.values()) {
+    for (const { edit, mark } of this.#state.basket.pending.values()) {
       this.#put(edit.collection, edit.feature ?? edit.base, { mark, op: edit.op });
     }
     this.#labels.redraw();
-  }
-
-  /** @returns {Iterable<import("./search.js").Candidate>} features as they are to be */
-  *pendingFeatures() {
-    for (const { edit } of this.#pending.values()) {
-      if (edit.feature) yield { collection: edit.collection, feature: edit.feature };
-    }
-  }
-
-  /**
-   * @param {string} collection
-   * @param {string} id
-   * @returns {import("./pending.js").Pending | undefined}
-   */
-  pendingOf(collection, id) {
-    return this.#pending.get(nameOf(collection, id));
   }
 
   /**
@@ -222,8 +218,9 @@ export class View {
    * @param {import("./feature.js").Feature[]} features
    */
   #draw(collection, features) {
+    const { pending } = this.#state.basket;
     for (const feature of features) {
-      if (!this.#pending.has(nameOf(collection, feature.id))) this.#put(collection, feature, null);
+      if (!pending.has(nameOf(collection, feature.id))) this.#put(collection, feature, null);
     }
   }
 
@@ -234,18 +231,23 @@ export class View {
    * @param {import("./layers.js").Shown["pending"]} pending
    */
   #put(collection, feature, pending) {
-    if (!this.off.has(collection)) this.layers.put(collection, feature, pending);
+    if (!this.#isOff(collection)) this.layers.put(collection, feature, pending);
+  }
+
+  /** @param {string} collection */
+  #isOff(collection) {
+    return this.#state.view.off.includes(collection);
   }
 
   /** Asks for the features of the view, and takes away those that are not there any more. */
   async refresh() {
     const rests = this.#asks();
-    const wanted = this.collections.map(({ id }) => id).filter((id) => !this.off.has(id));
+    const wanted = this.switchedOn.map(({ id }) => id);
     const { box } = this;
-    const counts = await this.#loader.load(wanted, box, this.datetime);
+    const counts = await this.#loader.load(wanted, box, this.#datetime);
     if (!counts) return;
     for (const [name, { collection, feature }] of this.layers.shown) {
-      const isPending = this.#pending.has(name) && !this.off.has(collection);
+      const isPending = this.#state.basket.pending.has(name) && !this.#isOff(collection);
       if (!isPending && !counts.get(collection)?.ids.has(feature.id)) this.layers.remove(name);
     }
     this.#drawPending();
@@ -265,12 +267,12 @@ export class View {
     const cut = [...this.counts].filter(([, { shown, matched }]) => shown < matched);
     cut.sort(([, one], [, other]) => other.matched - one.matched);
     const looks = cut.map(([id]) => ({ collection: id, look: this.palette.nameOf(id) }));
-    if (looks.length > 0) this.#density.show(looks, box, this.datetime).catch(console.error);
+    if (looks.length > 0) this.#density.show(looks, box, this.#datetime).catch(console.error);
     else this.#density.clear();
   }
 
   /**
-   * @param {L.LatLng} place
+   * @param {import("../leaflet/leaflet.esm.js").LatLng} place
    * @param {number} pixels
    * @returns {import("./layers.js").Shown[]} the features within that number of pixels
    */

@@ -1,6 +1,6 @@
 /**
- * @file What is still to come: the panels of the basket and of the queue, their counts, and the
- * edits on the map.
+ * @file What is still to come: read from the device into the state, and shown in its panels and
+ * counts.
  */
 import { showBasket } from "./basket_panel.js";
 import { byId } from "./element.js";
@@ -9,29 +9,25 @@ import { readPending } from "./pending.js";
 import { queueText } from "./queue_panel.js";
 
 export class Waiting {
-  /** How many edits are in the basket. */
-  basketSize = 0;
+  #state;
   #seen;
-  #view;
   #queuePanel;
-  #chosen;
-  #editor;
+  #onSelect;
   #showing = Promise.resolve();
   /** @type {Promise<void> | null} */
   #next = null;
   #shownTexts = new Map();
 
   /**
-   * @param {{seen: import("./seen.js").Seen, view: import("./view.js").View,
-   *   queuePanel: import("./queue_panel.js").QueuePanel, chosen: import("./chosen.js").Chosen,
-   *   editor: import("./editor.js").Editor}} parts
+   * @param {{state: import("./state.js").State, seen: import("./seen.js").Seen,
+   *   queuePanel: import("./queue_panel.js").QueuePanel}} parts
+   * @param {(collection: string, id: string) => void} onSelect
    */
-  constructor({ seen, view, queuePanel, chosen, editor }) {
+  constructor({ state, seen, queuePanel }, onSelect) {
+    this.#state = state;
     this.#seen = seen;
-    this.#view = view;
     this.#queuePanel = queuePanel;
-    this.#chosen = chosen;
-    this.#editor = editor;
+    this.#onSelect = onSelect;
   }
 
   /**
@@ -52,13 +48,8 @@ export class Waiting {
     const { pending, basket, queue, steps } = await readPending();
     // What was accepted meanwhile is no longer pending, and is what was last seen.
     await this.#seen.catchUp();
-    this.#view.setPending(pending);
-    this.basketSize = basket.length;
-    const options = {
-      onSelect: (collection, id) => this.#chosen.choose(collection, id, true),
-      canSave: isSecureContext,
-      ...steps,
-    };
+    this.#state.set("basket", { edits: basket, queue, pending, ...steps });
+    const options = { onSelect: this.#onSelect, canSave: isSecureContext, ...steps };
     const isNew = this.#isNew("basket", [steps, ...basket]);
     if (isNew) showBasket(byId("panel-basket"), basket, options);
     if (this.#isNew("queue", queue)) await this.#queuePanel.show(queue);
@@ -68,7 +59,6 @@ export class Waiting {
     shown.classList.toggle("problem", isProblem);
     byId("basket-count").textContent = basket.length ? String(basket.length) : "";
     byId("queue-count").textContent = queue.length ? String(queue.length) : "";
-    if (!this.#editor.isOpen && this.#chosen.name) this.#chosen.show();
   }
 
   /**
