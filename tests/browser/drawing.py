@@ -140,7 +140,7 @@ def in_basket(context: Context, page: Page, made: Site) -> None:
     page.reload()
     page.tab("basket")
     page.click("#basket-undo")
-    context.check("undone by the button", page.until([], lambda: basket(page)), [])
+    context.check("undone by the button", page.until(0, lambda: len(basket(page))), 0)
     page.click("#basket-redo")
     chord(page, Keys.CONTROL, "y")
     both = ["L01", "L02"]

@@ -73,8 +73,12 @@ class Town:
             kind = KINDS[number % len(KINDS)]
             x, y = chance.randrange(SIDE), chance.randrange(SIDE)
             properties = {"street": f"Street {number % 97}", "height": number % 30}
-            feature = {"type": "Feature", "id": f"{kind[0]}{number:06}"}
-            feature |= {"geometry": geometry(kind, x, y), "properties": properties}
+            feature = {
+                "type": "Feature",
+                "id": f"{kind[0]}{number:06}",
+                "geometry": geometry(kind, x, y),
+                "properties": properties,
+            }
             self.cells.setdefault((kind, x // CELL, y // CELL), []).append(json.dumps(feature))
 
     def within(self, kind: str, box: list[int]) -> list[str]:
