@@ -55,17 +55,26 @@ function polygons({ type, coordinates }) {
  * @returns {Box | null} the extent of all positions
  */
 export function boxOf(geometry) {
-  let box = null;
-  for (const { positions } of paths(geometry)) {
-    for (const [x, y] of positions) {
-      box ??= { x0: x, y0: y, x1: x, y1: y };
-      box.x0 = Math.min(box.x0, x);
-      box.y0 = Math.min(box.y0, y);
-      box.x1 = Math.max(box.x1, x);
-      box.y1 = Math.max(box.y1, y);
-    }
+  const box = { x0: Infinity, y0: Infinity, x1: -Infinity, y1: -Infinity };
+  for (const { coordinates } of members(geometry)) widen(box, coordinates);
+  return box.x0 === Infinity ? null : box;
+}
+
+/**
+ * Makes a box as large as it has to be. It makes no lists: each feature that comes is measured.
+ * @param {Box} box
+ * @param {any} coordinates a position, or arrays of them at any depth
+ */
+function widen(box, coordinates) {
+  if (typeof coordinates[0] !== "number") {
+    for (const part of coordinates) widen(box, part);
+    return;
   }
-  return box;
+  const [x, y] = coordinates;
+  if (x < box.x0) box.x0 = x;
+  if (y < box.y0) box.y0 = y;
+  if (x > box.x1) box.x1 = x;
+  if (y > box.y1) box.y1 = y;
 }
 
 /**

@@ -12,7 +12,7 @@ import { readSetting, writeSetting } from "./store.js";
 import { nearestVertex } from "./vertices.js";
 
 /** How near, in pixels; a finger is wider than a pointer. */
-const REACH = matchMedia("(pointer: coarse)").matches ? 24 : 12;
+const REACH = matchMedia("(pointer: coarse)").matches ? 18 : 12;
 const SETTING = "snapping";
 
 export class Snapping {

@@ -166,7 +166,7 @@ def on_phone(context: Context) -> None:
         page.press("Place here", "#placing")
         page.look_at(36, 24, 4)
         measures(context, page, "#measure", 4)
-        page.look_at(LAMP[0] + 0.75, LAMP[1] - 0.75, 4)
+        page.look_at(LAMP[0] + 0.5, LAMP[1] - 0.5, 4)
         page.press("Place here", "#placing")
         page.script("document.getElementById('message').textContent = ''")
         context.check("each button can be pressed", page.script(UNREACHED), [])

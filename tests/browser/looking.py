@@ -28,8 +28,7 @@ const loaded = performance.getEntriesByType("resource");
 const asked = loaded.filter(({ name }) => name.includes("/items"));
 return asked.filter((entry) => entry.responseStatus === 0).length;
 """
-# In the short form and in the long one.
-MANY, VERY_MANY = 5200, 100_000
+VERY_MANY = 100_000
 EACH = 400
 # So much of a processor's time a view takes at most.
 MOST_SECONDS = 0.5
@@ -166,8 +165,11 @@ def kinds(context: Context) -> None:
 
 
 def many(context: Context) -> None:
-    """Of very many features 5,000 are shown; a page of them is drawn within half a second."""
-    count = VERY_MANY if context.slow else MANY
+    """Of very many features of the program 5,000 are shown; a page of them is drawn within half a
+    second. The short form has `panning` and `counting` for that."""
+    if not context.slow:
+        return
+    count = VERY_MANY
     side = round(count**0.5) + 1
     batches = [{"key": "open", "edits": [opened("lamps", "Lamps")]}]
     for start in range(0, count, EACH):
