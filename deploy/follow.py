@@ -1,14 +1,14 @@
 """Posts the lines of a journal, in order, to another Streetmap: a follower, which answers pages.
 
-    python3 deploy/follow.py SOURCE URL [--position FILE | --journal F] [--once]
+    python3 deploy/follow.py SOURCE URL [--town NAME] [--position FILE | --journal F] [--once]
 
 SOURCE is the path of a journal, or a PostgreSQL with the table of journal_to_postgres.py, as
-`postgresql://..`. A path names all files of its journal, with the number of one of them or without
-it (journal_files.py): once a file has ended, the next one is read. URL is that of the follower,
-which nobody else sends batches to. It runs until it is stopped, at any time and in any way, and
-then goes on where the follower is.
+`postgresql://..`, with the NAME of a town if that script has one. A path names all files of its
+journal, with the number of one of them or without it (journal_files.py): once a file has ended, the
+next one is read. URL is that of the follower, which nobody else sends batches to. It runs until it
+is stopped, at any time and in any way, and then goes on where the follower is.
 
-It goes on behind a serial: that in FILE, which it keeps there; or that of the last whole line of F,
+It goes on after a serial: that in FILE, which it keeps there; or that of the last whole line of F,
 the follower's own journal (`serve --journal F`); else the first of all. Lines that are sent twice
 act once, so a FILE that is lost or older costs time alone. With `--once` it ends with the lines
 that are there.
@@ -34,7 +34,6 @@ and sends nothing behind it:
 import argparse
 import http.client
 import json
-import os
 import sys
 import time
 from contextlib import suppress
@@ -43,7 +42,7 @@ from pathlib import Path
 from typing import Any
 from urllib.parse import urlsplit
 
-from journal_files import JournalFiles, last_line
+from journal_files import JournalFiles, last_line, replace_file
 from journal_lines import (
     MOST_OF_BODY,
     Away,
@@ -55,6 +54,7 @@ from journal_lines import (
     end,
     not_empty,
     tell,
+    town_of,
 )
 
 NAME = "follow"
@@ -192,13 +192,8 @@ class PositionFile:
         late = time.monotonic() - self.moment > POSITION_SECONDS
         if place == self.written or not (now or late):
             return
-        beside = self.path.with_name(self.path.name + ".new")
         try:
-            with beside.open("w") as file:
-                file.write(f"{place.serial} {place.key}\n")
-                file.flush()
-                os.fsync(file.fileno())
-            beside.replace(self.path)
+            replace_file(self.path, f"{place.serial} {place.key}\n")
         except OSError as error:
             raise Fault("position_not_written", self.path, error.strerror, status=3) from error
         self.written, self.moment = place, time.monotonic()
@@ -326,13 +321,13 @@ def url(text: str) -> str:
     return text
 
 
-def source_of(text: str) -> Source:
-    """The source of a word: a database, or a journal."""
+def source_of(text: str, town: str) -> Source:
+    """The source of a word: a database, with its town, or a journal."""
     if not text.startswith(("postgresql://", "postgres://")):
         return JournalFiles(Path(text))
     from journal_table import TableSource
 
-    return TableSource(text)
+    return TableSource(text, town)
 
 
 def own_place(journal: Path) -> Place:
@@ -348,6 +343,7 @@ def arguments() -> argparse.Namespace:
     words = argparse.ArgumentParser(prog=NAME, description=(__doc__ or "").splitlines()[0])
     words.add_argument("source", type=not_empty, help="a journal's path, or postgresql://..")
     words.add_argument("url", type=url, help="the follower's URL")
+    words.add_argument("--town", type=town_of, default="", metavar="NAME", help="of several towns")
     kept = words.add_mutually_exclusive_group()
     kept.add_argument("--position", type=Path, help="the file that keeps the serial")
     kept.add_argument("--journal", type=Path, help="the follower's own journal")
@@ -363,7 +359,7 @@ def main() -> int:
         if asked.journal:
             place = own_place(asked.journal)
         follower = Follower(asked.url)
-        run(Following(source_of(asked.source), follower, place, position), asked.once)
+        run(Following(source_of(asked.source, asked.town), follower, place, position), asked.once)
     except Fault as fault:
         return end(NAME, fault)
     return 0

@@ -10,6 +10,7 @@ Only the last of them grows. A path with or without such a number names all of t
 `town.journal`, a file without a number, which is the first if it is there.
 """
 
+import contextlib
 import os
 import re
 import shlex
@@ -142,10 +143,13 @@ class Ending:
 
 
 def ending_of(path: Path) -> Ending:
-    """How a file of a journal ends. Ends as `SourceAway` if it cannot be read."""
+    """How a file of a journal ends; one that is not there has no line. Ends as `SourceAway` if it
+    cannot be read."""
     try:
         with path.open("rb") as file:
             last, is_whole = last_whole_line(file, path)
+    except FileNotFoundError:
+        return Ending(None, is_whole=True)
     except OSError as error:
         raise SourceAway(str(error)) from error
     return Ending(None if last is None else Line.of(last, path), is_whole)
@@ -167,6 +171,31 @@ def last_whole_line(file: BinaryIO, path: Path) -> tuple[bytes | None, bool]:
 def last_line(path: Path) -> Line | None:
     """The last whole line of a journal; none if it has none, or is not there."""
     for part in reversed(parts_of(path)):
-        if part.path.exists() and (line := ending_of(part.path).line) is not None:
+        if (line := ending_of(part.path).line) is not None:
             return line
     return None
+
+
+def replace_file(path: Path, text: str) -> None:
+    """Replaces a file as a whole, with the rights that it has, or makes it. What is there after a
+    power cut is the old text or the new one."""
+    beside = path.with_name(f".{path.name}.new")
+    with beside.open("w") as file:
+        with contextlib.suppress(FileNotFoundError):
+            status = path.stat()
+            os.fchmod(file.fileno(), status.st_mode & 0o7777)
+            os.fchown(file.fileno(), status.st_uid, status.st_gid)
+        file.write(text)
+        file.flush()
+        os.fsync(file.fileno())
+    beside.replace(path)
+    synchronise(path.parent)
+
+
+def synchronise(path: Path) -> None:
+    """Has a file, or the names in a folder, kept through a power cut."""
+    opened = os.open(path, os.O_RDONLY)
+    try:
+        os.fsync(opened)
+    finally:
+        os.close(opened)

@@ -9,6 +9,7 @@ was to end (`--once`), 1 for what is the same at the next start, 2 for words tha
 and 3 where a file of its own cannot be written.
 """
 
+import argparse
 import os
 import re
 import sys
@@ -131,6 +132,13 @@ def not_empty(text: str) -> str:
     """A word of a command line that is not empty, as a setting may be that was forgotten."""
     if not text:
         raise ValueError(text)
+    return text
+
+
+def town_of(text: str) -> str:
+    """A word that is a town's name in a database; an empty one is that of the only town."""
+    if not re.fullmatch(r"([a-z][a-z0-9_]{0,39})?", text):
+        raise argparse.ArgumentTypeError(f"{text} is no name of a, b .. z, digits and _")
     return text
 
 

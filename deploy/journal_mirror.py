@@ -15,21 +15,19 @@ from pathlib import Path
 from typing import Any
 
 from journal_lines import Fault, Line, tell
-from journal_table import JournalTable
+from journal_table import LOCK, MIRRORED, JournalTable
 
 FOLDER = Path(__file__).resolve().parent / "postgis"
-# What makes the tables and functions, in this order; and the indexes, for which there is time once
-# the mirror has come up to the journal's end.
-PARTS = ("tables.sql", "reading.sql", "acting.sql", "views.sql")
+# What makes the tables and functions, in this order; the indexes, for which there is time once the
+# mirror has come up to the journal's end; and what takes all of it away.
+PARTS = ("names.sql", "tables.sql", "reading.sql", "acting.sql", "views.sql")
 INDEXES, MEMORY = "indexes.sql", "SET LOCAL maintenance_work_mem = '256MB'"
-# No two may install it at once, and no line may be put in meanwhile.
-LOCK = "LOCK TABLE streetmap_journal IN SHARE ROW EXCLUSIVE MODE"
+DROPPING = ("names.sql", "dropping.sql")
 SYSTEM = "SELECT srid, easting, northing FROM streetmap_mirror"
 SET_SYSTEM = "INSERT INTO streetmap_mirror (srid, easting, northing) VALUES (%s, %s, %s)"
 IS_SYSTEM = "SELECT EXISTS (SELECT FROM spatial_ref_sys WHERE srid = %s)"
 ADD_GEOMETRY = "ALTER TABLE streetmap_features ADD COLUMN geometry geometry(Geometry, {})"
 ACT, MAKE_VIEWS = "SELECT streetmap_act(%s)", "SELECT streetmap_make_due_views(%s)"
-MIRRORED = "SELECT serial FROM streetmap_mirror"
 # In one transaction at most: lines that act, and views that are made.
 MOST_LINES, MOST_VIEWS = 100, 50
 # In seconds: between two tries at a view that somebody reads.
@@ -72,8 +70,8 @@ class MirroredTable(JournalTable):
     """A journal's table with the mirror beside it. A system that is None is that of the mirror
     which is there, else none."""
 
-    def __init__(self, dsn: str, name: str, system: OfficeSystem | None) -> None:
-        super().__init__(dsn)
+    def __init__(self, dsn: str, name: str, system: OfficeSystem | None, town: str = "") -> None:
+        super().__init__(dsn, town)
         self.name = name
         self.system = system
         self.is_indexed = False
@@ -81,9 +79,10 @@ class MirroredTable(JournalTable):
         self.views_at: float | None = 0.0
 
     def make(self) -> None:
-        """Makes the mirror where it is missing, and lets it come up to the table's last line."""
-        super().make()
+        """Makes the mirror if it is missing, and lets it come up to the table's last line."""
+        self.make_table()
         with self.transaction() as cursor:
+            # No two may install it at once, and no line may be put in meanwhile.
             cursor.execute(LOCK)
             for part in PARTS:
                 cursor.execute((FOLDER / part).read_text())
@@ -104,6 +103,17 @@ class MirroredTable(JournalTable):
             raise Fault("no_system", system.srid)
         cursor.execute(SET_SYSTEM, (system.srid, system.easting, system.northing))
         cursor.execute(ADD_GEOMETRY.format(int(system.srid)))
+
+    def take_out(self, serial: int) -> int:
+        """Takes the mirror away too, whose system is kept in mind if none is given."""
+        with self.transaction() as cursor:
+            number = self.take_lines(cursor, serial)
+            if self.system is None and self.has(cursor, "streetmap_mirror"):
+                cursor.execute(SYSTEM)
+                self.system = OfficeSystem(*cursor.fetchone())
+            for part in DROPPING:
+                cursor.execute((FOLDER / part).read_text())
+        return number
 
     def catch_up(self) -> None:
         """Lets all lines of the table act that have not, some at a time."""

@@ -1,31 +1,40 @@
 """Puts the lines of a journal into a table of PostgreSQL, as the journal grows.
 
-    python3 deploy/journal_to_postgres.py J DSN [--features [--system S --shift E,N]] [--once]
+    python3 deploy/journal_to_postgres.py J DSN [--town NAME] [--features [--system S --shift E,N]]
+        [--once | --renew]
 
 J is the journal that `streetmap serve --journal J` writes, or the path that all its files share
 (journal_files.py): once a file has ended, the next one is read. DSN is that of a database
-(`postgresql://..`), in which it makes the table `streetmap_journal` where that is missing:
+(`postgresql://..`), in which it makes the table `streetmap_journal` if that is missing:
 journal_table.py says what it has. PostgreSQL carries the table to other sites by its own
-replication, and follow.py reads it there.
+replication, and follow.py reads it there. With `--town` the tables are in a schema of that town.
 
 With `--features` each line acts in the same transaction on the mirror beside the table
 (postgis/README.md): PostGIS tables of the collections and features, in the office's system S
 (`EPSG:25832`), where the grid's 0,0 is at E,N. The mirror keeps S, E and N from its first start.
 
-It runs until it is stopped, at any time and in any way, and then goes on behind the last serial of
+It runs until it is stopped, at any time and in any way, and then goes on after the last serial of
 the table. It begins by comparing the last line that both have. A database that is away, and a J
 that is not there yet, are tried again, with pauses that grow to ten seconds; standard error says
-so. With `--once` it ends with the lines that are there. It ends with status 1 at what a person has
-to look at, and puts nothing in behind it:
+so. With `--once` it ends with the lines that are there.
 
-    other_text SERIAL        the table has another text there: it is another server's
-    lines_missing FROM TO    J begins behind what the table needs next
+With `--renew` it makes the table again from the first line on that J has with another text, or has
+no more; what the table had there is moved to `streetmap_journal_replaced`. With `--features` the
+mirror is made again as a whole, in the system that it had if none is given. Then it ends.
+
+It ends with status 1 at what a person has to look at, and puts nothing in after it:
+
+    other_text SERIAL        the table has another text there, the first that differs: it is another
+                             server's
+    lines_missing FROM TO    J begins after what the table needs next
     bad_line SERIAL          J has no line there, or a zero byte amid others;
                              line_too_long SERIAL likewise
     bad_source CODE          the database refuses what is asked of it
     refused SERIAL CODE ..   the mirror refuses the line, with the place of its edit
     other_system S E N       the mirror that is there has another system; E and N in thousandths
     no_system S              PostGIS does not know the system
+    has_mirror               --renew has to have --features, as there is a mirror
+    no_lines J               --renew, and J has no line
 
 `usage` has status 2.
 """
@@ -36,13 +45,13 @@ from collections.abc import Iterable, Iterator
 from pathlib import Path
 
 from journal_files import JournalFiles, last_line
-from journal_lines import Away, Fault, Line, Pauses, end, not_empty, tell
+from journal_lines import Away, Fault, Line, Pauses, end, not_empty, tell, town_of
 from journal_mirror import MirroredTable, OfficeSystem, shift_of, system_of
-from journal_table import JournalTable
+from journal_table import JournalTable, OtherText
 
 NAME = "journal_to_postgres"
 # A transaction has at most so many lines, or those that reach so many bytes.
-MOST_LINES, MOST_BYTES = 100, 4_194_304
+MOST_LINES, MOST_BYTES = 1000, 4_194_304
 
 
 def groups(lines: Iterable[Line]) -> Iterator[list[Line]]:
@@ -60,39 +69,71 @@ def groups(lines: Iterable[Line]) -> Iterator[list[Line]]:
 
 
 class Copying:
-    """A journal, a table, and the serial behind which lines are put in or compared. It is not known
+    """A journal, a table, and the serial after which lines are put in or compared. It is not known
     before both were looked at."""
 
-    def __init__(self, path: Path, table: JournalTable) -> None:
+    def __init__(self, path: Path, table: JournalTable, renews: bool = False) -> None:
         self.path = path
         self.journal = JournalFiles(path)
         self.table = table
+        self.renews = renews
         self.serial: int | None = None
 
     def begin(self) -> int:
         """The serial before that of the last line that both have."""
+        last = self.last_serial()
+        if self.renews:
+            self.renew(last)
         self.table.make()
-        last = last_line(self.path)
-        begun = max(0, min(self.table.last(), last.serial if last else 0) - 1)
+        begun = max(0, min(self.table.last(), last) - 1)
         tell(NAME, f"going on behind serial {begun}")
         return begun
+
+    def last_serial(self) -> int:
+        """The last serial of the journal; 0 if it has none."""
+        try:
+            last = last_line(self.path)
+        except Fault:
+            # Its first line at fault is named, in place of its file.
+            for _ in JournalFiles(self.path).behind(0):
+                pass
+            raise
+        return last.serial if last else 0
+
+    def renew(self, last: int) -> None:
+        """Takes out of the table what the journal, up to its last serial, has not."""
+        if last == 0:
+            raise Fault("no_lines", self.path)
+        self.table.make_table()
+        begun = self.first_other() or last + 1
+        number = self.table.take_out(begun)
+        self.renews = False
+        tell(NAME, f"renewing from serial {begun}, {number} lines were taken out")
+
+    def first_other(self) -> int | None:
+        """The serial of the first line that the table has with another text."""
+        for group in groups(JournalFiles(self.path).behind(0)):
+            if (serial := self.table.first_other(group)) is not None:
+                return serial
+        return None
 
     def go_on(self) -> None:
         """Puts in all lines that are there now."""
         if self.serial is None:
             self.serial = self.begin()
         for group in groups(self.journal.behind(self.serial)):
-            if group[0].serial > self.serial + 1:
-                self.check_next(group[0].serial)
-            self.table.put(group)
+            self.put(group)
             self.serial = group[-1].serial
         self.table.complete()
 
-    def check_next(self, serial: int) -> None:
-        """A journal that begins behind a serial may go on where the table ends."""
-        last = self.table.last()
-        if serial > last + 1:
-            raise Fault("lines_missing", last + 1, serial - 1)
+    def put(self, group: list[Line]) -> None:
+        try:
+            self.table.put(group)
+        except OtherText:
+            # Lines that were not compared may differ before it.
+            if (serial := self.first_other()) is not None:
+                raise Fault("other_text", serial) from None
+            raise
 
     def lose(self) -> None:
         self.serial = None
@@ -116,25 +157,34 @@ def run(copying: Copying, once: bool) -> None:
 def table_of(asked: argparse.Namespace) -> JournalTable:
     """The table, or that with the mirror, which the words of the command line ask for."""
     if not asked.features:
-        return JournalTable(asked.dsn)
+        return JournalTable(asked.dsn, asked.town)
     given = asked.system is not None
     system = OfficeSystem(asked.system, *asked.shift) if given else None
-    return MirroredTable(asked.dsn, NAME, system)
+    return MirroredTable(asked.dsn, NAME, system, asked.town)
 
 
-def main() -> int:
+def arguments() -> argparse.Namespace:
     words = argparse.ArgumentParser(prog=NAME, description=(__doc__ or "").splitlines()[0])
     words.add_argument("journal", type=not_empty, help="the journal's path")
     words.add_argument("dsn", type=not_empty, help="the database, as postgresql://..")
+    words.add_argument("--town", type=town_of, default="", metavar="NAME", help="of several towns")
     words.add_argument("--features", action="store_true", help="keeps the mirror too")
     words.add_argument("--system", type=system_of, metavar="S", help="as EPSG:25832")
     words.add_argument("--shift", type=shift_of, metavar="E,N", help="where the grid's 0,0 is in S")
-    words.add_argument("--once", action="store_true", help="ends with the lines that are there")
+    ends = words.add_mutually_exclusive_group()
+    ends.add_argument("--once", action="store_true", help="ends with the lines that are there")
+    ends.add_argument("--renew", action="store_true", help="makes what differs again, and ends")
     asked = words.parse_args()
     if (asked.system is None) != (asked.shift is None) or asked.system and not asked.features:
         words.error("--system and --shift belong together, and to --features")
+    return asked
+
+
+def main() -> int:
+    asked = arguments()
+    copying = Copying(Path(asked.journal), table_of(asked), asked.renew)
     try:
-        run(Copying(Path(asked.journal), table_of(asked)), asked.once)
+        run(copying, asked.once or asked.renew)
     except Fault as fault:
         return end(NAME, fault)
     return 0

@@ -1,6 +1,6 @@
 """Compares the mirror of a journal in PostGIS with what the server keeps, byte for byte.
 
-    python3 deploy/mirror_check.py DSN [J] [--program PROGRAM] [--folder FOLDER]
+    python3 deploy/mirror_check.py DSN [J] [--town NAME] [--program PROGRAM] [--folder FOLDER]
 
 DSN is that of a database with the mirror, or of a standby of it. In one transaction it reads the
 serial of the mirror's state and all features. From the lines of J up to that serial, or without J
@@ -35,12 +35,11 @@ from pathlib import Path
 from typing import Any
 
 from journal_files import JournalFiles
-from journal_lines import Away, Fault, Line, Source, end, not_empty
+from journal_lines import Away, Fault, Line, Source, end, not_empty, town_of
 from journal_table import JournalTable, TableSource
 
 NAME = "mirror_check"
 READ_ONLY = "SET TRANSACTION ISOLATION LEVEL REPEATABLE READ READ ONLY"
-IS_THERE = "SELECT to_regclass('streetmap_mirror') IS NOT NULL"
 SERIAL = "SELECT serial FROM streetmap_mirror"
 COLLECTIONS = "SELECT id, title, time FROM streetmap_collections"
 BODIES = "SELECT body FROM streetmap_features WHERE collection = %s ORDER BY id"
@@ -98,8 +97,7 @@ def read_mirror(table: JournalTable, folder: Path) -> Mirrored:
     """Reads the mirror in one transaction, whose state is that after one serial, whole."""
     with table.transaction() as cursor:
         cursor.execute(READ_ONLY)
-        cursor.execute(IS_THERE)
-        if not cursor.fetchone()[0]:
+        if not table.has(cursor, "streetmap_mirror"):
             raise Fault("no_mirror")
         cursor.execute(SERIAL)
         serial = int(cursor.fetchone()[0])
@@ -195,8 +193,8 @@ def compare(mirrored: Mirrored, server: Server, folder: Path) -> None:
 
 def check(asked: argparse.Namespace, folder: Path) -> Mirrored:
     """Reads, makes and compares, in a folder that is there."""
-    mirrored = read_mirror(JournalTable(asked.dsn), folder)
-    source: Source = TableSource(asked.dsn)
+    mirrored = read_mirror(JournalTable(asked.dsn, asked.town), folder)
+    source: Source = TableSource(asked.dsn, asked.town)
     if asked.journal:
         source = JournalFiles(Path(asked.journal))
     server = Server(asked.program, folder / ".streetmap")
@@ -211,6 +209,7 @@ def main() -> int:
     words = argparse.ArgumentParser(prog=NAME, description=(__doc__ or "").splitlines()[0])
     words.add_argument("dsn", type=not_empty, help="the database, as postgresql://..")
     words.add_argument("journal", nargs="?", help="the journal's path; else the database's table")
+    words.add_argument("--town", type=town_of, default="", metavar="NAME", help="of several towns")
     words.add_argument("--program", default="streetmap", help="the server's program")
     words.add_argument("--folder", help="where the exports of the mirror are left")
     asked = words.parse_args()

@@ -26,7 +26,6 @@ Status 2 is `usage`. Status 3 is `not_written FILE`, or `not_done COMMAND` if sy
 import argparse
 import contextlib
 import fcntl
-import os
 import re
 import signal
 import subprocess
@@ -35,7 +34,7 @@ from collections.abc import Iterator
 from dataclasses import dataclass
 from pathlib import Path
 
-from journal_files import Ending, ending_of, part_from
+from journal_files import Ending, ending_of, part_from, replace_file, synchronise
 from journal_lines import Fault, SourceAway, end
 
 NAME = "streetmap-rotate-journal"
@@ -80,28 +79,6 @@ class Settings:
         without = re.sub(r"(?m)^JOURNAL_AFTER=.*\n?", "", begun)
         return re.sub(r"(?m)^(JOURNAL=.*)$", rf"\1\nJOURNAL_AFTER={after}", without)
 
-    def replace(self, text: str) -> None:
-        """Replaces the file as a whole, with the rights that it has."""
-        beside = self.path.with_name(f".{self.path.name}.new")
-        status = self.path.stat()
-        with beside.open("w") as file:
-            os.fchmod(file.fileno(), status.st_mode & 0o7777)
-            os.fchown(file.fileno(), status.st_uid, status.st_gid)
-            file.write(text)
-            file.flush()
-            os.fsync(file.fileno())
-        beside.replace(self.path)
-        synchronise(self.path.parent)
-
-
-def synchronise(path: Path) -> None:
-    """Has a file, or the names in a folder, kept through a power cut."""
-    opened = os.open(path, os.O_RDONLY)
-    try:
-        os.fsync(opened)
-    finally:
-        os.close(opened)
-
 
 def systemctl(*words: str) -> None:
     command = ["systemctl", *words]
@@ -140,14 +117,11 @@ class Unit:
 
 
 def checked_ending(journal: Path) -> Ending:
-    """How the file ends that the unit writes. One that is not there has no line."""
-    if not journal.exists():
-        return Ending(None, is_whole=True)
+    """How the file ends that the unit writes."""
     try:
-        ending = ending_of(journal)
+        return ending_of(journal)
     except SourceAway as away:
         raise Fault("not_read", journal, status=3, more=(str(away),)) from away
-    return ending
 
 
 def rotate(settings: Settings) -> str:
@@ -163,7 +137,7 @@ def rotate(settings: Settings) -> str:
         raise Fault("exists", following)
     synchronise(journal)
     synchronise(journal.parent)
-    settings.replace(settings.writing(following, ending.line.serial))
+    replace_file(settings.path, settings.writing(following, ending.line.serial))
     return f"{following} begins after serial {ending.line.serial}"
 
 

@@ -54,15 +54,17 @@ fi
 
 put "$prefix/share/streetmap/deploy" \
     deploy/{follow,journal_files,journal_lines,journal_mirror,journal_table,journal_to_postgres}.py \
-    deploy/mirror_check.py
+    deploy/{exporter,mirror_check}.py deploy/{alerts.yml,dashboard.json}
 put "$prefix/share/streetmap/deploy/postgis" deploy/postgis/*
-install -m 755 -t "$root$prefix/share/streetmap/deploy" deploy/rotate_journal.py
+install -m 755 -t "$root$prefix/share/streetmap/deploy" deploy/{rotate_journal.py,report_failure.sh}
 install -d "$root$prefix/sbin"
 ln -sf ../share/streetmap/deploy/rotate_journal.py "$root$prefix/sbin/streetmap-rotate-journal"
-for unit in streetmap streetmap-follower streetmap-journal; do
+for unit in streetmap streetmap-{failed,follower,journal}; do
     put_as "$units/$unit@.service" "deploy/$unit@.service"
 done
+put_as "$units/streetmap-exporter.service" deploy/streetmap-exporter.service
 settings /etc/streetmap/town.conf deploy/town.conf
+settings /etc/default/streetmap deploy/streetmap.default
 if [ -e deploy/nginx.conf ] && [ -e deploy/locations.conf ]; then
     settings /etc/nginx/sites-available/streetmap deploy/nginx.conf
     settings /etc/nginx/streetmap/locations.conf deploy/locations.conf

@@ -87,9 +87,9 @@ END
 $$;
 
 -- The time that a time property holds: a date-time, an interval, or a date. NULL where there is
--- none; empty where it cannot be read (bad_time).
+-- none; empty where it cannot be read (bad_time). Views call it, whoever reads them.
 CREATE OR REPLACE FUNCTION streetmap_time(held jsonb)
-RETURNS tstzrange LANGUAGE plpgsql IMMUTABLE PARALLEL SAFE AS $$
+RETURNS tstzrange LANGUAGE plpgsql IMMUTABLE PARALLEL SAFE SET search_path FROM CURRENT AS $$
 DECLARE
     given text := held #>> '{}';
     slash integer := strpos(given, '/');

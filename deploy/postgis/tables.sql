@@ -3,7 +3,7 @@
 -- journal_to_postgres.py --features runs the files of this folder in one transaction, again at each
 -- start. Its own settings, among them the geometry's system, are in the row of streetmap_mirror.
 
-CREATE EXTENSION IF NOT EXISTS postgis;
+CREATE EXTENSION IF NOT EXISTS postgis SCHEMA public;
 
 -- One row: the serial of the last batch that has acted, and the office's reference system. The
 -- grid's 0,0 is at easting and northing, in thousandths of the system's unit.
@@ -75,9 +75,13 @@ EXCEPTION
 END
 $$;
 
--- The schema of the views, one for each collection. It has no name that a role may have who puts
--- lines in: its views would come before the tables then.
-CREATE SCHEMA IF NOT EXISTS collections;
+-- The schema of the views has no name that a role may have who puts lines in: its views would come
+-- before the tables then.
+DO $$
+BEGIN
+    EXECUTE format('CREATE SCHEMA IF NOT EXISTS %I', streetmap_views_schema());
+END
+$$;
 
 -- The role that only reads. Whoever may not make roles has it made by another (README.md).
 DO $$
@@ -93,10 +97,12 @@ $$;
 DO $$
 BEGIN
     IF EXISTS (SELECT FROM pg_roles WHERE rolname = 'streetmap_reader') THEN
-        EXECUTE format('GRANT USAGE ON SCHEMA %I, collections TO streetmap_reader', current_schema);
+        EXECUTE format('GRANT USAGE ON SCHEMA %I, %I TO streetmap_reader',
+            current_schema, streetmap_views_schema());
         GRANT SELECT ON streetmap_mirror, streetmap_collections, streetmap_features,
             streetmap_properties, streetmap_columns TO streetmap_reader;
-        GRANT SELECT ON ALL TABLES IN SCHEMA collections TO streetmap_reader;
+        EXECUTE format('GRANT SELECT ON ALL TABLES IN SCHEMA %I TO streetmap_reader',
+            streetmap_views_schema());
     END IF;
 END
 $$;

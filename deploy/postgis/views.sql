@@ -77,20 +77,20 @@ $$;
 CREATE OR REPLACE FUNCTION streetmap_make_view(asked text)
 RETURNS boolean LANGUAGE plpgsql AS $$
 DECLARE
-    name text := streetmap_view_name(asked);
+    name text := format('%I.%I', streetmap_views_schema(), streetmap_view_name(asked));
     query text := format(
         'AS SELECT id, geometry, serial, lower(time) AS starts, upper(time) AS ends%s '
         'FROM streetmap_features WHERE collection = %L', streetmap_columns_of(asked), asked);
 BEGIN
     BEGIN
-        EXECUTE format('CREATE OR REPLACE VIEW collections.%I %s', name, query);
+        EXECUTE format('CREATE OR REPLACE VIEW %s %s', name, query);
     EXCEPTION
         WHEN invalid_table_definition THEN
-            EXECUTE format('DROP VIEW collections.%I', name);
-            EXECUTE format('CREATE VIEW collections.%I %s', name, query);
+            EXECUTE format('DROP VIEW %s', name);
+            EXECUTE format('CREATE VIEW %s %s', name, query);
     END;
     IF EXISTS (SELECT FROM pg_roles WHERE rolname = 'streetmap_reader') THEN
-        EXECUTE format('GRANT SELECT ON collections.%I TO streetmap_reader', name);
+        EXECUTE format('GRANT SELECT ON %s TO streetmap_reader', name);
     END IF;
     RETURN true;
 EXCEPTION
@@ -119,6 +119,6 @@ $$;
 
 -- Makes all views again, as after a change of streetmap_columns; gives their number.
 CREATE OR REPLACE FUNCTION streetmap_make_views()
-RETURNS bigint LANGUAGE sql AS $$
+RETURNS bigint LANGUAGE sql SET search_path FROM CURRENT AS $$
     SELECT count(*) FILTER (WHERE streetmap_make_view(id)) FROM streetmap_collections
 $$;

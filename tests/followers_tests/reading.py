@@ -1,10 +1,13 @@
 """Who reads through nginx is answered, whatever happens to the followers."""
 
+import subprocess
+
 from followers_tests.fronts import found
 from followers_tests.load import Client, Load, batch_text
 from followers_tests.processes import Process, wait_until
 from followers_tests.site import Served, Site
 from messages import feature, open_collection, point, put
+from operating_tests.document import commands_of
 
 READERS = 8
 # How many pages each reader has after a follower has failed.
@@ -32,6 +35,46 @@ def check_rolling(site: Site) -> None:
             served.process.start()
         wait_until("pages", lambda: all(it.numbers for it in load.pages()), 30)
     check_readers(load, site, "a rolling restart")
+
+
+def asked_for(served: Served, collection: str) -> int:
+    """How many requests for a collection a server has answered, by its log."""
+    return served.process.log.read_text().count(f"GET /collections/{collection}/")
+
+
+def check_drained(site: Site) -> None:
+    """The documented commands take a follower out, so that nobody asks it when it is killed."""
+    served, folder = site.left, site.context.folder / site.nginx.name
+    (commands,) = commands_of("Restarting a follower")
+    places = {
+        "sudo ": "",
+        "8081": str(served.port),
+        "/etc/nginx/streetmap/nginx-followers.conf": f"{folder}/nginx.conf",
+        "/run/nginx.pid": f"{folder}/nginx.pid",
+        "systemctl reload nginx": f"kill -HUP $(cat {folder}/nginx.pid)",
+    }
+    for old, new in places.items():
+        commands = commands.replace(old, new)
+    out, back = commands.split("systemctl restart streetmap@town\n")
+
+    def run(what: str, given: str) -> None:
+        ended = subprocess.run(["sh", "-ec", given], capture_output=True, timeout=120, check=False)
+        site.context.check(what, ended.returncode, 0)
+
+    with Load(site.port, ["drained"], READERS) as load:
+        wait_until("pages", lambda: all(it.numbers for it in load.pages()), 30)
+        run("it is taken out", out)
+        before = asked_for(served, "drained")
+        wanted = [len(reader.numbers) + PAGES for reader in load.pages()]
+        more = lambda: all(len(it.numbers) > at for it, at in zip(load.pages(), wanted))
+        wait_until("readers go on", more, 30)
+        site.context.check("it had clients", before > 0, True)
+        site.context.check("it is asked no more", asked_for(served, "drained"), before)
+        served.process.kill()
+        served.process.start()
+        run("it is put back", back)
+        wait_until("it is asked", lambda: asked_for(served, "drained") > before, 30)
+    check_readers(load, site, "a restart that nobody sees")
 
 
 def check_both_away(site: Site) -> None:
@@ -110,6 +153,7 @@ def check_full_disk(site: Site) -> None:
 
 def check_reading(site: Site) -> None:
     check_rolling(site)
+    check_drained(site)
     check_both_away(site)
     check_full_disk(site)
     site.catch_up()

@@ -1,6 +1,7 @@
 """A first server, its journal in PostgreSQL with a standby, two followers, and nginx in front."""
 
 import contextlib
+import re
 import sys
 from collections.abc import Iterator
 from dataclasses import dataclass
@@ -53,10 +54,17 @@ def front(context: Context, first: int, followers: tuple[int, int], port: int) -
         assert text.count(f"server 127.0.0.1:{old}") == 1, old
         text = text.replace(f"server 127.0.0.1:{old}", f"server 127.0.0.1:{new}")
     whole = serve_map.configuration(folder, port, first, folder / "map.json")
+    whole = whole.replace("access_log off;", access_log(folder / "access.log"))
     begin, end = whole.index("    upstream streetmap {"), whole.index("    server {\n")
     file = folder / "nginx.conf"
     file.write_text(whole[:begin] + text + whole[end:])
     return Process(context, f"nginx-{port}", serve_map.nginx_command(folder, file), port)
+
+
+def access_log(path: Path) -> str:
+    """The log of requests, in the form of the site's configuration."""
+    (form,) = re.findall(r"(?ms)^log_format streetmap .*?;", (DEPLOY / "nginx.conf").read_text())
+    return f"{form}\n    access_log {path} streetmap;"
 
 
 @dataclass(frozen=True)

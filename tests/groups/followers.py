@@ -9,7 +9,7 @@ end each collection's export is the same bytes on all, and each journal that of 
 import random
 import time
 
-from followers_tests import fronts, parts, reading, rows, tables
+from followers_tests import figures, fronts, parts, reading, rows, tables
 from followers_tests.load import Load, delays, tell_delays
 from followers_tests.processes import wait_until
 from followers_tests.site import Site, site
@@ -20,6 +20,7 @@ PACKAGES = (
     "nginx",
     "openssl",
     "postgresql",
+    "python3-prometheus-client",
     "python3-psycopg2",
 )
 # Rounds of killing, in the short form and in the long one.
@@ -106,6 +107,7 @@ def run(context: Context) -> None:
         check_quiet(made)
         fronts.check_fronts(made)
         reading.check_reading(made)
+        figures.check_figures(made)
         acknowledged = check_killed(made, SLOW_ROUNDS if context.slow else ROUNDS)
         made.catch_up()
         check_end(made, acknowledged)

@@ -35,6 +35,7 @@ def run(context: Context) -> None:
         rows.check_made_later(context, cluster)
         rows.check_made_late(context, cluster)
         rows.check_owner(context, cluster)
+        rows.check_towns(context, cluster)
         views.check_views(context, cluster)
         tools.check_tools(context, cluster)
         filling.check_filling(context, cluster)

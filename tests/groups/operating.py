@@ -1,7 +1,8 @@
 """Commands of docs/OPERATING.md as they stand there: backup, rotation, restore, who may write.
 
 A town is served by the line of its unit, its journal is copied by rsync over two rotations, and is
-restored. Then what streetmap-rotate-journal does where it is killed, repeated or refused.
+restored. Then what streetmap-rotate-journal does where it is killed, repeated or refused; and what
+is reported of a unit that fails.
 """
 
 import os
@@ -10,7 +11,7 @@ import sys
 from pathlib import Path
 
 from harness import Context
-from operating_tests import backup, firewall, rotation
+from operating_tests import backup, firewall, reports, rotation
 
 PACKAGES = ("nftables", "rsync")
 TESTS = Path(__file__).resolve().parents[1]
@@ -31,6 +32,7 @@ def check_firewall(context: Context) -> None:
 
 def run(context: Context) -> None:
     check_firewall(context)
+    reports.check_failing(context)
     if not context.takes("serve", context.folder / "none", "--port", "1", "--journal", "none"):
         return
     rotation.check_rotation(context)

@@ -37,6 +37,8 @@ UNIT = REPOSITORY / "deploy" / "streetmap@.service"
 FOLLOWER_UNITS = [
     REPOSITORY / "deploy" / f"streetmap-{name}@.service" for name in ("follower", "journal")
 ]
+REPORTING_UNIT = REPOSITORY / "deploy" / "streetmap-failed@.service"
+EXPORTER_UNIT = REPOSITORY / "deploy" / "streetmap-exporter.service"
 # What `systemd-analyze security` may say of the unit: 0 is the best, 10 the worst.
 MOST_EXPOSURE = 2.0
 # What enabling the unit for the file `town` makes.
@@ -49,6 +51,9 @@ share/doc/streetmap/README.md
 share/doc/streetmap/docs/API.md
 share/doc/streetmap/examples/town.json
 sbin/streetmap-rotate-journal
+share/streetmap/deploy/alerts.yml
+share/streetmap/deploy/dashboard.json
+share/streetmap/deploy/exporter.py
 share/streetmap/deploy/follow.py
 share/streetmap/deploy/journal_files.py
 share/streetmap/deploy/journal_lines.py
@@ -57,10 +62,13 @@ share/streetmap/deploy/journal_table.py
 share/streetmap/deploy/journal_to_postgres.py
 share/streetmap/deploy/mirror_check.py
 share/streetmap/deploy/postgis/acting.sql
+share/streetmap/deploy/postgis/dropping.sql
 share/streetmap/deploy/postgis/indexes.sql
+share/streetmap/deploy/postgis/names.sql
 share/streetmap/deploy/postgis/reading.sql
 share/streetmap/deploy/postgis/tables.sql
 share/streetmap/deploy/postgis/views.sql
+share/streetmap/deploy/report_failure.sh
 """.split()
 MANUALS = ["streetmap", "streetmap-rotate-journal"]
 # A purge as a machine does it that nobody sits at.
@@ -122,11 +130,14 @@ def check_make_install(context: Context) -> None:
     units = prefix / "lib" / "systemd" / "system"
     (line,) = unit_lines(units / "streetmap@.service")["ExecStart"]
     context.check("its program", "exec /usr/local/bin/streetmap serve" in line, True)
-    for path in FOLLOWER_UNITS:
+    for path in (*FOLLOWER_UNITS, EXPORTER_UNIT):
         script = Path(unit_lines(units / path.name)["ExecStart"][0].split()[2])
         context.check(
             f"the script of {path.name}", (folder / script.relative_to("/")).is_file(), True
         )
+    (reporting,) = unit_lines(units / REPORTING_UNIT.name)["ExecStart"]
+    script = folder / reporting.split()[0].lstrip("/")
+    context.check("the script that reports", os.access(script, os.X_OK), True)
     context.check("the manual pages", [path.stem for path in manuals], MANUALS)
     linted = output_of("mandoc", "-T", "lint", "-W", "warning", *manuals)
     context.check("their form", linted, "")
@@ -164,11 +175,24 @@ def allowed_calls(unit: Path) -> set[str]:
 
 
 def check_exposure(context: Context) -> None:
-    for unit in (UNIT, *FOLLOWER_UNITS):
+    for unit in (UNIT, *FOLLOWER_UNITS, EXPORTER_UNIT):
         analysed = output_of("systemd-analyze", "security", "--offline=true", unit)
         exposure = re.search(r"exposure level for \S+: ([0-9.]+)", analysed)
         assert exposure is not None
         context.check(f"exposure of {unit.name}", float(exposure[1]) <= MOST_EXPOSURE, True)
+
+
+def check_verified(context: Context) -> None:
+    """systemd knows each setting of the units."""
+    folder = context.folder / "verified"
+    folder.mkdir()
+    for unit in (UNIT, *FOLLOWER_UNITS, REPORTING_UNIT, EXPORTER_UNIT):
+        text = unit.read_text().replace("/usr/share/streetmap", str(REPOSITORY))
+        (folder / unit.name).write_text(text)
+    for unit in sorted(folder.iterdir()):
+        words = ["systemd-analyze", "verify", "--man=no", str(unit)]
+        ended = subprocess.run(words, capture_output=True, text=True, check=False)
+        context.check(f"{unit.name} is verified", (ended.returncode, ended.stderr), (0, ""))
 
 
 def check_words(context: Context) -> None:
@@ -178,6 +202,8 @@ def check_words(context: Context) -> None:
     path = "/var/lib/streetmap/town journal"
     rows: tuple[tuple[str, str, str, list[str]], ...] = (
         ("an empty journal", "", "", []),
+        ("a log, and a warm start", "LOG=\nWARM=\n", "LOG=yes\nWARM=1\n", ["--log", "--warm"]),
+        ("settings before LOG and WARM", "LOG=\nWARM=\n", "\n", []),
         ("a missing journal", "JOURNAL=\n", "\n", []),
         ("a journal", "JOURNAL=\n", f"JOURNAL={path}\n", ["--journal", path]),
         (
@@ -202,6 +228,7 @@ def check_words(context: Context) -> None:
 
 def check_unit(context: Context) -> None:
     check_exposure(context)
+    check_verified(context)
     check_words(context)
     trace = context.folder / "trace"
     traced = context.folder / "traced"
@@ -240,7 +267,8 @@ def check_package(context: Context, package: Path) -> None:
     context.check("the package has all files", missing, [])
     context.check("no file names the repository", texts_that_name(str(REPOSITORY), folder), [])
     settings = output_of("dpkg-deb", "-I", package, "conffiles").split()
-    files = {f"/{path.relative_to(folder)}" for path in (folder / "etc").rglob("*.conf")}
+    found = [*(folder / "etc").rglob("*.conf"), folder / "etc" / "default" / "streetmap"]
+    files = {f"/{path.relative_to(folder)}" for path in found}
     context.check("settings are marked as such", files <= set(settings), True)
     depends = output_of("dpkg-deb", "-f", package, "Depends")
     context.check("it names its libraries", "libc6 (>=" in depends, True)
@@ -248,8 +276,8 @@ def check_package(context: Context, package: Path) -> None:
     code = code_of(context.program, copy)
     context.check("its code is the program's", code_of(folder / "usr/bin/streetmap", copy), code)
     root = ["--allow-root"] if os.geteuid() == 0 else []
-    found = output_of("lintian", *root, "--fail-on", "error", package)
-    context.check("lintian finds no fault", found, "")
+    linted = output_of("lintian", *root, "--fail-on", "error", package)
+    context.check("lintian finds no fault", linted, "")
 
 
 def earlier_package(context: Context, package: Path) -> Path:
@@ -394,6 +422,7 @@ def adapt_nginx(root: FreshRoot, port: int, server: int) -> Path:
     site = folder / "sites-available" / "streetmap"
     text = site.read_text().replace("/usr/share/streetmap", str(root.path("/usr/share/streetmap")))
     text = text.replace("listen 443 ", f"listen 127.0.0.1:{port} ").replace(":8080", f":{server}")
+    text = text.replace("/var/log/nginx/", f"{folder}/")
     site.write_text(text.replace("listen 80;", f"listen 127.0.0.1:{free_port()};"))
     key, certificate = folder / "streetmap" / "key.pem", folder / "streetmap" / "certificate.pem"
     words = ["req", "-x509", "-newkey", "rsa:2048", "-nodes", "-subj", "/CN=localhost"]

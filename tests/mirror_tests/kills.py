@@ -164,9 +164,10 @@ def check_delays(made: MirrorSite) -> None:
     made.context.check("late, in the median", median <= MOST_MEDIAN or made.context.slow, True)
 
 
-def check_killed(made: MirrorSite, rounds: int) -> MirrorReader:
+def check_killed(made: MirrorSite, rounds: int) -> tuple[MirrorReader, dict[str, int]]:
     """Rounds in which server, transport and PostgreSQL are killed hard, under load. After each the
-    mirror's state is that of the server at its serial."""
+    mirror's state is that of the server at its serial. What a reader saw, and the serials that
+    were acknowledged."""
     chance, reader = random.Random(rounds), MirrorReader(made.database)
     reader.start()
     with Load(made.port, COLLECTIONS, 0) as load:
@@ -179,11 +180,9 @@ def check_killed(made: MirrorSite, rounds: int) -> MirrorReader:
             wait_until("PostgreSQL answers", made.database.answers, made.context.seconds)
             made.context.check(f"round {at}", made.checked(), (0, "the same"))
     made.catch_up()
-    acknowledged = max(load.serials().values())
-    made.context.check("what was acknowledged", made.mirrored() >= acknowledged, True)
     reader.stop.set()
     reader.join()
-    return reader
+    return reader, load.serials()
 
 
 class Texts:
@@ -225,11 +224,26 @@ def check_seen(made: MirrorSite, reader: MirrorReader) -> None:
     print(f"  {serial} batches; {compared} states were read and compared")
 
 
-def check_end(made: MirrorSite) -> None:
+def check_lines(made: MirrorSite, acknowledged: dict[str, int]) -> None:
+    """The file, its journal and the table have the same lines, with all that was acknowledged."""
+    check, lines = made.context.check, made.journal.read_bytes()
+    check("the batches of the file", made.context.run("batches", made.file) == lines, True)
+    check("the lines of the table", made.database.journal() == lines, True)
+    found = {}
+    for line in lines.splitlines():
+        serial, _, text = line.partition(b"\t")
+        found[text.rpartition(b'"key":"')[2][:-2].decode()] = int(serial)
+    kept = {key: found.get(key) for key in acknowledged}
+    check("each acknowledged batch has its serial", kept == acknowledged, True)
+    print(f"  {len(acknowledged)} batches were acknowledged under kills")
+
+
+def check_end(made: MirrorSite, acknowledged: dict[str, int]) -> None:
     """What the mirror has at the end, against the file itself and its journal."""
     made.catch_up()
     made.context.check("the mirror at the end", made.checked(), (0, "the same"))
     made.server.kill()
+    check_lines(made, acknowledged)
     folder = made.context.folder / "exports"
     words = Script(made.context, CHECK).command(made.database.dsn, "--folder", folder)
     words += ["--program", str(made.context.program)]
@@ -295,11 +309,11 @@ def check_wrong(made: MirrorSite) -> None:
 def check_kills(context: Context, cluster: Database, rounds: int) -> None:
     with site(context, cluster) as made:
         check_delays(made)
-        reader = check_killed(made, rounds)
+        reader, acknowledged = check_killed(made, rounds)
         made.transport.kill()
         check_seen(made, reader)
         made.transport.start()
         check_standby(made)
-        check_end(made)
+        check_end(made, acknowledged)
         made.transport.kill()
         check_wrong(made)

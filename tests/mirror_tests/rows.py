@@ -2,13 +2,14 @@
 how a mirror is made over a table that has lines, and its words."""
 
 import re
+import subprocess
 from dataclasses import dataclass, replace
 from pathlib import Path
 
 import psycopg2
 from followers_tests.postgres import Database
 from followers_tests.processes import DEPLOY, Script
-from followers_tests.rows import ENDED, LINES, OPENED, lamp, lines_of, text_of
+from followers_tests.rows import ENDED, LINES, OPENED, OTHER, TEXTS, lamp, lines_of, text_of
 from harness import Context
 from messages import feature, open_collection, point, put
 from mirror_tests.mirrors import Mirror, batch_text
@@ -16,6 +17,9 @@ from units import unit_lines
 
 SCRIPT = "journal_to_postgres.py"
 SYSTEM = ("--system", "EPSG:25832", "--shift", "565000,5934000.125")
+# The texts of another journal, from the third on, and its lamps.
+FORKED = [*TEXTS[:2], OTHER, text_of("b4", lamp(44))]
+OTHERS = [("L2",), ("L33",), ("L44",)]
 # Texts that no server writes, and the fault of each as the second edit or as a whole.
 BAD_TEXTS = (
     b' {"edits":[],"key":"k"}',
@@ -152,8 +156,9 @@ class Journal:
     def row(self, what: str, words: tuple[str, ...], ends: str | None, serial: int | None) -> None:
         """Puts the journal in. Wanted: the fault, and the serial of the mirror, if there is one."""
         script = Script(self.context, SCRIPT)
-        status, said = script.ends(self.path, self.database.dsn, "--once", *words)
-        said = [it for it in said if not it.startswith("the mirror acts")]
+        once = () if "--renew" in words else ("--once",)
+        status, said = script.ends(self.path, self.database.dsn, *once, *words)
+        said = [it for it in said if not it.startswith(("the mirror acts", "renewing"))]
         self.context.check(what, (status, said[:1]), (1, [ends]) if ends else ENDED)
         if serial is not None:
             found = self.database.ask("SELECT serial FROM streetmap_mirror")
@@ -179,11 +184,10 @@ def check_made_later(context: Context, cluster: Database) -> None:
     refused = [*longer, *lines_of([text_of("b10", *edits)], 10)]
     journal.write(refused)
     row("a line that is refused", (), "refused 10 no_collection 1", 9)
-    check_made_anew(context, journal.database)
-    journal.write(longer)
-    row("made anew", mirrored, None, 9)
-    journal.write(refused)
     row("the same with the word", ("--features",), "refused 10 no_collection 1", 9)
+    journal.write(longer)
+    check_renewed(journal)
+    check_without(journal)
     check_words(context, journal.database)
 
 
@@ -196,14 +200,68 @@ def check_made_late(context: Context, cluster: Database) -> None:
     journal.row("its mirror", ("--features",), "lines_missing 1 3", None)
 
 
-def check_made_anew(context: Context, database: Database) -> None:
-    """What README.md runs to make a mirror anew leaves the journal's table alone."""
-    text = (DEPLOY / "postgis" / "README.md").read_text().partition("**To make it anew**")[2]
-    database.ask(text.partition("```sql\n")[2].partition("```")[0])
-    there = database.ask(
+def check_renewed(journal: Journal) -> None:
+    """A mirror that was changed by hand is made again, in its system or in another; types of
+    columns stay; and it follows a table that is made again."""
+    row, ask, check = journal.row, journal.database.ask, journal.context.check
+    features = "SELECT count(*), min(ST_AsText(geometry)) FROM collections.lamps"
+    before = ask(features)
+    ask("INSERT INTO streetmap_columns VALUES ('lamps', 'set', 'date')")
+    ask("DELETE FROM streetmap_features")
+    ask("DROP TABLE streetmap_properties")
+    row("renewed, but not the mirror", ("--renew",), "has_mirror", 9)
+    row("renewed", ("--features", "--renew"), None, 9)
+    check("its features", ask(features), before)
+    check("its types of columns", ask("SELECT count(*) FROM streetmap_columns"), [(1,)])
+    moved = ("--features", "--renew", "--system", "EPSG:25833", "--shift", "0,0")
+    row("renewed elsewhere", moved, None, 9)
+    check("its place", ask("SELECT srid FROM streetmap_mirror"), [(25833,)])
+    journal.write(lines_of(FORKED))
+    row("another's", ("--features",), "other_text 3", 9)
+    row("another's, renewed", ("--features", "--renew"), None, 4)
+    check("another's features", ask("SELECT id FROM collections.lamps"), OTHERS)
+
+
+def check_without(journal: Journal) -> None:
+    """What README.md runs to do without a mirror leaves the journal's tables alone."""
+    text = (DEPLOY / "postgis" / "README.md").read_text()
+    (file,) = re.findall(r"psql -d streetmap -f /usr/share/streetmap/deploy/([a-z/.]+sql)", text)
+    words = ["psql", "-q", "-d", journal.database.dsn, "-f", str(DEPLOY / str(file))]
+    subprocess.run(words, check=True, capture_output=True)
+    there = journal.database.ask(
         "SELECT relname FROM pg_class WHERE relname LIKE 'streetmap%%' AND relkind IN ('r', 'v')"
+        " ORDER BY relname"
     )
-    context.check("the tables that are left", there, [("streetmap_journal",)])
+    wanted = [(f"streetmap_{it}",) for it in ("columns", "journal", "journal_replaced")]
+    journal.context.check("the tables that are left", there, wanted)
+    journal.write(lines_of([*FORKED, *TEXTS[4:6]]))
+    journal.row("without a mirror", (), None, None)
+
+
+def check_towns(context: Context, cluster: Database) -> None:
+    """Two towns of one database, beside a mirror of no town: tables, views, and the check."""
+    journal = Journal.new(context, cluster, "mirror_towns")
+    check, ask = context.check, journal.database.ask
+    words = ("--features", *SYSTEM)
+    set_on = put("insert", "lamps", feature("L9", point(9, 9), {"set": "2024-05-01"}))
+    towns = {"": TEXTS, "harbour": [*TEXTS[:3], text_of("set", set_on)], "a_1": TEXTS[:2]}
+    for town, texts in towns.items():
+        journal.write(lines_of(texts))
+        journal.row(f"the town {town}", ("--town", town, *words), None, len(TEXTS))
+        views = f"collections_{town}" if town else "collections"
+        found = ask(f"SELECT count(*) FROM {views}.lamps")
+        check(f"its view {views}", found, [(len(texts) - 1,)])
+    given = ("--town", "a_1", "--program", str(context.program))
+    ended = Script(context, "mirror_check.py").ends(journal.database.dsn, journal.path, *given)
+    check("the check of a town", ended, ENDED)
+    ask("INSERT INTO streetmap_harbour.streetmap_columns VALUES ('lamps', 'set', 'date')")
+    ask("SELECT streetmap_harbour.streetmap_make_views()")
+    query = "SELECT \"set\"::text FROM collections_harbour.lamps WHERE id = 'L9'"
+    check("a reader of a town", refused_code(journal.database, query), None)
+    check("a date of a town", ask(query), [("2024-05-01",)])
+    journal.write(lines_of(towns["harbour"]))
+    journal.row("a town, renewed", ("--town", "harbour", "--features", "--renew"), None, 8)
+    check("the date, renewed", ask(query), [("2024-05-01",)])
 
 
 def documented_words(context: Context) -> list[str]:
