@@ -23,8 +23,8 @@ def main() -> int:
         return 2
     uvicorn.run(
         make_app(gateway),
-        host=settings.host,
-        port=settings.port,
+        host=settings.listen.host,
+        port=settings.listen.port,
         loop="uvloop",
         http="httptools",
         ws="none",

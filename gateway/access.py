@@ -15,7 +15,7 @@ import secrets
 import sys
 from collections.abc import Callable, Sequence
 
-from fastapi import Request
+from starlette.requests import Request
 
 from .problems import Problem
 from .settings import Writer

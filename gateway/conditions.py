@@ -5,7 +5,7 @@ No answer of the gateway has an entity tag yet, so none that a client names is t
 
 from dataclasses import dataclass
 
-from fastapi import Request
+from starlette.requests import Request
 
 from .problems import Problem
 

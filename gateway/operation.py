@@ -14,7 +14,7 @@ from pyproj.network import set_network_enabled
 from pyproj.transformer import Transformer, TransformerGroup
 
 from .grid import STEPS, Grid, Numbers
-from .settings import Settings, SettingsFault
+from .settings import Office, SettingsFault
 
 # What is off by so few steps is not corrected.
 CLOSE = 1e-4
@@ -22,17 +22,17 @@ CLOSE = 1e-4
 set_network_enabled(False)
 
 
-def read_system(settings: Settings) -> pyproj.CRS:
+def read_system(office: Office) -> pyproj.CRS:
     """The office's system: one of EPSG, projected, eastings and northings in the named unit."""
     try:
-        system = pyproj.CRS.from_user_input(settings.system)
+        system = pyproj.CRS.from_user_input(office.name)
     except CRSError as fault:
         raise SettingsFault(f"system.name: {fault}") from fault
     directions = sorted(axis.direction for axis in system.axis_info)
     if not system.is_projected or directions != ["east", "north"]:
         raise SettingsFault("system.name is no projected system of eastings and northings")
     units = {axis.unit_name for axis in system.axis_info}
-    if units != {settings.unit}:
+    if units != {office.unit}:
         raise SettingsFault(f"system.unit is not the system's: {', '.join(sorted(units))}")
     if system.to_epsg(min_confidence=100) is None:
         raise SettingsFault("system.name is no system of EPSG")

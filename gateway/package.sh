@@ -3,17 +3,23 @@
 set -eu
 folder=$(mkdir -p "$1" && realpath "$1")
 root=$(dirname "$(dirname "$(realpath "$0")")")
-depends="python3 (>= 3.11), python3-fastapi, python3-httptools, python3-httpx"
-depends="$depends, python3-numpy, python3-pyproj, python3-uvicorn, python3-uvloop"
-version=$(sed -n 's/^VERSION = "\(.*\)"$/\1/p' "$root/gateway/openapi.py")
+depends="python3 (>= 3.11), python3-httptools, python3-httpx, python3-jinja2, python3-numpy"
+depends="$depends, python3-pydantic, python3-pyproj, python3-starlette, python3-uvicorn"
+depends="$depends, python3-uvloop"
+version=$(sed -n 's/.*"version": "\(.*\)".*/\1/p' "$root/gateway/openapi/reading.json")
 tree=$(mktemp -d)
 trap 'rm -rf "$tree"' EXIT
 
 documents=$tree/usr/share/doc/streetmap-gateway
-install -d "$tree/usr/share/streetmap/gateway/static" "$tree/lib/systemd/system"
+install -d "$tree/lib/systemd/system"
 install -d "$documents/examples" "$tree/DEBIAN"
+for part in . openapi static templates; do
+    install -d "$tree/usr/share/streetmap/gateway/$part"
+done
 install -m 644 "$root"/gateway/*.py "$tree/usr/share/streetmap/gateway/"
-install -m 644 "$root"/gateway/static/* "$tree/usr/share/streetmap/gateway/static/"
+for part in openapi static templates; do
+    install -m 644 "$root/gateway/$part"/* "$tree/usr/share/streetmap/gateway/$part/"
+done
 install -m 644 "$root/deploy/streetmap-gateway.service" "$tree/lib/systemd/system/"
 install -m 644 "$root/gateway/gateway.toml" "$documents/examples/"
 install -m 644 "$root/docs/CLIENTS.md" "$documents/"

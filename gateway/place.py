@@ -111,7 +111,7 @@ def main() -> int:
         box = given.box or asyncio.run(data_box(gateway.client))
         if not (-2 * BOUND <= box[0] < box[2] <= 2 * BOUND and box[1] < box[3]):
             raise PlaceFault("The box has no area, or is beyond the grid.")
-        written = table(gateway.systems.operation, gateway.settings.system, box)
+        written = table(gateway.systems.operation, gateway.settings.system.name, box)
     except (SettingsFault, PlaceFault, Problem) as fault:
         print(f"place: {fault}", file=sys.stderr)
         return 1

@@ -5,8 +5,8 @@ import json
 from collections.abc import Mapping
 from typing import Any
 
-from fastapi import Request
-from fastapi.responses import Response
+from starlette.requests import Request
+from starlette.responses import Response
 from starlette.exceptions import HTTPException
 from starlette.routing import Match, Route
 
@@ -67,6 +67,11 @@ async def answer_problem(_request: Request, fault: Exception) -> Response:
     """The answer to a refusal of the gateway's own."""
     assert isinstance(fault, Problem)
     return fault.response()
+
+
+async def answer_failure(_request: Request, _fault: Exception) -> Response:
+    """The answer to a fault of the gateway itself, which Starlette raises again for the log."""
+    return Problem(500, "failed", "The gateway has failed at this request.").response()
 
 
 async def answer_http_fault(request: Request, fault: Exception) -> Response:

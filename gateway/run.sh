@@ -15,7 +15,7 @@ from pathlib import Path
 from gateway.settings import read_settings
 
 settings = read_settings(Path(sys.argv[1]))
-print(urllib.parse.urlsplit(settings.server).port or 80, settings.address)
+print(urllib.parse.urlsplit(settings.server.address).port or 80, settings.address)
 ' "$settings")
 
 [ -e "$file" ] || "$program" create "$file"

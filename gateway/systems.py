@@ -185,9 +185,9 @@ class Systems:
 
 def make_systems(settings: Settings) -> Systems:
     """The systems of an office, refused where its own cannot be carried to WGS 84."""
-    crs = read_system(settings)
-    grid = Grid.at(settings.easting, settings.northing)
-    operation = Operation(choose(crs, settings.operation), grid)
+    crs = read_system(settings.system)
+    grid = Grid.at(settings.system.easting, settings.system.northing)
+    operation = Operation(choose(crs, settings.system.operation), grid)
     reach = reach_of(operation, crs)
     world = World(operation, reach)
     northing_first = crs.axis_info[0].direction == "north"

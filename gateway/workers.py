@@ -11,7 +11,7 @@ import signal
 import subprocess
 import sys
 
-from fastapi.concurrency import run_in_threadpool
+from starlette.concurrency import run_in_threadpool
 
 from .bodies import Batch, Sent, batch_of
 from .problems import RETRY_SECONDS, Problem
@@ -63,7 +63,7 @@ class Workers:
     async def batch(self, sent: Sent) -> Batch:
         """The batch that a request becomes."""
         if len(sent.body) <= SMALL:
-            return batch_of(sent, self.systems, self.settings.fractions)
+            return batch_of(sent, self.systems, self.settings.edits.fractions)
         worker = await self.idle.get()
         try:
             if worker is None:
@@ -112,7 +112,7 @@ def main() -> None:
             sent: Sent = pickle.load(source)
         except EOFError:
             return
-        pickle.dump(made_of(sent, systems, settings.fractions), sink)
+        pickle.dump(made_of(sent, systems, settings.edits.fractions), sink)
         sink.flush()
         gc.collect()
 

@@ -42,8 +42,12 @@ def check_settings(context: Context) -> None:
     whole = settings_text("http://127.0.0.1:1", 1)
     check_refused(context, "address is missing", whole.partition("\n")[2])
     check_refused(context, "", "[")
-    check_refused(context, "edits.fractions is neither", whole + '[edits]\nfractions = "round"\n')
-    check_refused(context, "writers.name is not", whole.replace("crew-7", "crew 7"))
+    check_refused(
+        context, "edits.fractions unexpected value", whole + '[edits]\nfractions = "round"\n'
+    )
+    check_refused(
+        context, "writers.0.name string does not match", whole.replace("crew-7", "crew 7")
+    )
     check_refused(context, "has neither a token", whole.replace("token =", "# token ="))
     named = settings_text("http://127.0.0.1:1", 1, f'{BRITAIN}\noperation = "{OSGB}"')
     file = write(context, named)
@@ -162,5 +166,3 @@ def check_package(context: Context) -> None:
         words, cwd="/", env=seen, capture_output=True, text=True, timeout=SECONDS
     )
     context.check("it runs without the repository", (ended.returncode, ended.stderr), (0, ""))
-    has_page = (share / "gateway/static/api.html").exists()
-    context.check("the page for people", has_page, True)

@@ -8,7 +8,11 @@ from harness import Context
 from messages import post
 
 PACKAGES = (
-    "python3-fastapi",
+    "libjson-validator-perl",
+    "python3-jinja2",
+    "python3-pydantic",
+    "python3-simplejson",
+    "python3-starlette",
     "python3-uvicorn",
     "python3-httptools",
     "python3-uvloop",
@@ -38,7 +42,6 @@ def run(context: Context) -> None:
             answers.check_refusals(context, asked)
             pages.check_pages(context, asked)
             pages.check_times(context, asked)
-            pages.check_next(context, asked)
             boxes.check_office_boxes(context, asked)
             boxes.check_turned_orders(context, asked)
             boxes.check_wide_boxes(context, asked)
@@ -48,7 +51,7 @@ def run(context: Context) -> None:
             clients.check_clients(context, asked)
             settings.check_place(context, asked)
             faults.check_many(context, asked)
-        pages.check_secret(context, server.url)
+        pages.check_walk(context, server.url)
         boxes.check_turned_boxes(context, server.url)
     round_trip.check_round_trips(context)
     boxes.check_antimeridian(context)
