@@ -9,12 +9,14 @@ from starlette.middleware import Middleware
 from starlette.middleware.cors import CORSMiddleware
 
 from . import edits, reading
+from .access_log import AccessLog
 from .gateway import Gateway
 from .origins import OwnOrigin
 from .problems import Problem, answer_failure, answer_http_fault, answer_problem
 
-# The headers of answers that a page of another origin may read, beside those that all may.
-EXPOSED = ["Content-Crs", "Link", "Retry-After"]
+# What a page of another origin may do, and the headers that it may read beside those of all pages.
+READING = ["GET", "HEAD"]
+EXPOSED = ["Content-Crs", "Retry-After"]
 
 
 def make_app(gateway: Gateway) -> Starlette:
@@ -45,8 +47,8 @@ def middleware(gateway: Gateway) -> list[Middleware]:
     settings = gateway.settings
     found = [Middleware(OwnOrigin, address=settings.address)]
     if settings.cors.origins:
-        reading_only = {"allow_methods": ["GET", "HEAD"], "expose_headers": EXPOSED}
-        found.insert(
-            0, Middleware(CORSMiddleware, allow_origins=settings.cors.origins, **reading_only)
-        )
+        cors = {"allow_origins": settings.cors.origins, "allow_methods": READING}
+        found.insert(0, Middleware(CORSMiddleware, expose_headers=EXPOSED, **cors))
+    if settings.listen.access_log:
+        found.insert(0, Middleware(AccessLog))
     return found

@@ -14,7 +14,7 @@ ANY = "*"
 
 @dataclass(frozen=True)
 class Conditions:
-    """What is to hold of the resource that a request names, before it acts."""
+    """What the resource that a request names has to be before the request acts."""
 
     is_there: bool
     is_not_there: bool

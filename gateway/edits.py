@@ -5,6 +5,7 @@ field follows, so the same request sent again by the same writer acts once. With
 who and when: USER:TIME:RANDOM.
 """
 
+import asyncio
 import base64
 import hashlib
 import re
@@ -25,7 +26,8 @@ from .problems import Problem, not_found
 from .query import read_parameters
 from .systems import CRS84, System, Systems
 
-LARGEST = 8_388_608
+# The most bytes of a body, which are the server's, and the time within which they come.
+LARGEST, BODY_SECONDS = 8_388_608, 300
 BODY_TYPES = (GEOJSON, JSON)
 COLLECTION = re.compile(r"[A-Za-z0-9][A-Za-z0-9._-]{0,63}")
 MADE_ID_DIGITS = 32
@@ -67,13 +69,16 @@ def check_content_type(request: Request) -> None:
 
 
 async def body_of(request: Request) -> bytes:
-    """The body, of at most as many bytes as the server takes."""
+    """The body; a Problem if it is too large, too slow, or cut."""
     body = bytearray()
     try:
-        async for piece in request.stream():
-            body += piece
-            if len(body) > LARGEST:
-                raise Problem(413, "body_too_large", "The body is too large.")
+        async with asyncio.timeout(BODY_SECONDS):
+            async for piece in request.stream():
+                body += piece
+                if len(body) > LARGEST:
+                    raise Problem(413, "body_too_large", "The body is too large.")
+    except TimeoutError as fault:
+        raise Problem(408, "body_too_slow", "The body takes too long.") from fault
     except ClientDisconnect as fault:
         raise Problem(400, "body_cut", "The body ends too soon.") from fault
     return bytes(body)
@@ -97,6 +102,7 @@ class Edit:
         that does not hold."""
         gateway = gateway_of(request)
         writer = await run_in_threadpool(gateway.access.writer, request)
+        request.state.writer = writer
         if request.method in ("POST", "PUT"):
             check_content_type(request)
         key = batch_key(request, writer)
@@ -125,7 +131,7 @@ class Edit:
         return True
 
     async def batch(self, op: str) -> Batch:
-        """The batch of the feature that the request sends. What is no feature stays what it is."""
+        """The batch of the feature that the request sends."""
         system = content_system(self.request, self.gateway.systems)
         name = made_id(self.key) if self.feature is None else self.feature
         body = await body_of(self.request)

@@ -22,7 +22,7 @@ class Links:
     def forms(
         self, path: str, query: Query, media_type: str, title: str, is_html: bool
     ) -> list[Link]:
-        """The links of a resource to itself: `self` as it was asked for, and `alternate` in its
+        """The links of a resource to itself: `self` as it was requested, and `alternate` in its
         other form."""
         other, form = (media_type, "json") if is_html else (HTML, "html")
         return [

@@ -10,7 +10,7 @@ from functools import partial
 
 from .boxes import NOWHERE, Region
 from .client import ServerClient
-from .features import Feature, placed_page, placed_texts
+from .features import Feature, transformed_page, transformed_texts
 from .meeting import meeting
 from .query import MOST, ItemsQuery
 
@@ -18,7 +18,7 @@ MORE = 20
 # Each further page of the server is this many times as long, up to the most.
 GROWTH = 4
 # One in this many more is requested than are shown, for those of the bounds that do not meet.
-SPARE = 8
+RESERVE = 8
 
 
 @dataclass(frozen=True)
@@ -43,8 +43,8 @@ async def fill(client: ServerClient, collection: str, query: ItemsQuery) -> Fill
 
 
 async def region_of(client: ServerClient, collection: str, query: ItemsQuery) -> Region | None:
-    """What of the query's box can select a feature that the collection has now; None without a
-    box."""
+    """The part of the query's box that can select a feature that the collection has now; None
+    without a box."""
     if query.box is None:
         return None
     box = query.box_system.box(query.box)
@@ -62,7 +62,7 @@ async def exact_page(
 ) -> Filled:
     """The page of the server itself."""
     asked = server_query(query, region, query.limit, query.after)
-    page = await client.page_by(partial(placed_page, system=query.system), collection, asked)
+    page = await client.page_by(partial(transformed_page, system=query.system), collection, asked)
     return Filled(page.text, page.count, page.last if page.goes_on else None, page.matched)
 
 
@@ -79,7 +79,7 @@ async def tested_page(
     match is known if the first page has them all."""
     found, after = await tested_features(client, collection, query, region)
     is_whole = query.after is None and after is None
-    text = ",".join(placed_texts(found, query.system))
+    text = ",".join(transformed_texts(found, query.system))
     return Filled(text, len(found), after, len(found) if is_whole else None)
 
 
@@ -91,7 +91,7 @@ async def tested_features(
     after = query.after
     for number in range(1 + MORE):
         # Most features of the bounds meet the region, so the first page is mostly enough.
-        size = min((query.limit + query.limit // SPARE) * GROWTH**number, MOST)
+        size = min((query.limit + query.limit // RESERVE) * GROWTH**number, MOST)
         page = await client.page(collection, server_query(query, region, size, after))
         is_met = meeting([feature.geometry for feature in page.features], region)
         found += [feature for feature, meets in zip(page.features, is_met) if meets]

@@ -11,8 +11,9 @@ from starlette.exceptions import HTTPException
 from starlette.routing import Match, Route
 
 MEDIA_TYPE = "application/problem+json"
-# After so many seconds a client may ask again where the server was away.
+# After these seconds a client may send its request again, if the server was away.
 RETRY_SECONDS = 5
+FILE_METHODS = {"GET", "HEAD"}
 
 
 class Problem(Exception):
@@ -34,7 +35,7 @@ class Problem(Exception):
         self.headers = dict(headers or {})
 
     def __reduce__(self) -> tuple[Any, ...]:
-        """How a refusal is carried from one process to another."""
+        """How a refusal is pickled, for another process."""
         return Problem, (self.status, self.code, self.detail, self.cause, self.headers)
 
     def response(self) -> Response:
@@ -91,10 +92,10 @@ async def answer_http_fault(request: Request, fault: Exception) -> Response:
 
 
 def allowed(request: Request) -> set[str]:
-    """The methods of all routes of a path."""
-    matching = (
+    """The methods of all routes of a path. One without a route of its own is a file's."""
+    routes = (
         route
         for route in request.app.routes
         if isinstance(route, Route) and route.matches(request.scope)[0] != Match.NONE
     )
-    return {method for route in matching for method in route.methods or ()}
+    return {method for route in routes for method in route.methods or ()} or FILE_METHODS

@@ -25,8 +25,8 @@ FIRST_MOMENT, LAST_MOMENT = "T00:00:00Z", "T23:59:59.999999999Z"
 
 @dataclass(frozen=True)
 class ItemsQuery:
-    """What is asked of a collection's features: the reference system of the answer, the numbers of
-    a box in the order of their system's axes, a time as the server reads it, and which page."""
+    """The query of a page: the reference system of the answer, the bounds of a box in the order of
+    the axes of their own system, a time as the server reads it, and which page."""
 
     system: System
     box: list[Decimal] | None
@@ -37,8 +37,8 @@ class ItemsQuery:
 
 
 def read_parameters(request: Request, also: Container[str] = ()) -> dict[str, str]:
-    """The parameters of a request, each of which the description has, or is one of `also`, and
-    stands once."""
+    """The parameters of a request; a Problem for one that is given twice, or that neither the
+    description nor `also` has."""
     known = gateway_of(request).description.query_names[request.scope["endpoint"].__name__]
     found: dict[str, str] = {}
     for name, value in request.query_params.multi_items():

@@ -11,7 +11,7 @@ from starlette.staticfiles import StaticFiles
 from . import resources
 from .forms import json_response, wants_html
 from .gateway import gateway_of
-from .geojson import compact, place_geometries
+from .geojson import compact, transform_geometries
 from .html import html_response
 from .links import GEOJSON, JSON, OPENAPI, collection_path, feature_path, items_path
 from .pages import fill
@@ -97,7 +97,7 @@ async def feature(request: Request) -> Response:
     path = feature_path(name, identity)
     links = gateway.links.forms(path, found, GEOJSON, "This feature", is_html)
     shown["links"] = [*links, gateway.links.collection(name)]
-    place_geometries([shown["geometry"]], system)
+    transform_geometries([shown["geometry"]], system)
     if is_html:
         return html_response(request, "feature.html", shown, collection=name, system=system.uri)
     return geojson_response(compact(shown), system)

@@ -1,8 +1,9 @@
+/* global L */
 // The small map of a page of features, or of one: Leaflet draws what the page shows, in degrees.
 // It has no background, so nothing comes from another host. Without Leaflet there is no map.
 
 const COLOUR = "#0b6bcb";
-const STYLE = { color: COLOUR, weight: 2, fillOpacity: 0.25 };
+const LINE = { color: COLOUR, weight: 2, fillOpacity: 0.25 };
 const POINT = { radius: 6, color: "#ffffff", weight: 1, fillColor: COLOUR, fillOpacity: 0.9 };
 const NEAREST = 19;
 
@@ -22,8 +23,8 @@ function label(feature, isAlone) {
 function draw(element, shown) {
   const isAlone = shown.type === "Feature";
   const layer = L.geoJSON(shown, {
-    style: () => STYLE,
-    pointToLayer: (_feature, place) => L.circleMarker(place, POINT),
+    style: (feature) => (feature.geometry.type.endsWith("Point") ? POINT : LINE),
+    pointToLayer: (_feature, place) => L.circleMarker(place),
     onEachFeature: (feature, drawn) => drawn.bindPopup(() => holder(label(feature, isAlone))),
   });
   const bounds = layer.getBounds();
