@@ -32,9 +32,9 @@ DEGREE_PLACES, METRE_PLACES = 9, 4
 FARTHEST_DEGREES = 720
 TURNED_BOX = "The lower bounds of the box are above the upper ones."
 NO_DEGREES = (
-    "The box is beyond the world. Without bbox-crs its numbers are degrees of CRS84, longitude first."
-    " A box in metres needs a bbox-crs, the storageCrs of the collection say; ogr2ogr transforms the"
-    " box of -spat if -spat_srs names its system."
+    "The box is beyond the world. Without bbox-crs its numbers are degrees of CRS84, longitude"
+    " first. A box in metres needs a bbox-crs, the storageCrs of the collection say; ogr2ogr"
+    " transforms the box of -spat if -spat_srs names its system."
 )
 
 # A position of the server: x, y and perhaps a height, in steps.

@@ -37,7 +37,7 @@ SILENT: dict[str, tuple[bytes, bytes, int]] = {
     "half a head": (b"GET /conformance HTTP/1.1\r\nHo", b"", 15),
     "a head byte by byte": (b"GET /conformance HTTP/1.1\r\nX: ", b"a", 15),
     "nothing after an answer": (HEAD + b"\r\n", b"", 10),
-    "half a head after an answer": (HEAD + b"\r\nGET /con", b"", 15),
+    "half a head after an answer": (HEAD + b"\r\nGET /con", b"", 10),
     "a body that nobody reads": (HEAD + b"Content-Length: 9999\r\n\r\n", b"x", 15),
     "half a body without a token": (
         b"POST /collections/lamps/items HTTP/1.1\r\nHost: a\r\nContent-Length: 9999\r\n\r\n",

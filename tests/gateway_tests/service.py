@@ -103,8 +103,8 @@ def gateway(
     address: str | None = None,
     title: str = "Streets",
 ) -> Iterator[Gateway]:
-    """A gateway in front of a server's URL, until the block ends. Its links begin with `address`, or
-    with where it is."""
+    """A gateway in front of a server's URL, until the block ends. Its links begin with `address`,
+    or with where it is."""
     port = free_port()
     file = context.folder / f"gateway-{port}.toml"
     file.write_text(settings_text(server, port, system, more, address, title))
