@@ -40,7 +40,8 @@ class AccessLog:
 def line(scope: Scope, status: int, sent: int) -> str:
     """A line without the time that was taken. What a client wrote is printable ASCII in it, and has
     no quotation mark."""
-    client, _ = scope["client"] or ("-", 0)
+    # A proxy may say that the client is on this machine, which uvicorn takes for none.
+    client = (scope["client"] or ("", 0))[0] or "-"
     writer = scope.get("state", {}).get("writer", "-")
     now = datetime.now(timezone.utc).strftime("%d/%b/%Y:%H:%M:%S %z")
     query = b"?" + scope["query_string"] if scope["query_string"] else b""

@@ -2,6 +2,7 @@
 
 import json
 import re
+import subprocess
 from decimal import Decimal
 from typing import Any
 
@@ -38,6 +39,7 @@ def check_resources(context: Context, gateway: Gateway) -> None:
     context.check("the kinds of a page", kinds, ["application/geo+json", "text/html"])
     for reference in set(re.findall(r'"\$ref": ?"([^"]*)"', json.dumps(described))):
         context.check(reference, isinstance(named(described, reference), dict), True)
+    check_description(context, described)
     classes = gateway.ask("/conformance").json()["conformsTo"]
     short = [re.sub(r".*ogcapi-features-(\d)/1.0/conf/", r"\1 ", each) for each in classes]
     wanted = ["1 core", "1 geojson", "1 html", "1 oas30", "2 crs", "4 create-replace-delete"]
@@ -45,6 +47,32 @@ def check_resources(context: Context, gateway: Gateway) -> None:
     other_hosts = re.findall(r'(?:src|href)="\w+:', gateway.ask("/api.html").text)
     context.check("the page for people asks no other host", other_hosts, [])
     check_collections(context, gateway)
+
+
+# Prints each fault that Debian's JSON::Validator finds in the OpenAPI document of a file.
+VALIDATE = """
+use JSON::Validator;
+my $schema = JSON::Validator->new->schema(shift)->schema;
+print ref $schema, "\\n", map { "$_\\n" } @{$schema->errors};
+"""
+
+
+def check_description(context: Context, described: dict[str, Any]) -> None:
+    """The document is one of OpenAPI 3. Each operation says what it answers, and how it refuses."""
+    file = context.folder / "openapi.json"
+    file.write_text(json.dumps(described))
+    words = ["perl", "-e", VALIDATE, str(file)]
+    found = subprocess.run(words, capture_output=True, text=True, timeout=240).stdout
+    context.check("JSON::Validator", found, "JSON::Validator::Schema::OpenAPIv3\n")
+    for path, methods in described["paths"].items():
+        for method, operation in methods.items():
+            if method == "parameters":
+                continue
+            statuses = set(operation["responses"])
+            what = f"{method} {path} has {sorted(statuses)}"
+            wanted = {"400", "401", "403", "415"} if method in ("post", "put") else {"400"}
+            is_whole = wanted <= statuses and bool(statuses & {"200", "201", "204"})
+            context.check(what, is_whole, True)
 
 
 def named(described: dict[str, Any], reference: str) -> Any:
