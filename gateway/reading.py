@@ -18,7 +18,8 @@ from .pages import fill
 from .query import read_items_query, read_parameters
 from .systems import CRS84, System
 
-# What HTML pages need beside themselves: the gateway's own files, and Debian's Leaflet.
+# What HTML pages need beside themselves: the gateway's own files, and Debian's Leaflet. Without it
+# they have no map.
 STATIC = Path(__file__).parent / "static"
 LEAFLET = Path("/usr/share/javascript/leaflet")
 
@@ -117,6 +118,7 @@ ROUTES: list[BaseRoute] = [
     Route("/collections/{collectionId}", collection),
     Route("/collections/{collectionId}/items", items),
     Route("/collections/{collectionId}/items/{featureId:path}", feature),
-    Mount("/static/leaflet", StaticFiles(directory=LEAFLET, check_dir=False)),
     Mount("/static", StaticFiles(directory=STATIC)),
 ]
+if LEAFLET.is_dir():
+    ROUTES.insert(0, Mount("/static/leaflet", StaticFiles(directory=LEAFLET)))

@@ -22,5 +22,5 @@ print(urllib.parse.urlsplit(settings.server.address).port or 80, settings.addres
 "$program" serve "$file" --port "$port" --clients 64 &
 server=$!
 trap 'kill "$server" 2> /dev/null || true' EXIT
-echo "The gateway: $address/ (for people: $address/api.html). Stop it with Control-C."
+echo "The gateway: $address/ Stop it with Control-C."
 /usr/bin/python3 -m gateway "$settings"

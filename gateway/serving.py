@@ -29,7 +29,7 @@ HEADERS = [
 ]
 
 
-class Connection(HttpToolsProtocol):
+class Connection(HttpToolsProtocol):  # type: ignore[misc]
     """A connection of a client that has to send its heads, and to take its answers, in time."""
 
     head_timer: asyncio.TimerHandle | None = None

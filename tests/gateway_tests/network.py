@@ -209,7 +209,7 @@ def check_cors(context: Context, asked: Gateway, base: str) -> None:
 def check_gdal(context: Context, base: str) -> None:
     """`ogr2ogr` by nginx: a box in metres is refused with a sentence that says what is wrong, and
     is transformed if its system is named."""
-    metres = ["-spat", "560000", "5930000", "570000", "5940000"]
+    metres = ["-spat", "550000", "5920000", "580000", "5950000"]
     words = ["ogr2ogr", "-f", "GeoJSONSeq", "/vsistdout/", f"OAPIF:{base}/", "lamps", *metres]
     words += ["--config", "GDAL_HTTP_UNSAFESSL", "YES", "-oo", "PAGE_SIZE=1000"]
     plain, placed = (
