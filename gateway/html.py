@@ -15,6 +15,10 @@ from .geojson import compact
 from .links import HTML
 
 
+# A table with a column for each of thousands of names would be too large.
+MOST_COLUMNS = 40
+
+
 def segment(text: str) -> str:
     """A text as a segment of a path, or as a value of a query."""
     return quote(text, safe="")
@@ -28,9 +32,16 @@ def plain(value: Any) -> str:
 
 
 def columns(features: Iterable[Mapping[str, Any]]) -> list[str]:
-    """The names of all properties of features, in the order in which they come first."""
+    """The names of properties of features that have a column, in the order in which they come
+    first."""
     names = (name for feature in features for name in feature["properties"] or ())
-    return list(dict.fromkeys(names))
+    return list(dict.fromkeys(names))[:MOST_COLUMNS]
+
+
+def others(properties: Mapping[str, Any] | None, listed: list[str]) -> str:
+    """The properties of a feature that have no column, as JSON."""
+    left = {name: value for name, value in (properties or {}).items() if name not in listed}
+    return compact(left) if left else ""
 
 
 def environment() -> Environment:
@@ -42,6 +53,7 @@ def environment() -> Environment:
     )
     made.filters |= {
         "columns": columns,
+        "others": others,
         "plain": plain,
         "resolved": lambda value, document: resolved(document, value),
         "segment": segment,

@@ -93,11 +93,12 @@ def is_page(answer: httpx.Response) -> bool:
 def evil_town() -> dict[str, list[Feature]]:
     """Features whose ids, names and values are texts that look like HTML, one without geometry."""
     properties = {EVIL: EVIL, "plain": [EVIL], LINKED: LINKED, "null": None}
+    many = {f"name {number}": number for number in range(60)}
     return {
         "signs": [
             feature(EVIL, shape("Point", [1, 2, 3]), properties),
             feature("way/12 ü?#%2F", None, None),
-            feature("zone", shape("LineString", [[0, 0], [5, 5]]), {"lit": True}),
+            feature("zone", shape("LineString", [[0, 0], [5, 5]]), many),
         ]
     }
 
@@ -161,6 +162,7 @@ def check_table(context: Context, asked: Gateway, items: str) -> None:
     (data,) = (each for each in page.values("div", "data-features") if each)
     drawn = asked.client.get(f"{asked.url}{items}{data}").json()
     context.check("what the map draws", [each["id"] for each in drawn["features"]], [EVIL])
+    check_columns(context, Page(asked.ask(items, f="html", after="way/13").text))
     found: list[str] = []
     target: str | None = f"{items}?f=html&limit=1"
     while target is not None:
@@ -170,6 +172,13 @@ def check_table(context: Context, asked: Gateway, items: str) -> None:
         forward = [each for each in following if each.startswith("?f=html")]
         target = items + forward[0] if forward else None
     context.check("pages of a walk", [each for each in found if each != EVIL], ids()[1:])
+
+
+def check_columns(context: Context, page: Page) -> None:
+    """Of 60 properties 40 have columns, and the others are in one."""
+    rest = {f"name {number}": number for number in range(40, 60)}
+    kept = [json.loads(text) for text in page.texts if text.startswith('{"name')]
+    context.check("columns", (len(page.values("th", "scope")), kept), (43, [rest]))
 
 
 def ids() -> list[str]:
