@@ -1,6 +1,7 @@
 """How a gateway listens: uvicorn, with limits for clients that are slow, silent or too many."""
 
 import asyncio
+from collections import deque
 from typing import Any
 
 import uvicorn
@@ -36,6 +37,8 @@ class Connection(HttpToolsProtocol):  # type: ignore[misc]
     taking_timer: asyncio.TimerHandle | None = None
 
     def connection_made(self, transport: Any) -> None:
+        # Requests whose answers are not complete; uvicorn itself knows the last one alone.
+        self.answering: deque[Any] = deque()
         super().connection_made(transport)
         if len(self.connections) > MOST_CONNECTIONS:
             transport.abort()
@@ -45,6 +48,9 @@ class Connection(HttpToolsProtocol):  # type: ignore[misc]
     def connection_lost(self, exc: Exception | None) -> None:
         cancel(self.head_timer)
         cancel(self.taking_timer)
+        for cycle in self.answering:
+            cycle.disconnected = True
+            cycle.message_event.set()
         super().connection_lost(exc)
 
     def await_head(self) -> None:
@@ -54,10 +60,14 @@ class Connection(HttpToolsProtocol):  # type: ignore[misc]
 
     def on_headers_complete(self) -> None:
         cancel(self.head_timer)
+        before = self.cycle
         super().on_headers_complete()
+        if self.cycle is not before:
+            self.answering.append(self.cycle)
 
     def on_response_complete(self) -> None:
         has_next = bool(self.pipeline)
+        self.answering.popleft()
         super().on_response_complete()
         if not has_next and not self.transport.is_closing():
             self.await_head()

@@ -68,6 +68,19 @@ WRONG: dict[bytes, int] = {
     b"\x16\x03\x01\x02\x00\x01\x00\x01\xfc\x03\x03": 400,
     b"GET /conformance HTTP/1.1\r\nAccept: \xff;q=\xfe,;;q\r\nConnection: close\r\n\r\n": 200,
 }
+# Limits of a gateway for the test of limits.
+TAKING, MOST, TIMES = 2, 20, 100
+SHORT = f"""
+import gateway.edits, gateway.serving
+gateway.edits.BODY_SECONDS, gateway.serving.TAKING_SECONDS = 2, {TAKING}
+gateway.serving.MOST_CONNECTIONS, gateway.serving.HEAD_SECONDS = {MOST}, 900
+gateway.serving.IDLE_SECONDS = 900
+"""
+LARGE = b"GET /static/leaflet/leaflet.js HTTP/1.1\r\nHost: a\r\n\r\n"
+SLOW_BODY = (
+    b"POST /collections/lamps/items HTTP/1.1\r\nHost: a\r\nContent-Length: 99\r\n"
+    b"Content-Type: application/json\r\nAuthorization: Bearer " + TOKEN.encode() + b"\r\n\r\n{"
+)
 LINE = re.compile(
     r'\S+ - \S+ \[\d\d/\w{3}/\d{4}:\d\d:\d\d:\d\d \+0000\] "[A-Z]+ [ -~]+ HTTP/1\.[01]"'
     r" \d{3} \d+ \d+ ms"
@@ -117,6 +130,43 @@ class Rude:
                         break
                 client.sendall(again)
         self.seconds[what] = time.monotonic() - begun
+
+
+def check_patience(context: Context, server: Server) -> None:
+    """Limits that are long, or large, are shown by a gateway for which they are not: a body that is
+    slow, answers that nobody takes, and too many connections."""
+    with gateway(context, server.url, patience=SHORT) as asked:
+        with connection(asked) as client:
+            client.sendall(SLOW_BODY)
+            context.check("a slow body", client.recv(64).split(b" ")[1:2], [b"408"])
+        with connection(asked) as client:
+            client.setsockopt(socket.SOL_SOCKET, socket.SO_RCVBUF, 4096)
+            client.sendall(LARGE * TIMES)
+            time.sleep(3 * TAKING)
+            context.check("answers that nobody takes", is_cut(client, asked), True)
+        with contextlib.ExitStack() as opened:
+            clients = [opened.enter_context(connection(asked)) for _ in range(MOST + 5)]
+            ends = [ended(each) for each in clients[-3:]]
+            context.check("too many connections", ends, [True] * 3)
+            clients[0].sendall(HEAD + b"Connection: close\r\n\r\n")
+            context.check("the first is answered", clients[0].recv(64)[9:12], b"200")
+
+
+def is_cut(client: socket.socket, asked: Gateway) -> bool:
+    """Whether a connection ends before all of its answers came."""
+    whole, came = TIMES * len(asked.ask("/static/leaflet/leaflet.js").content), 0
+    with contextlib.suppress(ConnectionError):
+        while piece := client.recv(1 << 20):
+            came += len(piece)
+    return came < whole
+
+
+def ended(client: socket.socket) -> bool:
+    """Whether the other side has closed a connection."""
+    client.settimeout(SECONDS)
+    with contextlib.suppress(ConnectionError):
+        return client.recv(1) == b""
+    return True
 
 
 def connection(asked: Gateway) -> socket.socket:
@@ -188,7 +238,7 @@ def check_edits(context: Context, asked: Gateway, base: str) -> None:
     context.check("read", json.loads(ask(place)[2])["id"], ID)
     log = asked.access.read_text()
     context.check("the writer in the log", "- - crew-7 [" in log, True)
-    context.check("deleted", ask(place, method="DELETE", **fields)[0], 204)
+    context.check("deleted", ask(place, None, "DELETE", **fields)[0], 204)
 
 
 def check_cors(context: Context, asked: Gateway, base: str) -> None:
@@ -212,9 +262,10 @@ def check_gdal(context: Context, base: str) -> None:
     metres = ["-spat", "550000", "5920000", "580000", "5950000"]
     words = ["ogr2ogr", "-f", "GeoJSONSeq", "/vsistdout/", f"OAPIF:{base}/", "lamps", *metres]
     words += ["--config", "GDAL_HTTP_UNSAFESSL", "YES", "-oo", "PAGE_SIZE=1000"]
+    placing = [*words, "-spat_srs", "EPSG:25832"]
     plain, placed = (
-        subprocess.run([*words, *more], capture_output=True, text=True, timeout=SECONDS)
-        for more in ([], ["-spat_srs", "EPSG:25832"])
+        subprocess.run(given, capture_output=True, text=True, timeout=SECONDS, check=False)
+        for given in (words, placing)
     )
     told = "A box in metres needs a bbox-crs" in plain.stderr and "-spat_srs" in plain.stderr
     context.check("metres without a system", (plain.stdout, told), ("", True))

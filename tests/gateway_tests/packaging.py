@@ -23,10 +23,12 @@ share/doc/streetmap-gateway/examples/gateway.toml
 """.split()
 
 
-def run(*words: str | Path, **options: object) -> subprocess.CompletedProcess[str]:
+def run(
+    *words: str | Path, cwd: str | None = None, env: dict[str, str] | None = None
+) -> subprocess.CompletedProcess[str]:
     given = list(map(str, words))
     return subprocess.run(
-        given, capture_output=True, text=True, timeout=SECONDS, **options  # type: ignore
+        given, capture_output=True, text=True, timeout=SECONDS, cwd=cwd, env=env, check=False
     )
 
 

@@ -28,6 +28,7 @@ EPSG = "http://www.opengis.net/def/crs/EPSG/0/"
 OFFICE = f"{EPSG}25832"
 SYSTEM = 'name = "EPSG:25832"\neasting = 565000.000\nnorthing = 5934000.000'
 READY_SECONDS = 240
+STARTED = "\nimport runpy; runpy.run_module('gateway', run_name='__main__')"
 
 
 @dataclass
@@ -102,15 +103,16 @@ def gateway(
     more: str = WRITER,
     address: str | None = None,
     title: str = "Streets",
+    patience: str = "",
 ) -> Iterator[Gateway]:
     """A gateway in front of a server's URL, until the block ends. Its links begin with `address`,
-    or with where it is."""
+    or with where it is. `patience` are statements that change its limits."""
     port = free_port()
     file = context.folder / f"gateway-{port}.toml"
     file.write_text(settings_text(server, port, system, more, address, title))
     log, access = file.with_suffix(".log"), file.with_suffix(".access")
     with log.open("wb") as errors, access.open("wb") as output:
-        given = [PYTHON, "-m", "gateway", str(file)]
+        given = [PYTHON, "-c", patience + STARTED, str(file)]
         process = subprocess.Popen(given, cwd=ROOT, stdout=output, stderr=errors, env=environment())
     with httpx.Client(timeout=90) as client:
         try:

@@ -54,6 +54,7 @@ def run(context: Context) -> None:
         pages.check_walk(context, server.url)
         boxes.check_turned_boxes(context, server.url)
         network.check_front(context, server)
+        network.check_patience(context, server)
     round_trip.check_round_trips(context)
     boxes.check_antimeridian(context)
     orders.check_orders(context)
