@@ -30,6 +30,11 @@ PACKAGES = (
     "mandoc",
     "nginx",
     "openssl",
+    "python3-httpx",
+    "python3-numpy",
+    "python3-pydantic",
+    "python3-pyproj",
+    "python3-starlette",
     "strace",
     "systemd",
 )
