@@ -93,7 +93,7 @@ def is_page(answer: httpx.Response) -> bool:
 def evil_town() -> dict[str, list[Feature]]:
     """Features whose ids, names and values are texts that look like HTML, one without geometry."""
     properties = {EVIL: EVIL, "plain": [EVIL], LINKED: LINKED, "null": None}
-    many = {f"name {number}": number for number in range(60)}
+    many = {f"name {number:02}": number for number in range(60)}
     return {
         "signs": [
             feature(EVIL, shape("Point", [1, 2, 3]), properties),
@@ -176,7 +176,7 @@ def check_table(context: Context, asked: Gateway, items: str) -> None:
 
 def check_columns(context: Context, page: Page) -> None:
     """Of 60 properties 40 have columns, and the others are in one."""
-    rest = {f"name {number}": number for number in range(40, 60)}
+    rest = {f"name {number:02}": number for number in range(40, 60)}
     kept = [json.loads(text) for text in page.texts if text.startswith('{"name')]
     context.check("columns", (len(page.values("th", "scope")), kept), (43, [rest]))
 
