@@ -30,8 +30,11 @@ def check_pages(context: Context, asked: Gateway) -> None:
     counted = asked.ask(KERBS, limit=5).json()
     shown = (counted["numberMatched"], counted["numberReturned"], len(counted["features"]))
     context.check("counts without a box", shown, (60, 5, 5))
-    boxed = asked.ask(KERBS, limit=5, bbox="9.5,53.3,10.5,53.8").json()
+    box = "9.5,53.3,10.5,53.8"
+    boxed = asked.ask(KERBS, limit=5, bbox=box).json()
     context.check("counts with a box", "numberMatched" in boxed, False)
+    last = asked.ask(KERBS, limit=1000, bbox=box, after="K000").json()
+    context.check("counts of a last page", "numberMatched" in last, False)
     check_matched(context, asked)
     default = asked.ask(KERBS).json()["numberReturned"]
     most = asked.ask("/collections/lamps/items", limit=99999).json()["numberReturned"]
@@ -58,8 +61,10 @@ def check_matched(context: Context, asked: Gateway) -> None:
 
 
 def check_times(context: Context, asked: Gateway) -> None:
-    """Intervals alone and with a box."""
-    for interval in ("2020-01-01T00:00:00Z/..", "../2004-12-31T00:00:00Z", "2007-05-01T12:00:00Z"):
+    """Intervals alone and with a box; a date is a whole day."""
+    times = "2020-01-01T00:00:00Z/.. ../2004-12-31T00:00:00Z 2007-05-01T12:00:00Z 2007-05-01"
+    dates = "2007-05-02 2020-05-01/.. ../2004-05-01 /2004-04-30 2006-05-02/2009-05-01"
+    for interval in [*times.split(), *dates.split(), "2007-05-01/2009-05-01T00:00:00Z"]:
         wanted = [each["id"] for each in collections()["lamps"] if is_within(each, interval)]
         found = asked.ids("lamps", datetime=interval, limit=50)
         context.check(f"lamps of {interval}", found, wanted)
@@ -73,7 +78,7 @@ def is_within(lamp: dict[str, Any], interval: str) -> bool:
     day = lamp["properties"]["set"]
     if not last:
         return bool(day == first[:10])
-    return (first == ".." or day >= first[:10]) and (last == ".." or day <= last[:10])
+    return (first in ("", "..") or day >= first[:10]) and (last == ".." or day <= last[:10])
 
 
 def check_walk(context: Context, server: str) -> None:
