@@ -87,6 +87,7 @@ deb:
 ## install   installs the built program and what goes with it: make install PREFIX=/usr/local
 install:
 	@PREFIX=$(PREFIX) DESTDIR=$(DESTDIR) bash packaging/install.sh $(PROGRAM)
+	@PREFIX=$(PREFIX) DESTDIR=$(DESTDIR) bash packaging/install_gateway.sh
 
 toolchain:
 	@command -v rt > /dev/null || \

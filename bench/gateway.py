@@ -51,8 +51,6 @@ port = {port}
 [server]
 address = "http://127.0.0.1:{server}/"
 connections = 8
-[pages]
-secret = "of the bench"
 [system]
 name = "EPSG:25832"
 easting = {easting}

@@ -4,37 +4,22 @@ import argparse
 import sys
 from pathlib import Path
 
-import uvicorn
-
 from .app import make_app
 from .gateway import Gateway
+from .serving import serve
 from .settings import SettingsFault, read_settings
 
 
 def main() -> int:
     parser = argparse.ArgumentParser(description="Serves a gateway of Streetmap.")
-    parser.add_argument("settings", type=Path, help="the settings file, gateway.toml")
+    parser.add_argument("settings", type=Path, help="the settings file, as gateway.toml is")
     given = parser.parse_args()
     try:
-        settings = read_settings(given.settings)
-        gateway = Gateway.of(settings)
+        gateway = Gateway.of(read_settings(given.settings))
     except SettingsFault as fault:
         print(f"gateway: {fault}", file=sys.stderr)
         return 2
-    uvicorn.run(
-        make_app(gateway),
-        host=settings.host,
-        port=settings.port,
-        loop="uvloop",
-        http="httptools",
-        ws="none",
-        # Links stand under the address of the settings, whoever asks.
-        proxy_headers=False,
-        log_level="warning",
-        access_log=False,
-        server_header=False,
-        date_header=True,
-    )
+    serve(make_app(gateway), gateway.settings.listen)
     return 0
 
 

@@ -1,8 +1,8 @@
 """Who may write: bearer tokens and passwords of the settings file.
 
 The file keeps no token and no password: `python3 -m gateway.access NAME` makes a token, and prints
-the entry for the file on standard output and the token itself on standard error; with `--password`
-it asks for a password, and prints the entry.
+the entry for the file on standard output and the token itself on standard error. With `--password`
+it reads a password, and prints the entry.
 """
 
 import argparse
@@ -15,7 +15,7 @@ import secrets
 import sys
 from collections.abc import Callable, Sequence
 
-from fastapi import Request
+from starlette.requests import Request
 
 from .problems import Problem
 from .settings import Writer
@@ -34,7 +34,8 @@ def password_line(password: str, salt: bytes) -> str:
 
 
 class Access:
-    """Finds the writer of a request. What was right once is known again without the cost."""
+    """Finds the writer of a request. Credentials that were right are kept, as a digest, so that a
+    password costs its time once."""
 
     def __init__(self, writers: Sequence[Writer]) -> None:
         self.writers = writers

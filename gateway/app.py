@@ -1,32 +1,54 @@
 """The application: all paths of a gateway."""
 
-from fastapi import FastAPI
-from starlette.exceptions import HTTPException
+import contextlib
+from collections.abc import AsyncIterator
 
-from .edits import edit_routes
+from starlette.applications import Starlette
+from starlette.exceptions import HTTPException
+from starlette.middleware import Middleware
+from starlette.middleware.cors import CORSMiddleware
+
+from . import edits, reading
+from .access_log import AccessLog
 from .gateway import Gateway
 from .origins import OwnOrigin
-from .problems import Problem, answer_http_fault, answer_problem
-from .reading import add_description, collection_routes, feature_routes, service_routes
+from .problems import Problem, answer_failure, answer_http_fault, answer_problem
+
+# What a page of another origin may do, and the headers that it may read beside those of all pages.
+READING = ["GET", "HEAD"]
+EXPOSED = ["Content-Crs", "Retry-After"]
 
 
-def make_app(gateway: Gateway) -> FastAPI:
-    """The paths of a gateway; those that write are there where somebody may."""
-    app = FastAPI(
-        openapi_url=None,
-        docs_url=None,
-        redoc_url=None,
-        generate_unique_id_function=lambda route: route.name,
+def make_app(gateway: Gateway) -> Starlette:
+    """The paths of a gateway. Those that write are there if somebody may."""
+
+    @contextlib.asynccontextmanager
+    async def lifespan(_app: Starlette) -> AsyncIterator[None]:
+        yield
+        await gateway.close()
+
+    app = Starlette(
+        routes=reading.ROUTES + (edits.ROUTES if gateway.settings.writers else []),
+        exception_handlers={
+            Problem: answer_problem,
+            HTTPException: answer_http_fault,
+            Exception: answer_failure,
+        },
+        middleware=middleware(gateway),
+        lifespan=lifespan,
     )
     app.router.redirect_slashes = False
-    app.include_router(service_routes(gateway))
-    app.include_router(collection_routes(gateway))
-    app.include_router(feature_routes(gateway))
-    if gateway.settings.writers:
-        app.include_router(edit_routes(gateway))
-    add_description(app, gateway)
-    app.add_exception_handler(Problem, answer_problem)
-    app.add_exception_handler(HTTPException, answer_http_fault)
-    app.add_middleware(OwnOrigin, address=gateway.settings.address)
-    app.router.on_shutdown += [gateway.client.close, gateway.workers.close]
+    app.state.gateway = gateway
     return app
+
+
+def middleware(gateway: Gateway) -> list[Middleware]:
+    """What each request passes first, from the outermost on."""
+    settings = gateway.settings
+    found = [Middleware(OwnOrigin, address=settings.address)]
+    if settings.cors.origins:
+        cors = {"allow_origins": settings.cors.origins, "allow_methods": READING}
+        found.insert(0, Middleware(CORSMiddleware, expose_headers=EXPOSED, **cors))
+    if settings.listen.access_log:
+        found.insert(0, Middleware(AccessLog))
+    return found

@@ -1,8 +1,9 @@
-"""The features that requests carry, read, carried to the grid, and made batches of one edit.
+"""Bodies of requests: a feature is read, transformed to the grid, and becomes a batch of one edit.
 
-What is not a coordinate stays as it was written, but by `fractions = "text"`. What is no feature
-stays too: the server refuses it with its own code. Two of its limits are checked here first, since
-what follows takes time for each position and a call for each level.
+Only coordinates change, and with `fractions = "text"` the numbers of properties. A body that is
+JSON and no feature is sent on, so that the server refuses it with its own code. Two of the server's
+limits are checked here first, since what follows takes time for each position and a call for each
+level.
 """
 
 import json
@@ -25,8 +26,9 @@ MOST_POSITIONS, MOST_LEVELS = 100_000, 64
 
 @dataclass(frozen=True)
 class Sent:
-    """What a request sends: a feature in a reference system, to be inserted or replaced under a
-    key. A feature without an id is given this one; a feature that replaces has to have it."""
+    """A request that inserts or replaces a feature: the key of its batch, the URI of the reference
+    system of its body, and the id for a feature that has none. One that replaces has to have that
+    id."""
 
     op: str
     collection: str
@@ -45,7 +47,7 @@ class Batch:
 
 
 def batch_of(sent: Sent, systems: Systems, fractions: str) -> Batch:
-    """The batch that a request becomes."""
+    """The batch of a request; a Problem if its body is refused."""
     feature = grid_feature(read_body(sent.body), systems.by_uri[sent.system], fractions)
     identity = sent.feature
     if isinstance(feature, dict):
@@ -65,7 +67,7 @@ def batch_text(key: str, edit: dict[str, Any]) -> bytes:
 
 
 def read_body(body: bytes) -> Any:
-    """The JSON value of a request, each number that is not whole as it was written."""
+    """The JSON value of a body. A number that is not whole is a NumberText."""
     try:
         value = json.loads(
             body.decode("utf-8"), parse_float=fraction, parse_int=whole, parse_constant=no_number
@@ -79,7 +81,7 @@ def read_body(body: bytes) -> Any:
 
 
 def is_deep(value: Any) -> bool:
-    """Whether a value has more levels than the server takes."""
+    """Whether arrays and objects are nested in more levels than the server takes."""
     level = [value] if isinstance(value, (dict, list)) else []
     for _ in range(MOST_LEVELS):
         each = [member.values() if isinstance(member, dict) else member for member in level]
@@ -90,14 +92,14 @@ def is_deep(value: Any) -> bool:
 
 
 def whole(text: str) -> int | NumberText:
-    """The number of a text of digits, of 64 bits at most."""
+    """The number of a text of digits; a NumberText if it has more than 64 bits."""
     value = int(text) if len(text) <= LONGEST_WHOLE else None
     return value if value is not None and -(2**63) <= value < 2**64 else NumberText(text)
 
 
 def fraction(text: str) -> int | NumberText:
-    """The number of a text with a point or an exponent: whole if its fraction is of zeros alone, as
-    the server reads it."""
+    """The number of a text with a point or an exponent. It is whole if its fraction has only zeros,
+    as the server reads it."""
     digits = ZEROS.fullmatch(text) if text.endswith("0") else None
     found = whole(digits[1]) if digits else text
     return found if isinstance(found, int) else NumberText(text)
@@ -121,8 +123,8 @@ def json_text(value: Any) -> str:
     return compact(value)
 
 
-def place_on_grid(geometry: Any, system: System) -> None:
-    """Carries all positions of a request's geometry to the nearest grid positions, in place."""
+def to_grid(geometry: Any, system: System) -> None:
+    """Puts the nearest grid position in the place of each position of a geometry."""
     if not isinstance(geometry, dict):
         return
     positions = list(islice(positions_of(geometry), MOST_POSITIONS + 1))
@@ -130,7 +132,7 @@ def place_on_grid(geometry: Any, system: System) -> None:
         detail = f"The feature has more than {MOST_POSITIONS} positions."
         raise Problem(400, "bad_feature", detail, cause="too_many_positions")
     numbers = [[coordinate(value) for value in position] for position in positions]
-    placed = system.read([(first, second) for first, second, *_ in numbers])
+    placed = system.to_grid([(first, second) for first, second, *_ in numbers])
     for position, (x, y), (_, _, *height) in zip(positions, placed, numbers):
         position[:] = [x, y, *(nearest_step(each * STEPS) for each in height)]
 
@@ -143,7 +145,7 @@ def coordinate(value: int | NumberText) -> Decimal:
 
 
 def with_fractions_as_text(value: Any) -> Any:
-    """The value with each number that is not whole as the text of its digits."""
+    """The value with the text of its digits in the place of each number that is not whole."""
     if isinstance(value, NumberText):
         return str(value)
     if isinstance(value, dict):
@@ -154,13 +156,13 @@ def with_fractions_as_text(value: Any) -> Any:
 
 
 def grid_feature(feature: Any, system: System, fractions: str) -> Any:
-    """A request's feature as the server is to have it."""
+    """The feature of a request as it is sent to the server."""
     if not isinstance(feature, dict):
         return feature
     if "crs" in feature:
         detail = "A member crs is not read. Name the reference system in a field Content-Crs."
         raise Problem(400, "crs_member", detail)
-    place_on_grid(feature.get("geometry"), system)
+    to_grid(feature.get("geometry"), system)
     if fractions == "text" and "properties" in feature:
         feature["properties"] = with_fractions_as_text(feature["properties"])
     return feature

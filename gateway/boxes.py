@@ -2,8 +2,8 @@
 
 The server answers exactly what meets a box of whole steps. A box in the office's system with such
 bounds is one, and so is the extent of a collection if the box of a request covers it. Every other
-box is cut to the extent. The server is asked for bounds around what is left, rounded outward, and
-each of its features is tested. No cost of this depends on how large a box is.
+box is cut to the extent. The server is requested the bounds of the rest, rounded outward, and each
+feature of its answer is tested. The cost does not depend on the size of the box.
 """
 
 import math
@@ -17,15 +17,15 @@ import numpy
 
 from .grid import BOUND, Grid, Numbers
 from .operation import Operation
-from .outlines import Carried, Rectangle, degrees_around, outline
+from .outlines import Transformed, Rectangle, degrees_around, outline
 from .problems import Problem
 from .reach import Reach
 
-# A box in degrees is grown by so much on each side, up to 0.17 mm: more than coordinates are
-# rounded by. So what a client sees in its box is not lost.
+# A box in degrees is grown by this on each side, up to 0.17 mm: more than coordinates are rounded
+# by. So a feature that a client sees in its box is not lost.
 GROWN = 1.5e-9
-# What is computed of an extent in degrees is off by far less.
-SPARE_DEGREES = 1e-9
+# More than the error of an extent in degrees, which is computed in floating point.
+MARGIN_DEGREES = 1e-9
 
 Bounds = tuple[int, int, int, int]
 Place = Callable[[Numbers, Numbers], tuple[Numbers, Numbers]]
@@ -33,9 +33,9 @@ Place = Callable[[Numbers, Numbers], tuple[Numbers, Numbers]]
 
 @dataclass(frozen=True)
 class Part:
-    """A part of a region: a closed rectangle in the system that `place` carries grid positions to,
-    where straight lines of the grid stay straight or not. On the grid it has a corner, and a
-    rectangle that lies within, if there is one."""
+    """A part of a region: a closed rectangle in the system that `place` transforms grid positions
+    to. `is_straight` says whether straight lines of the grid are straight there. On the grid it has
+    a corner, and perhaps a rectangle that is within it."""
 
     rectangle: Rectangle
     place: Place
@@ -46,8 +46,8 @@ class Part:
 
 @dataclass(frozen=True)
 class Region:
-    """What a box is on the grid. `bounds` are for the server; without parts the server's answer
-    for them is exact; without bounds no feature is selected."""
+    """A box on the grid. `bounds` are those to request from the server, whose answer is exact if
+    there are no parts. No feature is selected if there are no bounds."""
 
     bounds: Bounds | None
     parts: tuple[Part, ...] = ()
@@ -61,13 +61,13 @@ NOWHERE = Region(None)
 
 
 class Box(ABC):
-    """A box of a request. `whole` are its bounds if the server takes them as they are."""
+    """A box of a request. `whole` are its bounds on the grid if these are whole steps."""
 
     whole: Bounds | None = None
 
     @abstractmethod
     def region(self, extent: Bounds) -> Region:
-        """What of the box can select a feature of a collection that has this extent."""
+        """The part of the box that can select a feature of a collection with this extent."""
 
 
 class OfficeBox(Box):
@@ -117,7 +117,7 @@ def around_both(one: Bounds, other: Bounds) -> Bounds:
 
 @dataclass(frozen=True)
 class World:
-    """Where boxes in degrees are: an operation, and the degrees within its reach."""
+    """The surroundings of boxes in degrees: an operation, and the degrees within its reach."""
 
     operation: Operation
     reach: Reach
@@ -134,15 +134,15 @@ class World:
         return longitude, latitude
 
     def around(self, extent: Bounds) -> Rectangle | None:
-        """A rectangle around an extent, in the longitudes of the reach; none if the extent goes
-        beyond what can be placed, or around the world."""
+        """A rectangle around an extent, in the longitudes of the reach; None if the extent goes
+        around the world, or a part of it has no coordinates in degrees."""
         around = degrees_around(self.operation, extent)
         if around is None or around[2] - around[0] > 180:
             return None
         west, south, east, north = around
         turn = 360 * round((self.middle - (west + east) / 2) / 360)
-        west, east = west + turn - SPARE_DEGREES, east + turn + SPARE_DEGREES
-        return west, south - SPARE_DEGREES, east, north + SPARE_DEGREES
+        west, east = west + turn - MARGIN_DEGREES, east + turn + MARGIN_DEGREES
+        return west, south - MARGIN_DEGREES, east, north + MARGIN_DEGREES
 
 
 @dataclass(frozen=True)
@@ -172,12 +172,11 @@ class DegreeBox(Box):
         return Region(bounds, tuple(part for _, part in found))
 
     def rectangles(self) -> list[Rectangle]:
-        """What of the grown box lies within reach, in the longitudes of the reach. No two of these
-        meet."""
+        """The parts of the grown box within reach, in the longitudes of the reach. No two meet."""
         reach = self.world.reach
         south, north = max(self.south - GROWN, reach.south), min(self.north + GROWN, reach.north)
         found: list[Rectangle] = []
-        for west, east in sorted(span for half in self.halves() for span in self.turned(*half)):
+        for west, east in sorted(span for half in self.halves() for span in self.shifted(*half)):
             if found and west <= found[-1][2]:
                 west, east = found[-1][0], max(found.pop()[2], east)
             found.append((west, south, east, north))
@@ -188,8 +187,8 @@ class DegreeBox(Box):
             return [(self.west, self.east)]
         return [(self.west, 180), (-180, self.east)]
 
-    def turned(self, west: float, east: float) -> Iterator[tuple[float, float]]:
-        """What of grown longitudes lies within reach, after whole turns."""
+    def shifted(self, west: float, east: float) -> Iterator[tuple[float, float]]:
+        """The parts of grown longitudes within reach, after shifts by turns of 360 degrees."""
         reach = self.world.reach
         first = math.floor((reach.west - east) / 360)
         last = math.ceil((reach.east - west) / 360)
@@ -201,8 +200,8 @@ class DegreeBox(Box):
 
     def part(self, rectangle: Rectangle) -> tuple[Bounds, Part]:
         """The part of a rectangle in degrees, and bounds around it on the grid."""
-        on_grid = Carried(*self.world.operation.steps(*outline(rectangle)))
-        if not on_grid.is_placed:
+        on_grid = Transformed(*self.world.operation.steps(*outline(rectangle)))
+        if not on_grid.is_finite:
             raise Problem(400, "bad_bbox", "The box cannot be placed in the system of the server.")
         corner = float(on_grid.x[0]), float(on_grid.y[0])
         inner = self.inner(rectangle, on_grid.between())
@@ -210,8 +209,8 @@ class DegreeBox(Box):
         return rounded_outward(on_grid.around()), part
 
     def inner(self, rectangle: Rectangle, between: Rectangle) -> Rectangle | None:
-        """The rectangle of the grid between the four sides, if it lies within the box. No side goes
-        into it, so its middle tells."""
+        """The rectangle of the grid between the four sides, if it is within the box. No side goes
+        through it, so it is within the box if its middle is."""
         x0, y0, x1, y1 = between
         if not (x0 < x1 and y0 < y1):
             return None

@@ -1,8 +1,8 @@
 """The server behind the gateway: pages, features, collections and batches over HTTP.
 
-Each request may be made again where its connection broke: a `GET` changes nothing, and a batch
-acts once under its key. The server cuts connections that are idle for half a minute, or sooner
-where another client waits.
+A request whose connection broke is made again: a `GET` changes nothing, and a batch acts once under
+its key. The server closes connections that are idle for half a minute, or sooner if another client
+waits.
 """
 
 import json
@@ -59,7 +59,7 @@ class ServerClient:
     async def page_by(
         self, read: Callable[[bytes], Value], collection: str, query: Mapping[str, str]
     ) -> Value:
-        """A page as it is read; a ValueError of `read` says that the answer is none."""
+        """A page as `read` reads it; a ValueError of `read` says that the answer is no page."""
         target = f"{collection_path(collection)}/items?{urlencode(query)}"
         return await self.ask(read, "GET", target)
 
@@ -73,8 +73,8 @@ class ServerClient:
     async def ask(
         self, read: Callable[[bytes], Value], method: str, target: str, content: bytes | None = None
     ) -> Value:
-        """What the server answers at a target, as it is read; what it refuses is refused with its
-        code."""
+        """The answer of the server at a target, as `read` reads it; a Problem with the server's
+        code if it refuses."""
         url = self.address.copy_with(raw_path=self.path + target.encode())
         request = httpx.Request(method, url, content=content, extensions=TIMEOUTS)
         status, body = await self.send(request)
@@ -97,7 +97,7 @@ class ServerClient:
         raise server_away("The server does not answer. What was sent may be sent again.")
 
     async def answer(self, request: httpx.Request) -> tuple[int, bytes]:
-        """The status and body of an answer; its connection is given back, also where it broke."""
+        """The status and body of an answer. Its connection goes back to the pool in any case."""
         answer = await self.pool.handle_async_request(request)
         try:
             return answer.status_code, await answer.aread()
@@ -110,14 +110,14 @@ def collection_path(collection: str) -> str:
 
 
 def escaped(segment: str) -> str:
-    """A segment of a path; an empty one or one of dots is none of the server."""
+    """A segment of a path. The server has none that is empty or of dots."""
     if segment in ("", ".", ".."):
         raise not_found()
     return quote(segment, safe="")
 
 
 def refusal(status: int, text: bytes) -> Problem:
-    """What the server refused, with its code."""
+    """The refusal of the server, with its code."""
     try:
         body = json.loads(text)
         code, detail = str(body["code"]), str(body["description"])

@@ -5,7 +5,7 @@ No answer of the gateway has an entity tag yet, so none that a client names is t
 
 from dataclasses import dataclass
 
-from fastapi import Request
+from starlette.requests import Request
 
 from .problems import Problem
 
@@ -14,7 +14,7 @@ ANY = "*"
 
 @dataclass(frozen=True)
 class Conditions:
-    """What is to hold of the resource that a request names, before it acts."""
+    """What the resource that a request names has to be before the request acts."""
 
     is_there: bool
     is_not_there: bool

@@ -5,6 +5,7 @@ field follows, so the same request sent again by the same writer acts once. With
 who and when: USER:TIME:RANDOM.
 """
 
+import asyncio
 import base64
 import hashlib
 import re
@@ -12,27 +13,24 @@ import secrets
 from dataclasses import dataclass
 from datetime import datetime, timezone
 
-from fastapi import APIRouter, Request
-from fastapi.concurrency import run_in_threadpool
-from fastapi.responses import Response
-from starlette.requests import ClientDisconnect
+from starlette.concurrency import run_in_threadpool
+from starlette.requests import ClientDisconnect, Request
+from starlette.responses import Response
+from starlette.routing import BaseRoute, Route
 
-from . import openapi
 from .bodies import Batch, Sent, batch_text
 from .conditions import Conditions, failed, read_conditions
-from .gateway import Gateway
+from .gateway import Gateway, gateway_of
 from .links import GEOJSON, JSON
 from .problems import Problem, not_found
 from .query import read_parameters
-from .routes import plain_router
 from .systems import CRS84, System, Systems
 
-LARGEST = 8_388_608
+# The most bytes of a body, which are the server's, and the time within which they come.
+LARGEST, BODY_SECONDS = 8_388_608, 300
 BODY_TYPES = (GEOJSON, JSON)
 COLLECTION = re.compile(r"[A-Za-z0-9][A-Za-z0-9._-]{0,63}")
 MADE_ID_DIGITS = 32
-ITEMS = "/collections/{collectionId}/items"
-ITEM = ITEMS + "/{featureId:path}"
 
 
 def batch_key(request: Request, writer: str) -> str:
@@ -71,13 +69,16 @@ def check_content_type(request: Request) -> None:
 
 
 async def body_of(request: Request) -> bytes:
-    """The body, of at most as many bytes as the server takes."""
+    """The body; a Problem if it is too large, too slow, or cut."""
     body = bytearray()
     try:
-        async for piece in request.stream():
-            body += piece
-            if len(body) > LARGEST:
-                raise Problem(413, "body_too_large", "The body is too large.")
+        async with asyncio.timeout(BODY_SECONDS):
+            async for piece in request.stream():
+                body += piece
+                if len(body) > LARGEST:
+                    raise Problem(413, "body_too_large", "The body is too large.")
+    except TimeoutError as fault:
+        raise Problem(408, "body_too_slow", "The body takes too long.") from fault
     except ClientDisconnect as fault:
         raise Problem(400, "body_cut", "The body ends too soon.") from fault
     return bytes(body)
@@ -96,16 +97,16 @@ class Edit:
     conditions: Conditions
 
     @classmethod
-    async def begin(
-        cls, gateway: Gateway, request: Request, collection: str, feature: str | None
-    ) -> "Edit":
-        """The edit of a request, refused where it may not write, or has a parameter or a condition
+    async def begin(cls, request: Request, collection: str, feature: str | None) -> "Edit":
+        """The edit of a request; a Problem if it may not write, or has a parameter, or a condition
         that does not hold."""
+        gateway = gateway_of(request)
         writer = await run_in_threadpool(gateway.access.writer, request)
+        request.state.writer = writer
         if request.method in ("POST", "PUT"):
             check_content_type(request)
         key = batch_key(request, writer)
-        read_parameters(request, ())
+        read_parameters(request)
         if not COLLECTION.fullmatch(collection):
             raise not_found()
         if feature is not None and not is_feature_id(feature):
@@ -130,7 +131,7 @@ class Edit:
         return True
 
     async def batch(self, op: str) -> Batch:
-        """The batch of the feature that the request sends. What is no feature stays what it is."""
+        """The batch of the feature that the request sends."""
         system = content_system(self.request, self.gateway.systems)
         name = made_id(self.key) if self.feature is None else self.feature
         body = await body_of(self.request)
@@ -156,56 +157,37 @@ def is_feature_id(text: str) -> bool:
     return 1 <= len(text.encode("utf-8", "surrogatepass")) <= 128 and not has_control
 
 
-def edit_routes(gateway: Gateway) -> APIRouter:
-    """The paths that write."""
-    router = plain_router()
-    add_create(router, gateway)
-    add_replace(router, gateway)
-    add_delete(router, gateway)
-    return router
+async def create(request: Request) -> Response:
+    collection = request.path_params["collectionId"]
+    edit = await Edit.begin(request, collection, None)
+    batch = await edit.batch("insert")
+    await edit.apply(batch.text)
+    location = gateway_of(request).links.location(collection, batch.feature)
+    return Response(status_code=201, headers={"Location": location})
 
 
-def add_create(router: APIRouter, gateway: Gateway) -> None:
-    @router.post(
-        ITEMS,
-        status_code=201,
-        summary="Create a feature",
-        responses={201: {"description": "Created; Location names it"}, **openapi.REFUSALS},
-        openapi_extra=openapi.edit(with_body=True),
-    )
-    async def create(request: Request, collectionId: str) -> Response:
-        edit = await Edit.begin(gateway, request, collectionId, None)
-        batch = await edit.batch("insert")
-        await edit.apply(batch.text)
-        location = gateway.links.location(collectionId, batch.feature)
-        return Response(status_code=201, headers={"Location": location})
+async def replace(request: Request) -> Response:
+    edit = await Edit.begin(request, **named(request))
+    batch = await edit.batch("replace")
+    await edit.apply(batch.text)
+    return Response(status_code=204)
 
 
-def add_replace(router: APIRouter, gateway: Gateway) -> None:
-    @router.put(
-        ITEM,
-        status_code=204,
-        summary="Replace a feature",
-        responses={204: {"description": "Replaced"}, **openapi.REFUSALS},
-        openapi_extra=openapi.edit(with_body=True),
-    )
-    async def replace(request: Request, collectionId: str, featureId: str) -> Response:
-        edit = await Edit.begin(gateway, request, collectionId, featureId)
-        batch = await edit.batch("replace")
-        await edit.apply(batch.text)
-        return Response(status_code=204)
+async def remove(request: Request) -> Response:
+    edit = await Edit.begin(request, **named(request))
+    deleted = {"op": "delete", "collection": edit.collection, "id": edit.feature}
+    await edit.apply(batch_text(edit.key, deleted))
+    return Response(status_code=204)
 
 
-def add_delete(router: APIRouter, gateway: Gateway) -> None:
-    @router.delete(
-        ITEM,
-        status_code=204,
-        summary="Delete a feature",
-        responses={204: {"description": "Deleted"}, **openapi.REFUSALS},
-        openapi_extra=openapi.edit(with_body=False),
-    )
-    async def delete(request: Request, collectionId: str, featureId: str) -> Response:
-        edit = await Edit.begin(gateway, request, collectionId, featureId)
-        named = {"op": "delete", "collection": collectionId, "id": featureId}
-        await edit.apply(batch_text(edit.key, named))
-        return Response(status_code=204)
+def named(request: Request) -> dict[str, str]:
+    """The collection and the feature that a path names."""
+    names = request.path_params
+    return {"collection": names["collectionId"], "feature": names["featureId"]}
+
+
+ROUTES: list[BaseRoute] = [
+    Route("/collections/{collectionId}/items", create, methods=["POST"]),
+    Route("/collections/{collectionId}/items/{featureId:path}", replace, methods=["PUT"]),
+    Route("/collections/{collectionId}/items/{featureId:path}", remove, methods=["DELETE"]),
+]

@@ -11,8 +11,8 @@ UNIT = Decimal(1).scaleb(-DEGREE_PLACES)
 
 
 def degree_extent(operation: Operation, bounds: Sequence[int]) -> list[Decimal] | None:
-    """West, south, east and north of grid bounds, rounded outward; none if they cannot be placed.
-    West is above east for an extent across the 180th meridian."""
+    """West, south, east and north of grid bounds, rounded outward; None if these have no
+    coordinates in degrees. West is above east for an extent across the 180th meridian."""
     around = degrees_around(operation, bounds)
     if around is None:
         return None
@@ -20,10 +20,10 @@ def degree_extent(operation: Operation, bounds: Sequence[int]) -> list[Decimal] 
     east, north = (Decimal(bound).quantize(UNIT, ROUND_CEILING) + UNIT for bound in around[2:])
     if east - west >= 360:
         return [Decimal(-180), south, Decimal(180), north]
-    return [turned(west), max(south, Decimal(-90)), turned(east), min(north, Decimal(90))]
+    return [within_turn(west), max(south, Decimal(-90)), within_turn(east), min(north, Decimal(90))]
 
 
-def turned(longitude: Decimal) -> Decimal:
+def within_turn(longitude: Decimal) -> Decimal:
     """The longitude between -180 and 180."""
     while longitude > 180:
         longitude -= 360

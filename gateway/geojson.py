@@ -1,4 +1,4 @@
-"""The features of the server and of requests: where their positions stand, and their texts."""
+"""Geometries of the server and of requests: their positions, and their texts."""
 
 import json
 from collections.abc import Callable, Iterable, Iterator
@@ -8,7 +8,7 @@ from .systems import System
 
 
 class NumberText(str):
-    """A number of a request as it was written, where it is no whole number of 64 bits."""
+    """A number of a request that is not a whole number of 64 bits, as it was written."""
 
 
 # Made once: json.dumps makes an encoder for each value. What comes out of JSON has no circles.
@@ -18,7 +18,7 @@ compact: Callable[[Any], str] = json.JSONEncoder(
 
 
 def positions_of(geometry: dict[str, Any] | None) -> Iterator[list[Any]]:
-    """All arrays of a geometry that stand for positions: those of two or three numbers."""
+    """The positions of a geometry: all its arrays of two or three numbers."""
     waiting: list[Any] = [geometry]
     while waiting:
         value = waiting.pop()
@@ -35,12 +35,13 @@ def is_number(value: Any) -> bool:
     return isinstance(value, (int, NumberText)) and not isinstance(value, bool)
 
 
-def place_geometries(geometries: Iterable[dict[str, Any] | None], system: System) -> None:
-    """Carries geometries of the server to a reference system, in place: all positions at once."""
+def transform_geometries(geometries: Iterable[dict[str, Any] | None], system: System) -> None:
+    """Transforms geometries of the server to a reference system, in place: all positions at
+    once."""
     found: list[list[Any]] = []
     for geometry in geometries:
         add_positions(geometry, found)
-    system.place(found)
+    system.transform(found)
 
 
 def add_positions(geometry: dict[str, Any] | None, found: list[list[Any]]) -> None:

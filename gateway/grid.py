@@ -17,7 +17,7 @@ STEPS = 1000
 PLACES = 3
 # The server's bound of a coordinate, in steps.
 BOUND = 10**9
-# A number of a request has at most so many characters, and its first digit no higher place.
+# The most characters of a number of a request, and the highest place of its first digit.
 LONGEST_NUMBER = 38
 FAR_PLACE = 500
 # All digits of such a number, and of a double, fit.
@@ -63,7 +63,8 @@ def rounded(value: Decimal) -> int:
 
 
 def nearest_doubles(values: Numbers, places: int) -> list[float]:
-    """Values rounded to so many decimal places, half away from zero: doubles as of `double_of`."""
+    """Values rounded to a number of decimal places, half away from zero: the doubles nearest to
+    these decimals, as `double_of` makes them."""
     scaled = values * 10.0**places
     units = numpy.trunc(scaled + numpy.copysign(0.5, scaled))
     off = numpy.abs(numpy.abs(scaled - numpy.trunc(scaled)) - 0.5)
@@ -75,15 +76,15 @@ def nearest_doubles(values: Numbers, places: int) -> list[float]:
 
 
 def nearest_step(steps: Decimal) -> int:
-    """The nearest whole step, half away from zero. One beyond the grid stays beyond it, so that
-    the server refuses it."""
+    """The nearest whole step, half away from zero. One beyond the grid stays beyond it, and the
+    server refuses it."""
     if abs(steps) > BOUND + 1:
         return BOUND + 1 if steps > 0 else -BOUND - 1
     return rounded(steps)
 
 
 def nearest_steps(values: Numbers) -> list[int]:
-    """The same of doubles, all of which are finite."""
+    """The nearest whole steps of doubles, all of which are finite, as of `nearest_step`."""
     whole = numpy.trunc(values)
     # What is left of a double is exact.
     steps = whole + numpy.where(numpy.abs(values - whole) >= 0.5, numpy.copysign(1, values), 0)
@@ -92,7 +93,7 @@ def nearest_steps(values: Numbers) -> list[int]:
 
 
 def decimal_of(text: str) -> Decimal | None:
-    """The number that a JSON text writes, exactly, where it has few enough digits."""
+    """The number of a JSON text, exactly; None if it has too many digits."""
     if len(text) > LONGEST_NUMBER:
         return None
     try:

@@ -1,12 +1,12 @@
 """Whether features' geometries on the grid meet a region.
 
-The rule is the server's: a point meets a part where it lies within, a line where one of its
-segments does, and a polygon where an edge of one of its rings does or where a point of the part
-lies inside it by the even-odd rule. So rings that cross themselves are judged as the server does.
+The rule is the server's: a point meets a part if it is within it, a line if one of its segments
+meets it, and a polygon if an edge of one of its rings meets it or if a point of the part is inside
+the polygon by the even-odd rule. So rings that cross themselves are decided as by the server.
 
-A part is a rectangle in its own system, where a straight segment of the grid is a curve. Segments
-near a side are cut in four again and again, until they are straight there but for a hundredth of a
-millimetre.
+A part is a rectangle in its own system, in which a straight segment of the grid is a curve.
+Segments near a side are cut in four again and again, until the pieces are off a straight line there
+by less than a hundredth of a millimetre.
 """
 
 from collections.abc import Iterable, Sequence
@@ -26,11 +26,11 @@ Flags = NDArray[numpy.bool_]
 
 # A segment that is off the straight line by less, in degrees, is taken as straight: 0.011 mm.
 STRAIGHT = 1e-10
-# What coordinates are computed from is off by less.
+# More than the error of coordinates, which are computed in floating point.
 NOISE = 1e-12
-# A segment is first cut into pieces of at most so many steps, 100 km.
+# The longest piece into which a segment is cut first, in steps: 100 km.
 LONGEST_PIECE = 1e8
-# After so many cuts in four a piece is shorter than a hundredth of a millimetre.
+# After this number of cuts in four a piece is shorter than a hundredth of a millimetre.
 CUTS = 17
 QUARTERS = numpy.linspace(0, 1, 5)
 # The owner of a path that bounds no polygon.
@@ -181,7 +181,7 @@ class Test:
         return numbers
 
     def placed(self, points: Numbers) -> Numbers:
-        """Grid positions in the system of the part; infinite where they are not placed."""
+        """Grid positions in the system of the part; infinite if they have no coordinates there."""
         x, y = self.part.place(points[..., 0].ravel(), points[..., 1].ravel())
         found: Numbers = numpy.stack([x, y], axis=-1).reshape(points.shape)
         return found

@@ -1,7 +1,7 @@
 """The one operation between the office's system and WGS 84, chosen at the start.
 
-PROJ's network is off, so what it answers depends on the machine's files alone. Where the best
-operation needs a file that is not there, the settings have to name the one that is wanted.
+PROJ's network is off, so its results depend on the machine's files alone. If the best operation
+needs a file that is not installed, the settings have to name the operation that is wanted.
 """
 
 import warnings
@@ -14,25 +14,25 @@ from pyproj.network import set_network_enabled
 from pyproj.transformer import Transformer, TransformerGroup
 
 from .grid import STEPS, Grid, Numbers
-from .settings import Settings, SettingsFault
+from .settings import Office, SettingsFault
 
-# What is off by so few steps is not corrected.
+# An error of fewer steps is not corrected.
 CLOSE = 1e-4
 
 set_network_enabled(False)
 
 
-def read_system(settings: Settings) -> pyproj.CRS:
+def read_system(office: Office) -> pyproj.CRS:
     """The office's system: one of EPSG, projected, eastings and northings in the named unit."""
     try:
-        system = pyproj.CRS.from_user_input(settings.system)
+        system = pyproj.CRS.from_user_input(office.name)
     except CRSError as fault:
         raise SettingsFault(f"system.name: {fault}") from fault
     directions = sorted(axis.direction for axis in system.axis_info)
     if not system.is_projected or directions != ["east", "north"]:
         raise SettingsFault("system.name is no projected system of eastings and northings")
     units = {axis.unit_name for axis in system.axis_info}
-    if units != {settings.unit}:
+    if units != {office.unit}:
         raise SettingsFault(f"system.unit is not the system's: {', '.join(sorted(units))}")
     if system.to_epsg(min_confidence=100) is None:
         raise SettingsFault("system.name is no system of EPSG")
@@ -66,7 +66,7 @@ def described(group: TransformerGroup) -> str:
 class Operation:
     """Grid positions, in steps, to longitudes and latitudes of WGS 84, and back. Floating point."""
 
-    # So often is a position of the grid corrected by what it comes back as, where it has to be.
+    # The most corrections of a position of the grid.
     ROUNDS = 3
 
     def __init__(self, transformer: Transformer, grid: Grid) -> None:
@@ -75,13 +75,13 @@ class Operation:
         self.rounds = self.ROUNDS
 
     def degrees(self, x: Numbers, y: Numbers) -> tuple[Numbers, Numbers]:
-        """Longitudes from -180 to 180 and latitudes; infinite where there are none."""
+        """Longitudes from -180 to 180 and latitudes; infinite if there are none."""
         easting, northing = (x + self.grid.easting) / STEPS, (y + self.grid.northing) / STEPS
         longitude, latitude = self.transformer.transform(easting, northing)
         return numpy.asarray(longitude, float), numpy.asarray(latitude, float)
 
     def steps(self, longitude: Numbers, latitude: Numbers) -> tuple[Numbers, Numbers]:
-        """Grid positions, not rounded; infinite where there are none.
+        """Grid positions, not rounded; infinite if there are none.
 
         PROJ's inverse of an operation that shifts the datum is off by up to a millimetre, since
         heights are dropped. So it is corrected until `degrees` leads back.
@@ -99,7 +99,7 @@ class Operation:
         return numpy.where(there, x, numpy.inf), numpy.where(there, y, numpy.inf)
 
     def settle(self, longitude: Numbers, latitude: Numbers) -> None:
-        """Leaves the corrections out for good where none of these positions needs any."""
+        """Leaves the corrections out from now on if none of these positions needs any."""
         x, y = self.rough_steps(longitude, latitude)
         back_x, back_y = self.rough_steps(*self.degrees(x, y))
         with numpy.errstate(invalid="ignore"):

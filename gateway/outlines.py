@@ -1,4 +1,8 @@
-"""Outlines of rectangles: points along the four sides, and bounds of what they become elsewhere."""
+"""Outlines of rectangles: points along the four sides, and bounds of the transformed outline.
+
+Pyproj has `transform_bounds`, whose bounds are those of such points alone. These bounds have the
+curves between the points too, so that no feature is lost.
+"""
 
 from collections.abc import Sequence
 from dataclasses import dataclass
@@ -29,14 +33,14 @@ def outline(rectangle: Rectangle) -> tuple[Numbers, Numbers]:
 
 
 @dataclass(frozen=True)
-class Carried:
-    """The points of an outline after they were carried to another system."""
+class Transformed:
+    """The points of an outline, transformed to another system."""
 
     x: Numbers
     y: Numbers
 
     @property
-    def is_placed(self) -> bool:
+    def is_finite(self) -> bool:
         return bool(numpy.isfinite(self.x).all() and numpy.isfinite(self.y).all())
 
     def around(self) -> Rectangle:
@@ -62,15 +66,15 @@ class Carried:
 
 
 def bend(values: Numbers) -> float:
-    """What a side may go beyond its points, at most: between two of them it rises by an eighth of
-    what it bends there."""
+    """How far a side goes beyond its points, at most: eight times the height of the curve between
+    two neighbours."""
     sides = values[SIDES]
     return float(numpy.abs(sides[:, :-2] - 2 * sides[:, 1:-1] + sides[:, 2:]).max())
 
 
 def degrees_around(operation: Operation, bounds: Sequence[int]) -> Rectangle | None:
-    """West, south, east and north around bounds of the grid; none if these cannot be placed, or
-    have a pole within. West may be below -180, and east above 180."""
+    """West, south, east and north around bounds of the grid; None if these have no
+    coordinates in degrees, or have a pole within. West may be below -180, and east above 180."""
     x0, y0, x1, y1 = bounds
     longitude, latitude = operation.degrees(*outline((x0, y0, x1, y1)))
     if not numpy.all(numpy.isfinite(longitude) & numpy.isfinite(latitude)):
@@ -78,4 +82,4 @@ def degrees_around(operation: Operation, bounds: Sequence[int]) -> Rectangle | N
     longitude = numpy.unwrap(longitude, period=360)
     if abs(longitude[-1] - longitude[0]) > 180:
         return None
-    return Carried(longitude, latitude).around()
+    return Transformed(longitude, latitude).around()

@@ -1,30 +1,30 @@
-"""Pages of features: filled from pages of the server until the limit is reached.
+"""Pages of features, filled from pages of the server until the limit is reached.
 
-A page of a region takes at most one page of the server and MORE further ones. It may then be
-short, and still has a `next`.
+The features of a page are those that follow an id, in byte order, so a page depends on its query
+and the server's state alone. Of a box that has to be tested, a page takes at most one page of the
+server and MORE further ones. It may then be short and still go on.
 """
 
 from dataclasses import dataclass
 from functools import partial
 
-from .boxes import NOWHERE, Box, Region
+from .boxes import NOWHERE, Region
 from .client import ServerClient
-from .features import Feature, placed_page, placed_texts
+from .features import Feature, transformed_page, transformed_texts
 from .meeting import meeting
 from .query import MOST, ItemsQuery
-from .systems import System
 
 MORE = 20
-# Each further page of the server is so many times as long, up to the most.
+# Each further page of the server is this many times as long, up to the most.
 GROWTH = 4
-# One in so many more is asked for than are shown, for those of the bounds that do not meet.
-SPARE = 8
+# One in this many more is requested than are shown, for those of the bounds that do not meet.
+RESERVE = 8
 
 
 @dataclass(frozen=True)
 class Filled:
-    """A page: the texts of its features with commas between, how many they are, the id behind which
-    the next page begins, and how many match in all, where that is known."""
+    """A page: the texts of its features with commas between, how many they are, the id after which
+    the next page begins, and how many match in all, if that is known."""
 
     text: str
     count: int
@@ -32,24 +32,22 @@ class Filled:
     matched: int | None
 
 
-async def fill(
-    client: ServerClient,
-    collection: str,
-    query: ItemsQuery,
-    box: Box | None,
-    system: System,
-) -> Filled:
-    """The page of a query in a reference system. `box` is that of the query, if it has one."""
-    region = None if box is None else await region_of(client, collection, box)
+async def fill(client: ServerClient, collection: str, query: ItemsQuery) -> Filled:
+    """The page of a query."""
+    region = await region_of(client, collection, query)
     if region is None or (region.is_exact and region.bounds is not None):
-        return await exact_page(client, collection, query, region, system)
+        return await exact_page(client, collection, query, region)
     if region.bounds is None:
         return await empty_page(client, collection, query)
-    return await tested_page(client, collection, query, region, system)
+    return await tested_page(client, collection, query, region)
 
 
-async def region_of(client: ServerClient, collection: str, box: Box) -> Region:
-    """What of a box can select a feature that the collection has now."""
+async def region_of(client: ServerClient, collection: str, query: ItemsQuery) -> Region | None:
+    """The part of the query's box that can select a feature that the collection has now; None
+    without a box."""
+    if query.box is None:
+        return None
+    box = query.box_system.box(query.box)
     if box.whole is not None:
         return Region(box.whole)
     shown = await client.collection(collection)
@@ -60,15 +58,11 @@ async def region_of(client: ServerClient, collection: str, box: Box) -> Region:
 
 
 async def exact_page(
-    client: ServerClient,
-    collection: str,
-    query: ItemsQuery,
-    region: Region | None,
-    system: System,
+    client: ServerClient, collection: str, query: ItemsQuery, region: Region | None
 ) -> Filled:
     """The page of the server itself."""
     asked = server_query(query, region, query.limit, query.after)
-    page = await client.page_by(partial(placed_page, system=system), collection, asked)
+    page = await client.page_by(partial(transformed_page, system=query.system), collection, asked)
     return Filled(page.text, page.count, page.last if page.goes_on else None, page.matched)
 
 
@@ -79,26 +73,25 @@ async def empty_page(client: ServerClient, collection: str, query: ItemsQuery) -
 
 
 async def tested_page(
-    client: ServerClient,
-    collection: str,
-    query: ItemsQuery,
-    region: Region,
-    system: System,
+    client: ServerClient, collection: str, query: ItemsQuery, region: Region
 ) -> Filled:
-    """The features of the server's pages that meet the region, until there are enough."""
+    """The features of the server's pages that meet the region, until there are enough. How many
+    match is known if the first page has them all."""
     found, after = await tested_features(client, collection, query, region)
-    return Filled(",".join(placed_texts(found, system)), len(found), after, None)
+    is_whole = query.after is None and after is None
+    text = ",".join(transformed_texts(found, query.system))
+    return Filled(text, len(found), after, len(found) if is_whole else None)
 
 
 async def tested_features(
     client: ServerClient, collection: str, query: ItemsQuery, region: Region
 ) -> tuple[list[Feature], str | None]:
-    """These features, and the id behind which the next page begins."""
+    """These features, and the id after which the next page begins."""
     found: list[Feature] = []
     after = query.after
     for number in range(1 + MORE):
         # Most features of the bounds meet the region, so the first page is mostly enough.
-        size = min((query.limit + query.limit // SPARE) * GROWTH**number, MOST)
+        size = min((query.limit + query.limit // RESERVE) * GROWTH**number, MOST)
         page = await client.page(collection, server_query(query, region, size, after))
         is_met = meeting([feature.geometry for feature in page.features], region)
         found += [feature for feature, meets in zip(page.features, is_met) if meets]
@@ -116,7 +109,7 @@ async def tested_features(
 def server_query(
     query: ItemsQuery, region: Region | None, limit: int, after: str | None
 ) -> dict[str, str]:
-    """The query for the server: the bounds of the region, and the rest as it was asked."""
+    """The query for the server: the bounds of the region, and the rest as it was requested."""
     asked = {"limit": str(limit)}
     if after is not None:
         asked["after"] = after

@@ -1,4 +1,4 @@
-"""Writes the table that places the grid in WGS 84 for the map page, its file map.json.
+"""Writes map.json of the map page: a table that places the grid in WGS 84.
 
     python3 -m gateway.place gateway.toml > map.json
 
@@ -26,9 +26,9 @@ from .settings import SettingsFault, read_settings
 
 DEGREE = 6
 FITTED, TESTED = 17, 41
-# A box whose table errs by more steps is cut in four, at most so often.
+# A box whose table errs by more steps is cut in four, and how often at most.
 GOOD, CUTS = 1.0, 5
-# So many steps are added around the data, where no box is named.
+# The steps that are added around the data, if no box is named.
 AROUND = 1000 * STEPS
 
 Bounds = Sequence[int]
@@ -70,7 +70,7 @@ def fitted(operation: Operation, box: Bounds) -> tuple[dict[str, Any], float]:
 
 
 def patches(operation: Operation, box: Bounds, cuts: int) -> Iterator[tuple[dict[str, Any], float]]:
-    """The tables of a box, cut in four where one is not good enough."""
+    """The tables of a box, which is cut in four if one is not good enough."""
     patch, error = fitted(operation, box)
     if error <= GOOD or cuts == 0:
         yield patch, error
@@ -111,7 +111,7 @@ def main() -> int:
         box = given.box or asyncio.run(data_box(gateway.client))
         if not (-2 * BOUND <= box[0] < box[2] <= 2 * BOUND and box[1] < box[3]):
             raise PlaceFault("The box has no area, or is beyond the grid.")
-        written = table(gateway.systems.operation, gateway.settings.system, box)
+        written = table(gateway.systems.operation, gateway.settings.system.name, box)
     except (SettingsFault, PlaceFault, Problem) as fault:
         print(f"place: {fault}", file=sys.stderr)
         return 1

@@ -5,14 +5,15 @@ import json
 from collections.abc import Mapping
 from typing import Any
 
-from fastapi import Request
-from fastapi.responses import Response
+from starlette.requests import Request
+from starlette.responses import Response
 from starlette.exceptions import HTTPException
 from starlette.routing import Match, Route
 
 MEDIA_TYPE = "application/problem+json"
-# After so many seconds a client may ask again where the server was away.
+# After these seconds a client may send its request again, if the server was away.
 RETRY_SECONDS = 5
+FILE_METHODS = {"GET", "HEAD"}
 
 
 class Problem(Exception):
@@ -34,7 +35,7 @@ class Problem(Exception):
         self.headers = dict(headers or {})
 
     def __reduce__(self) -> tuple[Any, ...]:
-        """How a refusal is carried from one process to another."""
+        """How a refusal is pickled, for another process."""
         return Problem, (self.status, self.code, self.detail, self.cause, self.headers)
 
     def response(self) -> Response:
@@ -69,6 +70,11 @@ async def answer_problem(_request: Request, fault: Exception) -> Response:
     return fault.response()
 
 
+async def answer_failure(_request: Request, _fault: Exception) -> Response:
+    """The answer to a fault of the gateway itself, which Starlette raises again for the log."""
+    return Problem(500, "failed", "The gateway has failed at this request.").response()
+
+
 async def answer_http_fault(request: Request, fault: Exception) -> Response:
     """The answer to a refusal of the framework: an unknown path, a wrong method. `OPTIONS` is
     answered with the methods of its path (RFC 9110, 9.3.7): clients learn by it whether they can
@@ -86,10 +92,10 @@ async def answer_http_fault(request: Request, fault: Exception) -> Response:
 
 
 def allowed(request: Request) -> set[str]:
-    """The methods of all routes of a path."""
-    matching = (
+    """The methods of all routes of a path. One without a route of its own is a file's."""
+    routes = (
         route
         for route in request.app.routes
         if isinstance(route, Route) and route.matches(request.scope)[0] != Match.NONE
     )
-    return {method for route in matching for method in route.methods or ()}
+    return {method for route in routes for method in route.methods or ()} or FILE_METHODS

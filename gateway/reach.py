@@ -1,7 +1,7 @@
-"""Where the gateway can place features in degrees: a box of WGS 84 around the office's data.
+"""The reach of an operation: bounds in degrees within which it leads to the grid and back.
 
-Within it the operation leads to the grid and back. Boxes are cut to it before they are carried to
-the grid, so a box of the whole world asks nothing of the operation that it cannot do.
+Boxes are cut to it before they are transformed to the grid, so that a box of the whole world needs
+no position that the operation does not have.
 """
 
 from dataclasses import dataclass
@@ -18,7 +18,7 @@ GROWTHS = (5.0, 1.0, 0.1, 0.0)
 RASTER = 33
 SAMPLES = 257
 MARGIN = 0.1
-# What comes back from the grid is off by at most so many degrees.
+# The most error, in degrees, of a position that comes back from the grid.
 CLOSE = 1e-9
 
 
@@ -80,7 +80,8 @@ def is_placed(operation: Operation, reach: Reach) -> bool:
 
 
 def within_grid(operation: Operation, reach: Reach) -> Reach:
-    """The part of a reach that the server's grid covers, where its outline can be placed whole."""
+    """The part of a reach that the server's grid covers, if the whole outline of the grid has
+    coordinates in degrees."""
     side = numpy.linspace(-BOUND, BOUND, SAMPLES)
     end = numpy.full(SAMPLES, float(BOUND))
     x = numpy.concatenate([side, end, side[::-1], -end])

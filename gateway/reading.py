@@ -1,155 +1,124 @@
-"""The paths that are read."""
+"""The paths that are read. Each function is the operation of its name in openapi/reading.json."""
 
+import json
 from pathlib import Path
-from typing import Any
 
-from fastapi import APIRouter, FastAPI, Request
-from fastapi.responses import Response
+from starlette.requests import Request
+from starlette.responses import Response
+from starlette.routing import BaseRoute, Mount, Route
+from starlette.staticfiles import StaticFiles
 
-from . import openapi, resources
-from .gateway import Gateway
-from .geojson import compact, place_geometries
-from .links import GEOJSON, HTML, JSON, OPENAPI
-from .pages import Filled, fill
-from .query import ItemsQuery, read_items_query, read_parameters
-from .routes import plain_router
+from . import resources
+from .forms import json_response, wants_html
+from .gateway import gateway_of
+from .geojson import compact, transform_geometries
+from .html import html_response
+from .links import GEOJSON, JSON, OPENAPI, collection_path, feature_path, items_path
+from .pages import fill
+from .query import read_items_query, read_parameters
 from .systems import CRS84, System
 
-API_PAGE = Path(__file__).parent / "static" / "api.html"
-READ = ["GET", "HEAD"]
+# What HTML pages need beside themselves: the gateway's own files, and Debian's Leaflet. Without it
+# they have no map.
+STATIC = Path(__file__).parent / "static"
+LEAFLET = Path("/usr/share/javascript/leaflet")
 
 
-def json_response(value: Any, media_type: str = JSON) -> Response:
-    return Response(compact(value), media_type=media_type)
+async def landing(request: Request) -> Response:
+    gateway, found = gateway_of(request), read_parameters(request)
+    is_html = wants_html(request, found)
+    links = gateway.links.forms("/", found, JSON, "This document", is_html)
+    shown = resources.landing(gateway.settings, links + gateway.links.landing())
+    return html_response(request, "landing.html", shown) if is_html else json_response(shown)
 
 
-def add_description(app: FastAPI, gateway: Gateway) -> None:
-    """The interface as OpenAPI and as a page for people; neither changes while the gateway runs."""
-    page = API_PAGE.read_bytes()
-    texts: list[str] = []
-
-    @app.api_route("/api", methods=READ, include_in_schema=False)
-    async def api(request: Request) -> Response:
-        read_parameters(request, ())
-        if not texts:
-            texts.append(compact(openapi.document(app, gateway.settings, gateway.systems)))
-        return Response(texts[0], media_type=OPENAPI)
-
-    @app.api_route("/api.html", methods=READ, include_in_schema=False)
-    async def api_page(request: Request) -> Response:
-        read_parameters(request, ())
-        return Response(page, media_type=HTML)
+async def api(request: Request) -> Response:
+    gateway, found = gateway_of(request), read_parameters(request)
+    if wants_html(request, found):
+        return html_response(request, "api.html", gateway.description.document)
+    return json_response(gateway.description.document, OPENAPI)
 
 
-def service_routes(gateway: Gateway) -> APIRouter:
-    """Landing page and conformance."""
-    router = plain_router()
-    settings, links = gateway.settings, gateway.links
-
-    @router.get("/", summary="Landing page", responses=openapi.answer("Links", JSON, "landingPage"))
-    @router.head("/", include_in_schema=False)
-    async def landing(request: Request) -> Response:
-        read_parameters(request, ())
-        return json_response(resources.landing(settings, links))
-
-    @router.get(
-        "/conformance",
-        summary="Conformance classes",
-        responses=openapi.answer("The classes", JSON, "confClasses"),
-    )
-    @router.head("/conformance", include_in_schema=False)
-    async def conformance(request: Request) -> Response:
-        read_parameters(request, ())
-        return json_response(resources.conformance(settings))
-
-    return router
+async def api_page(request: Request) -> Response:
+    gateway, _ = gateway_of(request), read_parameters(request)
+    return html_response(request, "api.html", gateway.description.document)
 
 
-def collection_routes(gateway: Gateway) -> APIRouter:
-    """The collections."""
-    router = plain_router()
-    systems, links = gateway.systems, gateway.links
-
-    @router.get(
-        "/collections",
-        summary="The collections",
-        responses=openapi.answer("The collections", JSON, "collections"),
-    )
-    @router.head("/collections", include_in_schema=False)
-    async def collections(request: Request) -> Response:
-        read_parameters(request, ())
-        found = await gateway.client.collections()
-        return json_response(resources.collections(found, systems, links))
-
-    @router.get(
-        "/collections/{collectionId}",
-        summary="A collection",
-        responses=openapi.answer("The collection", JSON, "collection"),
-    )
-    @router.head("/collections/{collectionId}", include_in_schema=False)
-    async def collection(request: Request, collectionId: str) -> Response:
-        read_parameters(request, ())
-        found = await gateway.client.collection(collectionId)
-        return json_response(resources.collection(found, systems, links))
-
-    return router
+async def conformance(request: Request) -> Response:
+    gateway, found = gateway_of(request), read_parameters(request)
+    is_html = wants_html(request, found)
+    links = gateway.links.forms("/conformance", found, JSON, "This document", is_html)
+    shown = resources.conformance(gateway.settings, links)
+    return html_response(request, "conformance.html", shown) if is_html else json_response(shown)
 
 
-def feature_routes(gateway: Gateway) -> APIRouter:
-    """Pages of features and single features."""
-    router = plain_router()
-    systems, links = gateway.systems, gateway.links
-    items = "/collections/{collectionId}/items"
-    names = ("bbox", "bbox-crs", "crs", "datetime", "limit", "next")
-
-    @router.get(
-        items,
-        summary="A page of features",
-        responses=openapi.answer("The page", GEOJSON, "page"),
-        openapi_extra={"parameters": [openapi.parameter(name) for name in names]},
-    )
-    @router.head(items, include_in_schema=False)
-    async def items_page(request: Request, collectionId: str) -> Response:
-        query = read_items_query(request, collectionId, systems, gateway.signer)
-        box_system = systems.named(query.box_crs, "bad_bbox_crs")
-        box = box_system.box(query.bounds()) if query.box is not None else None
-        system = systems.named(query.crs, "bad_crs")
-        filled = await fill(gateway.client, collectionId, query, box, system)
-        members = page_members(gateway, collectionId, request, query, filled)
-        text = f'{compact(members)[:-1]},"features":[{filled.text}]}}'
-        return geojson_response(text, system)
-
-    @router.get(
-        items + "/{featureId:path}",
-        summary="A feature",
-        responses=openapi.answer("The feature", GEOJSON, "feature"),
-        openapi_extra={"parameters": [openapi.parameter("crs")]},
-    )
-    @router.head(items + "/{featureId:path}", include_in_schema=False)
-    async def feature(request: Request, collectionId: str, featureId: str) -> Response:
-        found = read_parameters(request, ("crs",))
-        system = systems.named(found.get("crs", CRS84), "bad_crs")
-        shown = await gateway.client.feature(collectionId, featureId)
-        listed = links.feature(collectionId, featureId, list(found.items()))
-        place_geometries([shown["geometry"]], system)
-        return geojson_response(compact(shown | {"links": listed}), system)
-
-    return router
+async def collections(request: Request) -> Response:
+    gateway, found = gateway_of(request), read_parameters(request)
+    is_html = wants_html(request, found)
+    links = gateway.links.forms("/collections", found, JSON, "This document", is_html)
+    kept = await gateway.client.collections()
+    shown = resources.collections(kept, gateway.systems, gateway.links, links)
+    return html_response(request, "collections.html", shown) if is_html else json_response(shown)
 
 
-def page_members(
-    gateway: Gateway, collection: str, request: Request, query: ItemsQuery, filled: Filled
-) -> dict[str, Any]:
-    """The members of a page before its features."""
-    token = None
+async def collection(request: Request) -> Response:
+    gateway, found = gateway_of(request), read_parameters(request)
+    is_html = wants_html(request, found)
+    name = request.path_params["collectionId"]
+    links = gateway.links.forms(collection_path(name), found, JSON, "This collection", is_html)
+    kept = await gateway.client.collection(name)
+    shown = resources.collection(kept, gateway.systems, links + gateway.links.items(name))
+    return html_response(request, "collection.html", shown) if is_html else json_response(shown)
+
+
+async def items(request: Request) -> Response:
+    gateway, found = gateway_of(request), read_parameters(request)
+    is_html = wants_html(request, found)
+    name = request.path_params["collectionId"]
+    query = read_items_query(found, gateway.systems)
+    filled = await fill(gateway.client, name, query)
+    links = gateway.links.forms(items_path(name), found, GEOJSON, "This page", is_html)
     if filled.after is not None:
-        token = gateway.signer.token(query.members(collection, filled.after))
-    links = gateway.links.page(collection, request.query_params.multi_items(), token)
-    matched = {} if filled.matched is None else {"numberMatched": filled.matched}
-    returned = {"numberReturned": filled.count}
-    return {"type": "FeatureCollection", "links": links, **matched, **returned}
+        links.append(gateway.links.following(name, found, filled.after, is_html))
+    links.append(gateway.links.collection(name))
+    members = resources.page(filled, links)
+    if is_html:
+        page = members | {"features": json.loads(f"[{filled.text}]")}
+        return html_response(request, "items.html", page, collection=name, system=query.system.uri)
+    text = f'{compact(members)[:-1]},"features":[{filled.text}]}}'
+    return geojson_response(text, query.system)
+
+
+async def feature(request: Request) -> Response:
+    gateway, found = gateway_of(request), read_parameters(request)
+    is_html = wants_html(request, found)
+    name, identity = request.path_params["collectionId"], request.path_params["featureId"]
+    system = gateway.systems.named(found.get("crs", CRS84), "bad_crs")
+    shown = await gateway.client.feature(name, identity)
+    path = feature_path(name, identity)
+    links = gateway.links.forms(path, found, GEOJSON, "This feature", is_html)
+    shown["links"] = [*links, gateway.links.collection(name)]
+    transform_geometries([shown["geometry"]], system)
+    if is_html:
+        return html_response(request, "feature.html", shown, collection=name, system=system.uri)
+    return geojson_response(compact(shown), system)
 
 
 def geojson_response(text: str, system: System) -> Response:
-    headers = {"Content-Crs": f"<{system.uri}>"}
+    headers = {"Content-Crs": f"<{system.uri}>", "Vary": "Accept"}
     return Response(text, headers=headers, media_type=GEOJSON)
+
+
+ROUTES: list[BaseRoute] = [
+    Route("/", landing),
+    Route("/api", api),
+    Route("/api.html", api_page),
+    Route("/conformance", conformance),
+    Route("/collections", collections),
+    Route("/collections/{collectionId}", collection),
+    Route("/collections/{collectionId}/items", items),
+    Route("/collections/{collectionId}/items/{featureId:path}", feature),
+    Mount("/static", StaticFiles(directory=STATIC)),
+]
+if LEAFLET.is_dir():
+    ROUTES.insert(0, Mount("/static/leaflet", StaticFiles(directory=LEAFLET)))

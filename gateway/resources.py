@@ -1,9 +1,10 @@
-"""The resources that are not features: landing page, conformance and collections."""
+"""The resources of OGC API - Features, as JSON values."""
 
 from typing import Any
 
 from .extents import degree_extent
-from .links import Links
+from .links import JSON, Link, Links, collection_path
+from .pages import Filled
 from .settings import Settings
 from .systems import CRS84, Systems
 
@@ -12,43 +13,56 @@ PART2 = "http://www.opengis.net/spec/ogcapi-features-2/1.0/conf/"
 # OGC 20-002r1, a draft.
 PART4 = "http://www.opengis.net/spec/ogcapi-features-4/1.0/conf/"
 
+Resource = dict[str, Any]
 
-def conformance(settings: Settings) -> dict[str, Any]:
-    """The classes that the gateway meets; the draft's where somebody may write."""
-    classes = [f"{PART1}core", f"{PART1}geojson", f"{PART1}oas30", f"{PART2}crs"]
+
+def landing(settings: Settings, links: list[Link]) -> Resource:
+    return {"title": settings.title, "description": settings.description, "links": links}
+
+
+def conformance(settings: Settings, links: list[Link]) -> Resource:
+    """The classes that the gateway meets, and the draft's if somebody may write."""
+    names = ("core", "geojson", "html", "oas30")
+    classes = [*(PART1 + name for name in names), f"{PART2}crs"]
     if settings.writers:
         classes.append(f"{PART4}create-replace-delete")
-    return {"conformsTo": classes}
+    return {"links": links, "conformsTo": classes}
 
 
-def landing(settings: Settings, links: Links) -> dict[str, Any]:
-    return {
-        "title": settings.title,
-        "description": settings.description,
-        "links": links.landing(),
-    }
+def collections(kept: list[Resource], systems: Systems, links: Links, own: list[Link]) -> Resource:
+    """The collections of the server; `own` are the links of the list itself."""
+    listed = []
+    for each in kept:
+        path = collection_path(each["id"])
+        forms = links.forms(path, {}, JSON, "This collection", is_html=False)
+        listed.append(collection(each, systems, forms + links.items(each["id"])))
+    return {"links": own, "collections": listed}
 
 
-def collections(found: list[dict[str, Any]], systems: Systems, links: Links) -> dict[str, Any]:
-    return {
-        "links": links.collections(),
-        "collections": [collection(each, systems, links) for each in found],
-    }
-
-
-def collection(found: dict[str, Any], systems: Systems, links: Links) -> dict[str, Any]:
-    """A collection of the server, its extent in CRS84."""
+def collection(kept: Resource, systems: Systems, links: list[Link]) -> Resource:
+    """A collection of the server, with its extent in CRS84."""
     members = {
-        "id": found["id"],
-        "title": found["title"],
-        "links": links.collection(found["id"]),
+        "id": kept["id"],
+        "title": kept["title"],
+        "links": links,
         "itemType": "feature",
         "crs": list(systems.by_uri),
         "storageCrs": systems.office.uri,
     }
-    if "extent" in found:
-        bounds = degree_extent(systems.operation, found["extent"]["spatial"]["bbox"][0])
+    if "extent" in kept:
+        bounds = degree_extent(systems.operation, kept["extent"]["spatial"]["bbox"][0])
         if bounds is not None:
             box = [float(bound) for bound in bounds]
             members["extent"] = {"spatial": {"bbox": [box], "crs": CRS84}}
     return members
+
+
+def page(filled: Filled, links: list[Link]) -> Resource:
+    """A page without its features."""
+    matched = {} if filled.matched is None else {"numberMatched": filled.matched}
+    return {
+        "type": "FeatureCollection",
+        "links": links,
+        **matched,
+        "numberReturned": filled.count,
+    }

@@ -15,12 +15,12 @@ from pathlib import Path
 from gateway.settings import read_settings
 
 settings = read_settings(Path(sys.argv[1]))
-print(urllib.parse.urlsplit(settings.server).port or 80, settings.address)
+print(urllib.parse.urlsplit(settings.server.address).port or 80, settings.address)
 ' "$settings")
 
 [ -e "$file" ] || "$program" create "$file"
 "$program" serve "$file" --port "$port" --clients 64 &
 server=$!
 trap 'kill "$server" 2> /dev/null || true' EXIT
-echo "The gateway: $address/ (for people: $address/api.html). Stop it with Control-C."
+echo "The gateway: $address/ Stop it with Control-C."
 /usr/bin/python3 -m gateway "$settings"

@@ -1,79 +1,150 @@
-"""The settings file of the gateway, gateway.toml."""
+"""The settings of a gateway: a file in TOML, as gateway.toml is."""
 
 import re
 import tomllib
-from dataclasses import dataclass
 from decimal import Decimal
 from pathlib import Path
-from typing import Any
+from typing import Any, Literal
 
-WRITER_NAME = re.compile(r"[A-Za-z0-9._-]{1,20}")
+from pydantic import BaseModel, ConstrainedInt, ConstrainedStr, Extra, StrictBool, StrictStr
+from pydantic import ValidationError, root_validator, validator
+
+# The false origin is at most this far from zero, in the unit of the office's system.
+FARTHEST_ORIGIN = 10**9
+# What pydantic calls the faults that these sentences name.
+SENTENCES = {"value_error.missing": "is missing", "value_error.extra": "is not known"}
 
 
 class SettingsFault(Exception):
     """The settings file cannot be used; the text says why."""
 
 
-@dataclass(frozen=True)
-class Writer:
-    """One who may write, by a bearer token, a password, or both: kept as `gateway.access` makes
-    them."""
+class Address(ConstrainedStr):
+    """An http or https URL that paths are added to. It is kept without its last slash."""
 
-    name: str
-    token: str | None
-    password: str | None
+    strict = True
+    regex = re.compile(r"https?://[^/?#@\s]+(/[^?#\s]*)?\Z")
+
+    @classmethod
+    def validate(cls, value: str) -> str:
+        return super().validate(value).rstrip("/")
 
 
-@dataclass(frozen=True)
-class Settings:
-    """What gateway.toml says."""
+class Origin(ConstrainedStr):
+    """The origin of a page, scheme://host[:port], or * for all."""
 
-    title: str
-    description: str
-    contact: dict[str, str]
-    address: str
-    host: str
-    port: int
-    server: str
-    connections: int
-    system: str
-    unit: str
+    strict = True
+    regex = re.compile(r"(https?://[^/?#@\s]+|\*)\Z")
+
+
+class WriterName(ConstrainedStr):
+    """A name that fits into the key of a batch: 1 to 20 of the characters that a key has."""
+
+    strict = True
+    regex = re.compile(r"[A-Za-z0-9._-]{1,20}\Z")
+
+
+class Port(ConstrainedInt):
+    """A port of TCP."""
+
+    strict = True
+    ge, le = 1, 65535
+
+
+class Connections(ConstrainedInt):
+    """A number of connections."""
+
+    strict = True
+    ge, le = 1, 1024
+
+
+class Table(BaseModel):
+    """A table of the file. A key that it does not have is refused."""
+
+    class Config:
+        extra = Extra.forbid
+        allow_mutation = False
+
+
+class Listen(Table):
+    """Where the gateway listens, and whether it logs each request on standard output."""
+
+    host: StrictStr = "127.0.0.1"
+    port: Port = Port(8070)
+    access_log: StrictBool = True
+
+
+class Server(Table):
+    """The server, and the most connections to it, which is to be less than its `--clients`."""
+
+    address: Address
+    connections: Connections = Connections(32)
+
+
+class Office(Table):
+    """The office's reference system: its name in EPSG, its unit, and its false origin.
+
+    A coordinate is origin + grid / 1000. The origin has at most three decimal places, so that each
+    grid position has an exact coordinate."""
+
+    name: StrictStr
+    unit: StrictStr = "metre"
     easting: Decimal
     northing: Decimal
-    operation: str | None
-    secret: str | None
-    fractions: str
-    writers: tuple[Writer, ...]
+    operation: StrictStr | None = None
+
+    @validator("easting", "northing", pre=True)
+    def is_exact(cls, value: Any) -> Decimal:
+        if isinstance(value, bool) or not isinstance(value, (int, Decimal)):
+            raise TypeError("is no number")
+        number = Decimal(value)
+        is_near = number.is_finite() and abs(number) <= FARTHEST_ORIGIN
+        if not is_near or number * 1000 % 1:
+            raise ValueError("has more than three decimal places, or is beyond 10^9")
+        return number
 
 
-class Table:
-    """A table of the file, of which each key is taken once; the rest is refused."""
+class Edits(Table):
+    """How a number within properties that is not whole is sent on: as it is, so that the server
+    refuses it, or as the text of its digits."""
 
-    def __init__(self, name: str, values: dict[str, Any]) -> None:
-        self.name = name
-        self.values = dict(values)
+    fractions: Literal["refuse", "text"] = "refuse"
 
-    def take(self, key: str, kind: type | tuple[type, ...], default: Any = None) -> Any:
-        """The value of a key; without a default the key has to be there."""
-        if key not in self.values:
-            if default is None:
-                raise SettingsFault(f"{self.name}{key} is missing")
-            return default
-        value = self.values.pop(key)
-        if not isinstance(value, kind) or isinstance(value, bool):
-            raise SettingsFault(f"{self.name}{key} has the wrong type")
-        return value
 
-    def optional_text(self, key: str) -> str | None:
-        return self.take(key, str) if key in self.values else None
+class Cors(Table):
+    """The origins whose pages may read the answers (CORS). None may write."""
 
-    def table(self, key: str, needed: bool = False) -> "Table":
-        values = self.take(key, dict, None if needed else {})
-        return Table(f"{self.name}{key}.", values)
+    origins: tuple[Origin, ...] = ()
 
-    def end(self) -> None:
-        if self.values:
-            raise SettingsFault(f"{self.name}{next(iter(self.values))} is not known")
+
+class Writer(Table):
+    """One who may write, by a bearer token, a password, or both, as `gateway.access` makes
+    them."""
+
+    name: WriterName
+    token: StrictStr | None = None
+    password: StrictStr | None = None
+
+    @root_validator(skip_on_failure=True)
+    def has_either(cls, values: dict[str, Any]) -> dict[str, Any]:
+        if values["token"] is None and values["password"] is None:
+            raise ValueError(f"the writer {values['name']} has neither a token nor a password")
+        return values
+
+
+class Settings(Table):
+    """The whole file."""
+
+    title: StrictStr = "Street map"
+    description: StrictStr = "Street assets, good to a millimetre."
+    contact: dict[Literal["name", "url", "email"], StrictStr] = {}
+    address: Address
+    listen: Listen = Listen()
+    server: Server
+    system: Office
+    edits: Edits = Edits()
+    cors: Cors = Cors()
+    writers: tuple[Writer, ...] = ()
 
 
 def read_settings(path: Path) -> Settings:
@@ -83,77 +154,15 @@ def read_settings(path: Path) -> Settings:
         values = tomllib.loads(text, parse_float=Decimal)
     except (OSError, UnicodeDecodeError, tomllib.TOMLDecodeError) as fault:
         raise SettingsFault(f"{path}: {fault}") from fault
-    return settings_of(values)
+    try:
+        return Settings.parse_obj(values)
+    except ValidationError as fault:
+        raise SettingsFault("; ".join(map(sentence, fault.errors()))) from fault
 
 
-def settings_of(values: dict[str, Any]) -> Settings:
-    """The settings that a parsed file holds."""
-    file = Table("", values)
-    listen, server = file.table("listen"), file.table("server", needed=True)
-    system, pages, edits = (
-        file.table("system", needed=True),
-        file.table("pages"),
-        file.table("edits"),
-    )
-    contact = file.table("contact")
-    settings = Settings(
-        title=file.take("title", str, "Street map"),
-        description=file.take("description", str, "Street assets, good to a millimetre."),
-        contact={key: contact.take(key, str) for key in list(contact.values)},
-        address=base_url("address", file.take("address", str)),
-        host=listen.take("host", str, "127.0.0.1"),
-        port=listen.take("port", int, 8090),
-        server=base_url("server.address", server.take("address", str)),
-        connections=server.take("connections", int, 32),
-        system=system.take("name", str),
-        unit=system.take("unit", str, "metre"),
-        easting=origin("system.easting", system.take("easting", (int, Decimal))),
-        northing=origin("system.northing", system.take("northing", (int, Decimal))),
-        operation=system.optional_text("operation"),
-        secret=pages.optional_text("secret"),
-        fractions=fractions(edits.take("fractions", str, "refuse")),
-        writers=tuple(writer(entry) for entry in file.take("writers", list, [])),
-    )
-    for table in (file, listen, server, system, pages, edits):
-        table.end()
-    if settings.connections < 1:
-        raise SettingsFault("server.connections is less than 1")
-    return settings
-
-
-def base_url(name: str, text: str) -> str:
-    """A URL under which paths stand, without its last slash."""
-    if not re.fullmatch(r"https?://[^/?#@]+(/[^?#]*)?", text):
-        raise SettingsFault(f"{name} is no http or https URL without query and fragment")
-    return text.rstrip("/")
-
-
-def origin(name: str, value: int | Decimal) -> Decimal:
-    """A false origin: at most three decimal places, so that the grid's steps are exact."""
-    number = Decimal(value)
-    if not number.is_finite() or abs(number) > 10**9 or number * 1000 % 1:
-        raise SettingsFault(f"{name} has more than three decimal places, or is beyond 10^9")
-    return number
-
-
-def fractions(text: str) -> str:
-    if text not in ("refuse", "text"):
-        raise SettingsFault('edits.fractions is neither "refuse" nor "text"')
-    return text
-
-
-def writer(entry: Any) -> Writer:
-    if not isinstance(entry, dict):
-        raise SettingsFault("writers has the wrong type")
-    table = Table("writers.", entry)
-    found = Writer(
-        name=table.take("name", str),
-        token=table.optional_text("token"),
-        password=table.optional_text("password"),
-    )
-    table.end()
-    if not WRITER_NAME.fullmatch(found.name):
-        raise SettingsFault("writers.name is not 1 to 20 letters, digits, '.', '_' or '-'")
-    if found.token is None and found.password is None:
-        raise SettingsFault(f"the writer {found.name} has neither a token nor a password")
-    return found
+def sentence(error: Any) -> str:
+    """A fault that pydantic found, in one sentence that begins with the key."""
+    key = ".".join(part for part in map(str, error["loc"]) if part != "__root__")
+    if error["type"].startswith("type_error"):
+        return f"{key} has the wrong type"
+    return f"{key} {SENTENCES.get(error['type'], error['msg'])}"

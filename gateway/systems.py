@@ -28,13 +28,22 @@ EPSG = "http://www.opengis.net/def/crs/EPSG/0/"
 # Decimal places of coordinates that were computed: a tenth of a step, so each reads back.
 DEGREE_PLACES, METRE_PLACES = 9, 4
 
+# Bounds of a box in degrees are at most this far from zero: two turns.
+FARTHEST_DEGREES = 720
+TURNED_BOX = "The lower bounds of the box are above the upper ones."
+NO_DEGREES = (
+    "The box is beyond the world. Without bbox-crs its numbers are degrees of CRS84, longitude"
+    " first. A box in metres needs a bbox-crs, the storageCrs of the collection say; ogr2ogr"
+    " transforms the box of -spat if -spat_srs names its system."
+)
+
 # A position of the server: x, y and perhaps a height, in steps.
 Position = Sequence[int]
 
 
 class System(ABC):
     """A reference system. Its coordinates are easting and northing, or longitude and latitude,
-    which stand the other way round where `second_first`."""
+    or the other way round if `second_first` is set."""
 
     def __init__(self, uri: str, second_first: bool) -> None:
         self.uri = uri
@@ -53,16 +62,16 @@ class System(ABC):
     def own_box(self, bounds: Sequence[Decimal]) -> Box:
         """The box of both lower bounds, then both upper ones, not in axis order."""
 
-    def place(self, positions: Sequence[list[Any]]) -> None:
-        """Carries positions of the server over, in place: in the order of the axes, heights
-        behind."""
+    def transform(self, positions: Sequence[list[Any]]) -> None:
+        """Transforms positions of the server, in place: in the order of the axes, heights
+        last."""
         x, y = (1, 0) if self.second_first else (0, 1)
         for position, (first, second) in zip(positions, self.coordinates(positions)):
             position[x], position[y] = first, second
             if len(position) == 3:
                 position[2] = double_of(position[2], PLACES)
 
-    def read(self, pairs: Sequence[tuple[Decimal, Decimal]]) -> list[tuple[int, int]]:
+    def to_grid(self, pairs: Sequence[tuple[Decimal, Decimal]]) -> list[tuple[int, int]]:
         """The nearest grid positions of pairs in the order of the axes."""
         return self.nearest([(b, a) for a, b in pairs] if self.second_first else pairs)
 
@@ -88,7 +97,7 @@ class OfficeSystem(System):
 
     def own_box(self, bounds: Sequence[Decimal]) -> Box:
         if bounds[0] > bounds[2] or bounds[1] > bounds[3]:
-            raise bad_query("bad_bbox", "The lower bounds of the box are above the upper ones.")
+            raise bad_query("bad_bbox", TURNED_BOX)
         return OfficeBox(self.grid, bounds)
 
 
@@ -109,7 +118,7 @@ class DegreeSystem(System):
         y = numpy.array([position[1] for position in positions], float)
         placed = numpy.concatenate(self.of_degrees(*self.operation.degrees(x, y)))
         if not numpy.isfinite(placed).all():
-            detail = "A feature lies where it has no coordinates in the system that was asked."
+            detail = "A feature lies where it has no coordinates in the system that was requested."
             raise Problem(500, "not_placed", detail)
         found = nearest_doubles(placed, self.places)
         return zip(found[: len(x)], found[len(x) :])
@@ -129,10 +138,10 @@ class DegreeSystem(System):
         first = numpy.array([float(bounds[0]), float(bounds[2])])
         second = numpy.array([float(bounds[1]), float(bounds[3])])
         (west, east), (south, north) = (each.tolist() for each in self.to_degrees(first, second))
+        if not all(abs(bound) <= FARTHEST_DEGREES for bound in (west, south, east, north)):
+            raise bad_query("bad_bbox", NO_DEGREES)
         if south > north:
-            raise bad_query("bad_bbox", "The lower bounds of the box are above the upper ones.")
-        if max(abs(west), abs(east)) > 720:
-            raise bad_query("bad_bbox", "The box is beyond the world.")
+            raise bad_query("bad_bbox", TURNED_BOX)
         return DegreeBox(self.world, west, south, east, north)
 
     def of_degrees(self, longitude: Numbers, latitude: Numbers) -> tuple[Numbers, Numbers]:
@@ -172,10 +181,6 @@ class Systems:
     operation: Operation
     reach: Reach
 
-    @property
-    def default(self) -> System:
-        return self.by_uri[CRS84]
-
     def named(self, uri: str, code: str) -> System:
         """The system of a URI; for another text a refusal of this code."""
         if uri not in self.by_uri:
@@ -184,10 +189,10 @@ class Systems:
 
 
 def make_systems(settings: Settings) -> Systems:
-    """The systems of an office, refused where its own cannot be carried to WGS 84."""
-    crs = read_system(settings)
-    grid = Grid.at(settings.easting, settings.northing)
-    operation = Operation(choose(crs, settings.operation), grid)
+    """The systems of an office; a SettingsFault if its own cannot be transformed to WGS 84."""
+    crs = read_system(settings.system)
+    grid = Grid.at(settings.system.easting, settings.system.northing)
+    operation = Operation(choose(crs, settings.system.operation), grid)
     reach = reach_of(operation, crs)
     world = World(operation, reach)
     northing_first = crs.axis_info[0].direction == "north"

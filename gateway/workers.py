@@ -1,7 +1,7 @@
-"""Processes beside the gateway that make batches of large bodies, so that nobody else waits.
+"""Processes beside the gateway that make batches of large bodies, so that no other request waits.
 
-A body of 8 MiB takes seconds to read and to place, most of which Python does in one thread at a
-time. So a thread of the gateway would hold up all requests; a process holds up none.
+A body of 8 MiB takes seconds to read and to transform, most of which Python does in one thread at a
+time. So a thread of the gateway would hold up all requests, and a process holds up none.
 """
 
 import asyncio
@@ -11,14 +11,14 @@ import signal
 import subprocess
 import sys
 
-from fastapi.concurrency import run_in_threadpool
+from starlette.concurrency import run_in_threadpool
 
 from .bodies import Batch, Sent, batch_of
 from .problems import RETRY_SECONDS, Problem
 from .settings import Settings
 from .systems import Systems, make_systems
 
-# A body of at most so many bytes is done at once: it has some 1,300 positions at most.
+# A body of at most these bytes is read by the gateway itself: it has at most some 1,300 positions.
 SMALL = 8192
 WORKERS = 2
 
@@ -61,9 +61,9 @@ class Workers:
             self.idle.put_nowait(None)
 
     async def batch(self, sent: Sent) -> Batch:
-        """The batch that a request becomes."""
+        """The batch of a request; a Problem if its body is refused."""
         if len(sent.body) <= SMALL:
-            return batch_of(sent, self.systems, self.settings.fractions)
+            return batch_of(sent, self.systems, self.settings.edits.fractions)
         worker = await self.idle.get()
         try:
             if worker is None:
@@ -102,7 +102,8 @@ def made_of(sent: Sent, systems: Systems, fractions: str) -> Batch | Problem:
 def main() -> None:
     """The process itself: settings on standard input, then one `Sent` after the other."""
     signal.signal(signal.SIGINT, signal.SIG_IGN)
-    # Bodies have no circles. What looks for them takes as long as all else, so it comes after each.
+    # Bodies have no reference cycles. The search for them takes as long as all else, so it runs
+    # after each body alone.
     gc.disable()
     source, sink = sys.stdin.buffer, sys.stdout.buffer
     settings: Settings = pickle.load(source)
@@ -112,7 +113,7 @@ def main() -> None:
             sent: Sent = pickle.load(source)
         except EOFError:
             return
-        pickle.dump(made_of(sent, systems, settings.fractions), sink)
+        pickle.dump(made_of(sent, systems, settings.edits.fractions), sink)
         sink.flush()
         gc.collect()
 

@@ -1,8 +1,8 @@
 #!/usr/bin/env bash
-# Makes a Debian package of a built program: packaging/deb.sh PROGRAM [FOLDER]
+# Makes the Debian packages of a built program, and of the gateway: packaging/deb.sh PROGRAM [FOLDER]
 #
-# The package lands in FOLDER, packaging/out where it is left out. It is built in a folder of its
-# own, from the program as it is: what proves and builds it is no part of Debian.
+# They are put into FOLDER, or packaging/out. They are built in a folder of their own, from the
+# program as it is: what proves and builds it is not in Debian.
 set -eu
 if ! { [ $# -ge 1 ] && [ -x "$1" ]; }; then
     echo "no program at ${1:-PROGRAM}: make build leaves one" >&2
@@ -18,15 +18,16 @@ trap 'rm -rf "$scratch"' EXIT
 tree=$scratch/streetmap
 mkdir -p "$tree/packaging"
 cd "$top"
-for part in README.md CHANGELOG.md LICENSE docs deploy map examples; do
+for part in README.md CHANGELOG.md LICENSE docs deploy gateway map examples; do
     [ ! -e "$part" ] || cp -R "$part" "$tree"
 done
-cp -R packaging/install.sh packaging/completion "$tree/packaging"
+cp -R packaging/install.sh packaging/install_gateway.sh packaging/completion "$tree/packaging"
 cp -R packaging/debian "$tree/debian"
 cp "$program" "$tree/streetmap"
 
 cd "$tree"
 dpkg-buildpackage --build=binary --no-sign
-package=$(basename "$scratch"/streetmap_*.deb)
-cp "$scratch/$package" "$folder"
-echo "The package: $folder/$package"
+for package in "$scratch"/streetmap_*.deb "$scratch"/streetmap-gateway_*.deb; do
+    cp "$package" "$folder"
+    echo "The package: $folder/$(basename "$package")"
+done

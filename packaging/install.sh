@@ -69,4 +69,5 @@ if [ -e deploy/nginx.conf ] && [ -e deploy/locations.conf ]; then
     settings /etc/nginx/sites-available/streetmap deploy/nginx.conf
     settings /etc/nginx/streetmap/locations.conf deploy/locations.conf
     settings /etc/nginx/streetmap/nginx-followers.conf deploy/nginx-followers.conf
+    settings /etc/nginx/streetmap/gateway.conf deploy/gateway.conf
 fi

@@ -81,7 +81,7 @@ def all_checks() -> dict[str, Check]:
     shell = [str(path) for path in files if is_shell(path)]
     proved = [str(path) for path in files if path.suffix in (".rt", ".antt")]
     eslint = ["eslint", "--no-eslintrc", "--config", str(PAGE / "eslintrc.json")]
-    eslint += ["--format", "unix", "--ext", ".js,.mjs", "map", "tests/map_modules"]
+    eslint += ["--format", "unix", "--ext", ".js,.mjs", "map", "gateway", "tests/map_modules"]
     return {
         "black": Check(["black", "--quiet", "--check", "--diff", *python]),
         "mypy": Check([*mypy, str(KEPT / "mypy"), *others]),

@@ -3,65 +3,17 @@
 import base64
 import gzip
 import json
-import os
 import re
-import shutil
-import ssl
 import subprocess
 import tempfile
-import urllib.request
-from email.message import Message
 from pathlib import Path
-from urllib.error import HTTPError
 
 from harness import Context, free_port
+from office_site import PASSWORD, asked, office
 
 from browser.browsers import browser
-from browser.site import ROOT, Site, serve_map, site
+from browser.site import Site, serve_map, site
 from browser.towns import town
-
-DEPLOY = ROOT / "deploy"
-PASSWORD = "crew:street"
-SURROUNDINGS = """
-daemon off; pid {folder}/nginx.pid; error_log stderr error; {user}
-events {{}}
-http {{
-    include /etc/nginx/mime.types; access_log off;
-    client_body_temp_path {folder}/body; proxy_temp_path {folder}/proxy;
-    fastcgi_temp_path {folder}/fastcgi; uwsgi_temp_path {folder}/uwsgi;
-    scgi_temp_path {folder}/scgi;
-    include site.conf;
-}}
-"""
-
-
-def office(folder: Path, server: int) -> tuple[Path, int]:
-    """A folder like /etc/nginx with deploy/nginx.conf in it, but for ports and paths."""
-    kept = folder / "streetmap"
-    kept.mkdir()
-    shutil.copy(DEPLOY / "locations.conf", kept)
-    words = "openssl req -x509 -newkey rsa:2048 -nodes -days 2 -subj /CN=localhost"
-    made = [*words.split(), "-keyout", "key.pem", "-out", "certificate.pem"]
-    subprocess.run(made, cwd=kept, check=True, capture_output=True)
-    hashed = subprocess.run(
-        ["openssl", "passwd", "-apr1", PASSWORD.partition(":")[2]], check=True, capture_output=True
-    )
-    (kept / "passwords").write_text(f"{PASSWORD.partition(':')[0]}:{hashed.stdout.decode()}")
-    port = free_port()
-    text = (DEPLOY / "nginx.conf").read_text()
-    for old, new in (
-        ("127.0.0.1:8080", f"127.0.0.1:{server}"),
-        ("listen 80;", f"listen 127.0.0.1:{free_port()};"),
-        ("listen 443 ", f"listen 127.0.0.1:{port} "),
-        ("/usr/share/streetmap;", f"{ROOT};"),
-        ("/etc/nginx/streetmap", str(kept)),
-    ):
-        assert text.count(old) == 1, old
-        text = text.replace(old, new)
-    (folder / "site.conf").write_text(text)
-    user = "user root;" if os.geteuid() == 0 else ""
-    (folder / "nginx.conf").write_text(SURROUNDINGS.format(folder=folder, user=user))
-    return folder / "nginx.conf", port
 
 
 def tested(command: list[str]) -> str:
@@ -84,19 +36,6 @@ def configurations(context: Context) -> None:
         context.check(
             "nginx -t of nginx.conf", tested(serve_map.nginx_command(Path(name), file)), fine
         )
-
-
-def asked(url: str, data: bytes | None = None, **fields: str) -> tuple[int, Message, bytes]:
-    """A request over TLS, and its answer."""
-    trusting = ssl._create_unverified_context()
-    request = urllib.request.Request(
-        url, data, {name.replace("_", "-"): it for name, it in fields.items()}
-    )
-    try:
-        with urllib.request.urlopen(request, timeout=60, context=trusting) as answer:
-            return answer.status, answer.headers, answer.read()
-    except HTTPError as error:
-        return error.code, error.headers, error.read()
 
 
 def secured(context: Context) -> None:

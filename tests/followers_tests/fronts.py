@@ -95,7 +95,8 @@ def office(site: Site, folder: Path, port: int) -> Process:
     made = [*words.split(), "-keyout", "key.pem", "-out", "certificate.pem"]
     subprocess.run(made, cwd=kept, check=True, capture_output=True)
     (kept / "passwords").write_text("anna:{PLAIN}street\n")
-    (kept / "locations.conf").write_text((DEPLOY / "locations.conf").read_text())
+    for name in ("locations.conf", "gateway.conf"):
+        (kept / name).write_text((DEPLOY / name).read_text())
     followers = (DEPLOY / "nginx-followers.conf").read_text()
     for old, served in zip((8080, 8081, 8082), site.all_served(), strict=True):
         followers = followers.replace(f"server 127.0.0.1:{old}", f"server 127.0.0.1:{served.port}")

@@ -2,6 +2,7 @@
 
 import json
 import re
+import subprocess
 from decimal import Decimal
 from typing import Any
 
@@ -19,35 +20,59 @@ def check_resources(context: Context, gateway: Gateway) -> None:
     """Landing page, description, conformance and collections."""
     landing = gateway.ask("/").json()
     rels = {link["rel"]: link for link in landing["links"]}
-    context.check(
-        "links", set(rels), {"self", "service-desc", "service-doc", "conformance", "data"}
-    )
+    others = {"service-desc", "service-doc", "conformance", "data"}
+    context.check("links", set(rels), {"self", "alternate"} | others)
     for link in rels.values():
         kind = gateway.client.get(link["href"]).headers["content-type"].partition(";")[0]
         context.check(f"{link['rel']} is there", kind, link["type"].partition(";")[0])
     described = gateway.ask("/api").json()
     context.check("OpenAPI", described["openapi"][:3], "3.0")
-    paths = {path: set(methods) for path, methods in described["paths"].items()}
+    paths = {path: {*each} - {"parameters"} for path, each in described["paths"].items()}
     items = "/collections/{collectionId}/items"
     context.check("methods of items", paths[items], {"get", "post"})
     context.check("methods of an item", paths[items + "/{featureId}"], {"get", "put", "delete"})
     page = described["paths"][items]["get"]
-    names = [
-        each.get("name") or named(described, each["$ref"])["name"] for each in page["parameters"]
-    ]
-    wanted = ["collectionId", "bbox", "bbox-crs", "crs", "datetime", "limit", "next"]
+    names = [named(described, each["$ref"])["name"] for each in page["parameters"]]
+    wanted = ["bbox", "bbox-crs", "crs", "datetime", "limit", "after", "f"]
     context.check("parameters of items", names, wanted)
     kinds = list(page["responses"]["200"]["content"])
-    context.check("the kind of a page", kinds, ["application/geo+json"])
+    context.check("the kinds of a page", kinds, ["application/geo+json", "text/html"])
     for reference in set(re.findall(r'"\$ref": ?"([^"]*)"', json.dumps(described))):
         context.check(reference, isinstance(named(described, reference), dict), True)
+    check_description(context, described)
     classes = gateway.ask("/conformance").json()["conformsTo"]
     short = [re.sub(r".*ogcapi-features-(\d)/1.0/conf/", r"\1 ", each) for each in classes]
-    wanted = ["1 core", "1 geojson", "1 oas30", "2 crs", "4 create-replace-delete"]
+    wanted = ["1 core", "1 geojson", "1 html", "1 oas30", "2 crs", "4 create-replace-delete"]
     context.check("conformance", short, wanted)
     other_hosts = re.findall(r'(?:src|href)="\w+:', gateway.ask("/api.html").text)
     context.check("the page for people asks no other host", other_hosts, [])
     check_collections(context, gateway)
+
+
+# Prints each fault that Debian's JSON::Validator finds in the OpenAPI document of a file.
+VALIDATE = """
+use JSON::Validator;
+my $schema = JSON::Validator->new->schema(shift)->schema;
+print ref $schema, "\\n", map { "$_\\n" } @{$schema->errors};
+"""
+
+
+def check_description(context: Context, described: dict[str, Any]) -> None:
+    """The document is one of OpenAPI 3. Each operation says what it answers, and how it refuses."""
+    file = context.folder / "openapi.json"
+    file.write_text(json.dumps(described))
+    words = ["perl", "-e", VALIDATE, str(file)]
+    found = subprocess.run(words, capture_output=True, text=True, timeout=240).stdout
+    context.check("JSON::Validator", found, "JSON::Validator::Schema::OpenAPIv3\n")
+    for path, methods in described["paths"].items():
+        for method, operation in methods.items():
+            if method == "parameters":
+                continue
+            statuses = set(operation["responses"])
+            what = f"{method} {path} has {sorted(statuses)}"
+            wanted = {"400", "401", "403", "415"} if method in ("post", "put") else {"400"}
+            is_whole = wanted <= statuses and bool(statuses & {"200", "201", "204"})
+            context.check(what, is_whole, True)
 
 
 def named(described: dict[str, Any], reference: str) -> Any:
@@ -158,7 +183,10 @@ REFUSED = {
     "bad_limit": [{"limit": "0"}, {"limit": ""}, {"limit": "5.0"}, {"limit": "-1"}],
     "bad_bbox": [
         {"bbox": "1,2,3"},
-        {"bbox": "1,2,3,4,5,6"},
+        {"bbox": "1,2,3,4,5"},
+        {"bbox": "1,2,3,4,5,6,7,8"},
+        {"bbox": "1,2,x,3,4,5"},
+        {"bbox": "1,2,,3,4,5"},
         {"bbox": "1,2,3,x"},
         {"bbox": "NaN,2,3,4"},
         {"bbox": "9,54,10,53"},
@@ -167,9 +195,17 @@ REFUSED = {
     ],
     "bad_bbox_crs": [{"bbox": "1,2,3,4", "bbox_crs": "EPSG:4326"}],
     "bad_crs": [{"crs": "EPSG:25832"}, {"crs": ""}, {"crs": f"{EPSG}31467"}],
-    "bad_datetime": [{"datetime": "2024-05-01"}, {"datetime": "../.."}, {"datetime": ""}],
-    "unknown_parameter": [{"f": "json"}, {"BBOX": "1,2,3,4"}, {"offset": "1"}],
-    "bad_next": [{"next": "abc"}, {"next": "ü"}, {"next": ""}],
+    "bad_datetime": [
+        {"datetime": "2024-02-30"},
+        {"datetime": "2024-05"},
+        {"datetime": "2024-05-02/2024-05-01"},
+        {"datetime": "2024-05-01/2024-05-02/2024-05-03"},
+        {"datetime": "../.."},
+        {"datetime": ""},
+    ],
+    "unknown_parameter": [{"g": "json"}, {"BBOX": "1,2,3,4"}, {"offset": "1"}, {"next": "a"}],
+    "bad_f": [{"f": "xml"}, {"f": ""}, {"f": "HTML"}],
+    "bad_after": [{"after": ""}, {"after": "\x01"}, {"after": "x" * 129}],
 }
 
 
@@ -179,7 +215,7 @@ def check_refusals(context: Context, gateway: Gateway) -> None:
         for query in queries:
             check_problem(context, gateway.ask(LAMPS, **query), 400, code)
     for path in ("/", "/api", "/api.html", "/conformance", "/collections", "/collections/lamps"):
-        check_problem(context, gateway.ask(path, f="json"), 400, "unknown_parameter")
+        check_problem(context, gateway.ask(path, g="json"), 400, "unknown_parameter")
     repeated = gateway.client.get(f"{gateway.url}{LAMPS}?limit=1&limit=1")
     check_problem(context, repeated, 400, "repeated_parameter")
     for path in ("/no", "/collections/no", "/collections/no/items", "/collections/a%20b/items"):

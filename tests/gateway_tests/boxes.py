@@ -149,13 +149,19 @@ def check_office_boxes(context: Context, asked: Gateway) -> None:
         half = Decimal("0.5")
         outer = [x - half, y - half, x + size + half, y + size + half]
         tested = asked.ask(path, bbox=office_text(outer), bbox_crs=OFFICE, limit=1000).json()
-        context.check("no numberMatched", "numberMatched" in tested, False)
-        more = [each["id"] for each in tested["features"]]
+        matched = (tested.get("numberMatched"), tested["numberReturned"])
+        count = len(ids_of(tested))
+        context.check("numberMatched of a whole page", matched, (count, count))
+        more = ids_of(tested)
         context.check("a box around has the same", [key for key in more if key in ids], ids)
     beyond = asked.ask(path, bbox="-9e9,-9e9,-8e9,-8e9", bbox_crs=OFFICE).json()
     context.check("a box beyond the grid", beyond["numberMatched"], 0)
     everything = asked.ask(path, bbox="-9e9,-9e9,9e9,9e9", bbox_crs=OFFICE).json()
     context.check("a box around the grid", everything["numberMatched"], 60)
+
+
+def ids_of(page: dict[str, Any]) -> list[str]:
+    return [each["id"] for each in page["features"]]
 
 
 def office_text(steps: list[Any]) -> str:
@@ -173,6 +179,8 @@ def check_turned_orders(context: Context, asked: Gateway) -> None:
         turned = f"{box.south!r},{box.west!r},{box.north!r},{box.east!r}"
         got = asked.ids("kerbs", bbox=turned, bbox_crs=f"{EPSG}4326")
         context.check("EPSG:4326", got, wanted)
+        high = f"{box.west!r},{box.south!r},9e9,{box.east!r},{box.north!r},-1"
+        context.check("with heights", asked.ids("kerbs", bbox=high), wanted)
         (x0, y0), (x1, y1) = (
             mercator.transform(*corner) for corner in ((box.west, box.south), (box.east, box.north))
         )

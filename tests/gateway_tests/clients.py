@@ -148,7 +148,7 @@ def check_owslib(context: Context, asked: Gateway) -> None:
     listed = [each["id"] for each in service.collections()["collections"]]
     context.check("collections", listed, names)
     context.check("feature_collections", service.feature_collections(), names)
-    context.check("conformance", len(service.conformance()["conformsTo"]), 5)
+    context.check("conformance", len(service.conformance()["conformsTo"]), 6)
     context.check("collection", service.collection("lamps")["title"], "Lamps")
     box, interval = [9.95, 53.5, 10.0, 53.6], "2010-01-01T00:00:00Z/.."
     found = service.collection_items("lamps", bbox=list(box), datetime=interval, limit=1000)

@@ -1,15 +1,13 @@
-"""Pages: all of a query page behind page, short pages, and the signed `next`."""
+"""Pages: all of a query page by page, short pages, and walks by plain links."""
 
-import base64
 import http.server
 import json
 import threading
 import urllib.parse
 from typing import Any
 
-from gateway_tests.answers import check_problem
 from gateway_tests.data import KILOMETRE, collections, feature, shape
-from gateway_tests.service import CRS84, EPSG, OFFICE, WRITER, Gateway, gateway, next_link
+from gateway_tests.service import CRS84, EPSG, OFFICE, Gateway, gateway, next_link
 from harness import Context
 
 KERBS = "/collections/kerbs/items"
@@ -32,8 +30,11 @@ def check_pages(context: Context, asked: Gateway) -> None:
     counted = asked.ask(KERBS, limit=5).json()
     shown = (counted["numberMatched"], counted["numberReturned"], len(counted["features"]))
     context.check("counts without a box", shown, (60, 5, 5))
-    boxed = asked.ask(KERBS, limit=5, bbox="9.5,53.3,10.5,53.8").json()
+    box = "9.5,53.3,10.5,53.8"
+    boxed = asked.ask(KERBS, limit=5, bbox=box).json()
     context.check("counts with a box", "numberMatched" in boxed, False)
+    last = asked.ask(KERBS, limit=1000, bbox=box, after="K000").json()
+    context.check("counts of a last page", "numberMatched" in last, False)
     check_matched(context, asked)
     default = asked.ask(KERBS).json()["numberReturned"]
     most = asked.ask("/collections/lamps/items", limit=99999).json()["numberReturned"]
@@ -60,8 +61,10 @@ def check_matched(context: Context, asked: Gateway) -> None:
 
 
 def check_times(context: Context, asked: Gateway) -> None:
-    """Intervals alone and with a box."""
-    for interval in ("2020-01-01T00:00:00Z/..", "../2004-12-31T00:00:00Z", "2007-05-01T12:00:00Z"):
+    """Intervals alone and with a box; a date is a whole day."""
+    times = "2020-01-01T00:00:00Z/.. ../2004-12-31T00:00:00Z 2007-05-01T12:00:00Z 2007-05-01"
+    dates = "2007-05-02 2020-05-01/.. ../2004-05-01 /2004-04-30 2006-05-02/2009-05-01"
+    for interval in [*times.split(), *dates.split(), "2007-05-01/2009-05-01T00:00:00Z"]:
         wanted = [each["id"] for each in collections()["lamps"] if is_within(each, interval)]
         found = asked.ids("lamps", datetime=interval, limit=50)
         context.check(f"lamps of {interval}", found, wanted)
@@ -75,41 +78,30 @@ def is_within(lamp: dict[str, Any], interval: str) -> bool:
     day = lamp["properties"]["set"]
     if not last:
         return bool(day == first[:10])
-    return (first == ".." or day >= first[:10]) and (last == ".." or day <= last[:10])
+    return (first in ("", "..") or day >= first[:10]) and (last == ".." or day <= last[:10])
 
 
-def check_next(context: Context, asked: Gateway) -> None:
-    """A `next` that was changed, or is of another collection or gateway, is refused."""
-    link = next_link(asked.ask(KERBS, limit=2, bbox="9,53,10.5,54").json())
-    assert link is not None
-    token = link.partition("next=")[2]
-    signed = base64.urlsafe_b64decode(token + "=" * (-len(token) % 4))
-    members = json.loads(signed[32:])
-    members["limit"] = 1000
-    forged = base64.urlsafe_b64encode(signed[:32] + json.dumps(members).encode()).decode()
-    flipped = token[:-2] + ("A" if token[-2] != "A" else "B") + token[-1]
-    for text in (forged, forged.rstrip("="), flipped, token[:-4], token + "!", token[1:]):
-        check_problem(context, asked.ask(KERBS, next=text), 400, "bad_next")
-    other = asked.ask("/collections/lamps/items", next=token)
-    check_problem(context, other, 400, "bad_next")
-    check_problem(context, asked.ask(KERBS, next=token, limit=3), 400, "bad_next")
-    context.check("the true one", asked.ask(KERBS, next=token).status_code, 200)
-
-
-def check_secret(context: Context, server: str) -> None:
-    """With a secret in the settings a `next` holds for another gateway of the same secret."""
-    kept = '[pages]\nsecret = "of the tests"\n' + WRITER
-    with gateway(context, server, more=kept) as first:
-        link = next_link(first.ask(KERBS, limit=2).json())
-    assert link is not None
-    token = link.partition("next=")[2]
-    with gateway(context, server, more=kept) as again:
-        page = again.ask(KERBS, next=token)
-        context.check(
-            "the same secret", [each["id"] for each in page.json()["features"]], ["K002", "K003"]
-        )
-    with gateway(context, server) as other:
-        check_problem(context, other.ask(KERBS, next=token), 400, "bad_next")
+def check_walk(context: Context, server: str) -> None:
+    """A walk goes on with a link `next` at another gateway, which shares nothing with the one that
+    made it, and after a new start. Each has the same pages, and the walk is the whole."""
+    query = {"limit": 7, "bbox": "9,53,10.5,54", "crs": OFFICE}
+    with gateway(context, server) as first:
+        whole = first.ids("kerbs", limit=1000, bbox=query["bbox"])
+        page = first.ask(KERBS, **query).json()
+        found = [each["id"] for each in page["features"]]
+        with gateway(context, server) as second:
+            while link := next_link(page):
+                target = link.partition(KERBS)[2]
+                pages = [each.ask(KERBS + target) for each in (first, second)]
+                shown = [each.json()["features"] for each in pages]
+                context.check(f"both from {target}", shown[0], shown[1])
+                context.check("the same system", pages[1].headers["content-crs"], f"<{OFFICE}>")
+                found += [each["id"] for each in shown[1]]
+                page = pages[1].json()
+    context.check("the walk", found, whole)
+    with gateway(context, server) as again:
+        rest = [each["id"] for each in again.ask(KERBS, after=found[-2]).json()["features"]]
+        context.check("after a new start", rest[:1], found[-1:])
 
 
 class StandIn(http.server.BaseHTTPRequestHandler):

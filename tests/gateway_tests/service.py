@@ -2,6 +2,7 @@
 
 import contextlib
 import hashlib
+import json
 import os
 import select
 import subprocess
@@ -27,6 +28,7 @@ EPSG = "http://www.opengis.net/def/crs/EPSG/0/"
 OFFICE = f"{EPSG}25832"
 SYSTEM = 'name = "EPSG:25832"\neasting = 565000.000\nnorthing = 5934000.000'
 READY_SECONDS = 240
+STARTED = "\nimport runpy; runpy.run_module('gateway', run_name='__main__')"
 
 
 @dataclass
@@ -36,6 +38,7 @@ class Gateway:
     url: str
     process: subprocess.Popen[bytes]
     client: httpx.Client
+    access: Path
 
     def ask(self, path: str, **parameters: Any) -> httpx.Response:
         """A GET; in the names of parameters `_` stands for `-`."""
@@ -54,7 +57,7 @@ class Gateway:
         return self.client.request(method, url, headers=headers, json=body)
 
     def all_items(self, collection: str, **parameters: Any) -> list[dict[str, Any]]:
-        """All features of a query, page behind page."""
+        """All features of a query, page after page."""
         page = json_of(self.ask(f"/collections/{collection}/items", **parameters))
         found = list(page["features"])
         while following := next_link(page):
@@ -77,11 +80,17 @@ def next_link(page: dict[str, Any]) -> str | None:
 
 
 def settings_text(
-    server: str, port: int, system: str = SYSTEM, more: str = WRITER, address: str | None = None
+    server: str,
+    port: int,
+    system: str = SYSTEM,
+    more: str = WRITER,
+    address: str | None = None,
+    title: str = "Streets",
 ) -> str:
     """The text of a settings file."""
     return (
-        f'address = "{address or f"http://127.0.0.1:{port}"}/"\n[listen]\nport = {port}\n'
+        f'address = "{address or f"http://127.0.0.1:{port}"}/"\n'
+        f"title = {json.dumps(title)}\n[listen]\nport = {port}\n"
         f'[server]\naddress = "{server}/"\nconnections = 24\n[system]\n{system}\n{more}'
     )
 
@@ -93,20 +102,22 @@ def gateway(
     system: str = SYSTEM,
     more: str = WRITER,
     address: str | None = None,
+    title: str = "Streets",
+    patience: str = "",
 ) -> Iterator[Gateway]:
-    """A gateway in front of a server's URL, until the block ends. Its links stand under `address`,
-    or where it is."""
+    """A gateway in front of a server's URL, until the block ends. Its links begin with `address`,
+    or with where it is. `patience` are statements that change its limits."""
     port = free_port()
     file = context.folder / f"gateway-{port}.toml"
-    file.write_text(settings_text(server, port, system, more, address))
-    log = file.with_suffix(".log")
-    with log.open("wb") as errors:
-        given = [PYTHON, "-m", "gateway", str(file)]
-        process = subprocess.Popen(given, cwd=ROOT, stderr=errors, env=environment())
+    file.write_text(settings_text(server, port, system, more, address, title))
+    log, access = file.with_suffix(".log"), file.with_suffix(".access")
+    with log.open("wb") as errors, access.open("wb") as output:
+        given = [PYTHON, "-c", patience + STARTED, str(file)]
+        process = subprocess.Popen(given, cwd=ROOT, stdout=output, stderr=errors, env=environment())
     with httpx.Client(timeout=90) as client:
         try:
             wait_until_ready(client, f"http://127.0.0.1:{port}")
-            yield Gateway(f"http://127.0.0.1:{port}", process, client)
+            yield Gateway(f"http://127.0.0.1:{port}", process, client, access)
         finally:
             process.kill()
             process.wait(timeout=READY_SECONDS)

@@ -1,9 +1,7 @@
 """Settings that are refused, and the table of the map page."""
 
 import json
-import math
 import random
-import re
 import shutil
 import subprocess
 from pathlib import Path
@@ -15,8 +13,6 @@ from gateway_tests.service import PYTHON, ROOT, SYSTEM, Gateway, environment, se
 from harness import Context
 
 SECONDS = 240
-# What `systemd-analyze security` may say of the unit: 0 is the best, 10 the worst.
-MOST_EXPOSURE = 2.0
 OSGB = "Inverse of British National Grid + OSGB36 to WGS 84 (6) + axis order change (2D)"
 BRITAIN = 'name = "EPSG:27700"\neasting = 400000\nnorthing = 300000'
 
@@ -42,8 +38,12 @@ def check_settings(context: Context) -> None:
     whole = settings_text("http://127.0.0.1:1", 1)
     check_refused(context, "address is missing", whole.partition("\n")[2])
     check_refused(context, "", "[")
-    check_refused(context, "edits.fractions is neither", whole + '[edits]\nfractions = "round"\n')
-    check_refused(context, "writers.name is not", whole.replace("crew-7", "crew 7"))
+    check_refused(
+        context, "edits.fractions unexpected value", whole + '[edits]\nfractions = "round"\n'
+    )
+    check_refused(
+        context, "writers.0.name string does not match", whole.replace("crew-7", "crew 7")
+    )
     check_refused(context, "has neither a token", whole.replace("token =", "# token ="))
     named = settings_text("http://127.0.0.1:1", 1, f'{BRITAIN}\noperation = "{OSGB}"')
     file = write(context, named)
@@ -118,49 +118,3 @@ def placed_by_page(folder: Path, reader: Path, table: str, spots: list[list[int]
     )
     ended = subprocess.run(["node", str(script)], capture_output=True, text=True, timeout=SECONDS)
     return json.loads(ended.stdout)
-
-
-def analysed(*words: str) -> subprocess.CompletedProcess[str]:
-    given = ["systemd-analyze", *words]
-    return subprocess.run(given, capture_output=True, text=True, timeout=SECONDS)
-
-
-def check_unit(context: Context, unit: Path) -> None:
-    """The unit of the package is one, starts the gateway, and gives it little to reach."""
-    started = "ExecStart=/usr/bin/python3 -m gateway %d/gateway.toml" in unit.read_text()
-    context.check("its unit", started, True)
-    ended = analysed("verify", str(unit))
-    context.check("systemd-analyze verify", (ended.returncode, ended.stderr), (0, ""))
-    ended = analysed("security", "--offline=true", str(unit))
-    exposure = re.search(r"exposure level for \S+: ([0-9.]+)", ended.stdout)
-    found = float(exposure[1]) if exposure else math.inf
-    context.check(f"its exposure is {found}", found <= MOST_EXPOSURE, True)
-
-
-def check_package(context: Context) -> None:
-    """The Debian package has what the gateway needs to run, and its unit."""
-    folder = context.folder / "package"
-    made = subprocess.run(
-        ["bash", str(ROOT / "gateway" / "package.sh"), str(folder)],
-        capture_output=True,
-        text=True,
-        timeout=SECONDS,
-    )
-    context.check("the package is made", (made.returncode, made.stderr), (0, ""))
-    tree = folder / "tree"
-    words = ["dpkg-deb", "-x", made.stdout.strip(), str(tree)]
-    context.check("it is unpacked", subprocess.run(words, timeout=SECONDS).returncode, 0)
-    words = ["lintian", "--fail-on", "error,warning", made.stdout.strip()]
-    ended = subprocess.run(words, capture_output=True, text=True, timeout=SECONDS)
-    context.check("lintian", (ended.returncode, ended.stdout), (0, ""))
-    check_unit(context, tree / "lib/systemd/system/streetmap-gateway.service")
-    file = write(context, settings_text("http://127.0.0.1:1", 1))
-    share = tree / "usr/share/streetmap"
-    seen = {"PYTHONPATH": str(share), "PATH": "/usr/bin:/bin"}
-    words = [PYTHON, "-m", "gateway.place", file, "--box", "0", "0", "1000", "1000"]
-    ended = subprocess.run(
-        words, cwd="/", env=seen, capture_output=True, text=True, timeout=SECONDS
-    )
-    context.check("it runs without the repository", (ended.returncode, ended.stderr), (0, ""))
-    has_page = (share / "gateway/static/api.html").exists()
-    context.check("the page for people", has_page, True)

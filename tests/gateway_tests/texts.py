@@ -16,7 +16,7 @@ from harness import Context
 sys.path.append(str(ROOT))
 
 from gateway.boxes import Box  # noqa: E402
-from gateway.features import placed_texts, read_page  # noqa: E402
+from gateway.features import transformed_texts, read_page  # noqa: E402
 from gateway.systems import Position, System  # noqa: E402
 
 SHIFT = (0.25, 1000.5)
@@ -76,7 +76,7 @@ def check_texts(context: Context) -> None:
             goes_on = made["links"][0]["rel"] == "next"
             wanted = (made["numberMatched"], goes_on, [each["id"] for each in made["features"]])
             context.check(f"page {number}", shown, wanted)
-            texts = placed_texts(page.features, Shifted("", False))
+            texts = transformed_texts(page.features, Shifted("", False))
             context.check(f"page {number}: texts", list(map(back, texts)), own)
 
 

@@ -1,14 +1,17 @@
 """The gateway in real reference systems: boxes, edits, faults, and QGIS, GDAL and OWSLib."""
 
-from gateway_tests import answers, boxes, clients, costs, doubles, edits, faults, orders
-from gateway_tests import pages, round_trip, settings, texts, writing
+from gateway_tests import answers, boxes, clients, costs, doubles, edits, faults, html_pages
+from gateway_tests import network, orders, pages, round_trip, settings, texts, writing
 from gateway_tests.data import batches, collections
 from gateway_tests.service import gateway
 from harness import Context
 from messages import post
 
 PACKAGES = (
-    "python3-fastapi",
+    "libjson-validator-perl",
+    "python3-jinja2",
+    "python3-pydantic",
+    "python3-starlette",
     "python3-uvicorn",
     "python3-httptools",
     "python3-uvloop",
@@ -18,27 +21,27 @@ PACKAGES = (
     "python3-gdal",
     "gdal-bin",
     "python3-owslib",
-    "lintian",
-    "systemd",
+    "libjs-leaflet",
+    "nginx",
+    "openssl",
 )
 
 
 def run(context: Context) -> None:
     settings.check_settings(context)
-    settings.check_package(context)
     writing.check_token(context)
     doubles.check_doubles(context)
     texts.check_texts(context)
     file = context.new_file("town.streetmap", *map(post, batches(collections())))
     with context.serve(file, "--clients", "48") as server:
-        with gateway(context, server.url) as asked:
+        with gateway(context, server.url) as asked, network.Rude(context, asked):
             costs.check_boxes(context, asked)
             answers.check_resources(context, asked)
             answers.check_systems(context, asked)
             answers.check_refusals(context, asked)
+            html_pages.check_forms(context, asked)
             pages.check_pages(context, asked)
             pages.check_times(context, asked)
-            pages.check_next(context, asked)
             boxes.check_office_boxes(context, asked)
             boxes.check_turned_orders(context, asked)
             boxes.check_wide_boxes(context, asked)
@@ -48,11 +51,14 @@ def run(context: Context) -> None:
             clients.check_clients(context, asked)
             settings.check_place(context, asked)
             faults.check_many(context, asked)
-        pages.check_secret(context, server.url)
+        pages.check_walk(context, server.url)
         boxes.check_turned_boxes(context, server.url)
+        network.check_front(context, server)
+        network.check_patience(context, server)
     round_trip.check_round_trips(context)
     boxes.check_antimeridian(context)
     orders.check_orders(context)
     pages.check_short_pages(context)
+    html_pages.check_pages(context)
     edits.check_edits(context)
     faults.check_faults(context)

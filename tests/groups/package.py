@@ -1,4 +1,4 @@
-"""make install, and the Debian package: lintian, a fresh Debian, an upgrade, nginx, purging."""
+"""make install, and the Debian packages: lintian, a fresh Debian, an upgrade, nginx, purging."""
 
 import contextlib
 import dataclasses
@@ -14,6 +14,7 @@ from collections.abc import Iterator
 from dataclasses import dataclass
 from pathlib import Path
 
+from gateway_tests import packaging
 from harness import Context, Word, first_line, free_port
 from messages import OPEN_LAMPS, batch, get
 from operating_tests.document import commands_of
@@ -29,6 +30,11 @@ PACKAGES = (
     "mandoc",
     "nginx",
     "openssl",
+    "python3-httpx",
+    "python3-numpy",
+    "python3-pydantic",
+    "python3-pyproj",
+    "python3-starlette",
     "strace",
     "systemd",
 )
@@ -71,6 +77,7 @@ share/streetmap/deploy/postgis/views.sql
 share/streetmap/deploy/report_failure.sh
 """.split()
 MANUALS = ["streetmap", "streetmap-rotate-journal"]
+NAMES = ("streetmap", "streetmap-gateway")
 # A purge as a machine does it that nobody sits at.
 PURGE = ("env", "DEBIAN_FRONTEND=noninteractive", "dpkg", "--purge", "streetmap")
 # Words before the cursor, and what completes them.
@@ -123,7 +130,8 @@ def check_make_install(context: Context) -> None:
     output_of(*words)
     prefix = folder / "usr" / "local"
     manuals = sorted((prefix / "share" / "man").rglob("*.[18]"))
-    missing = [name for name in INSTALLED if not (prefix / name).is_file()]
+    wanted = [*INSTALLED, *packaging.INSTALLED, packaging.UNIT]
+    missing = [name for name in wanted if not (prefix / name).is_file()]
     context.check("make install leaves all files", missing, [])
     context.check("the program", (prefix / "bin" / "streetmap").stat().st_mode & 0o777, 0o755)
     context.check("no file names the repository", texts_that_name(str(REPOSITORY), folder), [])
@@ -247,11 +255,11 @@ def check_unit(context: Context) -> None:
     context.check("calls that the unit forbids", made - allowed_calls(UNIT), set())
 
 
-def built_package(context: Context, folder: Path) -> Path:
-    """The package of the program, in a folder."""
+def built_packages(context: Context, folder: Path) -> tuple[Path, Path]:
+    """The packages of the program and of the gateway, in a folder."""
     output_of("bash", REPOSITORY / "packaging" / "deb.sh", context.program, folder)
-    (package,) = folder.glob("streetmap_*.deb")
-    return package
+    (package,), (gateway,) = (folder.glob(f"{name}_*.deb") for name in NAMES)
+    return package, gateway
 
 
 def code_of(program: Path, copy: Path) -> bytes:
@@ -462,7 +470,23 @@ def hindrance(folder: Path) -> str | None:
     return made.stdout.strip().rpartition("\n")[2] if made.returncode else None
 
 
-def check_fresh_root(context: Context, package: Path) -> None:
+def check_gateway(root: FreshRoot, gateway: Path) -> None:
+    """The gateway's package makes its user, and its settings go when it is purged. Those of the
+    server stay. The Python packages that it depends on are not in the fresh Debian."""
+    settings = root.path("/etc/streetmap/town.gateway.toml")
+    shutil.copy(gateway, root.path("gateway.deb"))
+    root.run("dpkg", "--force-depends", "--install", "/gateway.deb")
+    context, user = root.context, root.run("id", "-un", "streetmap-gateway").strip()
+    context.check("the gateway's user", user, "streetmap-gateway")
+    output_of("systemctl", f"--root={root.folder}", "enable", "streetmap-gateway@town")
+    shutil.copy(root.path("/usr/share/doc/streetmap-gateway/examples/gateway.toml"), settings)
+    root.run("dpkg", "--purge", "streetmap-gateway")
+    enabled = root.path(ENABLED.replace("streetmap@", "streetmap-gateway@"))
+    there = [os.path.lexists(path) for path in (settings, enabled, settings.with_name("town.conf"))]
+    context.check("settings, unit, the server's settings", there, [False, False, True])
+
+
+def check_fresh_root(context: Context, package: Path, gateway: Path) -> None:
     folder = context.folder / "root"
     if reason := hindrance(folder):
         print(f"  skipped, a fresh Debian to install in: {reason}", flush=True)
@@ -472,6 +496,7 @@ def check_fresh_root(context: Context, package: Path) -> None:
     check_installed(root, port)
     check_upgrade(root, package)
     check_map(root, port)
+    check_gateway(root, gateway)
     check_removal(root)
     check_purge(root, package)
 
@@ -483,6 +508,8 @@ def run(context: Context) -> None:
     if context.program.read_bytes()[:4] != b"\x7fELF":
         print("  skipped, the package: the program is a script, no ELF file", flush=True)
         return
-    package = built_package(context, context.folder / "packages")
+    package, gateway = built_packages(context, context.folder / "packages")
     check_package(context, package)
-    check_fresh_root(context, package)
+    version = output_of("dpkg-deb", "-f", package, "Version").strip()
+    packaging.check_package(context, gateway, version)
+    check_fresh_root(context, package, gateway)
