@@ -7,16 +7,18 @@ from starlette.applications import Starlette
 from starlette.exceptions import HTTPException
 from starlette.middleware import Middleware
 from starlette.middleware.cors import CORSMiddleware
+from starlette.routing import BaseRoute
 
 from . import edits, reading
 from .access_log import AccessLog
 from .gateway import Gateway
+from .mirror.routes import FILTER_ROUTES, TILE_ROUTES
 from .origins import OwnOrigin
 from .problems import Problem, answer_failure, answer_http_fault, answer_problem
 
 # What a page of another origin may do, and the headers that it may read beside those of all pages.
 READING = ["GET", "HEAD"]
-EXPOSED = ["Content-Crs", "Retry-After"]
+EXPOSED = ["Content-Crs", "ETag", "Retry-After", "Streetmap-Tile"]
 
 
 def make_app(gateway: Gateway) -> Starlette:
@@ -28,7 +30,7 @@ def make_app(gateway: Gateway) -> Starlette:
         await gateway.close()
 
     app = Starlette(
-        routes=reading.ROUTES + (edits.ROUTES if gateway.settings.writers else []),
+        routes=routes_of(gateway),
         exception_handlers={
             Problem: answer_problem,
             HTTPException: answer_http_fault,
@@ -40,6 +42,15 @@ def make_app(gateway: Gateway) -> Starlette:
     app.router.redirect_slashes = False
     app.state.gateway = gateway
     return app
+
+
+def routes_of(gateway: Gateway) -> list[BaseRoute]:
+    """The paths that the settings ask for."""
+    settings = gateway.settings
+    found = reading.ROUTES + (edits.ROUTES if settings.writers else [])
+    if settings.mirror is not None:
+        found = found + FILTER_ROUTES + (TILE_ROUTES if settings.mirror.tiles else [])
+    return found
 
 
 def middleware(gateway: Gateway) -> list[Middleware]:

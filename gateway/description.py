@@ -15,6 +15,8 @@ from .systems import Systems
 FOLDER = Path(__file__).parent / "openapi"
 # The part that each gateway has, and the one of a gateway with writers.
 READING, EDITING = FOLDER / "reading.json", FOLDER / "editing.json"
+# What a mirror adds, and its tiles.
+MIRROR, TILES = FOLDER / "mirror.json", FOLDER / "tiles.json"
 
 Document = dict[str, Any]
 

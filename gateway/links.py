@@ -3,8 +3,15 @@
 from collections.abc import Mapping
 from urllib.parse import quote, urlencode
 
+from .settings import Mirror
+
 JSON, GEOJSON, HTML = "application/json", "application/geo+json", "text/html"
 OPENAPI = "application/vnd.oai.openapi+json;version=3.0"
+SCHEMA = "application/schema+json"
+# What OGC's relations of links begin with.
+RELATION = "http://www.opengis.net/def/rel/ogc/1.0/"
+MATRIX_SETS_PATH = "/tileMatrixSets"
+MATRIX_SET_PATH = f"{MATRIX_SETS_PATH}/WebMercatorQuad"
 
 Link = dict[str, str]
 Query = Mapping[str, str]
@@ -13,8 +20,9 @@ Query = Mapping[str, str]
 class Links:
     """Makes links that begin with one address."""
 
-    def __init__(self, address: str) -> None:
+    def __init__(self, address: str, mirror: Mirror | None = None) -> None:
         self.address = address
+        self.mirror = mirror
 
     def link(self, path: str, rel: str, media_type: str, title: str) -> Link:
         return {"href": self.address + path, "rel": rel, "type": media_type, "title": title}
@@ -37,6 +45,7 @@ class Links:
             self.link("/api.html", "service-doc", HTML, "The interface, for people"),
             self.link("/conformance", "conformance", JSON, "Conformance classes"),
             self.link("/collections", "data", JSON, "The collections"),
+            *self.matrix_sets(),
         ]
 
     def items(self, collection: str) -> list[Link]:
@@ -45,7 +54,30 @@ class Links:
         return [
             self.link(path, "items", GEOJSON, "Its features"),
             self.link(with_query(path, {"f": "html"}), "items", HTML, "Its features"),
+            *self.mirrored(collection),
         ]
+
+    def matrix_sets(self) -> list[Link]:
+        """The links of the landing page that tiles need."""
+        if self.mirror is None or not self.mirror.tiles:
+            return []
+        relation = f"{RELATION}tiling-schemes"
+        return [self.link(MATRIX_SETS_PATH, relation, JSON, "The tile matrix sets")]
+
+    def mirrored(self, collection: str) -> list[Link]:
+        """The links of a collection to what a mirror adds."""
+        if self.mirror is None:
+            return []
+        path = collection_path(collection)
+        found = [
+            self.link(f"{path}/queryables", f"{RELATION}queryables", SCHEMA, "For filters"),
+            self.link(f"{path}/sortables", f"{RELATION}sortables", SCHEMA, "For sortby"),
+            self.link(f"{path}/schema", f"{RELATION}schema", SCHEMA, "Of its features"),
+        ]
+        if self.mirror.tiles:
+            relation = f"{RELATION}tilesets-vector"
+            found.append(self.link(f"{path}/tiles", relation, JSON, "Its vector tiles"))
+        return found
 
     def collection(self, collection: str) -> Link:
         """The link of a feature, or of a page of features, to its collection."""
@@ -66,6 +98,10 @@ def with_query(path: str, query: Query) -> str:
 
 def collection_path(collection: str) -> str:
     return f"/collections/{quote(collection, safe='')}"
+
+
+def tileset_path(collection: str) -> str:
+    return f"{collection_path(collection)}/tiles/WebMercatorQuad"
 
 
 def items_path(collection: str) -> str:

@@ -30,6 +30,7 @@ class Filled:
     count: int
     after: str | None
     matched: int | None
+    serial: int | None = None
 
 
 async def fill(client: ServerClient, collection: str, query: ItemsQuery) -> Filled:

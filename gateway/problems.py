@@ -38,8 +38,9 @@ class Problem(Exception):
         """How a refusal is pickled, for another process."""
         return Problem, (self.status, self.code, self.detail, self.cause, self.headers)
 
-    def response(self) -> Response:
-        members: dict[str, str | int] = {
+    def members(self) -> dict[str, Any]:
+        """The members of the answer's body."""
+        members: dict[str, Any] = {
             "type": "about:blank",
             "title": http.HTTPStatus(self.status).phrase,
             "status": self.status,
@@ -48,7 +49,10 @@ class Problem(Exception):
         }
         if self.cause is not None:
             members["cause"] = self.cause
-        content = json.dumps(members, separators=(",", ":"))
+        return members
+
+    def response(self) -> Response:
+        content = json.dumps(self.members(), separators=(",", ":"))
         return Response(content, self.status, self.headers, MEDIA_TYPE)
 
 

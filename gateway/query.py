@@ -1,7 +1,6 @@
 """The query parameters of requests."""
 
 import re
-from collections.abc import Container
 from dataclasses import dataclass
 from decimal import Decimal
 
@@ -36,13 +35,13 @@ class ItemsQuery:
     after: str | None
 
 
-def read_parameters(request: Request, also: Container[str] = ()) -> dict[str, str]:
-    """The parameters of a request; a Problem for one that is given twice, or that neither the
-    description nor `also` has."""
+def read_parameters(request: Request, any_name: bool = False) -> dict[str, str]:
+    """The parameters of a request, each of which the description has, unless any name may be there,
+    and is given once."""
     known = gateway_of(request).description.query_names[request.scope["endpoint"].__name__]
     found: dict[str, str] = {}
     for name, value in request.query_params.multi_items():
-        if name not in known and name not in also:
+        if name not in known and not any_name:
             raise bad_query("unknown_parameter", f"The parameter {name} is not known here.")
         if name in found:
             raise bad_query("repeated_parameter", f"The parameter {name} is given twice.")

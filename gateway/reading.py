@@ -10,11 +10,12 @@ from starlette.staticfiles import StaticFiles
 
 from . import resources
 from .forms import json_response, wants_html
-from .gateway import gateway_of
+from .gateway import Gateway, gateway_of
 from .geojson import compact, transform_geometries
 from .html import html_response
 from .links import GEOJSON, JSON, OPENAPI, collection_path, feature_path, items_path
-from .pages import fill
+from .mirror.selection import is_for_mirror, own_names, read_selection
+from .pages import Filled, fill
 from .query import read_items_query, read_parameters
 from .systems import CRS84, System
 
@@ -72,21 +73,34 @@ async def collection(request: Request) -> Response:
 
 
 async def items(request: Request) -> Response:
-    gateway, found = gateway_of(request), read_parameters(request)
+    gateway = gateway_of(request)
+    found = read_parameters(request, any_name=gateway.mirror is not None)
     is_html = wants_html(request, found)
     name = request.path_params["collectionId"]
-    query = read_items_query(found, gateway.systems)
-    filled = await fill(gateway.client, name, query)
+    filled = await filled_page(gateway, name, found)
     links = gateway.links.forms(items_path(name), found, GEOJSON, "This page", is_html)
     if filled.after is not None:
-        links.append(gateway.links.following(name, found, filled.after, is_html))
+        following = found | ({} if filled.serial is None else {"serial": str(filled.serial)})
+        links.append(gateway.links.following(name, following, filled.after, is_html))
     links.append(gateway.links.collection(name))
     members = resources.page(filled, links)
+    system = gateway.systems.named(found.get("crs", CRS84), "bad_crs")
     if is_html:
         page = members | {"features": json.loads(f"[{filled.text}]")}
-        return html_response(request, "items.html", page, collection=name, system=query.system.uri)
+        return html_response(request, "items.html", page, collection=name, system=system.uri)
     text = f'{compact(members)[:-1]},"features":[{filled.text}]}}'
-    return geojson_response(text, query.system)
+    return geojson_response(text, system)
+
+
+async def filled_page(gateway: Gateway, collection: str, found: dict[str, str]) -> Filled:
+    """The page of the parameters, of the server or, if it cannot answer them, of the mirror."""
+    query = read_items_query(found, gateway.systems)
+    named = own_names(gateway.description.query_names["items"])
+    if gateway.mirror is None or not is_for_mirror(found, named):
+        return await fill(gateway.client, collection, query)
+    selection = read_selection(found, named, query, gateway.systems)
+    page = await gateway.mirror.page(collection, selection)
+    return Filled(page.text, page.count, page.after, page.matched, page.serial)
 
 
 async def feature(request: Request) -> Response:

@@ -4,6 +4,7 @@ from typing import Any
 
 from .extents import degree_extent
 from .links import JSON, Link, Links, collection_path
+from .mirror.classes import classes as mirror_classes
 from .pages import Filled
 from .settings import Settings
 from .systems import CRS84, Systems
@@ -26,6 +27,7 @@ def conformance(settings: Settings, links: list[Link]) -> Resource:
     classes = [*(PART1 + name for name in names), f"{PART2}crs"]
     if settings.writers:
         classes.append(f"{PART4}create-replace-delete")
+    classes += mirror_classes(settings.mirror)
     return {"links": links, "conformsTo": classes}
 
 
@@ -60,9 +62,11 @@ def collection(kept: Resource, systems: Systems, links: list[Link]) -> Resource:
 def page(filled: Filled, links: list[Link]) -> Resource:
     """A page without its features."""
     matched = {} if filled.matched is None else {"numberMatched": filled.matched}
+    serial = {} if filled.serial is None else {"serial": filled.serial}
     return {
         "type": "FeatureCollection",
         "links": links,
         **matched,
         "numberReturned": filled.count,
+        **serial,
     }

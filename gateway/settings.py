@@ -58,6 +58,13 @@ class Connections(ConstrainedInt):
     ge, le = 1, 1024
 
 
+class Seconds(ConstrainedInt):
+    """A time in seconds."""
+
+    strict = True
+    ge, le = 1, 600
+
+
 class Table(BaseModel):
     """A table of the file. A key that it does not have is refused."""
 
@@ -117,6 +124,16 @@ class Cors(Table):
     origins: tuple[Origin, ...] = ()
 
 
+class Mirror(Table):
+    """The mirror in PostGIS: a connection string of PostgreSQL, how many connections at most, the
+    seconds that a request may take there, and whether tiles are served."""
+
+    database: StrictStr
+    connections: Connections = Connections(4)
+    seconds: Seconds = Seconds(5)
+    tiles: StrictBool = True
+
+
 class Writer(Table):
     """One who may write, by a bearer token, a password, or both, as `gateway.access` makes
     them."""
@@ -144,6 +161,7 @@ class Settings(Table):
     system: Office
     edits: Edits = Edits()
     cors: Cors = Cors()
+    mirror: Mirror | None = None
     writers: tuple[Writer, ...] = ()
 
 

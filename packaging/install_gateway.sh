@@ -12,8 +12,9 @@ modules=$root$prefix/share/streetmap/gateway
 documents=$root$prefix/share/doc/streetmap-gateway
 cd "$(dirname "$0")/.."
 
-install -d "$modules" "$units" "$documents/examples"
+install -d "$modules/mirror" "$units" "$documents/examples"
 install -m 644 -t "$modules" gateway/*.py
+install -m 644 -t "$modules/mirror" gateway/mirror/*.py
 for part in openapi static templates; do
     install -d "$modules/$part"
     install -m 644 -t "$modules/$part" gateway/"$part"/*

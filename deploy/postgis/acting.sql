@@ -34,9 +34,9 @@ DECLARE
     refused streetmap_collections;
 BEGIN
     WITH opened AS (
-        INSERT INTO streetmap_collections (id, title, time, serial, place)
+        INSERT INTO streetmap_collections (id, title, time, serial, place, changed)
         SELECT DISTINCT ON (edit.collection)
-            edit.collection, edit.title, edit."time", edit.serial, edit.place
+            edit.collection, edit.title, edit."time", edit.serial, edit.place, up_to
         FROM streetmap_edits(after, up_to) AS edit
         WHERE edit.op = 'open'
         ORDER BY edit.collection, edit.serial, edit.place
@@ -235,6 +235,8 @@ BEGIN
     END IF;
     PERFORM streetmap_change_features();
     PERFORM streetmap_note_kinds();
+    UPDATE streetmap_collections SET changed = ended
+    WHERE id IN (SELECT collection FROM streetmap_acting);
     UPDATE streetmap_mirror SET serial = ended;
     RETURN ended;
 END

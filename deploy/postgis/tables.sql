@@ -16,7 +16,8 @@ CREATE TABLE IF NOT EXISTS streetmap_mirror (
     northing bigint NOT NULL
 );
 
--- A collection: its title, its time property, and the edit that opened it.
+-- A collection: its title, its time property, the edit that opened it, and `changed`: the serial of
+-- the state in which it or a feature of it last changed.
 CREATE TABLE IF NOT EXISTS streetmap_collections (
     id text COLLATE "C" PRIMARY KEY,
     title text NOT NULL,
@@ -24,6 +25,19 @@ CREATE TABLE IF NOT EXISTS streetmap_collections (
     serial bigint NOT NULL,
     place integer NOT NULL
 );
+
+-- Mirrors that were made before have no such column: all of theirs may have changed just now.
+DO $$
+BEGIN
+    IF NOT EXISTS (SELECT FROM pg_attribute
+                   WHERE attrelid = 'streetmap_collections'::regclass AND attname = 'changed')
+    THEN
+        ALTER TABLE streetmap_collections ADD COLUMN changed bigint;
+        UPDATE streetmap_collections SET changed = mirror.serial FROM streetmap_mirror AS mirror;
+        ALTER TABLE streetmap_collections ALTER COLUMN changed SET NOT NULL;
+    END IF;
+END
+$$;
 
 -- A feature: the serial of its last change; its text, as an export has it; and of that text the
 -- properties, the geometry in the grid's whole millimetres with heights, and the time. `geometry`

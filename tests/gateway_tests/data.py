@@ -7,6 +7,8 @@ from typing import Any
 
 Feature = dict[str, Any]
 KILOMETRE = 1_000_000
+# The collections whose time is their property `set`.
+TIMED = ("assets", "lamps")
 
 
 def feature(name: str, geometry: Feature | None, properties: Feature | None = None) -> Feature:
@@ -104,7 +106,7 @@ def batch(key: str, edits: Iterable[Feature]) -> bytes:
 
 
 def opening(collection: str) -> Feature:
-    time = {"time": "set"} if collection == "lamps" else {}
+    time = {"time": "set"} if collection in TIMED else {}
     return {"op": "open", "collection": collection, "title": collection.title(), **time}
 
 

@@ -16,6 +16,8 @@ PACKAGES = (
     "python3-httptools",
     "python3-uvloop",
     "python3-httpx",
+    "python3-lark",
+    "python3-psycopg2",
     "python3-pyproj",
     "python3-qgis",
     "python3-gdal",

@@ -18,6 +18,7 @@ PACKAGES = (
     "python3-pydantic",
     "python3-starlette",
     "python3-httpx",
+    "python3-lark",
     "python3-numpy",
     "python3-pyproj",
     "python3-selenium",

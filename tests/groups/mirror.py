@@ -8,21 +8,33 @@ with the server's exports by `mirror_check.py`. QGIS and others open the views.
 from followers_tests import postgres
 from followers_tests.processes import running, wait_until
 from harness import Context
-from mirror_tests import acting, filling, kills, rows, times, tools, views
+from mirror_tests import acting, changes, filling, kills, over_mirror, rows, times, tools, views
 from mirror_tests.mirrors import Mirror
 
 PACKAGES = (
     "cgi-mapserver",
     "gdal-bin",
+    "libjson-validator-perl",
     "postgresql",
     "postgresql-15-postgis-3",
+    "python3-httptools",
+    "python3-httpx",
+    "python3-jinja2",
+    "python3-lark",
     "python3-psycopg2",
+    "python3-pydantic",
+    "python3-pyproj",
     "python3-qgis",
+    "python3-starlette",
+    "python3-uvicorn",
+    "python3-uvloop",
     "qgis-server",
 )
 # Groups of random batches, and rounds of killing, in the short form and in the long one.
 GROUPS, SLOW_GROUPS = 40, 1000
 ROUNDS, SLOW_ROUNDS = 3, 50
+# Random filters of the gateway.
+FILTERS, SLOW_FILTERS = 700, 10_000
 
 
 def run(context: Context) -> None:
@@ -36,7 +48,9 @@ def run(context: Context) -> None:
         rows.check_made_late(context, cluster)
         rows.check_owner(context, cluster)
         rows.check_towns(context, cluster)
+        changes.check_changes(context, cluster)
         views.check_views(context, cluster)
         tools.check_tools(context, cluster)
         filling.check_filling(context, cluster)
+        over_mirror.check_gateway(context, cluster, SLOW_FILTERS if context.slow else FILTERS)
         kills.check_kills(context, cluster, SLOW_ROUNDS if context.slow else ROUNDS)

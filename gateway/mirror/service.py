@@ -1,0 +1,108 @@
+"""The mirror of a gateway: pages, schemas, tiles, and whether it is the mirror of this office."""
+
+import functools
+from collections.abc import Callable
+from typing import Any, TypeVar
+
+import psycopg2
+from psycopg2.sql import SQL
+
+from ..problems import Problem
+from ..settings import Mirror, SettingsFault
+from ..systems import Systems
+from . import tiles
+from .catalogue import Catalogue, read_catalogue
+from .clauses import MirrorSystem
+from .database import Database, Reading
+from .pages import MirrorPage, Paging
+from .selection import Selection, check_serial
+
+SYSTEM = "SELECT srid, easting, northing FROM streetmap_mirror"
+Value = TypeVar("Value")
+
+
+class MirrorService:
+    """What is answered from the mirror. It is compared with the settings before the first answer,
+    and at the start if the database is there by then."""
+
+    def __init__(self, settings: Mirror, systems: Systems) -> None:
+        self.settings = settings
+        self.systems = systems
+        self.database = Database(settings)
+        code = int(systems.office.uri.rpartition("/")[2])
+        self.system = MirrorSystem(code, systems.office.grid)
+        self.is_compared = False
+
+    @classmethod
+    def of(cls, settings: Mirror | None, systems: Systems) -> "MirrorService | None":
+        """The mirror of the settings, if they have one; a SettingsFault if it is another's."""
+        if settings is None:
+            return None
+        found = cls(settings, systems)
+        found.start()
+        return found
+
+    def start(self) -> None:
+        """Refuses settings that are not the mirror's. One that is away is compared later."""
+        try:
+            self.database.read_now(self.compare)
+        except Problem as problem:
+            if problem.status != 503:
+                raise SettingsFault(f"mirror: {problem.detail}") from problem
+
+    def compare(self, reading: Reading) -> None:
+        """Refuses a mirror whose coordinates are others than the gateway's."""
+        if self.is_compared:
+            return
+        found = reading.row(SQL(SYSTEM))
+        wanted = (self.system.srid, self.system.grid.easting, self.system.grid.northing)
+        if found != wanted:
+            detail = f"The mirror's system and origin are {found}, and the gateway's {wanted}."
+            raise Problem(500, "other_system", detail)
+        if self.settings.tiles:
+            apart = tiles.distance(reading, self.system, self.systems)
+            if not apart < tiles.CLOSE:
+                detail = (
+                    f"PostGIS and system.operation are {apart:.3f} m apart in EPSG:3857. With"
+                    " mirror.tiles = false there are no tiles, and all else is right."
+                )
+                raise Problem(500, "other_operation", detail)
+        self.is_compared = True
+
+    async def read(self, work: Callable[[Reading], Value]) -> Value:
+        """What is read of one state of the mirror."""
+
+        def compared(reading: Reading) -> Value:
+            self.compare(reading)
+            return work(reading)
+
+        return await self.database.read(compared)
+
+    async def catalogue(self, collection: str) -> Catalogue:
+        return await self.read(functools.partial(read_catalogue, collection=collection))
+
+    async def page(self, collection: str, selection: Selection) -> MirrorPage:
+        """The page of a selection; a refusal if the serial it names is not that of its state."""
+
+        def page(reading: Reading) -> MirrorPage:
+            catalogue = read_catalogue(reading, collection)
+            check_serial(selection.serial, catalogue.changed, catalogue.serial)
+            return Paging(reading, self.system, catalogue, selection).page()
+
+        return await self.read(page)
+
+    async def tile(
+        self, collection: str, at: tiles.TileAddress, is_known: Callable[[int], bool]
+    ) -> tuple[int, tiles.Tile | None]:
+        """The serial of the collection's last change, and the tile unless that serial is known."""
+
+        def tile(reading: Reading) -> tuple[int, tiles.Tile | None]:
+            changed = read_catalogue(reading, collection).changed
+            if is_known(changed):
+                return changed, None
+            return changed, tiles.draw(reading, self.system, self.systems, collection, at)
+
+        return await self.read(tile)
+
+    async def close(self) -> None:
+        self.database.close()
