@@ -2,13 +2,12 @@
 
 The server is a stand-in that answers from memory, since the time is the page's, and a file of that
 size takes too long to fill. The browser's own brake slows the page's thread, and the best of some
-pans counts. While the machine is busy with other work the time says little: it is printed, and no
-more is asked than that the features come.
+pans counts. The time is printed. The long form asks for 0.3 s, on a machine with no other work; the
+short one asks no more than that the features come.
 """
 
 import contextlib
 import json
-import os
 import random
 import tempfile
 import threading
@@ -150,24 +149,17 @@ def pans(page: Page, pixels: int) -> list[float]:
     return list(map(float, page.script("return pans")))
 
 
-def is_free() -> bool:
-    """Whether half of the processors had nothing to do in the last minute, this test apart."""
-    return os.getloadavg()[0] < (os.cpu_count() or 1) / 2 + 1
-
-
 def town_of_many(context: Context) -> None:
-    """A pan at street level is drawn in time, at a desk and on a phone."""
+    """A pan at street level is drawn, at a desk and on a phone; in the long form in time."""
     with stand_in(context) as address:
         for size in ((1280, 800), (390, 844)):
             with browser(*size, phone=size[0] < 800) as page:
                 page.open(f"{address}#x=500.000&y=500.000&z={ZOOM}")
                 page.wait("the view", lambda: page.script(RESTS))
-                best, busy = (
-                    min(pans(page, size[0] // 4)),
-                    "" if is_free() else ", on a busy machine",
-                )
-                print(f"  {size[0]} pixels: a pan is drawn in {best:.3f} s at best{busy}")
-                context.check("a pan is drawn", best <= MOST_SECONDS or bool(busy) or best, True)
+                best = min(pans(page, size[0] // 4))
+                print(f"  {size[0]} pixels: a pan is drawn in {best:.3f} s at best")
+                is_asked = context.slow
+                context.check("a pan is drawn", not is_asked or best <= MOST_SECONDS, True)
 
 
 RESTS = "return document.getElementById('map').dataset.state === 'rests'"
