@@ -21,18 +21,20 @@ from units import started  # noqa: E402
 UNIT = Path(__file__).resolve().parents[2] / "deploy" / "streetmap@.service"
 
 
-def is_running(process: int) -> bool:
-    """Whether a process is there, and has not ended."""
+def began(process: int) -> str | None:
+    """When a process began, in ticks since the machine did; none if it has ended. With its number
+    this names it, as another process may have the number later."""
     with contextlib.suppress(OSError):
-        return Path(f"/proc/{process}/stat").read_text().rpartition(")")[2].split()[0] != "Z"
-    return False
+        fields = Path(f"/proc/{process}/stat").read_text().rpartition(")")[2].split()
+        return fields[19] if fields[0] != "Z" else None
+    return None
 
 
 def active(machine: Path) -> int | None:
     """The process of the unit, if it runs."""
     with contextlib.suppress(OSError, ValueError):
-        process = int((machine / "unit.pid").read_text())
-        return process if is_running(process) else None
+        process, begin = (machine / "unit.pid").read_text().split()
+        return int(process) if began(int(process)) == begin else None
     return None
 
 
@@ -44,7 +46,7 @@ def start(machine: Path, program: str) -> None:
         words = [word if word.startswith("JOURNAL=") else word.replace(old, new) for word in words]
     with (machine / "unit.log").open("ab") as log:
         process = subprocess.Popen(words, stdout=log, stderr=log, start_new_session=True)
-    (machine / "unit.pid").write_text(str(process.pid))
+    (machine / "unit.pid").write_text(f"{process.pid} {began(process.pid)}")
 
 
 def stop(machine: Path) -> None:
@@ -52,7 +54,7 @@ def stop(machine: Path) -> None:
     if process is None:
         return
     os.kill(process, signal.SIGTERM)
-    while is_running(process):
+    while active(machine) is not None:
         time.sleep(0.005)
 
 
