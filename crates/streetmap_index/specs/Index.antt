@@ -27,6 +27,11 @@ abbrev pub IsOutlinedIf : OutlinedCollection → Option Collection → Type 0
 IsOutlinedIf o None = ⊥
 IsOutlinedIf o (Some c) = IsOutlined o c
 
+-- this is found in a state that has the collection as it is known
+abbrev pub IfOutlined : {T : Type 0} → OutlinedCollection → Text → (State → T → Type 0) → State → T
+    → Type 0
+IfOutlined o name Is s found = IsOutlinedIf o (get s.collections name) → Is s found
+
 -- what an index knows under a name
 abbrev pub known_under : Text → List (String Global × OutlinedCollection)
     → Option OutlinedCollection
@@ -48,16 +53,16 @@ IsIndexOf index s = AreKnown index.known.entries s
     × (IsTrue index.is_whole → KnowsAll index.known.entries s)
 
 -- what was learnt of a collection, if it was, is so
-abbrev pub Learns : State → Text → Option OutlinedCollection → Type 0
-Learns s name None = Unit {0}
-Learns s name (Some o) = IsOutlinedIf o (get s.collections name)
+abbrev pub Learns : Text → State → Option OutlinedCollection → Type 0
+Learns name s None = Unit {0}
+Learns name s (Some o) = IsOutlinedIf o (get s.collections name)
 
 -- if it has this title, and the times of its features are read from this property
-abbrev pub LearnsUnder : State → Text → String Global → Option (String Global)
+abbrev pub LearnsUnder : Text → String Global → Option (String Global) → State
     → Option OutlinedCollection → Type 0
-LearnsUnder s name title property o =
+LearnsUnder name title property s o =
     (c : Collection) → get s.collections name ≡ Some c → string_bytes title ≡ c.title
-    → option_map string_bytes property ≡ c.time → Learns s name o
+    → option_map string_bytes property ≡ c.time → Learns name s o
 
 -- the collection that an edit is of
 abbrev pub collection_of : EditValue → Text

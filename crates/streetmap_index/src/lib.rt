@@ -16,7 +16,6 @@
 //! `asking`, `run` and `page`, `telling`, `keeper`.
 #![tactic(auto)]
 
-mod asking;
 mod index;
 mod keeper;
 mod learning;

@@ -1,25 +1,21 @@
 //! A page by outlines.
 ghost use Rattle.std.specs.Prelude.{◌≡◌, ◌∷◌, ◌++◌, [], List, Some, None, IsTrue, true, false};
-ghost use Rattle.std.specs.Prelude.{IsErrOf};
-ghost use Rattle.std.specs.FinMap.{get};
 ghost use Rattle.streetmap_geojson.specs.FeatureValue.{FeatureValue};
 ghost use Rattle.streetmap_geojson.specs.FeatureInvariant.{IsFeature};
 ghost use Rattle.streetmap_query.specs.Views.{query_value};
-ghost use Rattle.streetmap_ledger.specs.State.{State};
 ghost use Rattle.streetmap_ledger.specs.Pages.{is_candidate as is_candidate_of};
 ghost use Rattle.streetmap_ledger.specs.Folds.{IsFoldOf, HoldsCandidates, IsFull};
-ghost use Rattle.streetmap_ledger.specs.Keep.{Looks, Shows, LeavesOnly, ShutsBy, AsBefore};
+ghost use Rattle.streetmap_ledger.specs.Keep.{IsRead, IsPageOf};
 ghost use Rattle.streetmap_outlines.specs.Chunks.{AreInOrder};
 ghost use Rattle.streetmap_outlines.specs.Outlines.{IsOutlineOf, IsBounded};
-ghost use Rattle.streetmap_index.specs.Index.{IsOutlinedIf};
+ghost use Rattle.streetmap_index.specs.Index.{IfOutlined};
 ghost use Rattle.streetmap_outlines.specs.Selecting.{TakesChunk};
 ghost use Rattle.streetmap_index.specs.Taking.{TakesOutlined, IsOutlinedPage};
 
-use crate::asking::ask;
 use crate::outlined::OutlinedCollection;
 use crate::run::{run_length, take_run};
 use std::alloc::Global;
-use streetmap_ledger::{Fault, Keeper, Page, PageFold};
+use streetmap_ledger::{Fault, Outlined, Page, PageFold};
 use streetmap_outlines::{
     Chunk, Chunks, KeptOutline, all_come_after, comes_after, count_selected, is_candidate,
     is_passed_over, is_selected, is_unmarked, lies_outside, window_of,
@@ -105,7 +101,7 @@ fn room_behind(query: &Query, read: usize) -> usize {
 /// Takes the features with a chunk's outlines, which come next, and answers whether it did: not
 /// where one of them is not there, or one more than `MOST_READ` would have to be read. `read`
 /// counts those that were read.
-fn take_outlined<K: Keeper>(
+fn take_outlined<K: Outlined>(
     alloc: Global,
     keeper: &mut K,
     collection: &str,
@@ -114,18 +110,9 @@ fn take_outlined<K: Keeper>(
     fold: &mut PageFold<'_>,
     read: &mut usize,
 ) -> Result<bool, Fault>
-    requires is_open { K.cause keeper.old ≡ None }
-    ensures spared { K.spares keeper.old keeper.new }
-    ensures began_clean { K.is_clean keeper.new → K.is_clean keeper.old }
-    ensures faults { ShutsBy result None (K.cause keeper.new) }
-    ensures device { K.is_clean keeper.new → (s : State) → K.stands keeper.old s →
-        IsErrOf result Fault.Device → K.fails keeper.old keeper.new }
-    ensures takes { K.is_clean keeper.new → (s : State) → K.stands keeper.old s
-        → Looks s (TakesOutlined s collection.now (query_value query.now) chunk.now fold.old
-        fold.new) result (K.stands keeper.new) }
-    ensures leaves { K.is_clean keeper.new → (s : State) → K.stands keeper.old s
-        → LeavesOnly (K.may_leave keeper.old) (Some s)
-        → LeavesOnly (K.may_leave keeper.new) (Some s) }
+    requires { K.model.cause keeper.old ≡ None }
+    ensures { IsRead K.model keeper.old keeper.new result
+        (TakesOutlined collection.now (query_value query.now) chunk.now fold.old fold.new) }
 {
     let window = window_of(query);
     let extents = chunk.extents.as_slice();
@@ -158,25 +145,16 @@ fn take_outlined<K: Keeper>(
 
 /// The page of an open keeper's collection by the outlines of its features; none where one of these
 /// is not there, or more than `MOST_READ` would have to be read.
-fn page_by_outlines<K: Keeper>(
+fn page_by_outlines<K: Outlined>(
     alloc: Global,
     keeper: &mut K,
     collection: &str,
     outlines: &Chunks,
     query: &Query,
 ) -> Result<Option<Page>, Fault>
-    requires is_open { K.cause keeper.old ≡ None }
-    ensures spared { K.spares keeper.old keeper.new }
-    ensures began_clean { K.is_clean keeper.new → K.is_clean keeper.old }
-    ensures faults { ShutsBy result None (K.cause keeper.new) }
-    ensures device { K.is_clean keeper.new → (s : State) → K.stands keeper.old s →
-        IsErrOf result Fault.Device → K.fails keeper.old keeper.new }
-    ensures shows { K.is_clean keeper.new → (s : State) → K.stands keeper.old s
-        → Looks s (IsOutlinedPage s collection.now (query_value query.now) outlines.now) result
-        (K.stands keeper.new) }
-    ensures leaves { K.is_clean keeper.new → (s : State) → K.stands keeper.old s
-        → LeavesOnly (K.may_leave keeper.old) (Some s)
-        → LeavesOnly (K.may_leave keeper.new) (Some s) }
+    requires { K.model.cause keeper.old ≡ None }
+    ensures { IsRead K.model keeper.old keeper.new result
+        (IsOutlinedPage collection.now (query_value query.now) outlines.now) }
 {
     let mut fold = PageFold::new(alloc, query);
     let mut read: usize = 0;
@@ -208,36 +186,22 @@ fn page_by_outlines<K: Keeper>(
 }
 
 /// The page of a collection by what is known of it.
-pub fn page_with<K: Keeper>(
+pub fn page_with<K: Outlined>(
     alloc: Global,
     keeper: &mut K,
     collection: &str,
     outlined: &OutlinedCollection,
     query: &Query,
 ) -> Result<Option<Page>, Fault>
-    ensures spared { K.spares keeper.old keeper.new }
-    ensures began_clean { K.is_clean keeper.new → K.is_clean keeper.old }
-    ensures faults { ShutsBy result (K.cause keeper.old) (K.cause keeper.new) }
-    ensures device { K.is_clean keeper.new → (s : State) → K.stands keeper.old s →
-        IsErrOf result Fault.Device → K.fails keeper.old keeper.new }
-    ensures shows { K.is_clean keeper.new → (s : State) → K.stands keeper.old s
-        → IsOutlinedIf outlined.now (get s.collections collection.now)
-        → Shows s collection.now query.now result (K.stands keeper.new) }
-    ensures leaves { K.is_clean keeper.new → (s : State) → K.stands keeper.old s
-        → LeavesOnly (K.may_leave keeper.old) (Some s)
-        → LeavesOnly (K.may_leave keeper.new) (Some s) }
-    ensures reopen { IsErrOf result Fault.Reopen
-        → AsBefore (K.stands keeper.old) (K.stands keeper.new) (K.may_leave keeper.old)
-        (K.may_leave keeper.new) }
+    ensures { IsRead K.model keeper.old keeper.new result
+        (IfOutlined outlined.now collection.now (IsPageOf collection.now query.now)) }
 {
-    match ask(keeper, collection) {
-        Ok(()) => {
-            match page_by_outlines(alloc, keeper, collection, &outlined.outlines, query) {
-                Ok(Some(page)) => Ok(Some(page)),
-                Ok(None) => keeper.page(collection, query),
-                Err(fault) => Err(fault),
-            }
-        }
+    if !keeper.is_open() {
+        return Err(Fault::Reopen);
+    }
+    match page_by_outlines(alloc, keeper, collection, &outlined.outlines, query) {
+        Ok(Some(page)) => Ok(Some(page)),
+        Ok(None) => keeper.page(collection, query),
         Err(fault) => Err(fault),
     }
 }

@@ -1,20 +1,18 @@
 //! What is told of collections by what is known of them.
-ghost use Rattle.std.specs.Prelude.{◌≡◌, List, Some, None, IfOk, IsErrOf, option_map};
+ghost use Rattle.std.specs.Prelude.{◌≡◌, List, Some, None, IfOk, option_map};
 ghost use Rattle.std.specs.Prelude.{option_copied, string_bytes};
-ghost use Rattle.std.specs.FinMap.{get};
 ghost use Rattle.streetmap_grid.specs.Bounds.{AreBounds};
 ghost use Rattle.streetmap_geojson.specs.FeatureValue.{FeatureValue};
 ghost use Rattle.streetmap_ledger.specs.State.{State, Collection, Features};
 ghost use Rattle.streetmap_ledger.specs.WellFormed.{IsState, HoldsFeatures};
 ghost use Rattle.streetmap_ledger.specs.Summaries.{all_vertices, summary_of, summaries_in};
 ghost use Rattle.streetmap_ledger.specs.SummaryView.{summary_value, summary_values};
-ghost use Rattle.streetmap_ledger.specs.Keep.{Tells, Lists, LeavesOnly, ShutsBy, AsBefore};
+ghost use Rattle.streetmap_ledger.specs.Keep.{IsRead, IsSummaryOf, AreSummaries};
 ghost use Rattle.streetmap_outlines.specs.Outlines.{joined, AreBounded};
-ghost use Rattle.streetmap_index.specs.Index.{IsOutlined, IsOutlinedIf};
+ghost use Rattle.streetmap_index.specs.Index.{IsOutlined, IfOutlined};
 ghost use Rattle.streetmap_index.specs.Index.{AreKnown, KnowsAll};
 ghost use Rattle.streetmap_outlines.specs.Outlines.{Pairs};
 
-use crate::asking::ask;
 use crate::outlined::OutlinedCollection;
 use std::alloc::{AllocError, Global};
 use std::collections::BTreeMap;
@@ -77,60 +75,36 @@ fn summaries(
 /// What is told of a keeper's collection by what is known of it.
 pub fn collection_with<K: Keeper>(
     alloc: Global,
-    keeper: &mut K,
+    keeper: &K,
     id: &str,
     outlined: &OutlinedCollection,
 ) -> Result<Option<Summary>, Fault>
-    ensures spared { K.spares keeper.old keeper.new }
-    ensures began_clean { K.is_clean keeper.new → K.is_clean keeper.old }
-    ensures faults { ShutsBy result (K.cause keeper.old) (K.cause keeper.new) }
-    ensures device { K.is_clean keeper.new → (s : State) → K.stands keeper.old s →
-        IsErrOf result Fault.Device → K.fails keeper.old keeper.new }
-    ensures tells { K.is_clean keeper.new → (s : State) → K.stands keeper.old s
-        → IsOutlinedIf outlined.now (get s.collections id.now)
-        → Tells s id.now result (K.stands keeper.new) }
-    ensures leaves { K.is_clean keeper.new → (s : State) → K.stands keeper.old s
-        → LeavesOnly (K.may_leave keeper.old) (Some s)
-        → LeavesOnly (K.may_leave keeper.new) (Some s) }
-    ensures reopen { IsErrOf result Fault.Reopen
-        → AsBefore (K.stands keeper.old) (K.stands keeper.new) (K.may_leave keeper.old)
-        (K.may_leave keeper.new) }
+    ensures { IsRead K.model keeper.now keeper.now result
+        (IfOutlined outlined.now id.now (IsSummaryOf id.now)) }
 {
-    match ask(keeper, id) {
-        Ok(()) => match summary(alloc, id, outlined) {
-            Ok(summary) => Ok(Some(summary)),
-            Err(_) => Err(Fault::Memory),
-        },
-        Err(fault) => Err(fault),
+    if !keeper.is_open() {
+        return Err(Fault::Reopen);
+    }
+    match summary(alloc, id, outlined) {
+        Ok(summary) => Ok(Some(summary)),
+        Err(_) => Err(Fault::Memory),
     }
 }
 
 /// What is told of all collections of a keeper by what is known of them, in byte order of ids.
 pub fn collections_with<K: Keeper>(
     alloc: Global,
-    keeper: &mut K,
+    keeper: &K,
     known: &BTreeMap<String, OutlinedCollection>,
 ) -> Result<Vec<Summary>, Fault>
-    ensures spared { K.spares keeper.old keeper.new }
-    ensures began_clean { K.is_clean keeper.new → K.is_clean keeper.old }
-    ensures faults { ShutsBy result (K.cause keeper.old) (K.cause keeper.new) }
-    ensures device { K.is_clean keeper.new → (s : State) → K.stands keeper.old s →
-        IsErrOf result Fault.Device → K.fails keeper.old keeper.new }
-    ensures lists { K.is_clean keeper.new → (s : State) → K.stands keeper.old s
-        → AreKnown known.now.entries s → KnowsAll known.now.entries s
-        → Lists s result (K.stands keeper.new) }
-    ensures leaves { K.is_clean keeper.new → (s : State) → K.stands keeper.old s
-        → LeavesOnly (K.may_leave keeper.old) (Some s)
-        → LeavesOnly (K.may_leave keeper.new) (Some s) }
-    ensures reopen { IsErrOf result Fault.Reopen
-        → AsBefore (K.stands keeper.old) (K.stands keeper.new) (K.may_leave keeper.old)
-        (K.may_leave keeper.new) }
+    ensures { IsRead K.model keeper.now keeper.now result (λ s told.
+        AreKnown known.now.entries s → KnowsAll known.now.entries s → AreSummaries s told) }
 {
-    match ask(keeper, "") {
-        Ok(()) => match summaries(alloc, known) {
-            Ok(summaries) => Ok(summaries),
-            Err(_) => Err(Fault::Memory),
-        },
-        Err(fault) => Err(fault),
+    if !keeper.is_open() {
+        return Err(Fault::Reopen);
+    }
+    match summaries(alloc, known) {
+        Ok(summaries) => Ok(summaries),
+        Err(_) => Err(Fault::Memory),
     }
 }
