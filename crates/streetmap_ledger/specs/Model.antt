@@ -17,7 +17,7 @@ pub record Model (K : Type 0) : Type 1 where
   pub cause : K → Option Cause
   -- nobody else wrote to the store, and it returned what was written
   pub is_clean : K → Type 0
-  -- from the first keeper a call of `apply` with this batch came to this result and the second. Over
+  -- from the first keeper a call of `apply` with this batch led to this result and the second. Over
   -- any keeper nothing but the call gives it, so a caller can report no other result
   pub applies : K → BatchValue → Result Reply Fault → K → Type 0
   -- from the first to the second its store kept what is not the state's. Each call does; over any
@@ -32,7 +32,8 @@ pub record Model (K : Type 0) : Type 1 where
   -- a crash may leave the state that it represents
   pub may_leave_it : (k : K) (s : State) → represents k s → may_leave k (Some s)
   -- and leaves nothing else
-  pub leaves_it : (k : K) (s : State) → represents k s → (o : Option State) → may_leave k o → o ≡ Some s
+  pub leaves_it : (k : K) (s : State) → represents k s → (o : Option State) → may_leave k o
+      → o ≡ Some s
   -- the states that it represents are well-formed
   pub well_formed : (k : K) (s : State) → represents k s → IsState s
   -- if no call is made all is kept

@@ -16,14 +16,15 @@ use streetmap_query::Query;
 
 /// Represents a state, answers reads of it, and acts on it by batches.
 ///
-/// An implementer gives its model: which states it represents, what a crash may leave, what shut it,
-/// whether its store is clean, and the laws that it owes. If its store was clean as a call ends, the
-/// call answered what the definitions give for the state before, and the keeper represents the state
-/// that they give after. `Memory` changes nothing, and the call may be made again. `Device` and
-/// `Damaged` shut the keeper, and a shut keeper answers `Reopen` and changes nothing. Of a keeper that
-/// represents a state a crash leaves that state alone. After `Device` a crash leaves the state before,
-/// or of a batch the state after it. What else its store has each call spares, and `Device` comes only
-/// if the store failed in that call; the model says what both mean for its store.
+/// An implementer gives its model: which states it represents, what a crash may leave, what shut
+/// it, whether its store is clean, and the laws that it owes. If its store was clean as a call
+/// ends, the call answered what the definitions give for the state before, and the keeper
+/// represents the state that they give after. `Memory` changes nothing, and the call may be made
+/// again. `Device` and `Damaged` shut the keeper, and a shut keeper answers `Reopen` and changes
+/// nothing. Of a keeper that represents a state a crash leaves that state alone. After `Device` a
+/// crash leaves the state before, or of a batch the state after it. What else its store has each
+/// call spares, and `Device` comes only if the store failed in that call; the model says what both
+/// mean for its store.
 pub trait Keeper {
     /// Which states it represents, and what it owes.
     ghost model: { Model Self };
@@ -53,8 +54,8 @@ pub trait Keeper {
         ensures { IsRead model self.old self.new result AreSummaries };
 }
 
-/// Applies the batches in order, up to the first fault. If there is no memory for the replies, no call
-/// is made.
+/// Applies the batches in order, up to the first fault. If there is no memory for the replies, no
+/// call is made.
 pub fn run<K: Keeper>(alloc: Global, keeper: &mut K, batches: &[Batch]) -> Run
     ensures count { length result.replies.items ≤ length batches.now }
     ensures all { IsNone result.fault → length result.replies.items ≡ length batches.now }

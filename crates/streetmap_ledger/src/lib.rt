@@ -3,14 +3,14 @@
 //! The state is a value: collections with their features, and what is kept for each accepted key
 //! (`specs/State`). A batch acts on it whole or not at all (`specs/Batches`), and a page shows what
 //! a query selects of it (`specs/Pages`). A `Keeper` represents a state: its calls answer as these
-//! definitions do (`specs/Keep`), and its model says what a crash may leave (`specs/Model`). `run` is
-//! proved once over any keeper; `streetmap_memory` has the one that keeps the state in memory. A
+//! definitions do (`specs/Keep`), and its model says what a crash may leave (`specs/Model`). `run`
+//! is proved once over any keeper; `streetmap_memory` has the one that keeps the state in memory. A
 //! `Durable` keeper has a store that can be opened again after a crash.
 //!
-//! A keeper that represents a state keeps a batch for each accepted key: its text, how many edits of
-//! each kind it had, and its serial. `KeepsBatches` gives how many there are, the one with a serial,
-//! and those after one, as the state has them (`specs/Kept`); nothing changes by that. From these
-//! batches, in order of their serials, the state can be made again.
+//! A keeper that represents a state keeps a batch for each accepted key: its text, how many edits
+//! of each kind it had, and its serial. `KeepsBatches` gives how many there are, the one with a
+//! serial, and those after one, as the state has them (`specs/Kept`); nothing changes by that. From
+//! these batches, in order of their serials, the state can be made again.
 //!
 //! In the order of reading: `reply`, `page`, `summary`, `outline`, `keeper` (the trait and `run`),
 //! `durable`, `outlined`, `laws`; for pages `selection` and `fold`; `kept_batch`, `keeping` (the
