@@ -7,7 +7,7 @@ use Rattle.streetmap_ledger.specs.Keep.{Reads, Writes, IsCall, IsRead, IsWrite}
 use Rattle.streetmap_ledger.specs.declared.reply.Fault.{Fault}
 use Rattle.streetmap_ledger.specs.declared.reply.Reply.{Reply}
 use Rattle.streetmap_ledger.specs.declared.reply.Fault.TheVariants.{Memory, Device, Damaged, Reopen}
-use Rattle.streetmap_index.specs.Index.{IsIndexOf, IsHeeded}
+use Rattle.streetmap_index.specs.Index.{IsIndexOf, IsNoted}
 use Rattle.streetmap_index.specs.Indexed.{indexed}
 use Rattle.streetmap_index.specs.declared.index.Index.{Index}
 use Rattle.streetmap_index.specs.declared.keeper.IndexedKeeper.{IndexedKeeper}
@@ -57,13 +57,13 @@ module _ {K : Type 0} {model : Model K} where
 -- the model is passed to these, as no part of it can be found in `indexed model`
 module _ {K : Type 0} (model : Model K) where
   -- the index takes note of the fault
-  reads_noted : {T : Type 0} {a b c : IndexedKeeper K} (s : State) (Is : T → Type 0) (fault : Fault) → c.keeper ≡ b.keeper → IsHeeded fault b.index c.index → Reads (indexed model) a b s Is (Err fault) → Reads (indexed model) a c s Is (Err fault)
+  reads_noted : {T : Type 0} {a b c : IndexedKeeper K} (s : State) (Is : T → Type 0) (fault : Fault) → c.keeper ≡ b.keeper → IsNoted fault b.index c.index → Reads (indexed model) a b s Is (Err fault) → Reads (indexed model) a c s Is (Err fault)
   reads_noted s Is Memory same noted h = (subst (λ k. model.represents k s) (sym same) h.0, subst (λ (m : Index). IsIndexOf m s) (sym noted) h.1)
   reads_noted {T} {a} {b} {c} s Is Device same noted h = (subst (λ k. model.fails a.keeper k) (sym same) h.0, subst (λ k. (o : Option State) → model.may_leave k o → o ≡ Some s) (sym same) h.1)
   reads_noted s Is Damaged same noted h = h
   reads_noted s Is Reopen same noted h = h
 
-  pub read_noted : {T : Type 0} {a b c : IndexedKeeper K} {fault : Fault} {Is : State → T → Type 0} → IsRead (indexed model) a b (Err fault) Is → c.keeper ≡ b.keeper → IsHeeded fault b.index c.index → IsRead (indexed model) a c (Err fault) Is
+  pub read_noted : {T : Type 0} {a b c : IndexedKeeper K} {fault : Fault} {Is : State → T → Type 0} → IsRead (indexed model) a b (Err fault) Is → c.keeper ≡ b.keeper → IsNoted fault b.index c.index → IsRead (indexed model) a c (Err fault) Is
   read_noted {T} {a} {b} {c} {fault} {Is} read same noted =
       let clean = λ (h : model.is_clean c.keeper). subst model.is_clean same h in
       let below : IsCall {T = T} model a.keeper b.keeper (Err fault) = record {

@@ -2,24 +2,24 @@
 ghost use Rattle.std.specs.Prelude.{◌≡◌};
 ghost use Rattle.streetmap_ledger.specs.State.{State};
 ghost use Rattle.streetmap_ledger.specs.Keep.{IsRead, IsPageOf, IsSummaryOf, AreSummaries};
-ghost use Rattle.streetmap_index.specs.Index.{IsIndexOf, IsHeeded};
+ghost use Rattle.streetmap_index.specs.Index.{IsIndexOf, IsNoted};
 ghost use Rattle.streetmap_index.specs.Indexed.{indexed};
 
 use crate::index::Index;
 use crate::learning::learn;
 use crate::page::page_with;
-use crate::telling::{collection_with, collections_with};
+use crate::summaries::{collection_with, collections_with};
 use std::alloc::Global;
 use streetmap_geojson::Feature;
 use streetmap_ledger::{
-    Batch, Fault, Keeper, KeepsBatches, KeptBatch, Outlined, Page, Reply, Summary,
+    Batch, Durable, Fault, Keeper, KeepsBatches, KeptBatch, Outlined, Page, Reply, Summary,
 };
 use streetmap_query::Query;
 
-/// A keeper that answers pages and tells of collections of another one by what it knows of the
-/// features, and reads few of them. What it knows of a collection it learns at the first look, and
-/// keeps right by each batch. Where memory for that is refused the other keeper answers, and
-/// nothing is learnt at the next looks.
+/// A keeper that answers pages and summaries of collections of another one by what it knows of the
+/// features, and reads few of them. It learns a collection when it is first read, and keeps what it
+/// knows right at each batch. If memory runs out for that, the other keeper answers, and the next
+/// reads learn nothing.
 #[derive(Drop)]
 pub struct IndexedKeeper<K> {
     alloc: Global,
@@ -40,10 +40,10 @@ impl<K: Outlined> IndexedKeeper<K> {
         }
     }
 
-    /// Forgets all, where a fault shut the keeper.
-    fn heed(&mut self, fault: Fault)
+    /// Forgets all, if a fault shut the keeper.
+    fn note_fault(&mut self, fault: Fault)
         ensures keeper { self.new.keeper ≡ self.old.keeper }
-        ensures heeded { IsHeeded fault self.old.index self.new.index }
+        ensures noted { IsNoted fault self.old.index self.new.index }
     {
         match fault {
             Fault::Memory => {}
@@ -51,7 +51,7 @@ impl<K: Outlined> IndexedKeeper<K> {
         }
     }
 
-    /// Learns of a collection that is not known, where memory for it is there.
+    /// Learns a collection that is not known, if there is memory for it.
     fn learn(&mut self, collection: &str) -> Result<(), Fault>
         ensures { IsRead (indexed K.model) self.old self.new result (λ _ _. Unit {0}) }
     {
@@ -80,7 +80,7 @@ impl<K: Outlined> IndexedKeeper<K> {
         }
     }
 
-    /// The page of a collection, which is learnt before where it is due.
+    /// The page of a collection, which is learnt before that if it is due.
     fn page_learnt(&mut self, collection: &str, query: &Query) -> Result<Option<Page>, Fault>
         ensures { IsRead (indexed K.model) self.old self.new result
             (IsPageOf collection.now query.now) }
@@ -94,7 +94,7 @@ impl<K: Outlined> IndexedKeeper<K> {
         }
     }
 
-    /// What is told of a collection by what is known of it, or else the keeper's own answer.
+    /// The summary of a collection by what is known of it, or else the keeper's own.
     fn collection_known(&mut self, id: &str) -> Result<Option<Summary>, Fault>
         ensures { IsRead (indexed K.model) self.old self.new result (IsSummaryOf id.now) }
     {
@@ -104,7 +104,7 @@ impl<K: Outlined> IndexedKeeper<K> {
         }
     }
 
-    /// What is told of a collection, which is learnt before where it is due.
+    /// The summary of a collection, which is learnt before that if it is due.
     fn collection_learnt(&mut self, id: &str) -> Result<Option<Summary>, Fault>
         ensures { IsRead (indexed K.model) self.old self.new result (IsSummaryOf id.now) }
     {
@@ -117,7 +117,7 @@ impl<K: Outlined> IndexedKeeper<K> {
         }
     }
 
-    /// What is told of all collections: by what is known of them, where all are known.
+    /// The summaries of all collections: by what is known of them, if all are known.
     fn collections_known(&mut self) -> Result<Vec<Summary>, Fault>
         ensures { IsRead (indexed K.model) self.old self.new result AreSummaries }
     {
@@ -151,7 +151,7 @@ impl<K: Outlined> Keeper for IndexedKeeper<K> {
             }
             Ok(reply) => Ok(reply),
             Err(fault) => {
-                self.heed(fault);
+                self.note_fault(fault);
                 Err(fault)
             }
         }
@@ -161,7 +161,7 @@ impl<K: Outlined> Keeper for IndexedKeeper<K> {
         match self.page_learnt(collection, query) {
             Ok(page) => Ok(page),
             Err(fault) => {
-                self.heed(fault);
+                self.note_fault(fault);
                 Err(fault)
             }
         }
@@ -171,7 +171,7 @@ impl<K: Outlined> Keeper for IndexedKeeper<K> {
         match self.keeper.feature(collection, id) {
             Ok(found) => Ok(found),
             Err(fault) => {
-                self.heed(fault);
+                self.note_fault(fault);
                 Err(fault)
             }
         }
@@ -181,7 +181,7 @@ impl<K: Outlined> Keeper for IndexedKeeper<K> {
         match self.collection_learnt(id) {
             Ok(summary) => Ok(summary),
             Err(fault) => {
-                self.heed(fault);
+                self.note_fault(fault);
                 Err(fault)
             }
         }
@@ -191,7 +191,7 @@ impl<K: Outlined> Keeper for IndexedKeeper<K> {
         match self.collections_known() {
             Ok(summaries) => Ok(summaries),
             Err(fault) => {
-                self.heed(fault);
+                self.note_fault(fault);
                 Err(fault)
             }
         }
@@ -203,7 +203,7 @@ impl<K: Outlined + KeepsBatches> KeepsBatches for IndexedKeeper<K> {
         match self.keeper.batch_count() {
             Ok(count) => Ok(count),
             Err(fault) => {
-                self.heed(fault);
+                self.note_fault(fault);
                 Err(fault)
             }
         }
@@ -213,7 +213,7 @@ impl<K: Outlined + KeepsBatches> KeepsBatches for IndexedKeeper<K> {
         match self.keeper.batch(serial) {
             Ok(batch) => Ok(batch),
             Err(fault) => {
-                self.heed(fault);
+                self.note_fault(fault);
                 Err(fault)
             }
         }
@@ -223,9 +223,20 @@ impl<K: Outlined + KeepsBatches> KeepsBatches for IndexedKeeper<K> {
         match self.keeper.batches(alloc, after, room) {
             Ok(batches) => Ok(batches),
             Err(fault) => {
-                self.heed(fault);
+                self.note_fault(fault);
                 Err(fault)
             }
         }
     }
+}
+
+impl<K: Outlined + Durable> Durable for IndexedKeeper<K> {
+    ghost image = { K.image };
+
+    ghost leaves = { λ k image. K.leaves k.keeper image };
+
+    ghost holds = { K.holds };
+
+    ghost images_hold_states = { λ first last s image is spared clean left.
+        K.images_hold_states first.keeper last.keeper s image is.0 spared clean left };
 }

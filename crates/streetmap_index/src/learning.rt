@@ -7,8 +7,8 @@ use std::alloc::Global;
 use streetmap_ledger::{Fault, Outlined};
 use streetmap_outlines::Chunks;
 
-/// The outlines of a keeper's collection, beside its title and the property that the times
-/// are read from; none where the collection is not there.
+/// The outlines of a keeper's collection, with its title and the property that the times are read
+/// from; none if there is no such collection.
 fn learn_outlines<K: Outlined>(
     alloc: Global,
     keeper: &mut K,
@@ -33,7 +33,7 @@ fn learn_outlines<K: Outlined>(
     }
 }
 
-/// What is known of a keeper's collection; none where it is not there.
+/// What is known of a keeper's collection; none if there is no such collection.
 pub fn learn<K: Outlined>(
     alloc: Global,
     keeper: &mut K,

@@ -23,11 +23,11 @@ use streetmap_outlines::{
 use streetmap_query::Query;
 
 /// How many features a page reads one by one at most. It shows up to 1,000, and the keeper's own
-/// page is the faster one where many more have to be read to be tested.
+/// page is faster if many more have to be read to be tested.
 const MOST_READ: usize = 2000;
 
-/// Counts the candidate that comes next, where its outline tells that it is selected and the page
-/// does not show it, and answers whether it did.
+/// Counts the next candidate if its outline shows that it is selected and the page does not show
+/// it, and returns whether it did.
 fn count_unread(query: &Query, fold: &mut PageFold<'_>, outline: &KeptOutline) -> bool
     ensures counted { IsTrue result → (fs : List FeatureValue) (f : FeatureValue)
         → IsOutlineOf outline.now f → IsFeature f → IsFoldOf (query_value query.now) fold.old fs
@@ -45,8 +45,8 @@ fn count_unread(query: &Query, fold: &mut PageFold<'_>, outline: &KeptOutline) -
     true
 }
 
-/// Takes the feature that comes next, where its outline tells enough, and answers whether it did.
-/// Otherwise the feature is a candidate, and has to be taken itself.
+/// Takes the next feature if its outline says enough, and returns whether it did. Otherwise the
+/// feature is a candidate, and has to be taken itself.
 fn take_unread(query: &Query, fold: &mut PageFold<'_>, outline: &KeptOutline) -> bool
     ensures taken { IsTrue result → (fs : List FeatureValue) (f : FeatureValue)
         → IsOutlineOf outline.now f → IsFeature f
@@ -59,16 +59,16 @@ fn take_unread(query: &Query, fold: &mut PageFold<'_>, outline: &KeptOutline) ->
     !is_candidate(query, outline) || count_unread(query, fold, outline)
 }
 
-/// Whether a page shows none of the features that come next: those that do not come after the id
-/// asked, and those that do once the page is full.
+/// Whether a page shows none of the next features: those that do not come after the query's id, and
+/// those that do once the page is full.
 fn hides(fold: &PageFold<'_>, behind: bool) -> bool
     ensures { IsTrue result → IsTrue behind → IsFull fold.now }
 {
     !behind || fold.is_full()
 }
 
-/// Counts the features of a chunk, which come next, where the chunk tells how many the query
-/// selects and the page shows none of them, and answers whether it did.
+/// Counts the next features, which are those of a chunk, if the chunk says how many the query
+/// selects and the page shows none of them, and returns whether it did.
 fn count_chunk(query: &Query, fold: &mut PageFold<'_>, chunk: &Chunk) -> bool
     ensures counted { IsTrue result → IsBounded chunk.now →
         AreInOrder chunk.now.outlines.items →
@@ -90,16 +90,16 @@ fn count_chunk(query: &Query, fold: &mut PageFold<'_>, chunk: &Chunk) -> bool
     }
 }
 
-/// How many features a page shows at most behind the next one, where it has read so many: no fewer
-/// where each of these is shown.
+/// How many features a page shows at most after the next one, if it has read this many: no fewer if
+/// each of these is shown.
 fn room_behind(query: &Query, read: usize) -> usize {
     (query.limit as usize)
         .saturating_sub(read)
         .saturating_sub(1)
 }
 
-/// Takes the features with a chunk's outlines, which come next, and answers whether it did: not
-/// where one of them is not there, or one more than `MOST_READ` would have to be read. `read`
+/// Takes the next features, which are those with a chunk's outlines, and returns whether it did:
+/// not if one of them does not exist, or one more than `MOST_READ` would have to be read. `read`
 /// counts those that were read.
 fn take_outlined<K: Outlined>(
     alloc: Global,
@@ -143,8 +143,8 @@ fn take_outlined<K: Outlined>(
     Ok(true)
 }
 
-/// The page of an open keeper's collection by the outlines of its features; none where one of these
-/// is not there, or more than `MOST_READ` would have to be read.
+/// The page of an open keeper's collection by the outlines of its features; none if one of these
+/// does not exist, or more than `MOST_READ` would have to be read.
 fn page_by_outlines<K: Outlined>(
     alloc: Global,
     keeper: &mut K,

@@ -1,4 +1,4 @@
-//! Runs of features that a page reads, since their outlines stand beside one another.
+//! Runs of features that a page reads, whose outlines follow one another.
 ghost use Rattle.std.specs.Prelude.{◌≡◌, ◌≤◌, ◌∷◌, ◌++◌, [], List, All, Some, None, IsTrue, IfOk};
 ghost use Rattle.std.specs.Prelude.{length, take, slice_get, string_bytes};
 ghost use Rattle.streetmap_geojson.specs.FeatureValue.{FeatureValue};
@@ -15,21 +15,21 @@ use streetmap_ledger::{Fault, Outlined, PageFold};
 use streetmap_outlines::{KeptOutline, comes_after, is_candidate, is_selected};
 use streetmap_query::Query;
 
-/// How many features are read together at least, where their outlines have rowids. One takes some
-/// 4.5 microseconds alone, and a run takes 14, and 2 more for each: 5 are read sooner alone, and 6
+/// How many features are read together at least, if their outlines have rowids. One takes some 4.5
+/// microseconds alone, and a run takes 14, and 2 more for each: 5 are read sooner alone, and 6
 /// together.
 const SHORTEST_RUN: usize = 6;
 
 /// Whether a page that has room reads the feature with this outline: it examines it, and the
-/// outline does not tell that it is counted alone.
+/// outline does not show that it is only counted.
 fn is_due(query: &Query, outline: &KeptOutline) -> bool
     ensures { IsTrue result → IsExamined (query_value query.now) outline.now }
 {
     is_candidate(query, outline) && (comes_after(query, outline) || !is_selected(query, outline))
 }
 
-/// How many of these outlines, from the first on and so many at most, are of features that a page
-/// reads one behind the other.
+/// How many of these outlines, from the first on and `most` at most, are of features that a page
+/// reads one after the other.
 pub fn run_length(query: &Query, outlines: &[KeptOutline], most: usize) -> usize
     ensures within { result ≤ length outlines.now }
     ensures examined { All (IsExamined (query_value query.now)) (take result outlines.now) }
@@ -53,7 +53,7 @@ fn has_id(outlines: &[KeptOutline], place: usize, feature: &Feature) -> bool
     }
 }
 
-/// Takes the features that come next, and answers whether they are those with these outlines.
+/// Takes the next features, and returns whether they are those with these outlines.
 fn take_all(
     outlines: &[KeptOutline],
     features: Vec<Feature>,
@@ -74,8 +74,8 @@ fn take_all(
     Ok(place == outlines.len())
 }
 
-/// Takes the features with these outlines, which come next, as the keeper has them, and answers
-/// whether they are there, with none between them.
+/// Takes the next features, which are those with these outlines, as the keeper has them, and
+/// returns whether they exist, with none between them.
 fn take_between<K: Outlined>(
     keeper: &mut K,
     collection: &str,
@@ -97,8 +97,8 @@ fn take_between<K: Outlined>(
     }
 }
 
-/// Takes the feature with this outline, which comes next, as the keeper has it, and answers whether
-/// it is there.
+/// Takes the next feature, which is the one with this outline, as the keeper has it, and returns
+/// whether it exists.
 fn take_one<K: Outlined>(
     alloc: Global,
     keeper: &mut K,
@@ -123,8 +123,8 @@ fn take_one<K: Outlined>(
     }
 }
 
-/// Takes the features with these outlines, which come next, as the keeper has each, and answers
-/// whether they are there.
+/// Takes the next features, which are those with these outlines, as the keeper has each, and
+/// returns whether they exist.
 fn take_each<K: Outlined>(
     alloc: Global,
     keeper: &mut K,
@@ -146,8 +146,8 @@ fn take_each<K: Outlined>(
     Ok(true)
 }
 
-/// Takes the features with these outlines, which come next, as the keeper has them, and answers
-/// whether they are there: each alone where they are few and their rows are known, else by the ids
+/// Takes the next features, which are those with these outlines, as the keeper has them, and
+/// returns whether they exist: each alone if they are few and their rows are known, else by the ids
 /// of the first and the last.
 pub fn take_run<K: Outlined>(
     alloc: Global,

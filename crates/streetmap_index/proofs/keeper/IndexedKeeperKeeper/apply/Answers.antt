@@ -6,7 +6,7 @@ use Rattle.streetmap_ledger.specs.Batches.{act, edited}
 use Rattle.streetmap_ledger.specs.Keep.{IsWrite}
 use Rattle.streetmap_ledger.specs.declared.reply.Reply.{Reply}
 use Rattle.streetmap_index.specs.Index.{IsIndexOf}
-use Rattle.streetmap_index.proofs.Replies.{act_tells, followed_batch, heeded_acts}
+use Rattle.streetmap_index.proofs.Replies.{act_tells, followed_batch, noted_writes}
 use Rattle.streetmap_index.proofs.Over.{write_over}
 use Rattle.streetmap_index.proofs.keeper.IndexedKeeperKeeper.apply.Goals as goal
 
@@ -27,4 +27,4 @@ returns-in-Ok g c = write_over c.in-Ok.ensures refl (λ s e known says.
     (says.0, (says.1, subst (λ (t : State). IsIndexOf c.args.self.now.index t) (sym same) known)))
 
 pub returns-in-Err : goal.returns-in-Err
-returns-in-Err g c = write_over c.in-Err.ensures c.heed.ensures.keeper (λ s e known says. heeded_acts s (batch_value c.args.batch.now) c.in-Err.fault _ _ _ c.heed.ensures.heeded known says)
+returns-in-Err g c = write_over c.in-Err.ensures c.note_fault.ensures.keeper (λ s e known says. noted_writes s (batch_value c.args.batch.now) c.in-Err.fault c.note_fault.ensures.noted known says)

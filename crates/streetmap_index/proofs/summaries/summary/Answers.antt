@@ -5,7 +5,7 @@ use Rattle.streetmap_outlines.specs.Outlines.{joined, AreBounded}
 use Rattle.streetmap_outlines.specs.Outlines.{Pairs}
 use Rattle.streetmap_outlines.proofs.Pairing.{paired}
 use Rattle.streetmap_outlines.proofs.Extents.{bounds_extent, same_summary}
-use Rattle.streetmap_index.proofs.telling.summary.Goals as goal
+use Rattle.streetmap_index.proofs.summaries.summary.Goals as goal
 
 pub returns : goal.returns
 returns c = λ d known holds.

@@ -1,7 +1,7 @@
 use Rattle.streetmap_ledger.proofs.Calls.{no_read, shut_read, open_of, shut_of}
 use Rattle.streetmap_ledger.specs.SummaryView.{summary_value}
 use Rattle.streetmap_index.proofs.Told.{told_in}
-use Rattle.streetmap_index.proofs.telling.collection_with.Goals as goal
+use Rattle.streetmap_index.proofs.summaries.collection_with.Goals as goal
 
 pub returns-then-not-is_open : goal.returns-then-not-is_open
 returns-then-not-is_open g c = shut_read c.args.keeper.now (shut_of _ _ c.is_open.ensures c.if-not-is_open.true)

@@ -1,4 +1,4 @@
-//! What is told of collections by what is known of them.
+//! Summaries of collections by what is known of them.
 ghost use Rattle.std.specs.Prelude.{◌≡◌, List, Some, None, IfOk, option_map};
 ghost use Rattle.std.specs.Prelude.{option_copied, string_bytes};
 ghost use Rattle.streetmap_grid.specs.Bounds.{AreBounds};
@@ -20,8 +20,8 @@ use streetmap_grid::GridBox;
 use streetmap_ledger::{Fault, Keeper, Summary};
 use streetmap_outlines::{Chunk, bounds_of_both};
 
-/// The extent of the features with the outlines in these chunks, in millimetres; none where none
-/// has a geometry.
+/// The extent of the features with the outlines in these chunks, in millimetres; none if none has a
+/// geometry.
 fn extent_of(chunks: &[Chunk]) -> Option<GridBox>
     ensures { AreBounded chunks.now → (features : Features) (fs : List FeatureValue) →
         Pairs features (joined chunks.now) fs → AreBounds (all_vertices fs) result }
@@ -33,7 +33,7 @@ fn extent_of(chunks: &[Chunk]) -> Option<GridBox>
     bounds
 }
 
-/// A text of its own, where there is one.
+/// A text of its own, if there is one.
 fn owned(alloc: Global, text: Option<&str>) -> Result<Option<String>, AllocError>
     ensures { IfOk result (λ own. option_map string_bytes own ≡ option_copied text.entry) }
 {
@@ -43,10 +43,10 @@ fn owned(alloc: Global, text: Option<&str>) -> Result<Option<String>, AllocError
     }
 }
 
-/// What is told of a collection by what is known of it.
+/// The summary of a collection by what is known of it.
 fn summary(alloc: Global, id: &str, outlined: &OutlinedCollection) -> Result<Summary, AllocError>
     ensures { (c : Collection) → IsOutlined outlined.now c → HoldsFeatures c
-        → IfOk result (λ told. summary_value told ≡ summary_of id.now c) }
+        → IfOk result (λ made. summary_value made ≡ summary_of id.now c) }
 {
     Ok(Summary {
         id: String::from_str(alloc, id)?,
@@ -56,23 +56,23 @@ fn summary(alloc: Global, id: &str, outlined: &OutlinedCollection) -> Result<Sum
     })
 }
 
-/// What is told of collections by what is known of them, in byte order of ids.
+/// The summaries of collections by what is known of them, in byte order of ids.
 fn summaries(
     alloc: Global,
     known: &BTreeMap<String, OutlinedCollection>,
 ) -> Result<Vec<Summary>, AllocError>
     ensures { (s : State) → IsState s → AreKnown known.now.entries s
         → KnowsAll known.now.entries s
-        → IfOk result (λ told. summary_values told.items ≡ summaries_in s) }
+        → IfOk result (λ made. summary_values made.items ≡ summaries_in s) }
 {
-    let mut told = Vec::new(alloc);
+    let mut made = Vec::new(alloc);
     for (id, outlined) in known.iter() {
-        told.push(summary(alloc, id.as_str(), outlined)?)?;
+        made.push(summary(alloc, id.as_str(), outlined)?)?;
     }
-    Ok(told)
+    Ok(made)
 }
 
-/// What is told of a keeper's collection by what is known of it.
+/// The summary of a keeper's collection by what is known of it.
 pub fn collection_with<K: Keeper>(
     alloc: Global,
     keeper: &K,
@@ -91,14 +91,14 @@ pub fn collection_with<K: Keeper>(
     }
 }
 
-/// What is told of all collections of a keeper by what is known of them, in byte order of ids.
+/// The summaries of all collections of a keeper by what is known of them, in byte order of ids.
 pub fn collections_with<K: Keeper>(
     alloc: Global,
     keeper: &K,
     known: &BTreeMap<String, OutlinedCollection>,
 ) -> Result<Vec<Summary>, Fault>
-    ensures { IsRead K.model keeper.now keeper.now result (λ s told.
-        AreKnown known.now.entries s → KnowsAll known.now.entries s → AreSummaries s told) }
+    ensures { IsRead K.model keeper.now keeper.now result (λ s made.
+        AreKnown known.now.entries s → KnowsAll known.now.entries s → AreSummaries s made) }
 {
     if !keeper.is_open() {
         return Err(Fault::Reopen);

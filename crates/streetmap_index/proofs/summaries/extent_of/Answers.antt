@@ -4,7 +4,7 @@ use Rattle.streetmap_ledger.specs.Summaries.{all_vertices}
 use Rattle.streetmap_outlines.specs.Outlines.{joined, IsBounded}
 use Rattle.streetmap_outlines.proofs.InChunks.{next_chunk}
 use Rattle.streetmap_outlines.proofs.Extents.{Growing, grows_behind, all_bounds}
-use Rattle.streetmap_index.proofs.telling.extent_of.Goals as goal
+use Rattle.streetmap_index.proofs.summaries.extent_of.Goals as goal
 
 pub loop-chunk-init : goal.loop-chunk-init
 loop-chunk-init c = λ bounded features fs pairs. record { met = []; left = fs; whole = refl {a = fs}; pairs = pairs; bounds_are = refl {a = []} }
