@@ -51,9 +51,9 @@ abbrev pub last_serial : Option ℕ → State → List BatchValue → Option ℕ
 last_serial before s [] = before
 last_serial before s (b ∷ bs) = last_serial (serial_of (act s b).reply) (act s b).state bs
 
--- A load called a keeper, and this fault of it ended the load, if one did: what else its store has
--- is spared; a shut keeper returns `Reopen`, and no other does; `Device` and `Damaged` shut it. After
--- `Reopen` a crash leaves what it left before.
+-- A load called a keeper, and this fault of it ended the load, if one did. What else its store has
+-- is spared. A shut keeper returns `Reopen`, and no other does; `Device` and `Damaged` shut it.
+-- After `Reopen` a crash leaves what it left before.
 pub record IsLoad {K : Type 0} (model : Model K) (old new : K) (fault : Option Fault) : Type 0 where
   pub spared : model.spares old new
   pub began_clean : model.is_clean new → model.is_clean old
