@@ -156,3 +156,22 @@ RunShuts (Some Memory) old new = new ≡ old
 RunShuts (Some Device) old new = (old ≡ None) × (new ≡ Some causes.Device)
 RunShuts (Some Damaged) old new = (old ≡ None) × (new ≡ Some causes.Damaged)
 RunShuts (Some Reopen) old new = IsSome old × (new ≡ old)
+
+-- calls in a row, of which this fault of the keeper ended the last, if one did: what holds of each
+-- call holds of them together
+pub record AreCalls {K : Type 0} (model : Model K) (old new : K) (fault : Option Fault) : Type 0
+  where
+    pub spared : model.spares old new
+    pub began_clean : model.is_clean new → model.is_clean old
+    pub faults : RunShuts fault (model.cause old) (model.cause new)
+    pub reopen : fault ≡ Some Reopen → LeavesSame (model.may_leave old) (model.may_leave new)
+
+-- calls in a row that only read, if the keeper represented this state: it stays; or the store
+-- failed, and a crash leaves it
+abbrev pub ReadsEnd : {K : Type 0} → Model K → (old new : K) → State → Option Fault → Type 0
+ReadsEnd model old new s None = model.represents new s
+ReadsEnd model old new s (Some Memory) = model.represents new s
+ReadsEnd model old new s (Some Device) =
+    model.fails old new × LeavesOnly (model.may_leave new) (Some s)
+ReadsEnd model old new s (Some Damaged) = ⊥
+ReadsEnd model old new s (Some Reopen) = ⊥

@@ -9,7 +9,7 @@ use Rattle.streetmap_ledger.specs.State.{State}
 use Rattle.streetmap_ledger.specs.Batches.{act, after_all}
 use Rattle.streetmap_ledger.proofs.Acceptance.{refused_changes_nothing}
 use Rattle.streetmap_ledger.specs.Model.{Model}
-use Rattle.streetmap_ledger.specs.Keep.{ShutsBy, Writes, LeavesSame, RunShuts}
+use Rattle.streetmap_ledger.specs.Keep.{ShutsBy, Writes, LeavesSame, RunShuts, AreCalls}
 use Rattle.streetmap_ledger.specs.Laws.{IsAcknowledged}
 use Rattle.streetmap_ledger.specs.declared.reply.Cause.{Cause}
 use Rattle.streetmap_ledger.specs.declared.reply.Refusal.{Refusal}
@@ -25,7 +25,7 @@ use Rattle.streetmap_loading.specs.Loads.{Loads, AreTakenOff, ItemsBeginWith, it
 use Rattle.streetmap_loading.specs.Applying.{Applies, taken_of}
 use Rattle.streetmap_loading.specs.KeeperLoads.{keeper_fault, AreRead, AreAcknowledged, serial_of}
 use Rattle.streetmap_loading.specs.KeeperLoads.{last_serial, StopsAt, EndsAtBatch}
-use Rattle.streetmap_loading.specs.KeeperLoads.{LeavesUnsent, EndsIn, LoadsTo, IsLoad}
+use Rattle.streetmap_loading.specs.KeeperLoads.{LeavesUnsent, EndsIn, LoadsTo}
 use Rattle.streetmap_loading.specs.declared.keeper_sink.KeeperSink.{KeeperSink}
 use Rattle.streetmap_loading.specs.declared.sink.Stop.{Stop}
 use Rattle.streetmap_loading.specs.declared.sink.Stop.TheVariants as stops
@@ -384,7 +384,7 @@ module _ {S K : Type 0} (keeper : S → K) (model : Model K) where
     end_is (Stopped f) fault is = let same : f ≡ fault = cc in ap Stopped same
     end_is WriteFailed fault is = cc
 
-    pub is_load : IsLoad model (keeper first) (keeper last) (keeper_fault loaded.end)
+    pub are_calls : AreCalls model (keeper first) (keeper last) (keeper_fault loaded.end)
     is_load = record {
       spared = spares_by loaded.end it.ends.ends;
       began_clean = λ clean. clean_all first None it.ends.sent it.ends.mid loaded.serial it.ends.all (clean_mid clean loaded.end it.ends.ends);

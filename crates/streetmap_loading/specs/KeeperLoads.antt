@@ -7,7 +7,7 @@ use Rattle.streetmap_packing.specs.Packs.{Packs}
 use Rattle.streetmap_ledger.specs.State.{State}
 use Rattle.streetmap_ledger.specs.Batches.{act, after_all}
 use Rattle.streetmap_ledger.specs.Model.{Model}
-use Rattle.streetmap_ledger.specs.Keep.{LeavesSame, LeavesEither, RunShuts}
+use Rattle.streetmap_ledger.specs.Keep.{LeavesEither}
 use Rattle.streetmap_ledger.specs.Laws.{IsAcknowledged}
 use Rattle.streetmap_ledger.specs.declared.reply.Fault.{Fault}
 use Rattle.streetmap_ledger.specs.declared.reply.Fault.TheVariants as faults
@@ -50,15 +50,6 @@ serial_of (replies.Refused why place) = None
 abbrev pub last_serial : Option ℕ → State → List BatchValue → Option ℕ
 last_serial before s [] = before
 last_serial before s (b ∷ bs) = last_serial (serial_of (act s b).reply) (act s b).state bs
-
--- A load called a keeper, and this fault of it ended the load, if one did. What else its store has
--- is spared. A shut keeper returns `Reopen`, and no other does; `Device` and `Damaged` shut it.
--- After `Reopen` a crash leaves what it left before.
-pub record IsLoad {K : Type 0} (model : Model K) (old new : K) (fault : Option Fault) : Type 0 where
-  pub spared : model.spares old new
-  pub began_clean : model.is_clean new → model.is_clean old
-  pub faults : RunShuts fault (model.cause old) (model.cause new)
-  pub reopen : fault ≡ Some faults.Reopen → LeavesSame (model.may_leave old) (model.may_leave new)
 
 module _ {K : Type 0} (model : Model K) (first last : K) where
   -- the keeper gave no reply to this batch: if memory ran out nothing changes; if its store failed,

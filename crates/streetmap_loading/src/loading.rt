@@ -1,8 +1,9 @@
 //! The features of a text, loaded.
 ghost use Rattle.std.specs.Prelude.{◌≤◌, IsTrue, length, string_bytes};
 ghost use Rattle.streetmap_batch.specs.Names.{is_key};
+ghost use Rattle.streetmap_ledger.specs.Keep.{AreCalls};
 ghost use Rattle.streetmap_ledger.specs.State.{State};
-ghost use Rattle.streetmap_loading.specs.KeeperLoads.{IsLoad, LoadsTo, keeper_fault};
+ghost use Rattle.streetmap_loading.specs.KeeperLoads.{LoadsTo, keeper_fault};
 ghost use Rattle.streetmap_loading.specs.TextLoads.{SendsItems, SendsText};
 ghost use Rattle.streetmap_loading.specs.Options.{load_value, load_items};
 
@@ -81,7 +82,7 @@ pub fn load_text<K: Keeper, R: BufRead + Drop, L: Listener + Drop>(
     load: Load,
     listener: L,
 ) -> Loaded
-    ensures call { IsLoad K.model sink.old.keeper sink.new.keeper (keeper_fault result.end) }
+    ensures calls { AreCalls K.model sink.old.keeper sink.new.keeper (keeper_fault result.end) }
     // The features that were read, the batches of them that were sent, how the load ended, and the
     // state that the keeper then represents; if its store failed, what a crash can leave.
     ensures loads { K.model.is_clean sink.new.keeper → (s : State) →

@@ -3,11 +3,11 @@ use Rattle.streetmap_loading.proofs.KeeperLemmas as keepers
 use Rattle.streetmap_loading.proofs.KeeperLemmas.{keeper_of}
 use Rattle.streetmap_loading.proofs.loading.load_text.Goals as goal
 
-pub returns-clause-call : goal.returns-clause-call
-returns-clause-call g c =
+pub returns-clause-calls : goal.returns-clause-calls
+returns-clause-calls g c =
     let l = load_value c.args.load in
     let items = load_items l (g.R.Read.remaining c.args.reader) in
-    keepers.is_load keeper_of g.K.Keeper.model l.each l.key c.args.sink.now c.send_text.new.sink items c.send_text.ensures.0 c.send_text.result c.send_text.ensures.1
+    keepers.are_calls keeper_of g.K.Keeper.model l.each l.key c.args.sink.now c.send_text.new.sink items c.send_text.ensures.0 c.send_text.result c.send_text.ensures.1
 
 pub returns-clause-loads : goal.returns-clause-loads
 returns-clause-loads g c = λ clean s h.
