@@ -68,12 +68,12 @@ followed_batch s b counts serial index is followed =
     same_collections index done.done (act s b).state done.collections (followed done.done done.is)
 
 -- a fault of a batch, on a keeper whose index takes note of it
-pub noted_writes : {K : Type 0} {model : Model K} {old new : IndexedKeeper K} (s : State) (b : BatchValue) (fault : Fault) → IsNoted fault old.index new.index → IsIndexOf old.index s
+pub noted_writes : {K : Type 0} (model : Model K) (old new : IndexedKeeper K) (s : State) (b : BatchValue) (fault : Fault) → IsNoted fault old.index new.index → IsIndexOf old.index s
     → Writes model old.keeper new.keeper s b (Err fault) → Writes (indexed model) old new s b (Err fault)
-noted_writes s b Memory noted index h = (h, subst (λ (m : Index). IsIndexOf m s) (sym noted) index)
-noted_writes s b Device noted index h = h
-noted_writes s b Damaged noted index h = h
-noted_writes s b Reopen noted index h = h
+noted_writes model old new s b Memory noted index h = (h, subst (λ (m : Index). IsIndexOf m s) (sym noted) index)
+noted_writes model old new s b Device noted index h = h
+noted_writes model old new s b Damaged noted index h = h
+noted_writes model old new s b Reopen noted index h = h
 
 -- ---- edits one by one
 first_by : (at : ℕ) (s t : State) (e : EditValue) (es : List EditValue) (r : Result State Refusal) → step s e ≡ r → (placed at r >>= λ u. edited (at + 1) u es) ≡ Ok t → (u : State) × (step s e ≡ Ok u) × (edited (at + 1) u es ≡ Ok t)

@@ -36,22 +36,24 @@ pub shut_of : {T : Type 0} (o : Option T) (b : Bool) → b ≡ is_none o → b �
 shut_of None b says off = absurd cc
 shut_of (Some x) b says off = refl
 
-module _ {K : Type 0} {model : Model K} where
+module _ {K : Type 0} (model : Model K) where
   -- a fault that is passed on
-  fault_too : {T U : Type 0} {a b : K} (s : State) (Is : T → Type 0) (As : U → Type 0) (fault : Fault) → Reads model a b s Is (Err fault) → Reads model a b s As (Err fault)
-  fault_too s Is As Memory h = h
-  fault_too s Is As Device h = h
-  fault_too s Is As Damaged h = h
-  fault_too s Is As Reopen h = h
+  fault_too : (T U : Type 0) (a b : K) (s : State) (Is : T → Type 0) (As : U → Type 0) (fault : Fault) → Reads model a b s Is (Err fault) → Reads model a b s As (Err fault)
+  fault_too T U a b s Is As Memory h = h
+  fault_too T U a b s Is As Device h = h
+  fault_too T U a b s Is As Damaged h = h
+  fault_too T U a b s Is As Reopen h = h
 
   -- what was found says more, and calls came before
-  reads_so : {T : Type 0} {a b c : K} (s : State) (Is As : T → Type 0) (r : Result T Fault) → ((x : T) → Is x → As x) → (model.fails b c → model.fails a c) → Reads model b c s Is r → Reads model a c s As r
-  reads_so s Is As (Ok x) so before h = (so x h.0, h.1)
-  reads_so s Is As (Err Memory) so before h = h
-  reads_so s Is As (Err Device) so before h = (before h.0, h.1)
-  reads_so s Is As (Err Damaged) so before h = h
-  reads_so s Is As (Err Reopen) so before h = h
+  reads_so : (T : Type 0) (a b c : K) (s : State) (Is As : T → Type 0) (r : Result T Fault) → ((x : T) → Is x → As x) → (model.fails b c → model.fails a c) → Reads model b c s Is r → Reads model a c s As r
+  reads_so T a b c s Is As (Ok x) so before h = (so x h.0, h.1)
+  reads_so T a b c s Is As (Err Memory) so before h = h
+  reads_so T a b c s Is As (Err Device) so before h = (before h.0, h.1)
+  reads_so T a b c s Is As (Err Damaged) so before h = h
+  reads_so T a b c s Is As (Err Reopen) so before h = h
 
+
+module _ {K : Type 0} {model : Model K} where
   -- no call was made
   pub no_read : {T : Type 0} (keeper : K) (x : T) {Is : State → T → Type 0} → model.cause keeper ≡ None → ((s : State) → model.represents keeper s → Is s x) → IsRead model keeper keeper (Ok x) Is
   no_read keeper x unshut is = record {
@@ -95,14 +97,14 @@ module _ {K : Type 0} {model : Model K} where
     call = call_then first.call second.call;
     reads = λ h s e.
         let found = first.reads (second.call.began_clean h) s e in
-        reads_so s (As s) (Both s) r (λ y is. both s y e found.0 is) (model.fails_later a b c first.call.spared second.call.spared) (second.reads h s found.1);
+        reads_so model U a b c s (As s) (Both s) r (λ y is. both s y e found.0 is) (model.fails_later a b c first.call.spared second.call.spared) (second.reads h s found.1);
   }
 
   -- what was found says more
   pub read_so : {T : Type 0} {a b : K} {r : Result T Fault} {Is As : State → T → Type 0} → IsRead model a b r Is → ((s : State) (x : T) → model.represents a s → Is s x → As s x) → IsRead model a b r As
   read_so {T} {a} {b} {r} {Is} {As} read so = record {
     call = read.call;
-    reads = λ h s e. reads_so s (Is s) (As s) r (λ x is. so s x e is) (λ failed. failed) (read.reads h s e);
+    reads = λ h s e. reads_so model T a a b s (Is s) (As s) r (λ x is. so s x e is) (λ failed. failed) (read.reads h s e);
   }
 
   -- an answer made of what was found
@@ -151,7 +153,7 @@ module _ {K : Type 0} {model : Model K} where
   pub read_failed : {T U : Type 0} {a b : K} {fault : Fault} {Is : State → T → Type 0} {As : State → U → Type 0} → IsRead model a b (Err fault) Is → IsRead model a b (Err fault) As
   read_failed {T} {U} {a} {b} {fault} {Is} {As} read = record {
     call = call_failed read.call;
-    reads = λ h s e. fault_too s (Is s) (As s) fault (read.reads h s e);
+    reads = λ h s e. fault_too model T U a b s (Is s) (As s) fault (read.reads h s e);
   }
 
   -- an answer that needs nothing of what was to be found, as memory ran out for that

@@ -27,4 +27,4 @@ returns-in-Ok g c = write_over c.in-Ok.ensures refl (λ s e known says.
     (says.0, (says.1, subst (λ (t : State). IsIndexOf c.args.self.now.index t) (sym same) known)))
 
 pub returns-in-Err : goal.returns-in-Err
-returns-in-Err g c = write_over c.in-Err.ensures c.note_fault.ensures.keeper (λ s e known says. noted_writes s (batch_value c.args.batch.now) c.in-Err.fault c.note_fault.ensures.noted known says)
+returns-in-Err g c = write_over c.in-Err.ensures c.note_fault.ensures.keeper (λ s e known says. noted_writes g.K.Keeper.model _ _ s (batch_value c.args.batch.now) c.in-Err.fault c.note_fault.ensures.noted known says)
