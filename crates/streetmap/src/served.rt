@@ -22,18 +22,18 @@ use streetmap_ledger::{Durable, Keeper};
 use streetmap_routes::Base;
 use streetmap_web::End;
 
-/// The clients of a file, what served them, and how that ended.
+/// The clients of a keeper, what served them, and how that ended.
 #[derive(Drop)]
-pub(crate) struct Town<S: Start> {
+pub(crate) struct Town<K> {
     clients: Clients<TcpStream>,
-    service: Service<ServedFile<S>>,
+    service: Service<K>,
     pub(crate) ended: Result<(), ProgramFault>,
 }
 
-/// A file that a stream of requests was served over, and how the stream ended.
+/// A keeper that a stream of requests was served over, and how the stream ended.
 #[derive(Drop)]
-pub(crate) struct Piped<S: Start> {
-    keeper: ServedFile<S>,
+pub(crate) struct Piped<K> {
+    keeper: K,
     pub(crate) end: End,
 }
 
@@ -64,7 +64,7 @@ pub(crate) fn serve_file<S: Start>(
     connections: Connections,
     base: Base,
     journal: Option<JournalAsked<'_>>,
-) -> Result<Town<S>, ProgramFault>
+) -> Result<Town<ServedFile<S>>, ProgramFault>
     ensures guarantee { IfOk result (λ town.
         ⟦<ServedFile<S> as Keeper>⟧.model.is_clean town.service.keeper.keeper → (s : State) →
         HoldsTables (image_at S.Start) s →
@@ -93,7 +93,7 @@ pub(crate) fn pipe_file<S: Start>(
     path: &str,
     start: S,
     base: &Base,
-) -> Result<Piped<S>, ProgramFault>
+) -> Result<Piped<ServedFile<S>>, ProgramFault>
     ensures guarantee { IfOk result (λ it. ⟦<ServedFile<S> as Keeper>⟧.model.is_clean it.keeper →
         (s : State) → HoldsTables (image_at S.Start) s →
         GuaranteeOfPipe ⟦<ServedFile<S> as Durable>⟧.holds
