@@ -1,6 +1,7 @@
 use Rattle.std.proofs.Common.{◌≡◌, map, ◌+◌, ◌∷◌, ◌++◌, [], length, take, Some, Err, sym, ap, subst, ◌∙◌, rules, arith}
 use Rattle.streetmap_ledger.specs.State.{State}
 use Rattle.streetmap_ledger.specs.Batches.{replies_of}
+use Rattle.streetmap_ledger.specs.Keep.{RunEnds}
 use Rattle.streetmap_batch.specs.BatchView.{batch_value}
 use Rattle.streetmap_ledger.proofs.Runs.{replies_last, taken, after_more, ends_at}
 use Rattle.streetmap_ledger.proofs.keeper.run.Goals as goal
@@ -43,5 +44,6 @@ returns-clause-ends g c h s e =
           let wrote = w.in-Err.ensures in
           let b = batch_value w.batch-item.result in
           let more : take (i + 1) all ≡ take i all ++ b ∷ [] = taken c.args.batches.now i w.batch-item.result (omega arith) w.batch-item.is in
-          rw (w.fault-is, w.keeper-is) (ends_at model _ _ _ s all (length c.loop-batch.replies.items) i b w.in-Err.stopped inv.count more (model.fails_later _ _ _ inv.spared wrote.call.spared) (wrote.writes clean _ (inv.represents (wrote.call.began_clean clean) s e)))
+          let ended = ends_at model _ _ _ s all (length c.loop-batch.replies.items) i b w.in-Err.stopped inv.count more (model.fails_later _ _ _ inv.spared wrote.call.spared) (wrote.writes clean _ (inv.represents (wrote.call.began_clean clean) s e)) in
+          rw w.fault-is (subst (λ k. RunEnds model c.args.keeper.now k s all (length c.loop-batch.replies.items) (Some w.in-Err.stopped)) (sym w.keeper-is) ended)
     ]
