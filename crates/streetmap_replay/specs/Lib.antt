@@ -1,3 +1,4 @@
+pub mod Calls
 pub mod Stops
 pub mod Names
 pub mod Given

@@ -1,0 +1,118 @@
+-- Calls of a keeper, one after the other.
+use Rattle.std.proofs.Common.{◌≡◌, Option, None, Some, IsSome, Result, Ok, Err, refl, sym, subst, ◌∙◌}
+use Rattle.streetmap_ledger.specs.Model.{Model}
+use Rattle.streetmap_ledger.specs.Keep.{Reads, ShutsBy, LeavesSame, IsCall, IsRead}
+use Rattle.streetmap_ledger.specs.State.{State}
+use Rattle.streetmap_ledger.specs.declared.reply.Cause.{Cause}
+use Rattle.streetmap_ledger.specs.declared.reply.Fault.{Fault}
+use Rattle.streetmap_ledger.specs.declared.reply.Fault.TheVariants.{Memory, Device, Damaged, Reopen}
+use Rattle.streetmap_ledger.proofs.Calls.{call_failed}
+use Rattle.streetmap_replay.specs.Calls.{LastAnswer, fails_by, CallsShut, AreCalls, Stays, AreReads}
+
+not_shut : {A : Type 0} (cause : Option Cause) → cause ≡ None → IsSome cause → A
+not_shut None open shut = absurd shut
+not_shut (Some why) open shut = absurd cc
+
+module _ {K : Type 0} {model : Model K} where
+  -- a shut keeper answered `Reopen`
+  same_if : {a b : K} (fault : Fault) → IsCall {T = Unit {0}} model a b (Err fault) → IsSome (model.cause a) → LeavesSame (model.may_leave a) (model.may_leave b)
+  same_if {a} Memory call shut = not_shut (model.cause a) call.faults.0 shut
+  same_if {a} Device call shut = not_shut (model.cause a) call.faults.0 shut
+  same_if {a} Damaged call shut = not_shut (model.cause a) call.faults.0 shut
+  same_if Reopen call shut = call.reopen refl
+
+  -- no call was made
+  pub no_calls : (k : K) → AreCalls model k k None
+  no_calls k = record {
+    spared = model.spares_itself k;
+    began_clean = λ h. h;
+    faults = refl;
+    shut = λ shut o. (λ left. left, λ left. left);
+  }
+
+  -- a call that was answered
+  pub answered : {T : Type 0} {a b : K} {x : T} → IsCall model a b (Ok x) → AreCalls model a b (Some (Ok tt))
+  answered {T} {a} {b} {x} call = record {
+    spared = call.spared;
+    began_clean = call.began_clean;
+    faults = call.faults;
+    shut = λ shut. not_shut (model.cause a) call.faults.0 shut;
+  }
+
+  -- of which only that is of interest that it was no fault
+  pub no_fault : {a b : K} → AreCalls model a b (Some (Ok tt)) → AreCalls model a b None
+  no_fault {a} {b} calls = record {
+    spared = calls.spared;
+    began_clean = calls.began_clean;
+    faults = calls.faults.1 ∙ sym calls.faults.0;
+    shut = calls.shut;
+  }
+
+  pub call_of : {T : Type 0} {a b : K} {x : T} → IsCall model a b (Ok x) → AreCalls model a b None
+  call_of {T} {a} {b} {x} call = no_fault (answered call)
+
+  -- a call that failed
+  pub failed : {T : Type 0} {a b : K} {fault : Fault} → IsCall {T = T} model a b (Err fault) → AreCalls model a b (fails_by fault)
+  failed {T} {a} {b} {fault} call =
+      let same : IsCall {T = Unit {0}} model a b (Err fault) = call_failed call in
+      record {
+        spared = same.spared;
+        began_clean = same.began_clean;
+        faults = same.faults;
+        shut = same_if fault same;
+      }
+
+  -- further calls, after some that were answered
+  pub calls_then : {a b c : K} {last : LastAnswer} → AreCalls model a b None → AreCalls model b c last → AreCalls model a c last
+  calls_then {a} {b} {c} {last} one two = record {
+    spared = model.spares_then a b c one.spared two.spared;
+    began_clean = λ h. one.began_clean (two.began_clean h);
+    faults = subst (λ (o : Option Cause). CallsShut last o (model.cause c)) one.faults two.faults;
+    shut = λ shut o.
+        let later = two.shut (subst (λ (w : Option Cause). IsSome w) (sym one.faults) shut) o in
+        let before = one.shut shut o in
+        (λ left. before.0 (later.0 left), λ left. later.1 (before.1 left));
+  }
+
+  -- no call that reads was made
+  pub no_reads : (k : K) → AreReads model k k None
+  no_reads k = record {
+    calls = no_calls k;
+    stays = λ h s e. e;
+  }
+
+  -- one that was answered
+  pub read_of : {T : Type 0} {a b : K} {x : T} {Is : State → T → Type 0} → IsRead model a b (Ok x) Is → AreReads model a b None
+  read_of {T} {a} {b} {x} {Is} read = record {
+    calls = call_of read.call;
+    stays = λ h s e. (read.reads h s e).1;
+  }
+
+  -- one that failed
+  stays_by : {T : Type 0} {a b : K} (s : State) (Is : T → Type 0) (fault : Fault) → Reads model a b s Is (Err fault) → Stays model a b s (fails_by fault)
+  stays_by s Is Memory h = h
+  stays_by s Is Device h = h
+  stays_by s Is Damaged h = h
+  stays_by s Is Reopen h = h
+
+  pub failed_read : {T : Type 0} {a b : K} {fault : Fault} {Is : State → T → Type 0} → IsRead model a b (Err fault) Is → AreReads model a b (fails_by fault)
+  failed_read {T} {a} {b} {fault} {Is} read = record {
+    calls = failed read.call;
+    stays = λ h s e. stays_by s (Is s) fault (read.reads h s e);
+  }
+
+  -- further ones, after some that were answered
+  stays_from : {a b c : K} (s : State) (last : LastAnswer) → (model.fails b c → model.fails a c) → Stays model b c s last → Stays model a c s last
+  stays_from s None before h = h
+  stays_from s (Some (Ok done)) before h = h
+  stays_from s (Some (Err Memory)) before h = h
+  stays_from s (Some (Err Device)) before h = (before h.0, h.1)
+  stays_from s (Some (Err Damaged)) before h = h
+  stays_from s (Some (Err Reopen)) before h = h
+
+  pub reads_then : {a b c : K} {last : LastAnswer} → AreReads model a b None → AreReads model b c last → AreReads model a c last
+  reads_then {a} {b} {c} {last} one two = record {
+    calls = calls_then one.calls two.calls;
+    stays = λ h s e. stays_from s last (model.fails_later a b c one.calls.spared two.calls.spared)
+        (two.stays h s (one.stays (two.calls.began_clean h) s e));
+  }
