@@ -1,17 +1,22 @@
 -- Calls of a keeper, one after the other.
 use Rattle.std.proofs.Common.{◌≡◌, Option, None, Some, IsSome, Result, Ok, Err, refl, sym, subst, ◌∙◌}
+use Rattle.std.specs.Prelude.{IsErrOf}
 use Rattle.streetmap_ledger.specs.Model.{Model}
 use Rattle.streetmap_ledger.specs.Keep.{Reads, ShutsBy, LeavesSame, IsCall, IsRead}
 use Rattle.streetmap_ledger.specs.State.{State}
 use Rattle.streetmap_ledger.specs.declared.reply.Cause.{Cause}
 use Rattle.streetmap_ledger.specs.declared.reply.Fault.{Fault}
 use Rattle.streetmap_ledger.specs.declared.reply.Fault.TheVariants.{Memory, Device, Damaged, Reopen}
-use Rattle.streetmap_ledger.proofs.Calls.{call_failed}
-use Rattle.streetmap_replay.specs.Calls.{LastAnswer, fails_by, CallsShut, AreCalls, Stays, AreReads}
+use Rattle.streetmap_ledger.proofs.Calls.{call_failed, read_lost}
+use Rattle.streetmap_replay.specs.Calls.{LastAnswer, fails_by, CallsShut, ShutStays, AreCalls, Stays, AreReads}
 
 not_shut : {A : Type 0} (cause : Option Cause) → cause ≡ None → IsSome cause → A
 not_shut None open shut = absurd shut
 not_shut (Some why) open shut = absurd cc
+
+-- only a shut keeper answers `Reopen`
+was_shut : {T : Type 0} (r : Result T Fault) (old new : Option Cause) → ShutsBy r old new → IsErrOf r Reopen → IsSome old
+was_shut {T} r old new shuts err = (subst (λ (q : Result T Fault). ShutsBy q old new) err shuts).0
 
 module _ {K : Type 0} {model : Model K} where
   -- a shut keeper answered `Reopen`
@@ -27,7 +32,7 @@ module _ {K : Type 0} {model : Model K} where
     spared = model.spares_itself k;
     began_clean = λ h. h;
     faults = refl;
-    shut = λ shut o. (λ left. left, λ left. left);
+    shut = λ shut. refl;
   }
 
   -- a call that was answered
@@ -45,7 +50,7 @@ module _ {K : Type 0} {model : Model K} where
     spared = calls.spared;
     began_clean = calls.began_clean;
     faults = calls.faults.1 ∙ sym calls.faults.0;
-    shut = calls.shut;
+    shut = λ shut. not_shut (model.cause a) calls.faults.0 shut;
   }
 
   pub call_of : {T : Type 0} {a b : K} {x : T} → IsCall model a b (Ok x) → AreCalls model a b None
@@ -63,15 +68,38 @@ module _ {K : Type 0} {model : Model K} where
       }
 
   -- further calls, after some that were answered
+  shut_then : {a b c : K} (last : LastAnswer) → b ≡ a → ShutStays model b c last → ShutStays model a c last
+  shut_then None same h = h ∙ same
+  shut_then {a} {b} {c} (Some result) same h = subst (λ (k : K). LeavesSame (model.may_leave k) (model.may_leave c)) same h
+
   pub calls_then : {a b c : K} {last : LastAnswer} → AreCalls model a b None → AreCalls model b c last → AreCalls model a c last
   calls_then {a} {b} {c} {last} one two = record {
     spared = model.spares_then a b c one.spared two.spared;
     began_clean = λ h. one.began_clean (two.began_clean h);
     faults = subst (λ (o : Option Cause). CallsShut last o (model.cause c)) one.faults two.faults;
-    shut = λ shut o.
-        let later = two.shut (subst (λ (w : Option Cause). IsSome w) (sym one.faults) shut) o in
-        let before = one.shut shut o in
-        (λ left. before.0 (later.0 left), λ left. later.1 (before.1 left));
+    shut = λ shut. shut_then last (one.shut shut) (two.shut (subst (λ (o : Option Cause). IsSome o) (sym one.faults) shut));
+  }
+
+  -- all of them as one call
+  pub call_from : {T : Type 0} {a b : K} {fault : Fault} → AreCalls model a b (fails_by fault) → IsCall {T = T} model a b (Err fault)
+  call_from {T} {a} {b} {fault} calls =
+      let same : IsCall {T = Unit {0}} model a b (Err fault) = record {
+        spared = calls.spared;
+        began_clean = calls.began_clean;
+        faults = calls.faults;
+        reopen = λ err. calls.shut (was_shut {T = Unit {0}} (Err fault) (model.cause a) (model.cause b) calls.faults err);
+      } in
+      call_failed same
+
+  pub call_after : {T : Type 0} {a b c : K} {r : Result T Fault} → AreCalls model a b None → IsCall model b c r → IsCall model a c r
+  call_after {T} {a} {b} {c} {r} one two = record {
+    spared = model.spares_then a b c one.spared two.spared;
+    began_clean = λ h. one.began_clean (two.began_clean h);
+    faults = subst (λ (o : Option Cause). ShutsBy r o (model.cause c)) one.faults two.faults;
+    reopen = λ err.
+        let shut = was_shut r (model.cause b) (model.cause c) two.faults err in
+        let same = one.shut (subst (λ (o : Option Cause). IsSome o) one.faults shut) in
+        subst (λ (k : K). LeavesSame (model.may_leave k) (model.may_leave c)) same (two.reopen err);
   }
 
   -- no call that reads was made
@@ -100,6 +128,12 @@ module _ {K : Type 0} {model : Model K} where
     calls = failed read.call;
     stays = λ h s e. stays_by s (Is s) fault (read.reads h s e);
   }
+
+  -- one that was answered, and then memory ran out
+  pub lost_read : {T : Type 0} {a b : K} {x : T} {Is : State → T → Type 0} → IsRead model a b (Ok x) Is → AreReads model a b (fails_by Memory)
+  lost_read {T} {a} {b} {x} {Is} read =
+      let lost : IsRead {T = Unit {0}} model a b (Err Memory) (λ s done. Unit {0}) = read_lost read in
+      failed_read lost
 
   -- further ones, after some that were answered
   stays_from : {a b c : K} (s : State) (last : LastAnswer) → (model.fails b c → model.fails a c) → Stays model b c s last → Stays model a c s last

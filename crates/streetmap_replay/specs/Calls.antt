@@ -16,18 +16,28 @@ LastAnswer = Option (Result (Unit {0}) Fault)
 abbrev pub fails_by : Fault → LastAnswer
 fails_by fault = Some (Err fault)
 
+-- the fault, if the result is one
+abbrev pub fault_in : {T : Type 0} → Result T Fault → LastAnswer
+fault_in (Ok x) = None
+fault_in (Err fault) = fails_by fault
+
 -- what shut the keeper
 abbrev pub CallsShut : LastAnswer → Option Cause → Option Cause → Type 0
 CallsShut None old new = new ≡ old
 CallsShut (Some result) old new = ShutsBy result old new
 
--- any number of calls: they spare what else the store has and take none that failed for clean; the
--- last answer says what shut the keeper; and what a crash may leave of a shut keeper stays
+-- what becomes of a shut keeper: it was not called; or what a crash may leave of it stays
+abbrev pub ShutStays : {K : Type 0} → Model K → (old new : K) → LastAnswer → Type 0
+ShutStays model old new None = new ≡ old
+ShutStays model old new (Some result) = LeavesSame (model.may_leave old) (model.may_leave new)
+
+-- any number of calls: they spare what else the store has and take none that failed for clean, and
+-- the last answer says what shut the keeper
 pub record AreCalls {K : Type 0} (model : Model K) (old new : K) (last : LastAnswer) : Type 0 where
   pub spared : model.spares old new
   pub began_clean : model.is_clean new → model.is_clean old
   pub faults : CallsShut last (model.cause old) (model.cause new)
-  pub shut : IsSome (model.cause old) → LeavesSame (model.may_leave old) (model.may_leave new)
+  pub shut : IsSome (model.cause old) → ShutStays model old new last
 
 -- reads, if the keeper represented this state: the state stays; or the store failed, and a crash
 -- leaves the state
