@@ -7,7 +7,7 @@ use Rattle.streetmap_ledger.specs.State.{State}
 use Rattle.streetmap_ledger.specs.declared.reply.Cause.{Cause}
 use Rattle.streetmap_ledger.specs.declared.reply.Fault.{Fault}
 use Rattle.streetmap_ledger.specs.declared.reply.Fault.TheVariants.{Memory, Device, Damaged, Reopen}
-use Rattle.streetmap_ledger.proofs.Calls.{call_failed, read_lost}
+use Rattle.streetmap_ledger.proofs.Calls.{call_failed}
 use Rattle.streetmap_replay.specs.Calls.{LastAnswer, fails_by, CallsShut, ShutStays, AreCalls, Stays, AreReads}
 
 not_shut : {A : Type 0} (cause : Option Cause) → cause ≡ None → IsSome cause → A
@@ -109,12 +109,33 @@ module _ {K : Type 0} {model : Model K} where
     stays = λ h s e. e;
   }
 
+  -- of an open keeper
+  pub no_reads_open : (k : K) → model.cause k ≡ None → AreReads model k k (Some (Ok tt))
+  no_reads_open k open = record {
+    calls = record {
+      spared = model.spares_itself k;
+      began_clean = λ h. h;
+      faults = (open, open);
+      shut = λ shut. not_shut (model.cause k) open shut;
+    };
+    stays = λ h s e. e;
+  }
+
   -- one that was answered
-  pub read_of : {T : Type 0} {a b : K} {x : T} {Is : State → T → Type 0} → IsRead model a b (Ok x) Is → AreReads model a b None
-  read_of {T} {a} {b} {x} {Is} read = record {
-    calls = call_of read.call;
+  pub answered_read : {T : Type 0} {a b : K} {x : T} {Is : State → T → Type 0} → IsRead model a b (Ok x) Is → AreReads model a b (Some (Ok tt))
+  answered_read {T} {a} {b} {x} {Is} read = record {
+    calls = answered read.call;
     stays = λ h s e. (read.reads h s e).1;
   }
+
+  pub no_fault_read : {a b : K} → AreReads model a b (Some (Ok tt)) → AreReads model a b None
+  no_fault_read reads = record {
+    calls = no_fault reads.calls;
+    stays = reads.stays;
+  }
+
+  pub read_of : {T : Type 0} {a b : K} {x : T} {Is : State → T → Type 0} → IsRead model a b (Ok x) Is → AreReads model a b None
+  read_of read = no_fault_read (answered_read read)
 
   -- one that failed
   stays_by : {T : Type 0} {a b : K} (s : State) (Is : T → Type 0) (fault : Fault) → Reads model a b s Is (Err fault) → Stays model a b s (fails_by fault)
@@ -130,10 +151,19 @@ module _ {K : Type 0} {model : Model K} where
   }
 
   -- one that was answered, and then memory ran out
+  pub then_lost : {a b : K} → AreReads model a b (Some (Ok tt)) → AreReads model a b (fails_by Memory)
+  then_lost {a} {b} reads = record {
+    calls = record {
+      spared = reads.calls.spared;
+      began_clean = reads.calls.began_clean;
+      faults = reads.calls.faults;
+      shut = reads.calls.shut;
+    };
+    stays = reads.stays;
+  }
+
   pub lost_read : {T : Type 0} {a b : K} {x : T} {Is : State → T → Type 0} → IsRead model a b (Ok x) Is → AreReads model a b (fails_by Memory)
-  lost_read {T} {a} {b} {x} {Is} read =
-      let lost : IsRead {T = Unit {0}} model a b (Err Memory) (λ s done. Unit {0}) = read_lost read in
-      failed_read lost
+  lost_read read = then_lost (answered_read read)
 
   -- further ones, after some that were answered
   stays_from : {a b c : K} (s : State) (last : LastAnswer) → (model.fails b c → model.fails a c) → Stays model b c s last → Stays model a c s last
