@@ -11,7 +11,6 @@ pub mod JournalText
 pub mod Following
 pub mod Sittings
 pub mod Replay
-pub mod Faults
 pub mod View
 pub mod Acting
 pub mod LineReading
