@@ -13,8 +13,9 @@ use Rattle.streetmap_journal.specs.declared.journal.Journal.{Journal}
 use Rattle.streetmap_journal.specs.declared.matching.Matched.{Matched}
 use Rattle.streetmap_journal.specs.declared.matching.MatchEnd.TheVariants as ends
 use Rattle.streetmap_journal.specs.declared.starting.StartFault.{StartFault}
-use Rattle.streetmap_journal.specs.declared.starting.StartFault.TheVariants.{Ahead, Other, NotOpened}
-use Rattle.streetmap_journal.specs.declared.starting.StartFault.TheVariants.{NotRead, Stopped}
+use Rattle.streetmap_journal.specs.declared.starting.StartFault.TheVariants.{Ahead, Other}
+use Rattle.streetmap_journal.specs.declared.starting.StartFault.TheVariants.{NotOpened, NotRead}
+use Rattle.streetmap_journal.specs.declared.starting.StartFault.TheVariants.{Stopped}
 
 -- the first line's serial, if bytes begin with one and a tab
 abbrev pub HasFirstSerial : List ℕ → Option ℕ → Type 0
@@ -55,7 +56,8 @@ ChecksEnd after matched (Err (Stopped fault)) = matched.end ≡ ends.Stopped fau
 ChecksEnd after matched (Err (NotOpened error)) = ⊥
 
 -- a journal holds what it has to, as far as it did before
-abbrev pub BeginsBy : {W : Type 0} → State → (W → Option (List ℕ)) → (old new : Journal W) → Type 0
+abbrev pub BeginsBy : {W : Type 0} → State → (W → Option (List ℕ)) → (old new : Journal W)
+    → Type 0
 BeginsBy s contents old new =
     (new.after ≡ old.after) × (HoldsIn contents old s → HoldsIn contents new s)
 
