@@ -29,7 +29,7 @@ never_stopped key (replies.Accepted counts serial) fault h = h
 never_stopped key (replies.Repeated counts serial) fault h = h
 never_stopped key (replies.Refused why place) fault h = cc
 
-module _ {K : Type 0} {model : Model K} {a b : K} where
+module _ {K : Type 0} (model : Model K) (a b : K) where
   pub told_batch : (s : State) (batch : BatchValue) (reply : Reply) (r : Result (String Global) ImportStop) → IsReported batch.key reply r → Writes model a b s batch (Ok reply) → ImportsBatch model a b s batch r
   told_batch s batch reply (Ok body) told h = (subst (λ (x : Reply). IsReported batch.key x (Ok body)) h.0 told, h.1)
   told_batch s batch reply (Err (NotRead fault)) told h = absurd (never_unread batch.key reply fault told)

@@ -11,12 +11,33 @@ use Rattle.streetmap_ledger.proofs.Calls.{call_failed}
 use Rattle.streetmap_replay.specs.Calls.{LastAnswer, fails_by, CallsShut, ShutStays, AreCalls, Stays, AreReads}
 
 not_shut : {A : Type 0} (cause : Option Cause) → cause ≡ None → IsSome cause → A
-not_shut None open shut = absurd shut
-not_shut (Some why) open shut = absurd cc
+not_shut None none shut = absurd cc
+not_shut (Some why) none shut = absurd cc
 
 -- only a shut keeper answers `Reopen`
 was_shut : {T : Type 0} (r : Result T Fault) (old new : Option Cause) → ShutsBy r old new → IsErrOf r Reopen → IsSome old
 was_shut {T} r old new shuts err = (subst (λ (q : Result T Fault). ShutsBy q old new) err shuts).0
+
+module _ {K : Type 0} (model : Model K) where
+  -- calls came before
+  shut_then : (a b c : K) (last : LastAnswer) → b ≡ a → ShutStays model b c last → ShutStays model a c last
+  shut_then a b c None same h = h ∙ same
+  shut_then a b c (Some result) same h = subst (λ (k : K). LeavesSame (model.may_leave k) (model.may_leave c)) same h
+
+  stays_from : (a b c : K) (s : State) (last : LastAnswer) → (model.fails b c → model.fails a c) → Stays model b c s last → Stays model a c s last
+  stays_from a b c s None before h = h
+  stays_from a b c s (Some (Ok done)) before h = h
+  stays_from a b c s (Some (Err Memory)) before h = h
+  stays_from a b c s (Some (Err Device)) before h = (before h.0, h.1)
+  stays_from a b c s (Some (Err Damaged)) before h = h
+  stays_from a b c s (Some (Err Reopen)) before h = h
+
+  -- a read that failed
+  stays_by : (T : Type 0) (a b : K) (s : State) (Is : T → Type 0) (fault : Fault) → Reads model a b s Is (Err fault) → Stays model a b s (fails_by fault)
+  stays_by T a b s Is Memory h = h
+  stays_by T a b s Is Device h = h
+  stays_by T a b s Is Damaged h = h
+  stays_by T a b s Is Reopen h = h
 
 module _ {K : Type 0} {model : Model K} where
   -- a shut keeper answered `Reopen`
@@ -68,16 +89,12 @@ module _ {K : Type 0} {model : Model K} where
       }
 
   -- further calls, after some that were answered
-  shut_then : {a b c : K} (last : LastAnswer) → b ≡ a → ShutStays model b c last → ShutStays model a c last
-  shut_then None same h = h ∙ same
-  shut_then {a} {b} {c} (Some result) same h = subst (λ (k : K). LeavesSame (model.may_leave k) (model.may_leave c)) same h
-
   pub calls_then : {a b c : K} {last : LastAnswer} → AreCalls model a b None → AreCalls model b c last → AreCalls model a c last
   calls_then {a} {b} {c} {last} one two = record {
     spared = model.spares_then a b c one.spared two.spared;
     began_clean = λ h. one.began_clean (two.began_clean h);
     faults = subst (λ (o : Option Cause). CallsShut last o (model.cause c)) one.faults two.faults;
-    shut = λ shut. shut_then last (one.shut shut) (two.shut (subst (λ (o : Option Cause). IsSome o) (sym one.faults) shut));
+    shut = λ shut. shut_then model a b c last (one.shut shut) (two.shut (subst (λ (o : Option Cause). IsSome o) (sym one.faults) shut));
   }
 
   -- all of them as one call
@@ -111,12 +128,12 @@ module _ {K : Type 0} {model : Model K} where
 
   -- of an open keeper
   pub no_reads_open : (k : K) → model.cause k ≡ None → AreReads model k k (Some (Ok tt))
-  no_reads_open k open = record {
+  no_reads_open k unshut = record {
     calls = record {
       spared = model.spares_itself k;
       began_clean = λ h. h;
-      faults = (open, open);
-      shut = λ shut. not_shut (model.cause k) open shut;
+      faults = (unshut, unshut);
+      shut = λ shut. not_shut (model.cause k) unshut shut;
     };
     stays = λ h s e. e;
   }
@@ -138,16 +155,10 @@ module _ {K : Type 0} {model : Model K} where
   read_of read = no_fault_read (answered_read read)
 
   -- one that failed
-  stays_by : {T : Type 0} {a b : K} (s : State) (Is : T → Type 0) (fault : Fault) → Reads model a b s Is (Err fault) → Stays model a b s (fails_by fault)
-  stays_by s Is Memory h = h
-  stays_by s Is Device h = h
-  stays_by s Is Damaged h = h
-  stays_by s Is Reopen h = h
-
   pub failed_read : {T : Type 0} {a b : K} {fault : Fault} {Is : State → T → Type 0} → IsRead model a b (Err fault) Is → AreReads model a b (fails_by fault)
   failed_read {T} {a} {b} {fault} {Is} read = record {
     calls = failed read.call;
-    stays = λ h s e. stays_by s (Is s) fault (read.reads h s e);
+    stays = λ h s e. stays_by model T a b s (Is s) fault (read.reads h s e);
   }
 
   -- one that was answered, and then memory ran out
@@ -166,17 +177,9 @@ module _ {K : Type 0} {model : Model K} where
   lost_read read = then_lost (answered_read read)
 
   -- further ones, after some that were answered
-  stays_from : {a b c : K} (s : State) (last : LastAnswer) → (model.fails b c → model.fails a c) → Stays model b c s last → Stays model a c s last
-  stays_from s None before h = h
-  stays_from s (Some (Ok done)) before h = h
-  stays_from s (Some (Err Memory)) before h = h
-  stays_from s (Some (Err Device)) before h = (before h.0, h.1)
-  stays_from s (Some (Err Damaged)) before h = h
-  stays_from s (Some (Err Reopen)) before h = h
-
   pub reads_then : {a b c : K} {last : LastAnswer} → AreReads model a b None → AreReads model b c last → AreReads model a c last
   reads_then {a} {b} {c} {last} one two = record {
     calls = calls_then one.calls two.calls;
-    stays = λ h s e. stays_from s last (model.fails_later a b c one.calls.spared two.calls.spared)
+    stays = λ h s e. stays_from model a b c s last (model.fails_later a b c one.calls.spared two.calls.spared)
         (two.stays h s (one.stays (two.calls.began_clean h) s e));
   }

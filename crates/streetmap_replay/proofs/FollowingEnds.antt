@@ -129,7 +129,7 @@ module _ {K T : Type 0} (model : Model K) (k l m : K) (s : State) (input now lat
           says.line,
           is_input bytes says.line says.is one short,
           taken_more input now later it.read says.line bytes says.is it.taken took,
-          follows_from t (line_outcome t says.line) (Err stop) (model.fails_later k l m before.spared says.followed.calls.spared) (says.followed.follows clean t it.there),
+          follows_from model k l m t (line_outcome t says.line) (Err stop) (model.fails_later k l m before.spared says.followed.calls.spared) (says.followed.follows clean t it.there),
         );
       }
 

@@ -24,11 +24,11 @@ use Rattle.streetmap_replay.specs.declared.fault.ReplayFault.TheVariants.{Stoppe
 use Rattle.streetmap_replay.specs.declared.fault.ReplayFault.TheVariants.{Collection}
 use Rattle.streetmap_replay.proofs.NotGivenAgain.{stop_refutes}
 
-foreseen : {K : Type 0} {model : Model K} {a b : K} (t : State) (fault : Fault) → Stays model a b t (fails_by fault) → IsForeseen fault
-foreseen t faults.Memory h = tt
-foreseen t faults.Device h = tt
-foreseen t faults.Damaged h = h
-foreseen t faults.Reopen h = h
+foreseen : {K : Type 0} (model : Model K) (a b : K) (t : State) (fault : Fault) → Stays model a b t (fails_by fault) → IsForeseen fault
+foreseen model a b t faults.Memory h = tt
+foreseen model a b t faults.Device h = tt
+foreseen model a b t faults.Damaged h = h
+foreseen model a b t faults.Reopen h = h
 
 module _ (s t : State) (given : GivesAll s t) where
   whole_same : s.collections ≡ t.collections → t ≡ s
@@ -52,14 +52,14 @@ module _ (s t : State) (given : GivesAll s t) where
     keys = ap (λ (x : State). x.keys) given.followed.there ∙ given.keys;
   }
 
-  pub compared : {K T : Type 0} {model : Model K} {a b : K} (result : Result T ReplayFault) → Compares s t (s.collections ≡ t.collections) result → Stays model a b t (fresh_end result)
+  pub compared : {K T : Type 0} (model : Model K) (a b : K) (result : Result T ReplayFault) → Compares s t (s.collections ≡ t.collections) result → Stays model a b t (fresh_end result)
       → Checks s result (model.represents b)
-  compared {K} {T} {model} {a} {b} (Ok done) h stays = (replays h, subst (model.represents b) (whole_same h) stays)
-  compared (Err (Stopped (Kept fault))) h stays = tt
-  compared (Err (Stopped (Fresh fault))) h stays = foreseen t fault stays
-  compared (Err (Stopped Memory)) h stays = tt
-  compared (Err (Batch serial)) h stays = absurd h
-  compared (Err (Collection name)) h stays = (
+  compared model a b (Ok done) h stays = (replays h, subst (model.represents b) (whole_same h) stays)
+  compared model a b (Err (Stopped (Kept fault))) h stays = tt
+  compared model a b (Err (Stopped (Fresh fault))) h stays = foreseen model a b t fault stays
+  compared model a b (Err (Stopped Memory)) h stays = tt
+  compared model a b (Err (Batch serial)) h stays = absurd h
+  compared model a b (Err (Collection name)) h stays = (
     other _ h,
     as_replayed,
     subst (λ (u : State). Differs s u (string_bytes name)) (sym given.followed.there) h,

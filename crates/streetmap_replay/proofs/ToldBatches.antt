@@ -42,23 +42,39 @@ after_is s b (Accepted counts serial) e = refl
 after_is s b (Repeated counts serial) e = refl
 after_is s b (Refused why place) e = (refused_changes_nothing s b why place e).0
 
-module _ {K : Type 0} {model : Model K} where
+module _ {K : Type 0} (model : Model K) where
   -- calls came before
-  pub follows_from : {a b c : K} (s : State) (outcome : Result Outcome LineFault) (r : Result Reply LineStop) → (model.fails b c → model.fails a c) → Follows model b c s outcome r
+  pub follows_from : (a b c : K) (s : State) (outcome : Result Outcome LineFault) (r : Result Reply LineStop) → (model.fails b c → model.fails a c) → Follows model b c s outcome r
       → Follows model a c s outcome r
-  follows_from s outcome (Ok reply) before h = h
-  follows_from s outcome (Err (Unread (BadBatch place))) before h = h
-  follows_from s outcome (Err (Unread BadKey)) before h = h
-  follows_from s outcome (Err (Unread TooManyEdits)) before h = h
-  follows_from s outcome (Err (Unread (BadFeature place cause))) before h = h
-  follows_from s outcome (Err (Unread batches.Memory)) before h = h
-  follows_from s outcome (Err stops.NotNext) before h = h
-  follows_from s outcome (Err (stops.Refused why place)) before h = h
-  follows_from s outcome (Err (Stopped Memory)) before h = h
-  follows_from s outcome (Err (Stopped Device)) before h = (before h.0, h.1)
-  follows_from s outcome (Err (Stopped Damaged)) before h = h
-  follows_from s outcome (Err (Stopped Reopen)) before h = h
+  follows_from a b c s outcome (Ok reply) before h = h
+  follows_from a b c s outcome (Err (Unread (BadBatch place))) before h = h
+  follows_from a b c s outcome (Err (Unread BadKey)) before h = h
+  follows_from a b c s outcome (Err (Unread TooManyEdits)) before h = h
+  follows_from a b c s outcome (Err (Unread (BadFeature place cause))) before h = h
+  follows_from a b c s outcome (Err (Unread batches.Memory)) before h = h
+  follows_from a b c s outcome (Err stops.NotNext) before h = h
+  follows_from a b c s outcome (Err (stops.Refused why place)) before h = h
+  follows_from a b c s outcome (Err (Stopped Memory)) before h = h
+  follows_from a b c s outcome (Err (Stopped Device)) before h = (before h.0, h.1)
+  follows_from a b c s outcome (Err (Stopped Damaged)) before h = h
+  follows_from a b c s outcome (Err (Stopped Reopen)) before h = h
 
+  -- the keeper failed as it wrote
+  stops_at : (a b : K) (s : State) (batch : BatchValue) (fault : Fault) → Writes model a b s batch (Err fault) → Follows model a b s (acted s (Ok batch)) (Err (Stopped fault))
+  stops_at a b s batch Memory h = h
+  stops_at a b s batch Device h = (h.0, subst (λ (t : State). LeavesEither (model.may_leave b) (Some s) (Some t)) (after_is s batch (act s batch).reply refl) h.1)
+  stops_at a b s batch Damaged h = h
+  stops_at a b s batch Reopen h = h
+
+  -- or as it was read
+  fails_at : (T : Type 0) (a b : K) (s : State) (outcome : Result Outcome LineFault) (Is : T → Type 0) (fault : Fault) → Reads model a b s Is (Err fault)
+      → Follows model a b s outcome (Err (Stopped fault))
+  fails_at T a b s outcome Is Memory h = h
+  fails_at T a b s outcome Is Device h = (h.0, λ o may. inl (h.1 o may))
+  fails_at T a b s outcome Is Damaged h = h
+  fails_at T a b s outcome Is Reopen h = h
+
+module _ {K : Type 0} {model : Model K} where
   -- the batch was answered
   pub written : {a b : K} (batch : BatchValue) (told : Reply) → IsWrite model a b batch (Ok told) → IsFollowed model a b (λ s. acted s (Ok batch)) (line_reply told)
   written batch (Accepted counts serial) write = record {
@@ -86,16 +102,10 @@ module _ {K : Type 0} {model : Model K} where
   }
 
   -- it was not, as the keeper failed
-  stops_at : {a b : K} (s : State) (batch : BatchValue) (fault : Fault) → Writes model a b s batch (Err fault) → Follows model a b s (acted s (Ok batch)) (Err (Stopped fault))
-  stops_at s batch Memory h = h
-  stops_at {a} {b} s batch Device h = (h.0, subst (λ (t : State). LeavesEither (model.may_leave b) (Some s) (Some t)) (after_is s batch (act s batch).reply refl) h.1)
-  stops_at s batch Damaged h = h
-  stops_at s batch Reopen h = h
-
   pub failed_write : {a b : K} (batch : BatchValue) (fault : Fault) → IsWrite model a b batch (Err fault) → IsFollowed model a b (λ s. acted s (Ok batch)) (Err (Stopped fault))
-  failed_write batch fault write = record {
+  failed_write {a} {b} batch fault write = record {
     calls = failed write.call;
-    follows = λ h s e. stops_at s batch fault (write.writes h s e);
+    follows = λ h s e. stops_at model a b s batch fault (write.writes h s e);
   }
 
   -- ---- a batch with its serial
@@ -109,7 +119,7 @@ module _ {K : Type 0} {model : Model K} where
         let found = read.reads (then.calls.began_clean h) s e in
         let outcome = acted s (Ok batch) in
         subst (λ (t : Bool). Follows model a c s (cond t outcome (Err not_next)) r) (sym is ∙ found.0)
-        (follows_from s outcome r (model.fails_later a b c read.call.spared then.calls.spared) (then.follows h s found.1));
+        (follows_from model a b c s outcome r (model.fails_later a b c read.call.spared then.calls.spared) (then.follows h s found.1));
   }
 
   -- which is not
@@ -123,18 +133,11 @@ module _ {K : Type 0} {model : Model K} where
   }
 
   -- of which it is not known, as the keeper failed
-  fails_at : {T : Type 0} {a b : K} (s : State) (outcome : Result Outcome LineFault) (Is : T → Type 0) (fault : Fault) → Reads model a b s Is (Err fault)
-      → Follows model a b s outcome (Err (Stopped fault))
-  fails_at s outcome Is Memory h = h
-  fails_at s outcome Is Device h = (h.0, λ o may. inl (h.1 o may))
-  fails_at s outcome Is Damaged h = h
-  fails_at s outcome Is Reopen h = h
-
   pub next_failed : {T : Type 0} {a b : K} {fault : Fault} {Is : State → T → Type 0} (outcome : State → Result Outcome LineFault) → IsRead model a b (Err fault) Is
       → IsFollowed model a b outcome (Err (Stopped fault))
   next_failed {T} {a} {b} {fault} {Is} outcome read = record {
     calls = failed read.call;
-    follows = λ h s e. fails_at s (outcome s) (Is s) fault (read.reads h s e);
+    follows = λ h s e. fails_at model T a b s (outcome s) (Is s) fault (read.reads h s e);
   }
 
 -- ---- a line

@@ -3,10 +3,10 @@ use Rattle.streetmap_exchange.proofs.KeeperLemmas.{told_batch, told_calls, told_
 use Rattle.streetmap_exchange.proofs.keeping.apply.Goals as goal
 
 pub returns-in-Ok-clause-calls : goal.returns-in-Ok-clause-calls
-returns-in-Ok-clause-calls g c = told_calls _ _ c.tell.result c.tell.ensures c.in-Ok.ensures.call
+returns-in-Ok-clause-calls g c = told_calls g.K.Keeper.model c.args.keeper.now c.apply.new.self _ _ c.tell.result c.tell.ensures c.in-Ok.ensures.call
 
 pub returns-in-Ok-clause-imports : goal.returns-in-Ok-clause-imports
-returns-in-Ok-clause-imports g c = λ h s e. told_batch s _ _ c.tell.result c.tell.ensures (c.in-Ok.ensures.writes h s e)
+returns-in-Ok-clause-imports g c = λ h s e. told_batch g.K.Keeper.model c.args.keeper.now c.apply.new.self s _ _ c.tell.result c.tell.ensures (c.in-Ok.ensures.writes h s e)
 
 pub returns-in-Ok-clause-told : goal.returns-in-Ok-clause-told
 returns-in-Ok-clause-told g c =

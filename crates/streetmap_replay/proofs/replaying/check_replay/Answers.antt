@@ -13,7 +13,7 @@ returns-in-Ok-clause-checks g c = λ h j s e o.
     let after = c.compare_collections.ensures in
     let began = after.kept.calls.began_clean h in
     let before = c.in-Ok.ensures.gives began (after.fresh.calls.began_clean j) s e o in
-    compared s before.0 before.1 c.compare_collections.result
+    compared s before.0 before.1 g.L.Keeper.model c.replay.new.fresh c.compare_collections.new.fresh c.compare_collections.result
     (after.compares h j s before.0 (c.in-Ok.ensures.kept.stays began s e) before.2) (after.fresh.stays j before.0 before.2)
 
 pub returns-in-Err-clause-checks : goal.returns-in-Err-clause-checks

@@ -18,8 +18,8 @@ returns-in-Err g c =
       writes = λ h s e.
           let before = rw c.in-Some.is at e.1 in
           let b = batch_value c.args.batch.now in
-          writes_over model W.contents W.told W.is_kept W.fails s b _
-          (not_asked s b c.in-Err.fault (says.reads.stays h s e.0))
+          writes_over model W.contents W.told W.is_kept W.fails _ _ s b _
+          (not_asked model c.args.self.now.keeper c.complete.new.keeper s b c.in-Err.fault (says.reads.stays h s e.0))
           (says.told before.0, λ tells. says.holds h s e.0 (before.1 tells));
     }
 
@@ -50,8 +50,8 @@ returns-in-Ok g c =
           let it = says.reads.stays was s e.0 in
           let before = rw c.in-Some.is at e.1 in
           let completed : IsFor W.contents W.told W.is_kept mid s = (says.told before.0, λ tells. says.holds was s e.0 (before.1 tells)) in
-          writes_over model W.contents W.told W.is_kept W.fails s b c.apply_and_note.result
-          (writes_from s b c.apply_and_note.result (model.fails_later _ _ _ says.reads.calls.spared noted.call.spared) (noted.writes h s it))
+          writes_over model W.contents W.told W.is_kept W.fails _ _ s b c.apply_and_note.result
+          (writes_from model c.args.self.now.keeper c.complete.new.keeper c.apply_and_note.new.keeper s b c.apply_and_note.result (model.fails_later _ _ _ says.reads.calls.spared noted.call.spared) (noted.writes h s it))
           (for_after W.contents W.told W.is_kept s b c.apply_and_note.result mid last noted.untouched (noted.noted h s it completed) completed);
     }
 
@@ -70,6 +70,6 @@ returns-in-None g c =
         with_reply applies (ReachesUnless W.fails journal journal) c.apply.result (rw c.in-None.is tt) (of_reply applies c.apply.result says.applied),
       );
       call = call_over model W.contents W.told W.is_kept W.fails says.call;
-      writes = λ h s e. writes_over model W.contents W.told W.is_kept W.fails s b c.apply.result (says.writes h s e.0)
+      writes = λ h s e. writes_over model W.contents W.told W.is_kept W.fails _ _ s b c.apply.result (says.writes h s e.0)
           (none_for W.contents W.told W.is_kept journal (state_by s b c.apply.result) c.in-None.is);
     }
