@@ -7,9 +7,6 @@ use Rattle.streetmap_journal.proofs.LineBehindBatch.{completed_holds, settled_ho
 use Rattle.streetmap_journal.proofs.Telling.{still_told}
 use Rattle.streetmap_journal.proofs.completing.complete.Goals as goal
 
-pub loop-turn-init-clause-reads : goal.loop-turn-init-clause-reads
-loop-turn-init-clause-reads g c = no_reads c.args.keeper.now
-
 pub loop-turn-preserved : goal.loop-turn-preserved
 loop-turn-preserved g c =
     let inv = c.loop-turn.invariant in

@@ -8,20 +8,11 @@ returns-in-Ok-None-clause-calls g c = no_calls c.args.fresh.now
 pub returns-in-Err-clause-calls : goal.returns-in-Err-clause-calls
 returns-in-Err-clause-calls g c = no_calls c.args.fresh.now
 
-pub returns-in-Ok-is_kept-clause-calls : goal.returns-in-Ok-is_kept-clause-calls
-returns-in-Ok-is_kept-clause-calls g c = call_of c.in-Ok-Accepted.ensures.call
-
-pub returns-in-Err-is_kept-clause-calls : goal.returns-in-Err-is_kept-clause-calls
-returns-in-Err-is_kept-clause-calls g c = call_of c.in-Ok-Accepted.ensures.call
-
 pub returns-in-Ok-Repeated-clause-calls : goal.returns-in-Ok-Repeated-clause-calls
 returns-in-Ok-Repeated-clause-calls g c = call_of c.in-Ok-Repeated.ensures.call
 
 pub returns-in-Ok-Refused-clause-calls : goal.returns-in-Ok-Refused-clause-calls
 returns-in-Ok-Refused-clause-calls g c = call_of c.in-Ok-Refused.ensures.call
-
-pub returns-in-Err-apply-clause-calls : goal.returns-in-Err-apply-clause-calls
-returns-in-Err-apply-clause-calls g c = failed c.in-Err-apply.ensures.call
 
 pub returns-in-Ok-Repeated-clause-gives : goal.returns-in-Ok-Repeated-clause-gives
 returns-in-Ok-Repeated-clause-gives c = search rules

@@ -7,12 +7,6 @@ use Rattle.streetmap_replay.proofs.SameCollections.{place_of, differs_at, unlike
 use Rattle.streetmap_replay.proofs.SameCollections.{one_more, all_places}
 use Rattle.streetmap_replay.proofs.collections.compare_each.Goals as goal
 
-pub loop-summary-init-clause-kept_reads : goal.loop-summary-init-clause-kept_reads
-loop-summary-init-clause-kept_reads g c = no_reads c.args.keeper.now
-
-pub loop-summary-init-clause-fresh_reads : goal.loop-summary-init-clause-fresh_reads
-loop-summary-init-clause-fresh_reads g c = no_reads c.args.fresh.now
-
 pub returns-in-Ok-false-clause-kept : goal.returns-in-Ok-false-clause-kept
 returns-in-Ok-false-clause-kept g c =
     subst (AreReads g.K.Keeper.model c.args.keeper.now c.is_alike.new.keeper) (sym (unlike_kept _ c.unlike.result c.unlike.ensures))

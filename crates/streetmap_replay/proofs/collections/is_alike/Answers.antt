@@ -39,20 +39,8 @@ returns-then-is_declared_alike-clause-kept g c = c.has_same_features.ensures.kep
 pub returns-then-is_declared_alike-clause-fresh : goal.returns-then-is_declared_alike-clause-fresh
 returns-then-is_declared_alike-clause-fresh g c = reads_then (read_of c.in-Ok-Some.ensures) c.has_same_features.ensures.fresh
 
-pub returns-else-is_declared_alike-clause-kept : goal.returns-else-is_declared_alike-clause-kept
-returns-else-is_declared_alike-clause-kept g c = no_reads c.args.keeper.now
-
-pub returns-else-is_declared_alike-clause-fresh : goal.returns-else-is_declared_alike-clause-fresh
-returns-else-is_declared_alike-clause-fresh g c = read_of c.in-Ok-Some.ensures
-
 pub returns-in-Ok-None-clause-kept : goal.returns-in-Ok-None-clause-kept
 returns-in-Ok-None-clause-kept g c = no_reads c.args.keeper.now
 
 pub returns-in-Ok-None-clause-fresh : goal.returns-in-Ok-None-clause-fresh
 returns-in-Ok-None-clause-fresh g c = read_of c.in-Ok-None.ensures
-
-pub returns-in-Err-clause-kept : goal.returns-in-Err-clause-kept
-returns-in-Err-clause-kept g c = no_reads c.args.keeper.now
-
-pub returns-in-Err-clause-fresh : goal.returns-in-Err-clause-fresh
-returns-in-Err-clause-fresh g c = failed_read c.in-Err.ensures
