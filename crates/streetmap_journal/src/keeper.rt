@@ -35,7 +35,7 @@ fn apply_and_note<K: KeepsBatches, W: JournalWriter>(
     ensures call { IsCall K.model keeper.old keeper.new result }
     ensures writes { K.model.is_clean keeper.new → (s : State) → K.model.represents keeper.old s →
         Writes K.model keeper.old keeper.new s (batch_value batch.now) result }
-    // A line is written of no batch that was not answered.
+    // No line is written of a batch that was not answered.
     ensures untouched { IsErr result → journal.new ≡ journal.old }
     ensures noted { K.model.is_clean keeper.new → (s : State) → K.model.represents keeper.old s →
         IsFor W.contents W.told W.is_kept journal.old s → IfOk result (λ _.

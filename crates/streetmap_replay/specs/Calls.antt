@@ -7,8 +7,8 @@ use Rattle.streetmap_ledger.specs.declared.reply.Cause.{Cause}
 use Rattle.streetmap_ledger.specs.declared.reply.Fault.{Fault}
 use Rattle.streetmap_ledger.specs.declared.reply.Fault.TheVariants.{Memory, Device, Damaged, Reopen}
 
--- the answer to the last of them, without what it says; none if no call need have been made, and
--- all that were made were answered with no fault
+-- the answer to the last call: a fault, or none. Or (none of the two) there need not have been a
+-- call, and no fault was answered
 abbrev pub LastAnswer : Type 0
 LastAnswer = Option (Result (Unit {0}) Fault)
 
