@@ -153,21 +153,21 @@ module _ {K : Type 0} {model : Model K} {a b : K} where
   whole_reads end (inr is) h = subst (λ (e : MatchEnd). AreReads model a b (end_answer e)) is h
 
   -- they are one
-  pub ended_reads : {W : Type 0} (after : ℕ) (found : Matched) (fault : StartFault) → ChecksEnd after found (Err fault) → AreReads model a b (end_answer found.end)
+  pub ended_reads : (W : Type 0) (after : ℕ) (found : Matched) (fault : StartFault) → ChecksEnd after found (Err fault) → AreReads model a b (end_answer found.end)
       → AreReads model a b (start_answer {W = W} (Err fault))
-  ended_reads after found (Other serial) is h = subst (λ (e : MatchEnd). AreReads model a b (end_answer e)) is.0 h
-  ended_reads after found Ahead is h = subst (λ (e : MatchEnd). AreReads model a b (end_answer e)) is h
-  ended_reads after found NotRead is h = subst (λ (e : MatchEnd). AreReads model a b (end_answer e)) is h
-  ended_reads after found (Stopped fault) is h = subst (λ (e : MatchEnd). AreReads model a b (end_answer e)) is h
-  ended_reads after found (NotOpened error) is h = absurd is
+  ended_reads W after found (Other serial) is h = subst (λ (e : MatchEnd). AreReads model a b (end_answer e)) is.0 h
+  ended_reads W after found Ahead is h = subst (λ (e : MatchEnd). AreReads model a b (end_answer e)) is h
+  ended_reads W after found NotRead is h = subst (λ (e : MatchEnd). AreReads model a b (end_answer e)) is h
+  ended_reads W after found (Stopped fault) is h = subst (λ (e : MatchEnd). AreReads model a b (end_answer e)) is h
+  ended_reads W after found (NotOpened error) is h = absurd is
 
   -- the keeper answered, and was not the cause of a fault
-  pub own_fault : {T W : Type 0} {x : T} {Is : State → T → Type 0} (fault : StartFault) → IsOwnFault fault → IsRead model a b (Ok x) Is → AreReads model a b (start_answer {W = W} (Err fault))
-  own_fault (Stopped fault) own read = subst (λ (f : Fault). AreReads model a b (fails_by f)) (sym own) (lost_read read)
-  own_fault Ahead own read = absurd own
-  own_fault (Other serial) own read = absurd own
-  own_fault NotRead own read = read_of read
-  own_fault (NotOpened error) own read = read_of read
+  pub own_fault : (W : Type 0) {T : Type 0} {x : T} {Is : State → T → Type 0} (fault : StartFault) → IsOwnFault fault → IsRead model a b (Ok x) Is → AreReads model a b (start_answer {W = W} (Err fault))
+  own_fault W (Stopped fault) own read = subst (λ (f : Fault). AreReads model a b (fails_by f)) (sym own) (lost_read read)
+  own_fault W Ahead own read = absurd own
+  own_fault W (Other serial) own read = absurd own
+  own_fault W NotRead own read = read_of read
+  own_fault W (NotOpened error) own read = read_of read
 
 -- what is written after the lines that were there
 pub resumed_of : (s : State) → IsState s → (asked after : ℕ) (found : Matched)

@@ -1,28 +1,25 @@
-use Rattle.std.proofs.Common.{◌≤◌, ◌∙◌, ℕ, sym, ap, subst, arith}
+use Rattle.std.proofs.Common.{◌≤◌, ◌∙◌, ℕ, Err, sym, ap, subst, arith}
+use Rattle.std.proofs.lemmas.Result.{err_from_is_err_and}
 use Rattle.streetmap_ledger.specs.Kept.{batch_count}
-use Rattle.streetmap_journal.specs.Starting.{Finds}
+use Rattle.streetmap_journal.specs.Starting.{Finds, start_answer}
 use Rattle.streetmap_journal.specs.Written.{position_of}
-use Rattle.streetmap_journal.proofs.StartLemmas.{found_by, whole_reads, ended_reads, own_fault, resumed_of, cut_by, holds_on}
+use Rattle.streetmap_journal.proofs.StartLemmas.{found_by, whole_reads, ended_reads, resumed_of, cut_by, holds_on}
+use Rattle.streetmap_replay.specs.Calls.{AreReads}
 use Rattle.streetmap_replay.proofs.CallsInTurn.{read_of, failed_read, reads_then}
 use Rattle.streetmap_journal.proofs.starting.start_journal.Goals as goal
 
 pub returns-in-Err-clause-reads : goal.returns-in-Err-clause-reads
 returns-in-Err-clause-reads g c = failed_read c.in-Err.ensures
 
-pub returns-in_err-after-clause-reads : goal.returns-in_err-after-clause-reads
-returns-in_err-after-clause-reads g c = own_fault c.in_err-after.error c.in_err-after.ensures.own c.in-Ok.ensures
-
 pub returns-then-count-after-clause-reads : goal.returns-then-count-after-clause-reads
 returns-then-count-after-clause-reads g c = read_of c.in-Ok.ensures
 
-pub returns-in_err-matched-clause-reads : goal.returns-in_err-matched-clause-reads
-returns-in_err-matched-clause-reads g c = reads_then (read_of c.in-Ok.ensures) c.in_err-matched.ensures.reads
-
 pub returns-in_err-check_end-clause-reads : goal.returns-in_err-check_end-clause-reads
-returns-in_err-check_end-clause-reads g c = ended_reads c.in_ok-after.after c.in_ok-matched.matched c.in_err-check_end.error c.in_err-check_end.ensures (reads_then (read_of c.in-Ok.ensures) c.in_ok-matched.ensures.reads)
-
-pub returns-in_err-writer-clause-reads : goal.returns-in_err-writer-clause-reads
-returns-in_err-writer-clause-reads g c = (whole_reads _ c.in_ok-check_end.ensures (reads_then (read_of c.in-Ok.ensures) c.in_ok-matched.ensures.reads))
+returns-in_err-check_end-clause-reads g c =
+    let r = c.from_residual-in_err-check_end in
+    let p = err_from_is_err_and r.result r.ensures.1 in
+    subst (λ x. AreReads g.K.Keeper.model c.args.keeper.now c.match_place.new.keeper (start_answer x)) (sym (p.1 ∙ ap (λ x. Err x) p.2))
+    (ended_reads (Unit {0}) c.in_ok-after.after c.in_ok-matched.matched c.in_err-check_end.field-0.0 c.in_err-check_end.ensures (reads_then (read_of c.in-Ok.ensures) c.in_ok-matched.ensures.reads))
 
 pub returns-in-Ok-begin-clause-reads : goal.returns-in-Ok-begin-clause-reads
 returns-in-Ok-begin-clause-reads g c = reads_then (whole_reads _ c.in_ok-check_end.ensures (reads_then (read_of c.in-Ok.ensures) c.in_ok-matched.ensures.reads)) c.in-Ok-begin.ensures.reads
