@@ -1,11 +1,9 @@
 //! Making and opening.
-ghost use Rattle.std.specs.Prelude.{◌≡◌, Some, IfOk, IfErr};
+ghost use Rattle.std.specs.Prelude.{◌≡◌, IfOk, IfErr};
 ghost use Rattle.sqlite_wal.specs.Files.{image_at};
 ghost use Rattle.sqlite.specs.State.{HasCleanDisk};
 ghost use Rattle.sqlite.specs.Files.{file_state, IsNothing};
 ghost use Rattle.streetmap_ledger.specs.State.{State, opening_state};
-ghost use Rattle.streetmap_ledger.specs.Keep.{LeavesOnly};
-ghost use Rattle.streetmap_rows.specs.Keeping.{MayLeave};
 ghost use Rattle.streetmap_store.specs.Serving.{KeepsState};
 ghost use Rattle.streetmap_store.specs.Holding.{HoldsState, HoldsOldState, LeavesRoom};
 ghost use Rattle.streetmap_store.specs.Reasons.{IsCleanRest, RefusesToOpen};
@@ -44,8 +42,7 @@ pub fn create<S: Start>(
 ) -> Result<FileKeeper<S>, (CreateFault, FilesLeft<S>)>
     ensures made { IfOk result (λ keeper. HasCleanDisk (file_state keeper.conn)
         → LeavesRoom (image_at S.Start)
-        → KeepsState keeper.shut (file_state keeper.conn) keeper.count opening_state
-        × LeavesOnly (MayLeave (file_state keeper.conn)) (Some opening_state)) }
+        → KeepsState keeper.shut (file_state keeper.conn) keeper.count opening_state) }
     ensures refused { IfErr result (λ refused. IsCleanRest refused.1
         → RefusesToCreate (image_at S.Start) refused.0) }
     ensures new_files { IfErr result (λ refused. IsCleanRest refused.1
@@ -88,12 +85,10 @@ pub fn open<S: Start>(
 ) -> Result<FileKeeper<S>, (OpenFault, FilesLeft<S>)>
     ensures opened { IfOk result (λ keeper. HasCleanDisk (file_state keeper.conn) → (s : State)
         → HoldsState (image_at S.Start) s
-        → KeepsState keeper.shut (file_state keeper.conn) keeper.count s
-        × LeavesOnly (MayLeave (file_state keeper.conn)) (Some s)) }
+        → KeepsState keeper.shut (file_state keeper.conn) keeper.count s) }
     ensures carried { IfOk result (λ keeper. HasCleanDisk (file_state keeper.conn) → (s : State)
         → HoldsOldState (image_at S.Start) s
-        → KeepsState keeper.shut (file_state keeper.conn) keeper.count s
-        × LeavesOnly (MayLeave (file_state keeper.conn)) (Some s)) }
+        → KeepsState keeper.shut (file_state keeper.conn) keeper.count s) }
     ensures refused { IfErr result (λ refused. IsCleanRest refused.1
         → RefusesToOpen (image_at S.Start) refused.0 refused.1) }
     ensures ours { IfErr result (λ refused. IsCleanRest refused.1 → (s : State)

@@ -22,4 +22,4 @@ pub mod laws;
 
 pub use fault::{CreateFault, Left, OpenFault};
 pub use file::{FileKeeper, FilesLeft, create, open};
-pub use keeper::{TableKeeper, what_a_stop_leaves_opens};
+pub use keeper::{TableKeeper, what_a_crash_leaves_opens};
