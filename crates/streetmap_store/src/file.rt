@@ -25,16 +25,16 @@ pub type FilesLeft<S> = Left<Leftover<FileFrom<S>>, Connection<FileStore<FileFro
 
 /// Makes the four tables in the database at a path, with the opening state, and keeps it there.
 ///
-/// The database and its log are made where they are missing, and leave room for the tables
-/// (`laws::new_files_leave_room`); other tables of a database that is there stay. After a refusal
-/// files that were made stay too, and what is left of the files, given back beside it, holds what
+/// The database and its log are made if they are missing, and leave room for the tables
+/// (`laws::new_files_leave_room`); other tables of an existing database stay. After a refusal files
+/// that were made stay too, and what is left of the files, returned beside the refusal, holds what
 /// they held.
 ///
 /// # Errors
 ///
-/// `NotOurs` where the file is no database, `Taken` where one of the four names is used in it,
-/// `Device` where it cannot be opened, is in use or the store fails, and `Memory`. In new files it
-/// is one of the last two.
+/// `NotOurs` if the file is no database, `Taken` if one of the four names is used in it, `Device`
+/// if it cannot be opened, is in use or the store fails, and `Memory`. In new files it is one of
+/// the last two.
 pub fn create<S: Start>(
     rt: &HostRuntime,
     path: &str,
@@ -74,10 +74,10 @@ pub fn create<S: Start>(
 ///
 /// # Errors
 ///
-/// `NotOurs` where the file is no database or has no format row of this product, `NewFormat` for a
-/// format above 2, `Damaged` for format 1 with a row that this product does not write, `Device`
-/// where it cannot be opened, is in use or the store fails, and `Memory`. On the tables of a state,
-/// of either format, it is one of the last two.
+/// `NotOurs` if the file is no database or has no format row of this product, `NewFormat` for a
+/// format above 2, `Damaged` for format 1 with a row that this product does not write, `Device` if
+/// it cannot be opened, is in use or the store fails, and `Memory`. On the tables of a state, of
+/// either format, it is one of the last two.
 pub fn open<S: Start>(
     rt: &HostRuntime,
     path: &str,
