@@ -12,7 +12,7 @@ use Rattle.streetmap_ledger.specs.State.{State}
 use Rattle.streetmap_ledger.specs.Keep.{LeavesOnly, LeavesEither}
 use Rattle.streetmap_rows.proofs.Schemas.{one_schema}
 use Rattle.streetmap_rows.specs.Tables.{meta_name, features_name}
-use Rattle.streetmap_rows.specs.Keeping.{MayLeave, Rests, AreTreesOf}
+use Rattle.streetmap_rows.specs.Keeping.{Keeps, MayLeave, Rests, AreTreesOf}
 use Rattle.streetmap_rows.specs.declared.failing.Shut.{Shut}
 use Rattle.streetmap_tables.specs.Old.{KeepsOld}
 use Rattle.streetmap_store.specs.IndexesListed.{one_indexes, keeps_too}
@@ -21,7 +21,8 @@ use Rattle.streetmap_store.specs.Serving.{KeepsState}
 use Rattle.streetmap_store.specs.TableModel.{LeavesStates, leaves_states}
 
 -- trees that are a state's in format 1 under one schema are so under each that they list
-pub old_too : (s : State) (a b : Schema) (trees : Trees) → IsSound b trees → KeepsOld s (record { schema = a; trees = trees }) → KeepsOld s (record { schema = b; trees = trees })
+pub old_too : (s : State) (a b : Schema) (trees : Trees) → IsSound b trees → KeepsOld s (record { schema = a; trees = trees })
+    → KeepsOld s (record { schema = b; trees = trees })
 old_too s a b trees sound it =
     let tables = one_schema a b trees it.sound sound in
     let indexes = one_indexes a b trees it.sound sound in
@@ -49,18 +50,30 @@ old_too s a b trees sound it =
     }
 
 -- trees that a crash leaves, opened again, rest at a state that the crash may leave
-pub opens_only : (old new : Seen) (P : State → Type 0) → ((o : Option State) → MayLeave old o → (s : State) × (o ≡ Some s) × P s) → old.may_leave new.now.trees → IsJustOpened new → OpensWithin P new
+pub opens_only : (old new : Seen) (P : State → Type 0) → ((o : Option State) → MayLeave old o → (s : State) × (o ≡ Some s) × P s)
+    → old.may_leave new.now.trees → IsJustOpened new → OpensWithin P new
 opens_only old new P bound left fresh = record {
-  only = λ t rests. let it = bound (Some t) (new.now.trees, left, (new.now.schema, rests.kept)) in let same : t ≡ it.0 = let e : Some t ≡ Some it.0 = it.1 in cc in subst P (sym same) it.2;
+  only = λ t rests.
+      let it = bound (Some t) (new.now.trees, left, (new.now.schema, rests.kept)) in
+      let same : t ≡ it.0 = let e : Some t ≡ Some it.0 = it.1 in cc in
+      subst P (sym same) it.2;
   some = λ none.
-      let it = bound None (new.now.trees, left, λ t schema kept. none t (record { kept = keeps_too t schema new.now.schema new.now.trees fresh.sound kept; settled = fresh.settled; live = fresh.live; unlimited = fresh.unlimited })) in
+      let at = λ (t : State) (schema : Schema) (kept : Keeps t (record { schema = schema; trees = new.now.trees })). none t (record {
+        kept = keeps_too t schema new.now.schema new.now.trees fresh.sound kept;
+        settled = fresh.settled;
+        live = fresh.live;
+        unlimited = fresh.unlimited;
+      }) in
+      let it = bound None (new.now.trees, left, at) in
       absurd (let e : ◌≡◌ {A = Option State} None (Some it.0) = it.1 in cc);
 }
 
-pub within_one : (seen : Seen) (s : State) → LeavesOnly (MayLeave seen) (Some s) → (o : Option State) → MayLeave seen o → (t : State) × (o ≡ Some t) × (t ≡ s)
+pub within_one : (seen : Seen) (s : State) → LeavesOnly (MayLeave seen) (Some s) → (o : Option State) → MayLeave seen o
+    → (t : State) × (o ≡ Some t) × (t ≡ s)
 within_one seen s only o left = (s, only o left, refl)
 
-pub within_two : (seen : Seen) (s t : State) → LeavesEither (MayLeave seen) (Some s) (Some t) → (o : Option State) → MayLeave seen o → (u : State) × (o ≡ Some u) × ((u ≡ s) ⊎ (u ≡ t))
+pub within_two : (seen : Seen) (s t : State) → LeavesEither (MayLeave seen) (Some s) (Some t) → (o : Option State)
+    → MayLeave seen o → (u : State) × (o ≡ Some u) × ((u ≡ s) ⊎ (u ≡ t))
 within_two seen s t only o left = elim (only o left) [ inl is ↦ (s, is, inl refl) | inr is ↦ (t, is, inr refl) ]
 
 -- trees of a state that are opened again
@@ -73,11 +86,13 @@ rests_again new s tells fresh = record {
 }
 
 -- a state that a keeper represents
-pub opens_state : (shut : Option Shut) (old new : Seen) (count : ℕ) (s : State) → KeepsState shut old count s → old.may_leave new.now.trees → IsJustOpened new → Rests new s
+pub opens_state : (shut : Option Shut) (old new : Seen) (count : ℕ) (s : State) → KeepsState shut old count s
+    → old.may_leave new.now.trees → IsJustOpened new → Rests new s
 opens_state shut old new count s is left fresh = rests_again new s (leaves_states shut old count s is new.now.trees left) fresh
 
 -- if each database that a crash may leave is a state's, what is opened rests at one of these states
-pub opens_some : (old new : Seen) → LeavesStates old → old.may_leave new.now.trees → IsJustOpened new → (t : State) × Rests new t × MayLeave old (Some t)
+pub opens_some : (old new : Seen) → LeavesStates old → old.may_leave new.now.trees → IsJustOpened new
+    → (t : State) × Rests new t × MayLeave old (Some t)
 opens_some old new states left fresh =
     let it = states new.now.trees left in
     (it.0, rests_again new it.0 it.1 fresh, (new.now.trees, left, it.1))

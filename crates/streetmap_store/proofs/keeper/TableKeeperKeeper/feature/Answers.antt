@@ -7,4 +7,6 @@ pub returns-then-not-is_open : goal.returns-then-not-is_open
 returns-then-not-is_open g c = shut_read c.args.self.now (shut_of _ _ c.is_open.ensures c.if-not-is_open.true)
 
 pub returns : goal.returns
-returns g c = let found = c.feature_of-feature.ensures in read_over (open_of _ _ c.is_open.ensures c.if-not-is_open.false) refl found.shows found.stays found.survives c.answer.ensures.answers
+returns g c =
+    let found = c.feature_of-feature.ensures in
+    read_over (open_of _ _ c.is_open.ensures c.if-not-is_open.false) refl found.shows found.stays found.survives c.answer.ensures.answers
