@@ -1,5 +1,5 @@
 -- Trees list the indexes of one schema, and so they are a state's under each schema that they list.
-use Rattle.std.proofs.Common.{◌≡◌, ℕ, ◌+◌, pos, List, [], ◌∷◌, Option, Some, Ok, true, false, refl}
+use Rattle.std.proofs.Common.{◌≡◌, ℕ, ◌+◌, pos, List, [], ◌∷◌, Some, Ok, true, false, refl}
 use Rattle.std.proofs.Common.{sym, ap, ap₂, subst, ◌∙◌, arith, find, slice_get, filter, not}
 use Rattle.std.specs.List.{AllByRecursion, AllZip, list_any, list_all}
 use Rattle.sqlite.specs.declared.types.Value.{Value}
