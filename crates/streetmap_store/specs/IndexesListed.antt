@@ -98,7 +98,7 @@ ours_too roots a b tables indexes it = record {
   on_batches = λ i has. it.on_batches i (subst (λ is. Has is i) (sym indexes) has);
   on_features = λ i has. it.on_features i (subst (λ is. Has is i) (sym indexes) has);
   alone = subst (AllByRecursion (λ t. list_all (λ ref.
-  not (same_name features_name ref.parent)) t.references ≡ true)) tables it.alone;
+      not (same_name features_name ref.parent)) t.references ≡ true)) tables it.alone;
 }
   where
     named : (name : List ℕ) (table : Table) → IsNamed a name table → IsNamed b name table
