@@ -2,7 +2,7 @@
 //! prefix of them, with each acknowledged one; for the migration of format 1, it is the state that
 //! was there.
 use crate::files::{ALL_CALLS, Calls, Fused, Visit, visit_again, visit_new};
-use crate::keepers::{Came, OverNew, OverOpened, Task};
+use crate::keepers::{Outcome, OverNew, OverOpened, Task};
 use crate::states::{COUNT, Look, Seen, act, seen_twice, states};
 use sqlite::{Alter, Connection};
 use sqlite_disk::Files;
@@ -33,7 +33,7 @@ fn calls(of_log: bool, count: u64) -> Calls {
 struct ActOnAll;
 
 impl Task for ActOnAll {
-    type Told = usize;
+    type Output = usize;
 
     fn run<K: Keeper>(self, alloc: Global, keeper: &mut K) -> usize {
         act(alloc, keeper)
@@ -44,9 +44,9 @@ impl Task for ActOnAll {
 /// many were answered, none if the tables were not created; and what is left of the files.
 fn acted(alloc: Global, calls: Calls) -> Result<(Option<usize>, Files<Fused>), Fail> {
     match visit_new(alloc, calls, OverNew(ActOnAll)) {
-        (Some(Came::Told(acknowledged)), Some(files)) => Ok((Some(acknowledged), files)),
+        (Some(Outcome::Done(acknowledged)), Some(files)) => Ok((Some(acknowledged), files)),
         (_, Some(files)) => Ok((None, files)),
-        (_, None) => Err(Fail::from("the files were let go of")),
+        (_, None) => Err(Fail::from("the files were dropped")),
     }
 }
 
@@ -54,7 +54,7 @@ fn acted(alloc: Global, calls: Calls) -> Result<(Option<usize>, Files<Fused>), F
 fn may_be_left(seen: Seen, acknowledged: Option<usize>) -> bool {
     match seen {
         Seen::NotOurs => acknowledged.is_none(),
-        Seen::Behind(count) => {
+        Seen::After(count) => {
             let least = acknowledged.unwrap_or(0);
             count == least || count == least.saturating_add(1)
         }
@@ -64,7 +64,7 @@ fn may_be_left(seen: Seen, acknowledged: Option<usize>) -> bool {
 
 /// Applies the batches in new files that take this number of calls. Returns whether all were
 /// acknowledged; none if what is left is not allowed.
-fn stopped(alloc: Global, calls: Calls, states: &[Vec<u8>]) -> Result<Option<bool>, Fail> {
+fn crashed(alloc: Global, calls: Calls, states: &[Vec<u8>]) -> Result<Option<bool>, Fail> {
     let (acknowledged, mut files) = acted(alloc, calls)?;
     let look = Look {
         states,
@@ -78,7 +78,7 @@ fn stopped(alloc: Global, calls: Calls, states: &[Vec<u8>]) -> Result<Option<boo
 /// After how many calls all batches were acknowledged, if each crash before left what it may.
 fn calls_of_batches(alloc: Global, of_log: bool, states: &[Vec<u8>]) -> Result<Option<u64>, Fail> {
     for count in 0..MOST_CALLS {
-        match stopped(alloc, calls(of_log, count), states)? {
+        match crashed(alloc, calls(of_log, count), states)? {
             Some(false) => {}
             Some(true) => return Ok(Some(count)),
             None => return Ok(None),
@@ -88,7 +88,7 @@ fn calls_of_batches(alloc: Global, of_log: bool, states: &[Vec<u8>]) -> Result<O
 }
 
 #[test]
-fn a_stop_at_each_call_leaves_a_beginning(rt: HostRuntime) -> Result<(), Fail> {
+fn a_crash_at_each_call_leaves_a_prefix(rt: HostRuntime) -> Result<(), Fail> {
     let states = states(rt.alloc())?;
     for of_log in [true, false] {
         let calls = calls_of_batches(rt.alloc(), of_log, &states)?;
@@ -106,7 +106,7 @@ const TO_FORMAT_1: &str =
 struct ToFormat1;
 
 impl Visit for ToFormat1 {
-    type Told = bool;
+    type Output = bool;
 
     fn visit<S: Alter + Drop>(self, _: Global, conn: Connection<S>) -> (bool, Option<S>) {
         let mut conn = conn;
@@ -129,14 +129,14 @@ fn old_files(alloc: Global) -> Result<Files<Fused>, Fail> {
 struct Nothing;
 
 impl Task for Nothing {
-    type Told = ();
+    type Output = ();
 
     fn run<K: Keeper>(self, _: Global, _: &mut K) {}
 }
 
 /// Opens copies of files of format 1 that take this number of calls. Returns whether they were
 /// opened; none if what is left is another state.
-fn carried(
+fn migrated(
     alloc: Global,
     old: &Files<Fused>,
     calls: Calls,
@@ -144,26 +144,26 @@ fn carried(
 ) -> Result<Option<bool>, Fail> {
     let (opened, left) = visit_again(alloc, old, calls, OverOpened(Nothing))?;
     let Some(mut files) = left else {
-        return Err(Fail::from("the files were let go of"));
+        return Err(Fail::from("the files were dropped"));
     };
     let look = Look {
         states,
         acts_again: false,
     };
     let seen = seen_twice(alloc, &mut files, look)?;
-    let is_right = seen == (Seen::Behind(COUNT), Seen::Behind(COUNT));
-    Ok(is_right.then_some(opened == Some(Came::Told(()))))
+    let is_right = seen == (Seen::After(COUNT), Seen::After(COUNT));
+    Ok(is_right.then_some(opened == Some(Outcome::Done(()))))
 }
 
 /// After how many calls the files were opened, if each crash before left their state.
-fn calls_of_carrying(
+fn calls_of_migration(
     alloc: Global,
     old: &Files<Fused>,
     of_log: bool,
     states: &[Vec<u8>],
 ) -> Result<Option<u64>, Fail> {
     for count in 0..MOST_CALLS {
-        match carried(alloc, old, calls(of_log, count), states)? {
+        match migrated(alloc, old, calls(of_log, count), states)? {
             Some(false) => {}
             Some(true) => return Ok(Some(count)),
             None => return Ok(None),
@@ -173,11 +173,11 @@ fn calls_of_carrying(
 }
 
 #[test]
-fn a_stop_at_each_call_of_carrying_over_leaves_the_state(rt: HostRuntime) -> Result<(), Fail> {
+fn a_crash_at_each_call_of_the_migration_leaves_the_state(rt: HostRuntime) -> Result<(), Fail> {
     let states = states(rt.alloc())?;
     let old = old_files(rt.alloc())?;
     for of_log in [true, false] {
-        let calls = calls_of_carrying(rt.alloc(), &old, of_log, &states)?;
+        let calls = calls_of_migration(rt.alloc(), &old, of_log, &states)?;
         assert!(rt; calls.is_some_and(|count| count > 0), "{of_log} {calls:?}");
     }
     Ok(())
