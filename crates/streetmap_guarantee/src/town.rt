@@ -3,7 +3,6 @@ ghost use Rattle.std.specs.Prelude.{◌≡◌, ◌≤◌, [], length, map, IsErr
 ghost use Rattle.streetmap_ledger.specs.State.{State};
 ghost use Rattle.streetmap_routes.specs.BaseView.{root_of};
 ghost use Rattle.streetmap_connections.specs.AllClients.{clients_of, ended_of};
-ghost use Rattle.streetmap_web.specs.Standing.{ByCalls};
 ghost use Rattle.streetmap_web.specs.Watching.{IsOver};
 ghost use Rattle.streetmap_guarantee.specs.Town.{GuaranteeOfTown};
 ghost use Rattle.streetmap_guarantee.specs.Connections.{history_of};
@@ -39,7 +38,9 @@ pub fn serve_town<R: Net + Clock, K: Durable, W: Write>(
     ensures counted { IsOk result → count ≤ length (ended_of clients.new) }
     ensures few { length (clients_of clients.new) ≤ count }
     ensures over { IsErrOf result ServeFault.Over → IsOver service.new.watch }
-    ensures calls { ByCalls K.model service.old.keeper service.new.keeper }
+    ensures spared { K.model.spares service.old.keeper service.new.keeper }
+    ensures began_clean { K.model.is_clean service.new.keeper →
+        K.model.is_clean service.old.keeper }
 {
     serve_clients(rt, listener, count, clients, service)
 }
