@@ -3,8 +3,8 @@ ghost use Rattle.streetmap_ledger.specs.Keep.{IsRead};
 
 use streetmap_ledger::{Fault, Keeper};
 
-/// Asks a keeper for each of its collections, one by one: a keeper with an index learns it then, and
-/// the first client does not wait for it. The keeper represents the same state afterwards.
+/// Asks a keeper for each of its collections, one by one: a keeper with an index learns it then,
+/// and the first client does not wait for it. The keeper represents the same state afterwards.
 ///
 /// # Errors
 ///

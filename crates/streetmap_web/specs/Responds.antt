@@ -144,7 +144,8 @@ pub data BatchAnswers (key : Text) (request : RequestValue) (sent : AnswerSent)
 -- if the request is a batch: it is answered as the first keeper answered it, and the second is the
 -- keeper after that; or the keeper was never called, is as it was, and memory ran out
 abbrev pub TellsBatch :
-    {K : Type 0} (model : Model K) (request : RequestValue) (sent : AnswerSent) (old new : K) → Type 0
+    {K : Type 0} (model : Model K) (request : RequestValue) (sent : AnswerSent) (old new : K)
+    → Type 0
 TellsBatch model request sent old new =
     (b : BatchValue) → request.ask ≡ batch b
     → BatchAnswers b.key request sent (λ r. model.applies old b r new) (new ≡ old)
